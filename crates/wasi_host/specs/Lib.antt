@@ -1,0 +1,11 @@
+pub mod Options
+pub mod Flags
+pub mod Time
+pub mod Tree
+pub mod TreeCode
+pub mod ValidTree
+pub mod HostCall
+pub mod Refusal
+pub mod Step
+pub mod Answer
+pub mod Meaning

@@ -1,0 +1,95 @@
+-- What the calls of a host do to its meanings: the laws that every host keeps, and those of a host that tells its world.
+use Rattle.std.specs.Prelude.{◌≡◌, ◌⊎◌, ℕ, ◌+◌, ◌-◌, ◌^◌, ◌≤◌, min, true, false, List, ◌++◌, Option, None, Result, Ok, Err}
+use Rattle.std.specs.Ordering.{nat_cmp}
+use Rattle.std.specs.FinSet.{FinSet, contains, insert}
+use Rattle.wasi_host.specs.Tree.{Tree, Nodes}
+use Rattle.wasi_host.specs.HostCall.{HostCall}
+use Rattle.wasi_host.specs.Refusal.{refusal}
+use Rattle.wasi_host.specs.Step.{step, found_by, made_by, with_nodes}
+use Rattle.wasi_host.specs.declared.values.Held.{Held}
+use Rattle.wasi_host.specs.declared.errors.ErrorCode.{ErrorCode}
+use Rattle.wasi_host.specs.declared.errors.ErrorCode.TheVariants.{Io}
+use Rattle.wasi_host.specs.declared.errors.HostError.{HostError}
+use Rattle.wasi_host.specs.declared.errors.HostError.TheVariants.{Code, Memory}
+
+-- handles, by their numbers
+abbrev pub Handles : Type 0
+Handles = FinSet nat_cmp
+
+-- what a told host tells: its tree, what each live handle stands for, and the touched nodes
+pub record World : Type 0 where
+  pub tree : Tree
+  pub held : ℕ → Held
+  pub touched : Nodes
+
+-- the count is larger than before, or stands at its end
+abbrev pub Rose : ℕ → ℕ → Type 0
+Rose before now = min (before + 1) (2 ^ 64 - 1) ≤ now
+
+-- the count never falls, and `Io` comes only where it rose
+pub record HasCause {A : Type 0} (before now : ℕ) (result : Result A HostError) : Type 0 where
+  pub later : before ≤ now
+  pub io : result ≡ Err (Code Io) → Rose before now
+
+-- a call that answers a new handle: it wasn't live, and is live from then on; a refused call leaves what is live
+abbrev pub LiveGot : Handles → Result ℕ HostError → Handles → Type 0
+LiveGot old (Ok h) new = (contains old h ≡ false) × (new ≡ insert old h)
+LiveGot old (Err e) new = new ≡ old
+
+-- a refusal is the one that is meant; `Io` and want of memory say nothing of what is meant
+abbrev pub MeansErr : {B : Type 0} → Result B ErrorCode → HostError → Type 0
+MeansErr meant Memory = Unit {0}
+MeansErr meant (Code Io) = Unit {0}
+MeansErr meant (Code code) = meant ≡ Err code
+
+-- the answer, as it is shown, is the one that is meant
+abbrev pub Means : {A B : Type 0} → (A → B) → Result B ErrorCode → Result A HostError → Type 0
+Means shown meant (Ok a) = meant ≡ Ok (shown a)
+Means shown meant (Err e) = MeansErr meant e
+
+-- the step was made, and the nodes that the call comes to, with those that it made, are touched
+pub record Stepped (w : World) (call : HostCall) (v : World) : Type 0 where
+  pub tree : v.tree ≡ step w.tree call
+  pub touched : v.touched ≡ with_nodes w.touched (found_by w.tree call ++ made_by w.tree call)
+
+-- the tree stays, and the nodes that the call comes to are touched
+pub record Looked (w : World) (call : HostCall) (v : World) : Type 0 where
+  pub tree : v.tree ≡ w.tree
+  pub touched : v.touched ≡ with_nodes w.touched (found_by w.tree call)
+
+-- the tree stays, and nothing is touched
+pub record Stayed (w v : World) : Type 0 where
+  pub tree : v.tree ≡ w.tree
+  pub touched : v.touched ≡ w.touched
+
+abbrev pub AfterErr : World → HostCall → HostError → World → Type 0
+AfterErr w call Memory v = Stayed w v ⊎ Looked w call v
+AfterErr w call (Code Io) v = Stayed w v ⊎ (Looked w call v ⊎ ((refusal w.tree call ≡ None) × Stepped w call v))
+AfterErr w call (Code code) v = Looked w call v
+
+-- the tree and the touched nodes after a call: a fault may hide its step
+abbrev pub After : {A : Type 0} → World → HostCall → Result A HostError → World → Type 0
+After w call (Ok a) v = Stepped w call v
+After w call (Err e) v = AfterErr w call e v
+
+-- handles that are live before and after keep their node and access
+abbrev pub Keeps : Handles → Handles → World → World → Type 0
+Keeps old new w v = (h : ℕ) → contains old h ≡ true → contains new h ≡ true → v.held h ≡ w.held h
+
+-- what a call of a told host does: it answers by the table, and makes its one step where it answers Ok
+pub record Told {A B : Type 0} (old new : Handles) (w v : World) (call : HostCall) (shown : A → B) (meant : Result B ErrorCode) (result : Result A HostError) : Type 0 where
+  pub meaning : Means shown meant result
+  pub after : After w call result v
+  pub keeps : Keeps old new w v
+
+-- the answer of a call that takes no memory
+abbrev pub hosted : {A : Type 0} → Result A ErrorCode → Result A HostError
+hosted (Ok a) = Ok a
+hosted (Err code) = Err (Code code)
+
+-- the answer of a call that can't be refused
+abbrev pub answered : Result (Unit {0}) HostError
+answered = Ok tt
+
+abbrev pub nothing_meant : Result (Unit {0}) ErrorCode
+nothing_meant = Ok tt

@@ -1,0 +1,101 @@
+ghost use Rattle.std.specs.Prelude.{◌≡◌, ◌≤◌, ◌<◌, ◌^◌, ℕ, Bool, true, false, IsTrue, Ok, IfOk, OnOk, OnErr, length, take, drop};
+ghost use Rattle.std.specs.Ordering.{nat_cmp};
+ghost use Rattle.std.specs.FinSet.{FinSet, contains, remove};
+ghost use Rattle.wasi_paths.specs.Name.{name_bytes};
+ghost use Rattle.wasi_host.specs.Options.{OnlyRead};
+ghost use Rattle.wasi_host.specs.HostCall.{OpenAt, Stat, Pread, Dup, Close};
+ghost use Rattle.wasi_host.specs.Answer.{opened, stat_answer, bytes_read};
+ghost use Rattle.wasi_host.specs.Meaning.{World, HasCause, LiveGot, Told, hosted, answered, nothing_meant};
+ghost use Rattle.wasi_host.specs.Time.{HasTimes};
+
+use crate::{ErrorCode, Handle, HostError, Metadata, OpenOptions};
+use wasi_paths::Name;
+
+/// A tree of files behind handles, which is all that the crates above ever see of one.
+///
+/// Each method has laws that hold for every host (`cause`, `live` and what is said of the answer alone) and, where the
+/// host tells its world, the law `told`: every code but `Io` comes exactly by the first row of the host's table that
+/// holds, Ok has exactly the row's answer and makes the row's one step, a refused call leaves the tree, and the call
+/// touches the nodes that it comes to. `Io` comes only where the count of faults rose.
+///
+/// The condition of every method is that its handles are live.
+pub trait Host {
+    /// How often the host has failed by itself. It never falls, and stands still at 2^64 - 1.
+    ghost faults: { Self → ℕ };
+
+    /// The live handles.
+    ghost live: { Self → FinSet nat_cmp };
+
+    /// Whether the host tells its world.
+    ghost told: { Bool };
+
+    /// The tree, what each live handle stands for, and the touched nodes. It says nothing where it isn't told.
+    ghost world: { Self → World };
+
+    /// Opens a name in a directory. A link is never followed. The handle has the read and write of the options, or is
+    /// for the path alone. Refusals: the rows of `open_at` in the host's table. Today's condition is that the options
+    /// ask for read alone.
+    fn open_at(
+        &mut self,
+        start: Handle,
+        name: Name<'_>,
+        options: &OpenOptions,
+    ) -> Result<Handle, HostError>
+        requires start { contains (live self.old) start ≡ true }
+        requires options { OnlyRead options.now }
+        ensures cause { HasCause (faults self.old) (faults self.new) result }
+        ensures live { LiveGot (live self.old) result (live self.new) }
+        ensures told { IsTrue told → Told (live self.old) (live self.new) (world self.old) (world self.new)
+            (OpenAt ((world self.old).held start).node (name_bytes name.entry) options.now)
+            (world self.new).held
+            (opened (world self.old).tree ((world self.old).held start).node (name_bytes name.entry) options.now)
+            result };
+
+    /// Another live handle of the same node and access.
+    fn dup(&mut self, handle: Handle) -> Result<Handle, HostError>
+        requires { contains (live self.old) handle ≡ true }
+        ensures cause { HasCause (faults self.old) (faults self.new) result }
+        ensures live { LiveGot (live self.old) result (live self.new) }
+        ensures told { IsTrue told → Told (live self.old) (live self.new) (world self.old) (world self.new)
+            Dup
+            (world self.new).held
+            (Ok ((world self.old).held handle))
+            result };
+
+    /// The metadata of what a handle stands for. It takes no memory.
+    fn stat(&mut self, handle: Handle) -> Result<Metadata, ErrorCode>
+        requires { contains (live self.old) handle ≡ true }
+        ensures cause { HasCause (faults self.old) (faults self.new) (hosted result) }
+        ensures live { live self.new ≡ live self.old }
+        ensures times { IfOk result HasTimes }
+        ensures told { IsTrue told → Told (live self.old) (live self.new) (world self.old) (world self.new)
+            (Stat ((world self.old).held handle).node)
+            (λ metadata. metadata)
+            (stat_answer (world self.old).tree ((world self.old).held handle).node)
+            (hosted result) };
+
+    /// Reads a file's bytes from an offset on into the front of `buf`, and answers how many: as many as there are and
+    /// `buf` takes, 0 at or past the end. The rest of `buf` stays. It takes no memory. Refusals: BadDescriptor without
+    /// read access or where it is no file; Invalid for an offset of 2^63 or more.
+    fn pread(&mut self, file: Handle, buf: &mut [u8], offset: u64) -> Result<usize, ErrorCode>
+        requires { contains (live self.old) file ≡ true }
+        ensures cause { HasCause (faults self.old) (faults self.new) (hosted result) }
+        ensures live { live self.new ≡ live self.old }
+        ensures fits { IfOk result (λ n. n ≤ length buf.old) }
+        ensures offset { OnOk result (offset < 2 ^ 63) }
+        ensures rest { IfOk result (λ n. drop n buf.new ≡ drop n buf.old) }
+        ensures kept { OnErr result (buf.new ≡ buf.old) }
+        ensures told { IsTrue told → Told (live self.old) (live self.new) (world self.old) (world self.new)
+            (Pread ((world self.old).held file) offset (length buf.old))
+            (λ n. take n buf.new)
+            (bytes_read (world self.old).tree ((world self.old).held file) offset (length buf.old))
+            (hosted result) };
+
+    /// The handle isn't live any more. It can't fail, and takes no memory.
+    fn close(&mut self, handle: Handle)
+        requires { contains (live self.old) handle ≡ true }
+        ensures faults { faults self.new ≡ faults self.old }
+        ensures live { live self.new ≡ remove (live self.old) handle }
+        ensures told { IsTrue told → Told (live self.old) (live self.new) (world self.old) (world self.new)
+            Close (λ unit. unit) nothing_meant answered };
+}

@@ -1,0 +1,6 @@
+//! Texts of paths. Today this is the type of one name, the only text that a host is ever asked for.
+#![tactic(auto)]
+
+mod name;
+
+pub use name::Name;

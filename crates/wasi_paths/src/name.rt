@@ -1,0 +1,108 @@
+ghost use Rattle.std.specs.Prelude.{◌≡◌, ◌↔◌, IsTrue, IsSome, IfSome, codes};
+ghost use Rattle.wasi_paths.specs.Text.{has_slash, is_plain, is_dot_text, is_name_text};
+
+/// One name in a directory: `.`, or a plain text, which isn't empty, has no `/`, and is neither `.` nor `..`.
+///
+/// A host looks up names of this type alone, so no look-up ever names `..` or a path of several segments.
+/// NUL bytes and the length are no matter of this type: a host refuses them by rows of its own.
+#[derive(Clone, Copy, Debug, PartialEq, Eq)]
+pub struct Name<'a> {
+    text: &'a str,
+    ghost is_name: { IsTrue (is_name_text text.now) },
+}
+
+impl<'a> Name<'a> {
+    ghost use Rattle.wasi_paths.specs.Name.{name_bytes};
+
+    /// The text as a name. `None` exactly where it isn't plain: where it is empty, has a `/`, or is `.` or `..`.
+    pub fn plain(text: &'a str) -> Option<Name<'a>>
+        ensures plain { IsSome result ↔ IsTrue (is_plain text.entry.now) }
+        ensures bytes { IfSome result (λ name. name_bytes name ≡ text.entry.now) }
+    {
+        if !is_plain(text) {
+            return None;
+        }
+        Some(Name { text })
+    }
+
+    /// The name `.`, the directory itself.
+    pub fn dot() -> Name<'static>
+        ensures { name_bytes result ≡ codes "." }
+    {
+        Name { text: "." }
+    }
+
+    /// The bytes of the name, which are UTF-8.
+    pub fn as_str(&self) -> &str
+        ensures text { result.now ≡ name_bytes self.now }
+        ensures name { IsTrue (is_name_text result.now) }
+    {
+        self.text
+    }
+
+    /// Whether it is `.`.
+    pub fn is_dot(&self) -> bool
+        ensures { result ≡ is_dot_text (name_bytes self.now) }
+    {
+        self.text == "."
+    }
+}
+
+fn is_plain(text: &str) -> bool
+    ensures { result ≡ is_plain text.now }
+{
+    if text == "" {
+        return false;
+    }
+    if text == "." {
+        return false;
+    }
+    if text == ".." {
+        return false;
+    }
+    !has_slash(text)
+}
+
+fn has_slash(text: &str) -> bool
+    ensures { result ≡ has_slash text.now }
+{
+    text.as_bytes().contains(&b'/')
+}
+
+#[cfg(test)]
+mod tests {
+    use super::*;
+
+    #[test]
+    fn plain_texts(rt: HostRuntime) {
+        for (text, want) in [
+            ("foo", true),
+            ("foo.", true),
+            ("...", true),
+            (".x", true),
+            ("..x", true),
+            ("", false),
+            (".", false),
+            ("..", false),
+            ("/", false),
+            ("a/b", false),
+            ("a/", false),
+            ("/a", false),
+        ] {
+            assert_eq!(rt; Name::plain(text).is_some(), want, "of {text}");
+        }
+    }
+
+    #[test]
+    fn names(rt: HostRuntime) {
+        let dot = Name::dot();
+        assert!(rt; dot.is_dot());
+        assert_eq!(rt; dot.as_str(), ".");
+        let Some(name) = Name::plain("top") else {
+            panic!(rt; "no name");
+        };
+        assert!(rt; !name.is_dot());
+        assert_eq!(rt; name.as_str(), "top");
+        assert!(rt; name != dot);
+    }
+}
