@@ -1,1 +1,10 @@
 pub mod Room
+pub mod Range
+pub mod Lending
+pub mod Iovec
+pub mod Slots
+pub mod State
+pub mod Errnos
+pub mod Rows
+pub mod Turn
+pub mod HostCalls

@@ -1,0 +1,6 @@
+pub mod Ranges
+mod Places
+mod Utf8
+mod Opening
+mod SlotLemmas
+mod ReadLemmas
