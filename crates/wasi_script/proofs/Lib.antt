@@ -4,3 +4,4 @@ mod Utf8
 mod Opening
 mod SlotLemmas
 mod ReadLemmas
+mod Turns

@@ -11,7 +11,7 @@ use Rattle.wasi_host.specs.declared.file_type.FileType.{FileType}
 use Rattle.wasi_host.specs.declared.file_type.FileType.TheVariants as types
 use Rattle.wasi_host.specs.declared.values.Held.{Held}
 use Rattle.wasi_script.specs.Errnos.{errno_of}
-use Rattle.wasi_script.specs.Rows.{Row, ◌>>=◌, give, range, utf8_text, one_name, iovec_in, buffer_of, Target, open_last, Reading, read_last}
+use Rattle.wasi_script.specs.Rows.{Row, Target, open_last, Reading, read_last}
 use Rattle.wasi_script.specs.Range.{with_bytes}
 use Rattle.wasi_script.specs.State.{OpenFile, Place, place_of, new_number, with_place}
 use Rattle.wasi_script.specs.declared.calls.Errno.TheVariants as errnos
@@ -19,7 +19,6 @@ use Rattle.wasi_script.specs.declared.calls.P1Error.{P1Error}
 use Rattle.wasi_script.specs.declared.calls.P1Error.TheVariants.{Errno, Memory}
 use Rattle.wasi_script.specs.declared.context.Slot.{Slot}
 use Rattle.wasi_script.specs.declared.context.Slot.TheVariants as slots
-use Rattle.wasi_script.specs.declared.guest.Iovec.{Iovec}
 use Rattle.wasi_script.specs.declared.host_calls.FilePlace.{FilePlace}
 
 -- a host's refusal by its error number
@@ -30,18 +29,6 @@ error_of (hosts.Code code) = Errno (errno_of code)
 -- a file's descriptor, with what its handle stands for in place of the handle
 abbrev pub open_file_of : (ℕ → Held) → FilePlace → OpenFile
 open_file_of held file = record { node = (held file.handle).node; mode = (held file.handle).mode; position = file.position }
-
--- the text in a range of memory
-abbrev pub text_in : List ℕ → ℕ → ℕ → Row (List ℕ)
-text_in memory ptr n = range memory ptr n >>= utf8_text
-
--- the name in a range of memory
-abbrev pub name_in : List ℕ → ℕ → ℕ → Row (List ℕ)
-name_in memory ptr n = text_in memory ptr n >>= one_name
-
--- the buffer that the record at an address names
-abbrev pub buffer_in : List ℕ → ℕ → Row Iovec
-buffer_in memory iovs = iovec_in memory iovs >>= (λ item. give (buffer_of item))
 
 -- the descriptor of a node of this kind, at its start
 abbrev pub slot_for : FileType → ℕ → Slot

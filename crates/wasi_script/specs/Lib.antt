@@ -8,3 +8,4 @@ pub mod Errnos
 pub mod Rows
 pub mod Turn
 pub mod HostCalls
+pub mod CallTurn

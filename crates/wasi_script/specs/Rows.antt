@@ -52,6 +52,14 @@ utf8_text bytes = if is_utf8 bytes then Ok bytes else Err (Errno errnos.Notsup)
 abbrev pub one_name : List ℕ → Row (List ℕ)
 one_name text = if is_entry_name text then Ok text else Err (Errno errnos.Notsup)
 
+-- the text in a range of memory
+abbrev pub text_in : List ℕ → ℕ → ℕ → Row (List ℕ)
+text_in memory at n = range memory at n >>= utf8_text
+
+-- the name in a range of memory
+abbrev pub name_in : List ℕ → ℕ → ℕ → Row (List ℕ)
+name_in memory at n = text_in memory at n >>= one_name
+
 abbrev pub directory_in : Option Place → Row ℕ
 directory_in (Some (directory d)) = Ok d.node
 directory_in (Some (file f)) = Err (Errno errnos.Notdir)
@@ -78,9 +86,7 @@ pub record Target : Type 0 where
 -- `path_open` as far as the host: the name, then the directory
 unfoldable pub open_front : State → ℕ → ℕ → ℕ → Row Target
 open_front s fd path len = do
-  bytes ← range s.memory path len
-  text ← utf8_text bytes
-  name ← one_name text
+  name ← name_in s.memory path len
   d ← directory_in (slice_get s.places fd)
   give (record { name = name; directory = d })
 
@@ -121,13 +127,17 @@ iovec_in memory at = or_trap (iovec_of memory at)
 abbrev pub buffer_of : Iovec → Iovec
 buffer_of item = if item.buf_len == 0 then record { buf = 0; buf_len = 0 } else item
 
--- `fd_read` as far as the host: the item, then the file, then the buffer's range
+-- the buffer that the record at an address names
+abbrev pub buffer_in : List ℕ → ℕ → Row Iovec
+buffer_in memory iovs = iovec_in memory iovs >>= (λ item. give (buffer_of item))
+
+-- `fd_read` as far as the host: the buffer's record, then the file, then the buffer's range
 unfoldable pub read_front : State → ℕ → ℕ → Row Reading
 read_front s fd iovs = do
-  item ← iovec_in s.memory iovs
+  buffer ← buffer_in s.memory iovs
   f ← file_in (slice_get s.places fd)
-  _ ← range s.memory (buffer_of item).buf (buffer_of item).buf_len
-  give (record { file = f; buffer = buffer_of item })
+  _ ← range s.memory buffer.buf buffer.buf_len
+  give (record { file = f; buffer = buffer })
 
 -- the bytes that the host reads at the file's position
 abbrev pub read_last : Tree → Reading → Row (List ℕ)

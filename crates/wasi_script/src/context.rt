@@ -1,6 +1,15 @@
 // The context of a guest's calls: its descriptors over a host.
-ghost use Rattle.std.specs.Prelude.{◌≡◌};
+ghost use Rattle.std.specs.Prelude.{◌≡◌, ◌≤◌, [], ◌∷◌, IsTrue, true, IfOk, Err};
+ghost use Rattle.std.specs.FinSet.{contains};
+ghost use Rattle.wasi_host.specs.Meaning.{Rose};
+ghost use Rattle.wasi_script.specs.declared.calls.Call.TheVariants.{PathOpen, FdRead};
 
+use crate::calls::{Call, Errno, P1Error, Value};
+use crate::guest::GuestMemory;
+use crate::host_calls::{
+    buffer_at, directory_at, file_at, name_at, open_into, put_file, range_at, read_into,
+};
+use std::alloc::{AllocError, Global};
 use std::marker::Model;
 use wasi_host::{Handle, Host};
 
@@ -39,4 +48,76 @@ impl<H: Host> Model for WasiP1Ctx<H> {
     ghost view = { λ c. record { host = c.host; slots = c.slots.items; stdout = c.stdout.items; stderr = c.stderr.items } };
 
     ghost invariant = { λ c. All (IsLive (H.live c.host)) c.slots.items };
+}
+
+impl<H: Host> WasiP1Ctx<H> {
+    ghost use Rattle.wasi_script.specs.CallTurn.{TakesTurn};
+
+    /// Opens the name in a range of memory in the directory of a descriptor, for reading, and answers the number of the
+    /// new descriptor. Refusals, in this order: trap Pointer where the range leaves the memory; Notsup where it isn't
+    /// one name that a directory may hold; Badf where the number isn't a directory's or file's, Notdir where it is a
+    /// file's; then the host's. Today the flags and rights are those of an open for reading, whatever they say.
+    pub fn path_open(
+        &mut self,
+        memory: &mut GuestMemory,
+        fd: u32,
+        path: u32,
+        path_len: u32,
+    ) -> Result<Value, P1Error>
+        ensures count { H.faults self.old.host ≤ H.faults self.new.host }
+        ensures io { result ≡ Err (P1Error.Errno Errno.Io) → Rose (H.faults self.old.host) (H.faults self.new.host) }
+        ensures memory { memory.new ≡ memory.old }
+        ensures turn { IsTrue H.told → TakesTurn H.world (Rose (H.faults self.old.host) (H.faults self.new.host))
+            self.old self.new memory.old memory.new (PathOpen fd 0 path path_len 0 2 0 0) result }
+    {
+        let name = match name_at(memory, path, path_len) {
+            Ok(name) => name,
+            Err(error) => return Err(error),
+        };
+        let directory = match directory_at(&self.host, &self.slots, fd) {
+            Ok(directory) => directory,
+            Err(error) => return Err(error),
+        };
+        let number = match open_into(&mut self.host, &mut self.slots, directory, name) {
+            Ok(number) => number,
+            Err(error) => return Err(error),
+        };
+        Ok(Value::Number(number))
+    }
+
+    /// Reads a file's bytes at its position into the buffer of one record, and answers how many; the position is behind
+    /// them afterwards. Refusals, in this order: trap Pointer where the record isn't aligned to 4 or leaves the memory;
+    /// Badf where the number isn't a file's; trap Pointer where the buffer leaves the memory; then the host's.
+    pub fn fd_read(
+        &mut self,
+        memory: &mut GuestMemory,
+        fd: u32,
+        iovs: u32,
+    ) -> Result<Value, P1Error>
+        ensures count { H.faults self.old.host ≤ H.faults self.new.host }
+        ensures io { result ≡ Err (P1Error.Errno Errno.Io) → Rose (H.faults self.old.host) (H.faults self.new.host) }
+        ensures turn { IsTrue H.told → TakesTurn H.world (Rose (H.faults self.old.host) (H.faults self.new.host))
+            self.old self.new memory.old memory.new (FdRead fd iovs 1) result }
+    {
+        let buffer = match buffer_at(memory, iovs) {
+            Ok(buffer) => buffer,
+            Err(error) => return Err(error),
+        };
+        let file = match file_at(&self.host, &self.slots, fd) {
+            Ok(file) => file,
+            Err(error) => return Err(error),
+        };
+        match range_at(memory, buffer) {
+            Ok(()) => {}
+            Err(error) => return Err(error),
+        }
+        let handle = file.handle;
+        let position = file.position;
+        let count = match read_into(&mut self.host, memory, handle, position, buffer) {
+            Ok(count) => count,
+            Err(error) => return Err(error),
+        };
+        put_file(&self.host, &mut self.slots, fd, handle, position + count as u64);
+        Ok(Value::Number(count as u64))
+    }
 }

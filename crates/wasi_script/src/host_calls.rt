@@ -7,9 +7,9 @@ ghost use Rattle.wasi_host.specs.Meaning.{Rose};
 ghost use Rattle.wasi_script.specs.Errnos.{errno_of};
 ghost use Rattle.wasi_script.specs.Slots.{IsLive};
 ghost use Rattle.wasi_script.specs.State.{place_of};
-ghost use Rattle.wasi_script.specs.Rows.{range, one_name, directory_in, file_in, reading};
+ghost use Rattle.wasi_script.specs.Rows.{range, text_in, one_name, name_in, buffer_in, directory_in, file_in, reading};
 ghost use Rattle.wasi_script.specs.Range.{IsInMemory};
-ghost use Rattle.wasi_script.specs.HostCalls.{error_of, open_file_of, text_in, name_in, buffer_in, slot_for, SlotGot, OpensSlot, ReadsInto, OpensInto};
+ghost use Rattle.wasi_script.specs.HostCalls.{error_of, open_file_of, slot_for, SlotGot, OpensSlot, ReadsInto, OpensInto};
 ghost use Rattle.wasi_host.specs.ValidTree.{is_entry_name};
 
 use crate::calls::{Errno, P1Error, TrapKind};
