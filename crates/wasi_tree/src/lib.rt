@@ -1,13 +1,6 @@
-// A library with one function.
+//! `MemTree`, the tree of files in memory: a host that tells its tree, its handles and the nodes that were touched.
 #![tactic(auto)]
 
-ghost use Rattle.std.specs.Prelude.{◌≡◌};
-ghost use Rattle.wasi_tree.specs.Echo.{echo_of};
+mod node;
 
-// The `ensures` clause is the contract: what `echo` returns is `echo_of` of its argument, a definition
-// in `specs/Echo.antt`, which a caller's clause can cite too.
-pub fn echo(x: usize) -> usize
-    ensures { result ≡ echo_of x }
-{
-    x
-}
+pub use node::{NewContent, NewEntry, NewNode};
