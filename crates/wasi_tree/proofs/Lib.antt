@@ -1,0 +1,3 @@
+pub mod FirstTreeLemmas
+pub mod FirstTreeMarks
+pub mod FirstTreeOnce
