@@ -18,23 +18,23 @@ abbrev pub once : Bool → ℕ
 once true = 1
 once false = 0
 
-times-cons : (n m : ℕ) (ns : List ℕ) → times n (m ∷ ns) ≡ once (nat_eq m n) + times n ns
+pub times-cons : (n m : ℕ) (ns : List ℕ) → times n (m ∷ ns) ≡ once (nat_eq m n) + times n ns
 times-cons n m ns = sum_by-cons (λ k. cond (nat_eq k n) 1 0) m ns ∙ ap (λ k. k + times n ns) (elim (nat_eq m n) as (λ b. cond b 1 0 ≡ once b) [ true ↦ refl | false ↦ refl ])
 
-nat_eq-refl : (n : ℕ) → nat_eq n n ≡ true
+pub nat_eq-refl : (n : ℕ) → nat_eq n n ≡ true
 nat_eq-refl n = grind arith
 
-nat_eq-apart : (m n : ℕ) → (m ≡ n → ⊥) → nat_eq m n ≡ false
+pub nat_eq-apart : (m n : ℕ) → (m ≡ n → ⊥) → nat_eq m n ≡ false
 nat_eq-apart m n apart = grind (arith, apart)
 
-not_true : (b : Bool) → not b ≡ true → b ≡ false
+pub not_true : (b : Bool) → not b ≡ true → b ≡ false
 not_true true is = sym is
 not_true false is = refl
 
 true_not_false : true ≡ false → ⊥
 true_not_false is = cc
 
-and_no : (b : Bool) → (b && false) ≡ false
+pub and_no : (b : Bool) → (b && false) ≡ false
 and_no true = refl
 and_no false = refl
 
@@ -88,7 +88,7 @@ taken marks (m ∷ ns) below again = elim (slice_index_or marks m false) as (λ 
 ] refl again
 
 -- a number that fails settles the test of all
-all-not : (p : ℕ → Bool) (k c n : ℕ) → k ≤ n → n < k + c → p n ≡ false → list_all p (numbers_from k c) ≡ false
+pub all-not : (p : ℕ → Bool) (k c n : ℕ) → k ≤ n → n < k + c → p n ≡ false → list_all p (numbers_from k c) ≡ false
 all-not p k zero n low high is = absurd (omega arith)
 all-not p k (suc c) n low high is = ⊎_elim
     (λ (e : k ≡ n). ap (λ b. b && list_all p (numbers_from (k + 1) c)) (ap p e ∙ is))
@@ -105,7 +105,7 @@ times-append : (n : ℕ) (ms ns : List ℕ) → times n (ms ++ ns) ≡ times n m
 times-append n [] ns = omega arith
 times-append n (m ∷ ms) ns = omega (arith, times-append n ms ns, times-cons n m ms, times-cons n m (ms ++ ns))
 
-times-numbers : (n : ℕ) (entries : List (List ℕ × ℕ)) → count_by (λ e. nat_eq e.1 n) entries ≡ times n (map (λ e. e.1) entries)
+pub times-numbers : (n : ℕ) (entries : List (List ℕ × ℕ)) → count_by (λ e. nat_eq e.1 n) entries ≡ times n (map (λ e. e.1) entries)
 times-numbers n [] = refl
 times-numbers n (e ∷ entries) =
     sum_by-cons (λ (f : List ℕ × ℕ). cond (nat_eq f.1 n) 1 0) e entries
@@ -162,7 +162,7 @@ are_once count nodes marks below free is =
 abbrev IsWithin : ℕ → ℕ → Type 0
 IsWithin count n = (0 < n) × (n < count)
 
-All-put : (P : ℕ → Type 0) (n : ℕ) (ns : List ℕ) → P n → All P ns → All P (n ∷ ns)
+pub All-put : {X : Type 0} (P : X → Type 0) (n : X) (ns : List X) → P n → All P ns → All P (n ∷ ns)
 All-put P n ns p ps zero d h = p
 All-put P n ns p ps (suc k) d h = ps k d (omega arith)
 
@@ -170,7 +170,7 @@ All-join : (P : ℕ → Type 0) (ms ns : List ℕ) → All P ms → All P ns →
 All-join P [] ns all rest = rest
 All-join P (m ∷ ms) ns all rest = All-put P m (ms ++ ns) (all 0 m (omega arith)) (All-join P ms ns (λ k d h. all (suc k) d (omega arith)) rest)
 
-All-none : (P : ℕ → Type 0) → All P []
+pub All-none : {X : Type 0} (P : X → Type 0) → All P []
 All-none P k d h = absurd (omega arith)
 
 entries-within : (count k : ℕ) (entries : List (List ℕ × ℕ)) → list_all (is_first_entry count k) entries ≡ true → All (IsWithin count) (map (λ e. e.1) entries)
@@ -186,7 +186,7 @@ content-within count k (file bytes) is = All-none (IsWithin count)
 content-within count k (directory entries) is = entries-within count k entries (and_parts (list_all (is_first_entry count k) entries) (are_distinct (map (λ e. e.0) entries)) is).0
 content-within count k (link text) is = All-none (IsWithin count)
 
-first_of_five : (a b c d e : Bool) → (a && b && c && d && e) ≡ true → a ≡ true
+pub first_of_five : (a b c d e : Bool) → (a && b && c && d && e) ≡ true → a ≡ true
 first_of_five true b c d e is = refl
 first_of_five false b c d e is = is
 

@@ -1,11 +1,12 @@
-ghost use Rattle.std.specs.Prelude.{◌≡◌, ◌<◌, true, false, not, map, drop, length, slice_index_or, slice_set, All, IfOk};
+ghost use Rattle.std.specs.Prelude.{◌≡◌, ◌<◌, true, false, not, List, map, drop, length, slice_index_or, slice_set, All, IfOk};
 ghost use Rattle.std.specs.Bool.{OnTrue};
 ghost use Rattle.std.specs.List.{list_all};
 ghost use Rattle.std.specs.Vec.{vec_len};
-ghost use Rattle.wasi_host.specs.ValidTree.{is_entry_name, has_nul};
-ghost use Rattle.wasi_tree.specs.Given.{given, given_content, pair_of};
+ghost use Rattle.wasi_host.specs.ValidTree.{is_entry_name, has_nul, IsValidTree};
+ghost use Rattle.wasi_host.specs.declared.values.Limits.{Limits};
+ghost use Rattle.wasi_tree.specs.Given.{Given, given, given_content, pair_of, tree_of};
 ghost use Rattle.wasi_tree.specs.FirstTreeMarks.{entry_numbers, numbers_in, numbers_of, stand_once, marked, are_unmarked};
-ghost use Rattle.wasi_tree.specs.FirstTree.{is_dir_content, is_first_entry, are_distinct, is_first_content, has_default_bits, is_zero_time, is_first_node, are_first_nodes, starts_with_directory, is_first_tree};
+ghost use Rattle.wasi_tree.specs.FirstTree.{AreLimits, is_dir_content, is_first_entry, are_distinct, is_first_content, has_default_bits, is_zero_time, is_first_node, are_first_nodes, starts_with_directory, is_first_tree};
 
 use crate::{NewContent, NewEntry, NewNode};
 use std::alloc::{AllocError, Global};
@@ -239,6 +240,12 @@ pub fn is_first_tree(
     }
     stand_once(alloc, nodes)
 }
+
+/// A first tree is a valid tree.
+pub fn first_trees_are_valid()
+    ensures valid { (limits : Limits) (nodes : List Given)
+        → AreLimits limits → is_first_tree limits nodes ≡ true → IsValidTree (tree_of nodes limits) }
+{}
 
 #[cfg(test)]
 mod tests {

@@ -4,5 +4,5 @@
 mod first_tree;
 mod node;
 
-pub use first_tree::is_first_tree;
+pub use first_tree::{first_trees_are_valid, is_first_tree};
 pub use node::{NewContent, NewEntry, NewNode};
