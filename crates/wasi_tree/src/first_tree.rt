@@ -219,8 +219,9 @@ fn stand_once(alloc: Global, nodes: &[NewNode]) -> Result<bool, AllocError>
 ///
 /// It is a tree of directories and files as new ones are. Node 0 is a directory, and each other node stands in exactly
 /// one entry, whose number is larger than its directory's. A directory has no name twice, and its names are plain,
-/// without NUL, of at most 255 bytes. A file has at most 2^30 bytes. Each node has the bits of a new one, read and write
-/// and for a directory search, and times of zero. There are no links, and no more nodes than the limit.
+/// without NUL, of at most 255 bytes. A file has at most 2^30 bytes. Each node has the bits of a new one, which are read
+/// and write, and search for a directory; its times are zero. There are no links, and no more nodes than the limit.
+/// An `Err` is want of memory alone.
 #[tactic(auto, using(crate::proofs::FirstTreeOnce::number_rules), unfolding(crate::specs::FirstTree::is_first_tree))]
 pub fn is_first_tree(
     alloc: Global,
