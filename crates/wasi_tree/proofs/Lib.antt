@@ -1,0 +1,5 @@
+pub mod FirstTreeLemmas
+pub mod FirstTreeMarks
+pub mod FirstTreeOnce
+pub mod FirstTreeNames
+pub mod FirstTreeValid

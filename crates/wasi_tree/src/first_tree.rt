@@ -1,0 +1,348 @@
+ghost use Rattle.std.specs.Prelude.{◌≡◌, ◌<◌, true, false, not, List, map, drop, length, slice_index_or, slice_set, All, IfOk};
+ghost use Rattle.std.specs.Bool.{OnTrue};
+ghost use Rattle.std.specs.List.{list_all};
+ghost use Rattle.std.specs.Vec.{vec_len};
+ghost use Rattle.wasi_host.specs.ValidTree.{is_entry_name, has_nul, IsValidTree};
+ghost use Rattle.wasi_host.specs.declared.values.Limits.{Limits};
+ghost use Rattle.wasi_tree.specs.Given.{Given, given, given_content, pair_of, tree_of};
+ghost use Rattle.wasi_tree.specs.FirstTreeMarks.{entry_numbers, numbers_in, numbers_of, stand_once, marked, are_unmarked};
+ghost use Rattle.wasi_tree.specs.FirstTree.{AreLimits, is_dir_content, is_first_entry, are_distinct, is_first_content, has_default_bits, is_zero_time, is_first_node, are_first_nodes, starts_with_directory, is_first_tree};
+
+use crate::{NewContent, NewEntry, NewNode};
+use std::alloc::{AllocError, Global};
+use std::collections::BTreeSet;
+use wasi_host::{Bits, Limits, SystemTime};
+use wasi_paths::Name;
+
+fn is_entry_name(name: &str) -> bool
+    ensures test { result ≡ is_entry_name name.now }
+{
+    if Name::plain(name).is_none() {
+        return false;
+    }
+    if has_nul(name) {
+        return false;
+    }
+    name.len() <= 255
+}
+
+fn has_nul(text: &str) -> bool
+    ensures test { result ≡ has_nul text.now }
+{
+    text.as_bytes().contains(&0)
+}
+
+fn is_first_entry(count: u64, directory: u64, entry: &NewEntry) -> bool
+    ensures test { result ≡ is_first_entry count directory (pair_of entry.now) }
+{
+    is_entry_name(&entry.name) && directory < entry.node && entry.node < count
+}
+
+fn has_default_bits(is_directory: bool, bits: Bits) -> bool
+    ensures test { result ≡ has_default_bits is_directory bits }
+{
+    bits.r && bits.w && bits.x == is_directory
+}
+
+fn is_zero_time(time: SystemTime) -> bool
+    ensures test { result ≡ is_zero_time time }
+{
+    time.seconds == 0 && time.nanoseconds == 0
+}
+
+fn is_dir_content(content: &NewContent) -> bool
+    ensures test { result ≡ is_dir_content (given_content content.now) }
+{
+    match content {
+        NewContent::Dir(_) => true,
+        NewContent::File(_) => false,
+        NewContent::Link(_) => false,
+    }
+}
+
+fn are_first_entries(count: u64, directory: u64, entries: &[NewEntry]) -> bool
+    ensures test { result ≡ list_all (λ e. is_first_entry count directory (pair_of e)) entries.now }
+{
+    entries
+        .iter()
+        .all(|entry| is_first_entry(count, directory, entry))
+}
+
+#[tactic(auto, using(crate::proofs::FirstTreeLemmas::seen_rules))]
+fn are_distinct(alloc: Global, entries: &[NewEntry]) -> Result<bool, AllocError>
+    ensures test { IfOk result (λ is. is ≡ are_distinct (map (λ e. e.0) (map pair_of entries.now))) }
+{
+    let mut seen = BTreeSet::new(alloc);
+    for entry in entries {
+        if !seen.insert(entry.name.as_str())? {
+            return Ok(false);
+        }
+    }
+    Ok(true)
+}
+
+#[tactic(auto, using(crate::proofs::FirstTreeLemmas::content_rules))]
+fn is_first_content(
+    alloc: Global,
+    count: u64,
+    number: u64,
+    content: &NewContent,
+) -> Result<bool, AllocError>
+    ensures test { IfOk result (λ is. is ≡ is_first_content count number (given_content content.now)) }
+{
+    match content {
+        NewContent::File(bytes) => Ok(bytes.len() <= 1 << 30),
+        NewContent::Dir(entries) => {
+            if !are_first_entries(count, number, entries) {
+                return Ok(false);
+            }
+            are_distinct(alloc, entries)
+        }
+        NewContent::Link(_) => Ok(false),
+    }
+}
+
+fn is_first_node(alloc: Global, count: u64, number: u64, node: &NewNode) -> Result<bool, AllocError>
+    ensures test { IfOk result (λ is. is ≡ is_first_node count number (given node.now)) }
+{
+    if !is_first_content(alloc, count, number, &node.content)? {
+        return Ok(false);
+    }
+    Ok(
+        has_default_bits(is_dir_content(&node.content), node.bits)
+            && is_zero_time(node.atime)
+            && is_zero_time(node.mtime)
+            && is_zero_time(node.btime),
+    )
+}
+
+fn starts_with_directory(nodes: &[NewNode]) -> bool
+    ensures test { result ≡ starts_with_directory (map given nodes.now) }
+{
+    match nodes.first() {
+        Some(node) => is_dir_content(&node.content),
+        None => false,
+    }
+}
+
+#[tactic(auto, using(crate::proofs::FirstTreeLemmas::node_rules))]
+fn are_first_nodes(alloc: Global, nodes: &[NewNode]) -> Result<bool, AllocError>
+    ensures test { IfOk result (λ is. is ≡ are_first_nodes (length nodes.now) 0 (map given nodes.now)) }
+{
+    let count = nodes.len() as u64;
+    for (i, node) in nodes.iter().enumerate() {
+        if !is_first_node(alloc, count, i as u64, node)? {
+            return Ok(false);
+        }
+    }
+    Ok(true)
+}
+
+/// Marks a number. Whether it had no mark before.
+fn mark(marks: &mut Vec<bool>, number: u64) -> bool
+    requires within { number < vec_len marks.old }
+    ensures unmarked { result ≡ not (slice_index_or marks.old.items number false) }
+    ensures marked { marks.new.items ≡ slice_set marks.old.items number true }
+    ensures len { vec_len marks.new ≡ vec_len marks.old }
+{
+    let place = &mut marks[number as usize];
+    let unmarked = !*place;
+    *place = true;
+    unmarked
+}
+
+#[tactic(auto, using(crate::proofs::FirstTreeMarks::marking_rules))]
+fn mark_entries(marks: &mut Vec<bool>, entries: &[NewEntry]) -> bool
+    requires below { All (λ n. n < vec_len marks.old) (entry_numbers entries.now) }
+    ensures unmarked { result ≡ are_unmarked marks.old.items (entry_numbers entries.now) }
+    ensures marked { OnTrue result (marks.new.items ≡ marked marks.old.items (entry_numbers entries.now)) }
+    ensures len { vec_len marks.new ≡ vec_len marks.old }
+{
+    for entry in entries {
+        if !mark(marks, entry.node) {
+            return false;
+        }
+    }
+    true
+}
+
+fn mark_content(marks: &mut Vec<bool>, content: &NewContent) -> bool
+    requires below { All (λ n. n < vec_len marks.old) (numbers_in (given_content content.now)) }
+    ensures unmarked { result ≡ are_unmarked marks.old.items (numbers_in (given_content content.now)) }
+    ensures marked { OnTrue result (marks.new.items ≡ marked marks.old.items (numbers_in (given_content content.now))) }
+    ensures len { vec_len marks.new ≡ vec_len marks.old }
+{
+    match content {
+        NewContent::Dir(entries) => mark_entries(marks, entries),
+        NewContent::File(_) => true,
+        NewContent::Link(_) => true,
+    }
+}
+
+#[tactic(auto, using(crate::proofs::FirstTreeMarks::marking_rules))]
+fn mark_nodes(marks: &mut Vec<bool>, nodes: &[NewNode]) -> bool
+    requires below { All (λ n. n < vec_len marks.old) (numbers_of (map given nodes.now)) }
+    ensures unmarked { result ≡ are_unmarked marks.old.items (numbers_of (map given nodes.now)) }
+    ensures marked { OnTrue result (marks.new.items ≡ marked marks.old.items (numbers_of (map given nodes.now))) }
+    ensures len { vec_len marks.new ≡ vec_len marks.old }
+{
+    for node in nodes {
+        if !mark_content(marks, &node.content) {
+            return false;
+        }
+    }
+    true
+}
+
+/// Whether each number from 1 on has a mark.
+fn are_marked(marks: &[bool]) -> bool
+    ensures test { result ≡ list_all (λ mark. mark) (drop 1 marks.now) }
+{
+    marks.iter().skip(1).all(|mark| *mark)
+}
+
+/// Whether each number from 1 on stands in exactly one entry.
+#[tactic(auto, using(crate::proofs::FirstTreeOnce::once_rules))]
+fn stand_once(alloc: Global, nodes: &[NewNode]) -> Result<bool, AllocError>
+    requires above { All (λ n. 0 < n) (numbers_of (map given nodes.now)) }
+    requires below { All (λ n. n < length nodes.now) (numbers_of (map given nodes.now)) }
+    ensures test { IfOk result (λ is. is ≡ stand_once (length nodes.now) (map given nodes.now)) }
+{
+    let mut marks = vec![in alloc; false; nodes.len()]?;
+    if !mark_nodes(&mut marks, nodes) {
+        return Ok(false);
+    }
+    Ok(are_marked(&marks))
+}
+
+/// Whether a list of nodes is a first tree, which a tree in memory can be made of.
+///
+/// It is a tree of directories and files as new ones are. Node 0 is a directory, and each other node stands in exactly
+/// one entry, whose number is larger than its directory's. A directory has no name twice, and its names are plain,
+/// without NUL, of at most 255 bytes. A file has at most 2^30 bytes. Each node has the bits of a new one, which are read
+/// and write, and search for a directory; its times are zero. There are no links, and no more nodes than the limit.
+/// An `Err` is want of memory alone.
+#[tactic(auto, using(crate::proofs::FirstTreeOnce::number_rules), unfolding(crate::specs::FirstTree::is_first_tree))]
+pub fn is_first_tree(
+    alloc: Global,
+    nodes: &Vec<NewNode>,
+    limits: Limits,
+) -> Result<bool, AllocError>
+    ensures test { IfOk result (λ is. is ≡ is_first_tree limits (map given nodes.now.items)) }
+{
+    if !starts_with_directory(nodes) {
+        return Ok(false);
+    }
+    if nodes.len() as u64 > limits.nodes {
+        return Ok(false);
+    }
+    if !are_first_nodes(alloc, nodes)? {
+        return Ok(false);
+    }
+    stand_once(alloc, nodes)
+}
+
+/// A first tree is a valid tree.
+pub fn first_trees_are_valid()
+    ensures valid { (limits : Limits) (nodes : List Given)
+        → AreLimits limits → is_first_tree limits nodes ≡ true → IsValidTree (tree_of nodes limits) }
+{}
+
+#[cfg(test)]
+mod tests {
+    use super::*;
+
+    /// The text itself, or one letter more than the number that it says.
+    fn name(alloc: Global, text: &str) -> Result<String, AllocError> {
+        let Ok(len) = text.parse::<u8>() else {
+            return String::from_str(alloc, text);
+        };
+        let mut name = String::from_str(alloc, "x")?;
+        for _ in 0..len {
+            name.push('x')?;
+        }
+        Ok(name)
+    }
+
+    fn entries(alloc: Global, text: &str) -> Result<Vec<NewEntry>, AllocError> {
+        let mut entries = Vec::new(alloc);
+        for entry in text.split(',') {
+            if let Some((text, number)) = entry.split_once('=') {
+                entries.push(NewEntry {
+                    name: name(alloc, text)?,
+                    node: number.parse::<u64>().unwrap_or(0),
+                })?;
+            }
+        }
+        Ok(entries)
+    }
+
+    fn content(alloc: Global, text: &str) -> Result<NewContent, AllocError> {
+        match text {
+            "file" | "executable" | "touched" => Ok(NewContent::File(Vec::new(alloc))),
+            "link" => Ok(NewContent::Link(String::from_str(alloc, "f")?)),
+            _ => Ok(NewContent::Dir(entries(alloc, text)?)),
+        }
+    }
+
+    fn node(alloc: Global, text: &str) -> Result<NewNode, AllocError> {
+        let content = content(alloc, text)?;
+        let time = SystemTime {
+            seconds: 0,
+            nanoseconds: 0,
+        };
+        let mtime = SystemTime {
+            seconds: if text == "touched" { 1 } else { 0 },
+            nanoseconds: 0,
+        };
+        let bits = Bits {
+            r: true,
+            w: true,
+            x: text == "executable" || is_dir_content(&content),
+        };
+        Ok(NewNode {
+            content,
+            bits,
+            atime: time,
+            mtime,
+            btime: time,
+        })
+    }
+
+    /// The answer at nodes that a text gives, between blanks: a word for a file or a link, else a directory's entries.
+    fn answer(alloc: Global, text: &str, most: u64) -> Result<bool, AllocError> {
+        let mut nodes = Vec::new(alloc);
+        for part in text.split_whitespace() {
+            nodes.push(node(alloc, part)?)?;
+        }
+        let limits = Limits {
+            nodes: most,
+            links: 1,
+        };
+        is_first_tree(alloc, &nodes, limits)
+    }
+
+    #[test]
+    fn first_trees(rt: HostRuntime) {
+        for (text, most, want) in [
+            ("f=1 file", 2, true),
+            ("d=1,f=3 f=2 file file", 4, true),
+            ("254=1 file", 2, true),
+            ("", 2, false),
+            ("file", 2, false),
+            ("f=1,f=2 file file", 3, false),
+            ("d=1 d=1", 2, false),
+            ("d=1 d=0", 2, false),
+            ("f=1,g=1 file", 2, false),
+            ("empty file", 2, false),
+            ("f=1 link", 2, false),
+            ("..=1 file", 2, false),
+            ("255=1 file", 2, false),
+            ("f=1 executable", 2, false),
+            ("f=1 touched", 2, false),
+            ("f=1 file", 1, false),
+        ] {
+            assert_eq!(rt; answer(rt.alloc(), text, most), Ok(want), "of {text}");
+        }
+    }
+}
