@@ -5,3 +5,5 @@ mod Opening
 mod SlotLemmas
 mod ReadLemmas
 mod Turns
+mod Runs
+mod Confining

@@ -1,7 +1,6 @@
 -- Opening a name over a told host.
-use Rattle.std.proofs.Common.{◌≡◌, ◌⊎◌, inl, inr, ℕ, Bool, true, false, cond, ◌||◌, List, [], ◌∷◌, ◌++◌, Option, Some, None, Result, Ok, Err, refl, sym, ap, subst, ◌∙◌, arith, rules, nat_eq, ◌≤◌}
+use Rattle.std.proofs.Common.{◌≡◌, ◌⊎◌, inl, inr, ℕ, Bool, true, false, cond, ◌||◌, List, [], ◌∷◌, ◌++◌, Option, Some, None, Result, Ok, Err, refl, sym, ap, subst, ◌∙◌, arith, nat_eq, ◌≤◌}
 use Rattle.std.specs.Prelude.{All, Contains, option_to_list}
-use Rattle.std.specs.Result.{result_map_both}
 use Rattle.std.specs.List.{list_any}
 use Rattle.std.specs.FinSet.{contains, insert, members}
 use Rattle.std.proofs.lemmas.List.{append-nil}
@@ -13,9 +12,9 @@ use Rattle.wasi_host.specs.Tree.{Tree, Nodes, child, node_at, next_of, is_direct
 use Rattle.wasi_host.specs.Options.{OnlyRead}
 use Rattle.wasi_host.specs.HostCall.{OpenAt, Stat, Close}
 use Rattle.wasi_host.specs.Refusal.{refusal}
-use Rattle.wasi_host.specs.Step.{open_step, with_nodes, found_by, made_by}
+use Rattle.wasi_host.specs.Step.{open_step, with_nodes}
 use Rattle.wasi_host.specs.Answer.{kind_of, opened, reached, stat_answer, metadata_of, or_next, unless}
-use Rattle.wasi_host.specs.Meaning.{Rose, World, Handles, Told, Looked, Stayed, Stepped, AfterErr, Keeps, MeansErr, hosted, answered, nothing_meant}
+use Rattle.wasi_host.specs.Meaning.{Rose, World, Handles, Told, Looked, Stayed, Stepped, Keeps, hosted, answered, nothing_meant}
 use Rattle.wasi_host.proofs.Chain.{open_step-only_read, made_by-only_read, found-only_read, contains-with_nodes, free}
 use Rattle.wasi_host.specs.declared.errors.ErrorCode.{ErrorCode}
 use Rattle.wasi_host.specs.declared.errors.ErrorCode.TheVariants.{Io}
@@ -29,7 +28,6 @@ use Rattle.wasi_script.specs.Errnos.{errno_of}
 use Rattle.wasi_script.specs.Rows.{Target, open_last, reading}
 use Rattle.wasi_script.specs.State.{Place, directory, file, place_of, place_for}
 use Rattle.wasi_script.specs.HostCalls.{OpensSlot, Touched, GivesOrElse, error_of, slot_for}
-use Rattle.wasi_script.specs.declared.context.Slot.{Slot}
 use Rattle.wasi_script.specs.declared.calls.P1Error.{P1Error}
 use Rattle.wasi_script.specs.declared.calls.P1Error.TheVariants.{Errno}
 
@@ -184,7 +182,7 @@ still old h q is = grind (arith, members, nat_tests)
 last_opened : (t u : Tree) (target : Target) (held : Held) → opened t target.directory target.name reading ≡ Ok held → u ≡ open_step t target.directory target.name reading → open_last t target ≡ Ok (place_for u held)
 last_opened t u target held answer made = rw (answer, made) refl
 
-unless_value : {B : Type 0} (r : Option ErrorCode) (x y : B) → unless r x ≡ Ok y → x ≡ y
+pub unless_value : {B : Type 0} (r : Option ErrorCode) (x y : B) → unless r x ≡ Ok y → x ≡ y
 unless_value None x y e = cc
 unless_value (Some code) x y e = absurd (cc)
 

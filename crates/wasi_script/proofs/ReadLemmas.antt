@@ -1,8 +1,7 @@
 -- Reading into memory over a told host.
-use Rattle.std.proofs.Common.{inl, inr, ◌⊎◌, sym, ◌∙◌, ap, subst, ℕ, List, [], ◌∷◌, ◌+◌, ◌≤◌, ◌≡◌, true, Result, Ok, Err, refl, arith, length, take, drop, slice_range}
+use Rattle.std.proofs.Common.{inl, inr, ◌⊎◌, sym, ◌∙◌, subst, ℕ, List, [], ◌∷◌, ◌+◌, ◌≤◌, ◌≡◌, true, Result, Ok, Err, refl, arith, length, take, drop, slice_range}
 use Rattle.std.proofs.lemmas.List.{length-take-le}
 use Rattle.std.proofs.lemmas.List.Elements.{All-nil, All-contains_itself}
-use Rattle.std.specs.Prelude.{All}
 use Rattle.std.specs.FinSet.{contains}
 use Rattle.wasi_host.specs.HostCall.{Pread}
 use Rattle.wasi_host.specs.Answer.{bytes_read}
@@ -13,8 +12,8 @@ use Rattle.wasi_host.specs.declared.errors.HostError.TheVariants.{Code}
 use Rattle.wasi_host.specs.declared.values.Held.{Held}
 use Rattle.wasi_script.specs.Errnos.{errno_of}
 use Rattle.wasi_script.specs.Range.{with_bytes}
-use Rattle.wasi_script.specs.Rows.{Reading, read_last}
-use Rattle.wasi_script.specs.HostCalls.{ReadsInto, Touched, GivesOrElse, with_memory, read_at}
+use Rattle.wasi_script.specs.Rows.{Reading}
+use Rattle.wasi_script.specs.HostCalls.{ReadsInto, Touched}
 use Rattle.wasi_script.specs.declared.calls.P1Error.TheVariants.{Errno}
 use Rattle.wasi_script.specs.declared.guest.Iovec.{Iovec}
 use Rattle.wasi_script.proofs.Ranges.{with_filled}

@@ -1,17 +1,14 @@
 -- Descriptors seen without their handles.
-use Rattle.std.proofs.Common.{ℕ, suc, List, [], ◌∷◌, ◌++◌, ◌≡◌, ◌⊎◌, ◌<◌, inl, inr, true, false, cond, length, map, refl, ap, sym, ◌∙◌, subst, arith, nat_lt, Option, Some, None, Result, Ok, Err, OnErr}
-use Rattle.std.specs.Prelude.{All, unwrap_or, option_to_list}
-use Rattle.std.specs.Result.{result_map_both}
+use Rattle.std.proofs.Common.{ℕ, List, [], ◌∷◌, ◌++◌, ◌≡◌, inl, inr, true, false, length, map, refl, ap, sym, ◌∙◌, subst, arith, nat_lt, None, Ok, Err}
+use Rattle.std.specs.Prelude.{All, unwrap_or}
 use Rattle.std.specs.List.{AllByRecursion}
 use Rattle.std.proofs.lemmas.List.{map-append, length-map}
 use Rattle.std.proofs.lemmas.List.Elements.{recursion_from_All, All-from_recursion, All-push}
 use Rattle.std.proofs.lemmas.Bool.Decides.{nat_tests}
 use Rattle.std.specs.FinSet.{contains, insert, members}
-use Rattle.wasi_host.specs.Tree.{child}
-use Rattle.wasi_host.specs.Answer.{reached}
 use Rattle.wasi_host.specs.Meaning.{World, Handles}
 use Rattle.wasi_host.specs.declared.values.Held.{Held}
-use Rattle.wasi_script.specs.Rows.{Row, Target, open_last}
+use Rattle.wasi_script.specs.Rows.{Target, open_last}
 use Rattle.wasi_script.specs.State.{Place, place_of, largest_closed, later_or_first, new_number, with_place}
 use Rattle.wasi_script.specs.Slots.{IsLive}
 use Rattle.wasi_script.specs.HostCalls.{GotSlot, GivesOrElse, OpensSlot, OpensInto, place_added, with_places}

@@ -1,5 +1,5 @@
 -- The ends of the rows of the calls.
-use Rattle.std.proofs.Common.{ℕ, List, [], ◌∷◌, ◌++◌, ◌+◌, ◌≡◌, ◌⊎◌, ◌<◌, inl, inr, true, false, cond, length, map, refl, ap, sym, ◌∙◌, subst, arith, slice_get, slice_set, Option, Some, None, Bool, Result, Ok, Err, OnErr}
+use Rattle.std.proofs.Common.{ℕ, List, [], ◌∷◌, ◌+◌, ◌≡◌, inl, inr, true, false, cond, length, map, refl, ap, sym, ◌∙◌, subst, arith, slice_get, slice_set, Option, Some, None, Bool, Result, Ok, Err}
 use Rattle.std.specs.Prelude.{All, Contains, option_to_list}
 use Rattle.std.specs.FinSet.{contains}
 use Rattle.std.specs.FinMap as maps
@@ -7,10 +7,8 @@ use Rattle.std.proofs.lemmas.List.Elements.{All-nil, Contains-append_cases, Cont
 use Rattle.wasi_paths.specs.Text.{is_dot_text}
 use Rattle.wasi_host.specs.Tree.{Tree, Nodes, child, node_at, names_of}
 use Rattle.wasi_host.specs.ValidTree.{Reached, root, held}
-use Rattle.wasi_host.specs.HostCall.{OpenAt}
-use Rattle.wasi_host.specs.Refusal.{refusal}
 use Rattle.wasi_host.specs.Step.{open_step}
-use Rattle.wasi_host.specs.Answer.{opened, reached, unless}
+use Rattle.wasi_host.specs.Answer.{opened, reached}
 use Rattle.wasi_host.specs.Meaning.{World, Handles}
 use Rattle.wasi_host.proofs.Chain.{open_step-only_read, free}
 use Rattle.wasi_host.specs.declared.errors.ErrorCode.{ErrorCode}
@@ -18,8 +16,8 @@ use Rattle.wasi_host.specs.declared.values.Held.{Held}
 use Rattle.wasi_script.specs.Rows.{Row, ◌>>=◌, give, from_host, Target, Reading, open_front, open_last, path_open, name_in, directory_in, file_in, node_in, ended_at, passes_front, reading, with_opened, read_front, read_last, fd_read, buffer_in, range, with_read}
 use Rattle.wasi_script.specs.Range.{with_bytes}
 use Rattle.wasi_script.specs.State.{State, Place, OpenFile, closed, stream, directory, file, new_number, with_place, place_for, place_of}
-use Rattle.wasi_script.specs.Turn.{IsTurn, Refuses, Touches, ends_of}
-use Rattle.wasi_script.specs.HostCalls.{GivesOrElse, OpensInto, ReadsInto, Touched, with_places, place_added, with_memory, read_at, if_ok}
+use Rattle.wasi_script.specs.Turn.{IsTurn, Touches, ends_of}
+use Rattle.wasi_script.specs.HostCalls.{GivesOrElse, OpensInto, ReadsInto, with_places, place_added, with_memory, read_at, if_ok}
 use Rattle.wasi_script.specs.Errnos.{errno_of}
 use Rattle.wasi_script.specs.declared.context.Slot.{Slot}
 use Rattle.wasi_script.specs.declared.context.Slot.TheVariants as slots
@@ -38,11 +36,11 @@ abbrev pub opened_row : State → Target → Row Place → Row (Value × State)
 opened_row s target (Ok place) = Ok (Number (new_number s.places), with_opened s target place)
 opened_row s target (Err e) = Err e
 
-last_is : (t : Tree) (target : Target) (r : Result Held ErrorCode) → (from_host r >>= (λ h. give (place_for (open_step t target.directory target.name reading) h))) ≡ last_of t target r
+pub last_is : (t : Tree) (target : Target) (r : Result Held ErrorCode) → (from_host r >>= (λ h. give (place_for (open_step t target.directory target.name reading) h))) ≡ last_of t target r
 last_is t target (Ok h) = refl
 last_is t target (Err code) = refl
 
-bind_last : (s : State) (target : Target) (m : Row Place) → (m >>= (λ place. give (Number (new_number s.places), with_opened s target place))) ≡ opened_row s target m
+pub bind_last : (s : State) (target : Target) (m : Row Place) → (m >>= (λ place. give (Number (new_number s.places), with_opened s target place))) ≡ opened_row s target m
 bind_last s target (Ok place) = refl
 bind_last s target (Err e) = refl
 
@@ -82,12 +80,22 @@ module _ (s : State) (fd path len : ℕ) where
   unfolding path_open open_front
   open_no_directory e name named is = rw (← named, ← is) refl
 
+  -- a front that was passed had found the directory
+  pub front_aims : (target : Target) → open_front s fd path len ≡ Ok target → Ok target.directory ≡ directory_in (slice_get s.places fd)
+  unfolding open_front
+  front_aims target is = aimed (name_in s.memory path len) (directory_in (slice_get s.places fd)) refl is
+    where
+      aimed : (n : Row (List ℕ)) (d : Row ℕ) → directory_in (slice_get s.places fd) ≡ d → (n >>= (λ name. d >>= (λ x. give (let t : Target = record { name = name; directory = x } in t)))) ≡ Ok target → Ok target.directory ≡ directory_in (slice_get s.places fd)
+      aimed (Ok name) (Ok x) found same = let t : ◌≡◌ (record { name = name; directory = x }) target = (cc) in sym (found ∙ ap (λ (u : Target). Ok u.directory) t)
+      aimed (Ok name) (Err e) found same = absurd (cc)
+      aimed (Err e) d found same = absurd (cc)
+
   pub front_is : (name : List ℕ) (d : ℕ) → Ok name ≡ name_in s.memory path len → Ok d ≡ directory_in (slice_get s.places fd) → open_front s fd path len ≡ Ok (record { name = name; directory = d })
   unfolding open_front
   front_is name d named is = rw (← named, ← is) refl
 
 -- an open of a name that is answered makes no step
-unrefused : (t : Tree) (target : Target) (r : Result Held ErrorCode) (place : Place) → opened t target.directory target.name reading ≡ r → last_of t target r ≡ Ok place
+pub unrefused : (t : Tree) (target : Target) (r : Result Held ErrorCode) (place : Place) → opened t target.directory target.name reading ≡ r → last_of t target r ≡ Ok place
     → open_step t target.directory target.name reading ≡ t
 unrefused t target (Ok h) place is last = open_step-only_read t target.directory target.name reading only_reads (free _ _ _ is)
 unrefused t target (Err code) place is last = absurd (cc)
@@ -95,14 +103,14 @@ unrefused t target (Err code) place is last = absurd (cc)
 abbrev pub state : World → List Place → List ℕ → List ℕ → List ℕ → State
 state w places memory stdout stderr = record { tree = w.tree; places = places; memory = memory; stdout = stdout; stderr = stderr }
 
-directory_root : (p : Option Place) (d : ℕ) → Ok d ≡ directory_in p → node_in p ≡ d ∷ []
+pub directory_root : (p : Option Place) (d : ℕ) → Ok d ≡ directory_in p → node_in p ≡ d ∷ []
 directory_root (Some (directory x)) d is = let same : d ≡ x.node = (cc) in ap (λ n. n ∷ []) (sym same)
 directory_root (Some (file f)) d is = absurd (cc)
 directory_root (Some (stream s)) d is = absurd (cc)
 directory_root (Some closed) d is = absurd (cc)
 directory_root None d is = absurd (cc)
 
-file_root : (p : Option Place) (f : OpenFile) → Ok f ≡ file_in p → node_in p ≡ f.node ∷ []
+pub file_root : (p : Option Place) (f : OpenFile) → Ok f ≡ file_in p → node_in p ≡ f.node ∷ []
 file_root (Some (file x)) f is = let same : f ≡ x = (cc) in ap (λ (y : OpenFile). y.node ∷ []) (sym same)
 file_root (Some (directory x)) f is = absurd (cc)
 file_root (Some (stream s)) f is = absurd (cc)
@@ -116,7 +124,7 @@ child_reached : (t : Tree) (d n : ℕ) (name : List ℕ) (dot : Bool) → cond d
 child_reached t d n name true is = let same : d ≡ n = (cc) in subst (Reached t (d ∷ [])) same (root d (Contains-push [] d))
 child_reached t d n name false is = held d n name (root d (Contains-push [] d)) is
 
-under : (t : Tree) (d n : ℕ) (name : List ℕ) → child t d name ≡ Some n → Reached t (d ∷ []) n
+pub under : (t : Tree) (d n : ℕ) (name : List ℕ) → child t d name ≡ Some n → Reached t (d ∷ []) n
 unfolding child
 under t d n name is = child_reached t d n name (is_dot_text name) is
 
@@ -198,7 +206,30 @@ module _ (rose : Type 0) (w v : World) (places places' : List Place) (memory std
       ends = subst (All (λ n. contains v.touched n ≡ true)) same opens.touched.ends;
     })
 
+abbrev pub given_reading : Row (List ℕ) → Reading → Row Reading
+given_reading (Ok part) r = Ok r
+given_reading (Err e) r = Err e
+
+read_given_file : (m : Row (List ℕ)) (made r : Reading) → given_reading m made ≡ Ok r → made.file ≡ r.file
+read_given_file (Ok part) made r is = let same : made ≡ r = (cc) in ap (λ (x : Reading). x.file) same
+read_given_file (Err e) made r is = absurd (cc)
+
+given_is : (m : Row (List ℕ)) (r : Reading) → (m >>= (λ part. give r)) ≡ given_reading m r
+given_is (Ok part) r = refl
+given_is (Err e) r = refl
+
+reads_file : (memory : List ℕ) (b : Row Iovec) (f : Row OpenFile) (r : Reading)
+    → (b >>= (λ buffer. f >>= (λ x. range memory buffer.buf buffer.buf_len >>= (λ part. give (let made : Reading = record { file = x; buffer = buffer } in made))))) ≡ Ok r → f ≡ Ok r.file
+reads_file memory (Ok buffer) (Ok x) r is = ap (λ (y : OpenFile). Ok y) (read_given_file (range memory buffer.buf buffer.buf_len) (record { file = x; buffer = buffer }) r (sym (given_is (range memory buffer.buf buffer.buf_len) (record { file = x; buffer = buffer })) ∙ is))
+reads_file memory (Ok buffer) (Err e) r is = absurd (cc)
+reads_file memory (Err e) f r is = absurd (cc)
+
 module _ (s : State) (fd iovs : ℕ) where
+  -- a front that was passed had found the file
+  pub front_reads : (r : Reading) → read_front s fd iovs ≡ Ok r → Ok r.file ≡ file_in (slice_get s.places fd)
+  unfolding read_front
+  front_reads r is = sym (reads_file s.memory (buffer_in s.memory iovs) (file_in (slice_get s.places fd)) r is)
+
   pub read_no_buffer : (e : P1Error) → Err e ≡ buffer_in s.memory iovs → fd_read s fd iovs ≡ Err e
   unfolding fd_read read_front
   read_no_buffer e is = rw (← is) refl
@@ -216,7 +247,7 @@ abbrev pub read_row : State → ℕ → Reading → Row (List ℕ) → Row (Valu
 read_row s fd r (Ok bytes) = Ok (Number (length bytes), with_read s fd r bytes)
 read_row s fd r (Err e) = Err e
 
-bind_read : (s : State) (fd : ℕ) (r : Reading) (m : Row (List ℕ)) → (m >>= (λ bytes. give (Number (length bytes), with_read s fd r bytes))) ≡ read_row s fd r m
+pub bind_read : (s : State) (fd : ℕ) (r : Reading) (m : Row (List ℕ)) → (m >>= (λ bytes. give (Number (length bytes), with_read s fd r bytes))) ≡ read_row s fd r m
 bind_read s fd r (Ok bytes) = refl
 bind_read s fd r (Err e) = refl
 

@@ -2,8 +2,8 @@
 use Rattle.std.specs.Prelude.{ℕ, List, Result}
 use Rattle.wasi_host.specs.Meaning.{World}
 use Rattle.wasi_script.specs.Slots.{View}
-use Rattle.wasi_script.specs.State.{State, state_of}
-use Rattle.wasi_script.specs.Rows.{Row, turn, ReachesHost, named_by, descriptors_of}
+use Rattle.wasi_script.specs.State.{state_of}
+use Rattle.wasi_script.specs.Rows.{turn, ReachesHost, named_by, descriptors_of}
 use Rattle.wasi_script.specs.Turn.{IsTurn, Touches, ends_of}
 use Rattle.wasi_script.specs.declared.calls.Call.{Call}
 use Rattle.wasi_script.specs.declared.calls.P1Error.{P1Error}

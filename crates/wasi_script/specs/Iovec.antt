@@ -1,5 +1,5 @@
 -- The record of a buffer in a memory.
-use Rattle.std.specs.Prelude.{ℕ, List, ◌+◌, ◌%◌, Bool, ◌&&◌, ◌==◌, slice_range, if◌then◌else◌, Option, Some, None, option_and_then}
+use Rattle.std.specs.Prelude.{ℕ, List, ◌+◌, ◌%◌, ◌&&◌, ◌==◌, slice_range, if◌then◌else◌, Option, Some, None}
 use Rattle.std.specs.Int.{from_le_bytes, w32}
 use Rattle.wasi_script.specs.Range.{in_memory}
 use Rattle.wasi_script.specs.declared.guest.Iovec.{Iovec}

@@ -9,3 +9,5 @@ pub mod Rows
 pub mod Turn
 pub mod HostCalls
 pub mod CallTurn
+pub mod Run
+pub mod Reach

@@ -8,7 +8,6 @@ use Rattle.wasi_host.specs.Step.{open_step}
 use Rattle.wasi_host.specs.Answer.{opened, bytes_read, reached}
 use Rattle.wasi_host.specs.declared.errors.ErrorCode.{ErrorCode}
 use Rattle.wasi_host.specs.declared.open_options.FollowSymlinks.TheVariants.{No}
-use Rattle.wasi_host.specs.declared.values.Held.{Held}
 use Rattle.wasi_script.specs.Errnos.{errno_of}
 use Rattle.wasi_script.specs.Range.{in_memory, with_bytes}
 use Rattle.wasi_script.specs.Iovec.{iovec_of}

@@ -1,5 +1,5 @@
 -- The state that the calls of a guest change. It has no handles.
-use Rattle.std.specs.Prelude.{ℕ, suc, ◌+◌, nat_lt, if◌then◌else◌, List, [], ◌∷◌, ◌++◌, length, map, slice_set, Option, Some, None, unwrap_or}
+use Rattle.std.specs.Prelude.{ℕ, suc, nat_lt, if◌then◌else◌, List, [], ◌∷◌, ◌++◌, length, map, slice_set, Option, Some, None, unwrap_or}
 use Rattle.wasi_host.specs.Tree.{Tree, node_at, is_directory}
 use Rattle.wasi_host.specs.Meaning.{World}
 use Rattle.wasi_host.specs.declared.values.AccessMode.{AccessMode}

@@ -1,4 +1,4 @@
-use Rattle.std.proofs.Common.{refl, ap, sym, ◌∙◌, Ok, Err, ◌≡◌}
+use Rattle.std.proofs.Common.{◌∙◌, Ok, Err}
 use Rattle.wasi_script.specs.declared.calls.Value.TheVariants.{Number}
 use Rattle.wasi_script.proofs.SlotLemmas.{map-again}
 use Rattle.wasi_script.proofs.Turns.{Ready, put_moved, touches_none, refuses, read_no_buffer, read_no_file, read_no_range, read_refused, read_answered, read_touched}

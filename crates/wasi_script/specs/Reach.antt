@@ -1,0 +1,28 @@
+-- Which nodes a run may come to.
+use Rattle.std.specs.Prelude.{ℕ, ◌≡◌, ◌⊎◌, true, List, Some, Contains}
+use Rattle.std.specs.List.{flat_map}
+use Rattle.std.specs.FinSet.{contains}
+use Rattle.std.specs.FinMap as map
+use Rattle.wasi_host.specs.Tree.{Nodes, node_at, names_of}
+use Rattle.wasi_host.specs.ValidTree.{Reached}
+use Rattle.wasi_script.specs.Rows.{node_in}
+use Rattle.wasi_script.specs.State.{State, Place}
+use Rattle.wasi_script.specs.Turn.{IsMade}
+
+-- the nodes of the directories and files among descriptors
+abbrev pub nodes_of : List Place → List ℕ
+nodes_of places = flat_map (λ place. node_in (Some place)) places
+
+-- reached at the start from a descriptor's node, so at the start of a guest's run from a preopen
+abbrev pub Inside : State → ℕ → Type 0
+Inside start n = Reached start.tree (nodes_of start.places) n
+
+-- inside at the start, or made since
+abbrev pub InReach : State → State → ℕ → Type 0
+InReach start now n = Inside start n ⊎ IsMade start.tree now.tree n
+
+-- Each descriptor's node, each node that a directory in reach holds, and each touched node is in reach. Every turn keeps it.
+pub record Confined (start now : State) (touched : Nodes) : Type 0 where
+  pub descriptors : (n : ℕ) → Contains (nodes_of now.places) n → InReach start now n
+  pub names : (d n : ℕ) (name : List ℕ) → InReach start now d → map.get (names_of (node_at now.tree d).content) name ≡ Some n → InReach start now n
+  pub touched_in : (n : ℕ) → contains touched n ≡ true → InReach start now n
