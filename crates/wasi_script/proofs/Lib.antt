@@ -7,3 +7,6 @@ mod ReadLemmas
 mod Turns
 mod Runs
 mod Confining
+pub mod Fronts
+pub mod Reports
+pub mod ReadBack

@@ -11,3 +11,7 @@ pub mod HostCalls
 pub mod CallTurn
 pub mod Run
 pub mod Reach
+pub mod Ends
+pub mod ErrnoName
+pub mod Report
+pub mod ReadBack

@@ -1,6 +1,7 @@
 // The calls of preview1, and what they answer.
 ghost use Rattle.std.specs.Prelude.{◌≡◌, ◌+◌, ◌<◌, ◌≤◌, [], ◌∷◌, ◌++◌, length, slice_get, IfOk};
 ghost use Rattle.std.specs.Option.{option_copied};
+ghost use Rattle.wasi_script.specs.ErrnoName.{errno_name};
 
 use std::alloc::{AllocError, Global};
 use std::marker::Model;
@@ -53,6 +54,41 @@ pub enum Errno {
     Perm,
     Pipe,
     Spipe,
+}
+
+impl Errno {
+    /// Preview1's name, in lower case.
+    pub fn name(&self) -> &'static str
+        ensures { result.now ≡ errno_name self.now }
+    {
+        match self {
+            Errno::Acces => "acces",
+            Errno::Already => "already",
+            Errno::Badf => "badf",
+            Errno::Busy => "busy",
+            Errno::Exist => "exist",
+            Errno::Fbig => "fbig",
+            Errno::Ilseq => "ilseq",
+            Errno::Inprogress => "inprogress",
+            Errno::Intr => "intr",
+            Errno::Inval => "inval",
+            Errno::Io => "io",
+            Errno::Isdir => "isdir",
+            Errno::Loop => "loop",
+            Errno::Mlink => "mlink",
+            Errno::Nametoolong => "nametoolong",
+            Errno::Noent => "noent",
+            Errno::Nomem => "nomem",
+            Errno::Nospc => "nospc",
+            Errno::Notdir => "notdir",
+            Errno::Notempty => "notempty",
+            Errno::Notsup => "notsup",
+            Errno::Overflow => "overflow",
+            Errno::Perm => "perm",
+            Errno::Pipe => "pipe",
+            Errno::Spipe => "spipe",
+        }
+    }
 }
 
 /// Why a guest is stopped.
@@ -117,6 +153,12 @@ impl Answers {
         ensures spare { self.old.spare ≤ self.new.spare + 1 }
     {
         let _ = self.list.push(answer);
+    }
+
+    pub fn as_slice(&self) -> &[Answer]
+        ensures { result.now ≡ self.now.answers }
+    {
+        self.list.as_slice()
     }
 
     pub fn len(&self) -> usize
