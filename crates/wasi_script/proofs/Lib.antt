@@ -10,3 +10,9 @@ mod Confining
 pub mod Fronts
 pub mod Reports
 pub mod ReadBack
+pub mod Lists
+pub mod Keys
+pub mod Entries
+pub mod Lengths
+pub mod Values
+pub mod FirstScripts

@@ -1,3 +1,5 @@
+pub mod Gives
+pub mod Lists
 pub mod Room
 pub mod Range
 pub mod Lending
@@ -15,3 +17,5 @@ pub mod Ends
 pub mod ErrnoName
 pub mod Report
 pub mod ReadBack
+pub mod Shapes
+pub mod Script
