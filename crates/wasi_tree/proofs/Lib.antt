@@ -3,3 +3,9 @@ pub mod FirstTreeMarks
 pub mod FirstTreeOnce
 pub mod FirstTreeNames
 pub mod FirstTreeValid
+pub mod SlotLemmas
+pub mod MarkLemmas
+pub mod NameLemmas
+pub mod StoreLemmas
+pub mod MemLemmas
+pub mod FirstLemmas

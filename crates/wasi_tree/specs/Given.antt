@@ -1,5 +1,5 @@
 -- Nodes as a list gives them: link counts, and which directories are gone, follow from the names.
-use Rattle.std.specs.Prelude.{ℕ, ◌+◌, Bool, not, ◌&&◌, nat_eq, List, [], ◌∷◌, map, count_by, sum_by}
+use Rattle.std.specs.Prelude.{ℕ, ◌+◌, not, ◌&&◌, nat_eq, List, [], ◌∷◌, map, count_by, sum_by}
 use Rattle.std.specs.String.{string_bytes}
 use Rattle.std.specs.FinMap as maps
 use Rattle.std.specs.FinSet as set

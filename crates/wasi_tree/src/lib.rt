@@ -1,8 +1,16 @@
 //! `MemTree`, the tree of files in memory: a host that tells its tree, its handles and the nodes that were touched.
 #![tactic(auto)]
 
+mod errors;
 mod first_tree;
+mod marks;
+mod mem_tree;
 mod node;
+mod row;
+mod slots;
+mod store;
 
+pub use errors::{HandleError, TreeError};
 pub use first_tree::{first_trees_are_valid, is_first_tree};
+pub use mem_tree::MemTree;
 pub use node::{NewContent, NewEntry, NewNode};

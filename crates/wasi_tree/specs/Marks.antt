@@ -1,0 +1,23 @@
+-- Marks of nodes: one for each node, true where the node was touched.
+use Rattle.std.specs.Prelude.{ℕ, ◌+◌, Bool, true, false, List, [], ◌∷◌, refl}
+use Rattle.std.specs.Coded.{Coded, code_by, coded×, coded_ℕ}
+use Rattle.std.specs.FinSet as set
+use Rattle.wasi_host.specs.Tree.{Nodes}
+use Rattle.wasi_host.specs.TreeCode.{nodes_code}
+
+abbrev pub marked_from : ℕ → List Bool → Nodes
+marked_from k [] = set.empty
+marked_from k (false ∷ marks) = marked_from (k + 1) marks
+marked_from k (true ∷ marks) = set.insert (marked_from (k + 1) marks) k
+
+-- the numbers whose mark is true
+unfoldable pub marked : List Bool → Nodes
+marked marks = marked_from 0 marks
+
+-- how many nodes there are, and those that are marked
+pub record Marked : Type 0 where
+  pub count : ℕ
+  pub nodes : Nodes
+
+abbrev pub marked_code : Coded Marked
+marked_code = code_by (ℕ × Nodes) (coded× coded_ℕ nodes_code) (λ m. (m.count, m.nodes)) (λ p. record { count = p.0; nodes = p.1 }) (λ _. refl)

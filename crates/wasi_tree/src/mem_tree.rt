@@ -1,0 +1,145 @@
+ghost use Rattle.std.specs.Prelude.{◌≡◌, ◌↔◌, ◌<◌, ℕ, true, false, List, [], Err, IfOk, IfErr, OnErr, map};
+ghost use Rattle.std.specs.Ordering.{nat_cmp};
+ghost use Rattle.std.specs.List.Sorted.{IsStrictlySortedBy};
+ghost use Rattle.std.specs.FinSet.{contains, insert, empty, from_list};
+ghost use Rattle.wasi_host.specs.Tree.{next_of, node_at, is_directory};
+ghost use Rattle.wasi_tree.specs.Given.{given, given_of, tree_of};
+ghost use Rattle.wasi_tree.specs.FirstTree.{AreLimits, is_first_tree};
+ghost use Rattle.wasi_tree.specs.MemState.{MemState, live_of, held_in, world_of};
+
+use crate::errors::{HandleError, TreeError};
+use crate::marks::Marks;
+use crate::node::NewNode;
+use crate::slots::Slots;
+use crate::store::Store;
+use std::alloc::{AllocError, Global};
+use std::marker::Model;
+use wasi_host::{
+    AccessMode, ErrorCode, Handle, Held, Host, HostError, Limits, Metadata, OpenOptions,
+};
+use wasi_paths::Name;
+
+/// A tree of files in memory, with its live handles, and the nodes that calls have touched.
+#[derive(Debug, Drop)]
+pub struct MemTree {
+    store: Store,
+    slots: Slots,
+    marks: Marks,
+}
+
+impl Model for MemTree {
+    ghost use Rattle.wasi_tree.specs.MemState.{MemState, state_code};
+    ghost use Rattle.wasi_tree.specs.Sound.{IsWhole};
+
+    ghost Value = { MemState };
+
+    ghost coded = { state_code };
+
+    ghost view = { λ a. record { tree = a.store; slots = a.slots.slots; touched = a.marks.nodes } };
+
+    ghost invariant = { λ a. IsWhole a.store a.slots.slots a.marks.count };
+}
+
+#[tactic(auto, using(crate::proofs::MemLemmas::mem_rules))]
+impl MemTree {
+    /// A tree of these nodes, which are a first tree: it has no live handle, and no node is touched.
+    pub fn new(alloc: Global, nodes: Vec<NewNode>, limits: Limits) -> Result<MemTree, TreeError>
+        requires limits { AreLimits limits }
+        requires first { is_first_tree limits (map given nodes.items) ≡ true }
+        ensures made { IfOk result (λ m. m ≡ record { tree = tree_of (map given nodes.items) limits; slots = []; touched = empty }) }
+        ensures err { IfErr result (λ e. e ≡ TreeError.Memory) }
+    {
+        let store = Store::new(alloc, nodes, limits)?;
+        let marks = Marks::new(alloc, store.count() as usize)?;
+        Ok(MemTree {
+            store,
+            slots: Slots::new(alloc),
+            marks,
+        })
+    }
+
+    /// The tree as it is, as a list of nodes in memory of its own. The entries of each directory stand in byte order.
+    pub fn nodes(&self, alloc: Global) -> Result<Vec<NewNode>, AllocError>
+        ensures { IfOk result (λ nodes. map given nodes.items ≡ map given_of self.now.tree.nodes) }
+    {
+        self.store.to_new(alloc)
+    }
+
+    /// A handle of a directory, for its path alone.
+    pub fn handle(&mut self, node: u64) -> Result<Handle, HandleError>
+        ensures not_directory { (result ≡ Err HandleError.NotDirectory) ↔ (is_directory (node_at self.old.tree node).content ≡ false) }
+        ensures live { IfOk result (λ h. (contains (live_of self.old.slots) h ≡ false) × (live_of self.new.slots ≡ insert (live_of self.old.slots) h)) }
+        ensures held { IfOk result (λ h. held_in self.new.slots h ≡ record { node = node; mode = AccessMode.PathOnly }) }
+        ensures others { (h : ℕ) → contains (live_of self.old.slots) h ≡ true → held_in self.new.slots h ≡ held_in self.old.slots h }
+        ensures tree { self.new.tree ≡ self.old.tree }
+        ensures touched { self.new.touched ≡ self.old.touched }
+        ensures err { OnErr result (self.new ≡ self.old) }
+    {
+        if !self.store.is_directory(node) {
+            return Err(HandleError::NotDirectory);
+        }
+        self.slots.reserve()?;
+        let mode = AccessMode::PathOnly;
+        Ok(self.slots.give(Held { node, mode }))
+    }
+
+    /// The numbers of the touched nodes, rising: of each call's handle, of the node under its name, and of those made.
+    pub fn touched(&self, alloc: Global) -> Result<Vec<u64>, AllocError>
+        ensures nodes { IfOk result (λ nodes. from_list nodes.items ≡ self.now.touched) }
+        ensures rising { IfOk result (λ nodes. IsStrictlySortedBy nat_cmp nodes.items) }
+    {
+        self.marks.list(alloc)
+    }
+}
+
+#[tactic(auto, using(crate::proofs::MemLemmas::mem_rules))]
+impl Host for MemTree {
+    ghost faults = { λ _. 0 };
+
+    ghost live = { λ m. live_of m.slots };
+
+    ghost told = { true };
+
+    ghost world = { world_of };
+
+    fn open_at(
+        &mut self,
+        start: Handle,
+        name: Name<'_>,
+        options: &OpenOptions,
+    ) -> Result<Handle, HostError> {
+        self.slots.reserve()?;
+        let directory = self.slots.held(start).node;
+        let found = self.store.child(directory, name);
+        self.marks.touch_found(directory, found);
+        match self.store.open_at(directory, name, options) {
+            Ok(held) => Ok(self.slots.give(held)),
+            Err(code) => Err(HostError::Code(code)),
+        }
+    }
+
+    fn dup(&mut self, handle: Handle) -> Result<Handle, HostError> {
+        self.slots.reserve()?;
+        let held = self.slots.held(handle);
+        Ok(self.slots.give(held))
+    }
+
+    fn stat(&mut self, handle: Handle) -> Result<Metadata, ErrorCode> {
+        let node = self.slots.held(handle).node;
+        self.marks.touch(node);
+        Ok(self.store.metadata(node))
+    }
+
+    fn pread(&mut self, file: Handle, buf: &mut [u8], offset: u64) -> Result<usize, ErrorCode> {
+        let held = self.slots.held(file);
+        self.marks.touch(held.node);
+        self.store.read_at(held, buf, offset)
+    }
+
+    fn close(&mut self, handle: Handle) {
+        self.slots.release(handle);
+    }
+}
+
+#[cfg(test)]
+mod tests;

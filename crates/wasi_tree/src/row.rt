@@ -1,0 +1,238 @@
+ghost use Rattle.std.specs.Prelude.{◌≡◌, IfOk, map};
+ghost use Rattle.std.specs.FinMap as maps;
+ghost use Rattle.wasi_host.specs.Tree.{is_directory, is_file, is_link, is_gone, names_of, bytes_of};
+ghost use Rattle.wasi_tree.specs.Given.{pair_of, given, given_content, given_of, content_given};
+ghost use Rattle.wasi_tree.specs.First.{first_node, first_content};
+ghost use Rattle.wasi_tree.specs.Rows.{names_in};
+ghost use Rattle.wasi_host.specs.Answer.{kind_of, size_of, links_of, metadata_from};
+
+use crate::node::{NewContent, NewEntry, NewNode};
+use std::alloc::{AllocError, Global};
+use std::collections::BTreeMap;
+use wasi_host::{Bits, FileType, Metadata, SystemTime};
+
+/// What a node is, with how many names it has.
+#[derive(Debug, Drop)]
+pub enum RowContent {
+    File {
+        bytes: Vec<u8>,
+        links: u64,
+    },
+    Dir {
+        names: BTreeMap<String, u64>,
+        gone: bool,
+    },
+    Link {
+        text: String,
+        links: u64,
+    },
+}
+
+/// A node as a store holds it.
+#[derive(Debug, Drop)]
+pub struct Row {
+    pub content: RowContent,
+    pub bits: Bits,
+    pub atime: SystemTime,
+    pub mtime: SystemTime,
+    pub btime: SystemTime,
+}
+
+#[tactic(auto, using(crate::proofs::NameLemmas::name_rules))]
+impl RowContent {
+    ghost use Rattle.wasi_tree.specs.Rows.{content_of};
+
+    /// The content of a node of a first tree.
+    fn first(alloc: Global, content: NewContent) -> Result<RowContent, AllocError>
+        ensures { IfOk result (λ made. content_of made ≡ first_content (given_content content)) }
+    {
+        match content {
+            NewContent::File(bytes) => Ok(RowContent::File { bytes, links: 1 }),
+            NewContent::Dir(entries) => Ok(RowContent::Dir {
+                names: first_names(alloc, entries)?,
+                gone: false,
+            }),
+            NewContent::Link(text) => Ok(RowContent::Link { text, links: 1 }),
+        }
+    }
+
+    /// The content as a list of nodes gives it, in memory of its own.
+    fn to_new(&self, alloc: Global) -> Result<NewContent, AllocError>
+        ensures { IfOk result (λ content. given_content content ≡ content_given (content_of self.now)) }
+    {
+        match self {
+            RowContent::File { bytes, .. } => {
+                Ok(NewContent::File(Vec::from_slice(alloc, bytes.as_slice())?))
+            }
+            RowContent::Dir { names, .. } => Ok(NewContent::Dir(new_entries(alloc, names)?)),
+            RowContent::Link { text, .. } => {
+                Ok(NewContent::Link(String::from_str(alloc, text.as_str())?))
+            }
+        }
+    }
+
+    pub fn is_directory(&self) -> bool
+        ensures { result ≡ is_directory (content_of self.now) }
+    {
+        match self {
+            RowContent::File { .. } => false,
+            RowContent::Dir { .. } => true,
+            RowContent::Link { .. } => false,
+        }
+    }
+
+    pub fn is_file(&self) -> bool
+        ensures { result ≡ is_file (content_of self.now) }
+    {
+        match self {
+            RowContent::File { .. } => true,
+            RowContent::Dir { .. } => false,
+            RowContent::Link { .. } => false,
+        }
+    }
+
+    pub fn is_link(&self) -> bool
+        ensures { result ≡ is_link (content_of self.now) }
+    {
+        match self {
+            RowContent::File { .. } => false,
+            RowContent::Dir { .. } => false,
+            RowContent::Link { .. } => true,
+        }
+    }
+
+    pub fn is_gone(&self) -> bool
+        ensures { result ≡ is_gone (content_of self.now) }
+    {
+        match self {
+            RowContent::File { .. } => false,
+            RowContent::Dir { gone, .. } => *gone,
+            RowContent::Link { .. } => false,
+        }
+    }
+
+    pub fn kind(&self) -> FileType
+        ensures { result ≡ kind_of (content_of self.now) }
+    {
+        match self {
+            RowContent::File { .. } => FileType::RegularFile,
+            RowContent::Dir { .. } => FileType::Directory,
+            RowContent::Link { .. } => FileType::SymbolicLink,
+        }
+    }
+
+    pub fn size(&self) -> u64
+        ensures { result ≡ size_of (content_of self.now) }
+    {
+        match self {
+            RowContent::File { bytes, .. } => bytes.as_slice().len() as u64,
+            RowContent::Dir { .. } => 0,
+            RowContent::Link { text, .. } => text.as_bytes().len() as u64,
+        }
+    }
+
+    pub fn links(&self) -> u64
+        ensures { result ≡ links_of (content_of self.now) }
+    {
+        match self {
+            RowContent::File { links, .. } => *links,
+            RowContent::Dir { .. } => 1,
+            RowContent::Link { links, .. } => *links,
+        }
+    }
+
+    /// A file's bytes. Nothing of what is no file.
+    pub fn bytes(&self) -> &[u8]
+        ensures { result.now ≡ bytes_of (content_of self.now) }
+    {
+        match self {
+            RowContent::File { bytes, .. } => bytes.as_slice(),
+            RowContent::Dir { .. } => &[],
+            RowContent::Link { .. } => &[],
+        }
+    }
+
+    /// The number under a name. Nothing in what is no directory.
+    pub fn child(&self, name: &str) -> Option<u64>
+        ensures { result ≡ maps.get (names_of (content_of self.now)) name.now }
+    {
+        match self {
+            RowContent::File { .. } => None,
+            RowContent::Dir { names, .. } => names.get(name).copied(),
+            RowContent::Link { .. } => None,
+        }
+    }
+}
+
+impl Row {
+    ghost use Rattle.wasi_tree.specs.Rows.{node_of};
+
+    /// The row of a node of a first tree.
+    pub fn first(alloc: Global, node: NewNode) -> Result<Row, AllocError>
+        ensures { IfOk result (λ row. node_of row ≡ first_node (given node)) }
+    {
+        Ok(Row {
+            content: RowContent::first(alloc, node.content)?,
+            bits: node.bits,
+            atime: node.atime,
+            mtime: node.mtime,
+            btime: node.btime,
+        })
+    }
+
+    /// The node as a list of nodes gives it, in memory of its own.
+    pub fn to_new(&self, alloc: Global) -> Result<NewNode, AllocError>
+        ensures { IfOk result (λ node. given node ≡ given_of (node_of self.now)) }
+    {
+        Ok(NewNode {
+            content: self.content.to_new(alloc)?,
+            bits: self.bits,
+            atime: self.atime,
+            mtime: self.mtime,
+            btime: self.btime,
+        })
+    }
+
+    pub fn metadata(&self, node: u64) -> Metadata
+        ensures { result ≡ metadata_from node (node_of self.now) }
+    {
+        Metadata {
+            kind: self.content.kind(),
+            size: self.content.size(),
+            atime: self.atime,
+            mtime: self.mtime,
+            btime: self.btime,
+            node,
+            links: self.content.links(),
+        }
+    }
+}
+
+/// The names of a list of entries. Of two entries of one name the first one stays.
+#[tactic(auto, using(crate::proofs::NameLemmas::name_rules))]
+fn first_names(
+    alloc: Global,
+    mut entries: Vec<NewEntry>,
+) -> Result<BTreeMap<String, u64>, AllocError>
+    ensures { IfOk result (λ names. names_in names.entries ≡ maps.from_entries (map pair_of entries.items)) }
+{
+    let mut names = BTreeMap::new(alloc);
+    while let Some(entry) = entries.pop() {
+        names.insert(entry.name, entry.node)?;
+    }
+    Ok(names)
+}
+
+/// The entries of a map, in byte order.
+fn new_entries(alloc: Global, names: &BTreeMap<String, u64>) -> Result<Vec<NewEntry>, AllocError>
+    ensures { IfOk result (λ entries. map pair_of entries.items ≡ maps.entries (names_in names.now.entries)) }
+{
+    let mut entries = Vec::new(alloc);
+    for (name, node) in names.iter() {
+        entries.push(NewEntry {
+            name: String::from_str(alloc, name.as_str())?,
+            node: *node,
+        })?;
+    }
+    Ok(entries)
+}

@@ -1,0 +1,345 @@
+ghost use Rattle.std.specs.Prelude.{◌≡◌, ◌<◌, ◌≤◌, ◌^◌, ℕ, OnOk, Some, None, IfSome, IfOk, OnErr, MatchResult, Ok, Err, take, drop, length, map, true};
+ghost use Rattle.wasi_paths.specs.Name.{name_bytes};
+ghost use Rattle.wasi_host.specs.Options.{OnlyRead, are_refused, creates, is_path_only};
+ghost use Rattle.wasi_host.specs.Tree.{Tree, next_of, node_at, child, is_directory};
+ghost use Rattle.wasi_host.specs.HostCall.{OpenAt, Stat, Pread};
+ghost use Rattle.wasi_host.specs.Refusal.{refusal, first_row, name_rows, lacks_bit, can_read};
+ghost use Rattle.wasi_host.specs.Answer.{access_of, opened, metadata_of, bytes_read};
+ghost use Rattle.wasi_tree.specs.Given.{given, given_of, tree_of};
+ghost use Rattle.wasi_tree.specs.First.{first_node};
+ghost use Rattle.wasi_tree.specs.FirstTree.{is_first_tree};
+ghost use Rattle.wasi_tree.specs.Rows.{node_of};
+ghost use Rattle.wasi_tree.specs.OpenRows.{missing_rows, found_rows};
+
+use crate::node::NewNode;
+use crate::row::Row;
+use std::alloc::{AllocError, Global};
+use std::marker::Model;
+use wasi_host::{AccessMode, ErrorCode, Held, Limits, Metadata, OpenOptions, compute_oflags};
+use wasi_paths::Name;
+
+/// The nodes of a tree, with its limits. Contracts see the tree.
+#[derive(Debug, Drop)]
+pub struct Store {
+    rows: Vec<Row>,
+    limits: Limits,
+}
+
+impl Model for Store {
+    ghost use Rattle.wasi_host.specs.Tree.{Tree};
+    ghost use Rattle.wasi_host.specs.TreeCode.{tree_code};
+
+    ghost Value = { Tree };
+
+    ghost coded = { tree_code };
+
+    ghost use Rattle.wasi_tree.specs.Rows.{tree_in};
+    ghost use Rattle.wasi_tree.specs.Sound.{IsSound};
+
+    ghost view = { λ a. tree_in a.rows.items a.limits };
+
+    ghost invariant = { λ a. IsSound (tree_in a.rows.items a.limits) };
+}
+
+#[tactic(auto, using(crate::proofs::StoreLemmas::store_rules))]
+impl Store {
+    ghost use Rattle.wasi_tree.specs.Sound.{IsSoundNode};
+    ghost use Rattle.wasi_host.specs.Time.{HasTimes};
+
+    /// A first tree of these nodes.
+    #[tactic(auto, using(crate::proofs::FirstLemmas::first_rules))]
+    pub fn new(alloc: Global, nodes: Vec<NewNode>, limits: Limits) -> Result<Store, AllocError>
+        requires { is_first_tree limits (map given nodes.items) ≡ true }
+        ensures { IfOk result (λ store. store ≡ tree_of (map given nodes.items) limits) }
+    {
+        let rows = first_rows(alloc, nodes)?;
+        Ok(Store { rows, limits })
+    }
+
+    /// The nodes as a list gives them, each directory's entries in byte order.
+    pub fn to_new(&self, alloc: Global) -> Result<Vec<NewNode>, AllocError>
+        ensures { IfOk result (λ nodes. map given nodes.items ≡ map given_of self.now.nodes) }
+    {
+        new_nodes(alloc, self.rows.as_slice())
+    }
+
+    /// How many nodes there are.
+    pub fn count(&self) -> u64
+        ensures { result ≡ next_of self.now }
+    {
+        self.rows.as_slice().len() as u64
+    }
+
+    /// The node of a number.
+    fn row(&self, n: u64) -> &Row
+        requires { n < next_of self.now }
+        ensures node { node_at self.now n ≡ node_of result.now }
+        ensures sound { IsSoundNode (next_of self.now) (node_of result.now) }
+    {
+        &self.rows[n as usize]
+    }
+
+    /// Whether a number is a directory's.
+    pub fn is_directory(&self, n: u64) -> bool
+        ensures { result ≡ is_directory (node_at self.now n).content }
+    {
+        if n >= self.count() {
+            return false;
+        }
+        self.row(n).content.is_directory()
+    }
+
+    /// The node that a name holds in a directory.
+    pub fn child(&self, directory: u64, name: Name<'_>) -> Option<u64>
+        requires { directory < next_of self.now }
+        ensures found { result ≡ child self.now directory (name_bytes name.entry) }
+        ensures below { IfSome result (λ n. n < next_of self.now) }
+    {
+        if name.is_dot() {
+            return Some(directory);
+        }
+        let row = self.row(directory);
+        row.content.child(name.as_str())
+    }
+
+    /// What is wrong with a name in a directory.
+    #[tactic(auto, unfolding(wasi_host::specs::Refusal::refusal))]
+    fn refuse_name(&self, directory: u64, name: Name<'_>) -> Option<ErrorCode>
+        requires { directory < next_of self.now }
+        ensures { result ≡ first_row (name_rows self.now directory (name_bytes name.entry)) }
+    {
+        let text = name.as_str();
+        if text.as_bytes().contains(&0) {
+            return Some(ErrorCode::Invalid);
+        }
+        if text.len() > 255 {
+            return Some(ErrorCode::NameTooLong);
+        }
+        if !self.row(directory).bits.x {
+            return Some(ErrorCode::Access);
+        }
+        None
+    }
+
+    /// The rows of an open that speak of a missing name.
+    fn refuse_missing(&self, directory: u64, options: &OpenOptions) -> Option<ErrorCode>
+        requires { directory < next_of self.now }
+        ensures { result ≡ first_row (missing_rows self.now directory options.now) }
+    {
+        if !creates(options) {
+            return Some(ErrorCode::NoEntry);
+        }
+        let row = self.row(directory);
+        if row.content.is_gone() {
+            return Some(ErrorCode::NoEntry);
+        }
+        if !row.bits.w {
+            return Some(ErrorCode::Access);
+        }
+        if self.limits.nodes <= self.count() {
+            return Some(ErrorCode::InsufficientSpace);
+        }
+        None
+    }
+
+    /// The rows of an open that speak of the node that is there.
+    fn refuse_found(&self, node: u64, options: &OpenOptions) -> Option<ErrorCode>
+        requires { node < next_of self.now }
+        ensures { result ≡ first_row (found_rows (node_at self.now node) options.now) }
+    {
+        if options.is_create_new() {
+            return Some(ErrorCode::Exist);
+        }
+        let row = self.row(node);
+        if row.content.is_link() {
+            return Some(if options.is_dir_required() {
+                ErrorCode::NotDirectory
+            } else {
+                ErrorCode::Loop
+            });
+        }
+        if row.content.is_file() && options.is_dir_required() {
+            return Some(ErrorCode::NotDirectory);
+        }
+        if row.content.is_directory() && options.is_write() {
+            return Some(ErrorCode::IsDirectory);
+        }
+        if is_path_only(options) {
+            return None;
+        }
+        if options.is_read() && !row.bits.r {
+            return Some(ErrorCode::Access);
+        }
+        if options.is_write() && !row.bits.w {
+            return Some(ErrorCode::Access);
+        }
+        None
+    }
+
+    /// The code of the first row of an open that holds.
+    #[tactic(auto, unfolding(wasi_host::specs::Refusal::refusal))]
+    fn refuse_open(
+        &self,
+        directory: u64,
+        name: Name<'_>,
+        options: &OpenOptions,
+    ) -> Option<ErrorCode>
+        requires { directory < next_of self.now }
+        ensures { result ≡ refusal self.now (OpenAt directory (name_bytes name.entry) options.now) }
+    {
+        if !self.row(directory).content.is_directory() {
+            return Some(ErrorCode::NotDirectory);
+        }
+        if are_refused(options) {
+            return Some(ErrorCode::Invalid);
+        }
+        if let Some(code) = self.refuse_name(directory, name) {
+            return Some(code);
+        }
+        if creates(options) && options.is_dir_required() {
+            return Some(ErrorCode::Invalid);
+        }
+        let Some(node) = self.child(directory, name) else {
+            return self.refuse_missing(directory, options);
+        };
+        self.refuse_found(node, options)
+    }
+
+    /// What the handle of an open stands for.
+    pub fn open_at(
+        &self,
+        directory: u64,
+        name: Name<'_>,
+        options: &OpenOptions,
+    ) -> Result<Held, ErrorCode>
+        requires within { directory < next_of self.now }
+        requires options { OnlyRead options.now }
+        ensures opened { result ≡ opened self.now directory (name_bytes name.entry) options.now }
+        ensures below { IfOk result (λ held. held.node < next_of self.now) }
+    {
+        if let Some(code) = self.refuse_open(directory, name, options) {
+            return Err(code);
+        }
+        let Some(node) = self.child(directory, name) else {
+            return Err(ErrorCode::NoEntry);
+        };
+        Ok(Held {
+            node,
+            mode: access_of(options),
+        })
+    }
+
+    /// The metadata of a node.
+    pub fn metadata(&self, node: u64) -> Metadata
+        requires { node < next_of self.now }
+        ensures metadata { result ≡ metadata_of self.now node }
+        ensures times { HasTimes result }
+    {
+        self.row(node).metadata(node)
+    }
+
+    /// Reads a file's bytes from an offset on into the front of `buf`, and answers how many.
+    #[tactic(auto, unfolding(wasi_host::specs::Refusal::refusal))]
+    pub fn read_at(&self, file: Held, buf: &mut [u8], offset: u64) -> Result<usize, ErrorCode>
+        requires { file.node < next_of self.now }
+        ensures fits { IfOk result (λ n. n ≤ length buf.old) }
+        ensures offset { OnOk result (offset < 2 ^ 63) }
+        ensures rest { IfOk result (λ n. drop n buf.new ≡ drop n buf.old) }
+        ensures kept { OnErr result (buf.new ≡ buf.old) }
+        ensures meaning { MatchResult result
+            (λ n. bytes_read self.now file offset (length buf.old) ≡ Ok (take n buf.new))
+            (λ code. bytes_read self.now file offset (length buf.old) ≡ Err code) }
+    {
+        let content = &self.row(file.node).content;
+        if !can_read(file.mode) || !content.is_file() {
+            return Err(ErrorCode::BadDescriptor);
+        }
+        if offset >= 1 << 63 {
+            return Err(ErrorCode::Invalid);
+        }
+        Ok(copy_front(bytes_from(content.bytes(), offset), buf))
+    }
+}
+
+fn first_rows(alloc: Global, nodes: Vec<NewNode>) -> Result<Vec<Row>, AllocError>
+    ensures { IfOk result (λ rows. map node_of rows.items ≡ map first_node (map given nodes.items)) }
+{
+    let mut rows = Vec::with_capacity(alloc, nodes.len())?;
+    for node in nodes {
+        rows.push(Row::first(alloc, node)?)?;
+    }
+    Ok(rows)
+}
+
+fn new_nodes(alloc: Global, rows: &[Row]) -> Result<Vec<NewNode>, AllocError>
+    ensures { IfOk result (λ nodes. map given nodes.items ≡ map given_of (map node_of rows.now)) }
+{
+    let mut nodes = Vec::with_capacity(alloc, rows.len())?;
+    for row in rows {
+        nodes.push(row.to_new(alloc)?)?;
+    }
+    Ok(nodes)
+}
+
+fn are_refused(options: &OpenOptions) -> bool
+    ensures { result ≡ are_refused options.now }
+{
+    compute_oflags(options).is_err()
+}
+
+fn creates(options: &OpenOptions) -> bool
+    ensures { result ≡ creates options.now }
+{
+    options.is_create() || options.is_create_new()
+}
+
+fn is_path_only(options: &OpenOptions) -> bool
+    ensures { result ≡ is_path_only options.now }
+{
+    options.is_dir_required() && !options.is_write() && !options.is_readdir_required()
+}
+
+fn access_of(options: &OpenOptions) -> AccessMode
+    ensures { result ≡ access_of options.now }
+{
+    if is_path_only(options) {
+        return AccessMode::PathOnly;
+    }
+    match (options.is_write(), options.is_read()) {
+        (true, true) => AccessMode::ReadWrite,
+        (true, false) => AccessMode::Write,
+        (false, _) => AccessMode::Read,
+    }
+}
+
+fn can_read(mode: AccessMode) -> bool
+    ensures { result ≡ can_read mode }
+{
+    match mode {
+        AccessMode::Read => true,
+        AccessMode::ReadWrite => true,
+        AccessMode::Write => false,
+        AccessMode::PathOnly => false,
+    }
+}
+
+/// The bytes from an offset on; none at or past the end.
+fn bytes_from(bytes: &[u8], offset: u64) -> &[u8]
+    ensures { result.now ≡ drop offset bytes.now }
+{
+    if offset >= bytes.len() as u64 {
+        return &[];
+    }
+    &bytes[offset as usize..]
+}
+
+/// Copies as many bytes as there are and `buf` takes into its front, and answers how many.
+fn copy_front(bytes: &[u8], buf: &mut [u8]) -> usize
+    ensures fits { result ≤ length buf.old }
+    ensures rest { drop result buf.new ≡ drop result buf.old }
+    ensures taken { take result buf.new ≡ take (length buf.old) bytes.now }
+{
+    let n = bytes.len().min(buf.len());
+    buf[..n].copy_from_slice(&bytes[..n]);
+    n
+}
