@@ -16,3 +16,6 @@ pub mod Entries
 pub mod Lengths
 pub mod Values
 pub mod FirstScripts
+mod Starts
+mod Tops
+mod Headlines

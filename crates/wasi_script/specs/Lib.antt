@@ -19,3 +19,6 @@ pub mod Report
 pub mod ReadBack
 pub mod Shapes
 pub mod Script
+pub mod Start
+pub mod Headline
+pub mod Due

@@ -1,5 +1,5 @@
 // The context of a guest's calls: its descriptors over a host.
-ghost use Rattle.std.specs.Prelude.{◌≡◌, ◌≤◌, [], ◌∷◌, IsTrue, true, IfOk, Err};
+ghost use Rattle.std.specs.Prelude.{◌≡◌, ◌≤◌, [], ◌∷◌, length, IsTrue, true, IfOk, IfErr, Err};
 ghost use Rattle.std.specs.FinSet.{contains};
 ghost use Rattle.wasi_host.specs.Meaning.{Rose};
 ghost use Rattle.wasi_script.specs.declared.calls.Call.TheVariants.{PathOpen, FdRead};
@@ -50,8 +50,65 @@ impl<H: Host> Model for WasiP1Ctx<H> {
     ghost invariant = { λ c. All (IsLive (H.live c.host)) c.slots.items };
 }
 
+/// No context was made, because memory was wanted. The host is handed back.
+#[derive(Drop)]
+pub struct CtxRefused<H: Host> {
+    pub host: H,
+}
+
+/// What stays of a context when its guest has ended.
+#[derive(Drop)]
+pub struct Ended<H: Host> {
+    pub host: H,
+    /// What was written to the standard output.
+    pub stdout: Vec<u8>,
+    /// What was written to the standard error.
+    pub stderr: Vec<u8>,
+}
+
 impl<H: Host> WasiP1Ctx<H> {
     ghost use Rattle.wasi_script.specs.CallTurn.{TakesTurn};
+    ghost use Rattle.wasi_script.specs.Slots.{first_slots};
+
+    /// A context with the three standard streams as descriptors 0 to 2, and the directory of a handle as descriptor 3,
+    /// which takes the handle over. Nothing is asked of the host.
+    pub fn new(
+        alloc: Global,
+        host: H,
+        preopen: Handle,
+    ) -> Result<WasiP1Ctx<H>, CtxRefused<H>>
+        requires live { contains (H.live host) preopen ≡ true }
+        ensures made { IfOk result (λ c. c ≡ record { host = host; slots = first_slots preopen; stdout = []; stderr = [] }) }
+        ensures handed_back { IfErr result (λ refused. refused.host ≡ host) }
+    {
+        let Ok(slots) = vec![in alloc;
+            Slot::Stream(Stream::Input),
+            Slot::Stream(Stream::Output),
+            Slot::Stream(Stream::Error),
+            Slot::Directory { handle: preopen },
+        ] else {
+            return Err(CtxRefused { host });
+        };
+        Ok(WasiP1Ctx {
+            host,
+            slots,
+            stdout: Vec::new(alloc),
+            stderr: Vec::new(alloc),
+        })
+    }
+
+    /// The host, and what the guest wrote. Its handles stay live.
+    pub fn into_parts(self) -> Ended<H>
+        ensures host { result.host ≡ self.host }
+        ensures stdout { result.stdout.items ≡ self.stdout }
+        ensures stderr { result.stderr.items ≡ self.stderr }
+    {
+        Ended {
+            host: self.host,
+            stdout: self.stdout,
+            stderr: self.stderr,
+        }
+    }
 
     /// Opens the name in a range of memory in the directory of a descriptor, for reading, and answers the number of the
     /// new descriptor. Refusals, in this order: trap Pointer where the range leaves the memory; Notsup where it isn't
@@ -94,6 +151,7 @@ impl<H: Host> WasiP1Ctx<H> {
         fd: u32,
         iovs: u32,
     ) -> Result<Value, P1Error>
+        ensures size { length memory.new ≡ length memory.old }
         ensures count { H.faults self.old.host ≤ H.faults self.new.host }
         ensures io { result ≡ Err (P1Error.Errno Errno.Io) → Rose (H.faults self.old.host) (H.faults self.new.host) }
         ensures turn { IsTrue H.told → TakesTurn H.world (Rose (H.faults self.old.host) (H.faults self.new.host))

@@ -242,6 +242,7 @@ pub fn read_into<H: Host>(
 ) -> Result<u32, P1Error>
     requires live { contains (H.live host.old) file ≡ true }
     requires inside { IsInMemory memory.old buffer.buf buffer.buf_len }
+    ensures size { length memory.new ≡ length memory.old }
     ensures count { H.faults host.old ≤ H.faults host.new }
     ensures io { result ≡ Err (P1Error.Errno Errno.Io) → Rose (H.faults host.old) (H.faults host.new) }
     ensures live { H.live host.new ≡ H.live host.old }

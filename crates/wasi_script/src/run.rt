@@ -1,5 +1,5 @@
 // A list of calls, one after another.
-ghost use Rattle.std.specs.Prelude.{◌≡◌, ◌≤◌, IsTrue, IfOk, IfErr, true};
+ghost use Rattle.std.specs.Prelude.{◌≡◌, ◌≤◌, length, IsTrue, IfOk, IfErr, true};
 ghost use Rattle.wasi_host.specs.Meaning.{Rose};
 ghost use Rattle.wasi_script.specs.CallTurn.{TakesTurn};
 ghost use Rattle.wasi_script.specs.State.{state_of};
@@ -42,6 +42,7 @@ pub fn call<H: Host>(
     memory: &mut GuestMemory,
     call: Call,
 ) -> Result<Value, P1Error>
+    ensures size { length memory.new ≡ length memory.old }
     ensures count { H.faults context.old.host ≤ H.faults context.new.host }
     ensures io { result ≡ Err (P1Error.Errno Errno.Io) → Rose (H.faults context.old.host) (H.faults context.new.host) }
     ensures turn { IsTrue H.told → TakesTurn H.world (Rose (H.faults context.old.host) (H.faults context.new.host))
@@ -60,6 +61,7 @@ pub fn run_calls<H: Host>(
     memory: &mut GuestMemory,
     calls: &Vec<Call>,
 ) -> Result<Answers, RunError>
+    ensures size { length memory.new ≡ length memory.old }
     ensures count { H.faults context.old.host ≤ H.faults context.new.host }
     ensures run { IsTrue H.told → IfOk result (λ a. DidRun (H.faults context.old.host) (H.faults context.new.host)
         (state_of H.world context.old memory.old) calls.now.items a.answers

@@ -1,4 +1,4 @@
-use Rattle.std.proofs.Common.{◌∙◌, arith, sym, length, take, drop, length-append, ◌≡◌, ◌+◌, ◌<◌, ◌≤◌}
+use Rattle.std.proofs.Common.{◌∙◌, arith, sym, refl, length, take, drop, length-append, ◌≡◌, ◌+◌, ◌<◌, ◌≤◌}
 use Rattle.wasi_script.specs.declared.calls.Call.TheVariants.{PathOpen}
 use Rattle.wasi_script.proofs.Runs.{nothing_yet, turned_on, stood, stood_first, ended, all_done, call_at, calls_at, whole}
 use Rattle.wasi_script.proofs.Confining.{turn_confines}
@@ -28,6 +28,7 @@ returns-then-ends_run-clause-confined g c = λ told start. turn_confines _ _ _ _
 
 pub loop-one-preserved : goal.loop-one-preserved
 loop-one-preserved g c = record {
+  size = c.call-outcome.ensures.size ∙ c.loop-one.invariant.size;
   run = λ told.
       let within : c.loop-one.one-index < length c.args.calls.now.items = omega arith in
       let on = turned_on _ _ _ _ _ _ _ _ _ _ _ _ _ _ (sym c.in-Some.ensures) c.call-outcome.ensures.count (c.call-outcome.ensures.turn told) (c.loop-one.invariant.run told) (sym c.ends_run.ensures ∙ c.if-ends_run.false) in
@@ -46,9 +47,19 @@ returns-clause-run g c = λ told.
 
 pub loop-one-init : goal.loop-one-init
 loop-one-init g c = record {
+  size = refl;
   run = λ told. rw c.in-Ok.ensures.0 (nothing_yet _ _ _);
   confined = λ told start. start;
   later = omega arith;
   count = rw c.in-Ok.ensures.0 (omega arith);
   room = let fits : c.len.result ≤ c.in-Ok.answers.spare = c.in-Ok.ensures.1 in omega (arith, fits, c.len.ensures);
 }
+
+pub returns-in-None-clause-size : goal.returns-in-None-clause-size
+returns-in-None-clause-size g c = c.call-outcome.ensures.size ∙ c.loop-one.invariant.size
+
+pub returns-then-ends_run-clause-size : goal.returns-then-ends_run-clause-size
+returns-then-ends_run-clause-size g c = c.call-outcome.ensures.size ∙ c.loop-one.invariant.size
+
+pub returns-clause-size : goal.returns-clause-size
+returns-clause-size g c = c.loop-one.invariant.size

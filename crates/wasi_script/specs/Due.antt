@@ -1,0 +1,116 @@
+-- What the program has to write, and what stands after it, by its status.
+use Rattle.std.specs.Prelude.{◌≡◌, ℕ, ◌+◌, ◌++◌, Bool, true, false, nat_lt, if◌then◌else◌, List, [], ◌∷◌, length, drop, codes, Result, Ok, Err, ⊤}
+use Rattle.std.specs.Str.{bytes_eq}
+use Rattle.wasi_script.specs.Ends.{TookFront}
+use Rattle.wasi_script.specs.Headline.{Reports}
+use Rattle.wasi_script.specs.Script.{Plan, plan, verdict_of}
+use Rattle.wasi_script.specs.declared.script.Refusal.{Refusal}
+use Rattle.wasi_script.specs.declared.script.Refusal.TheVariants.{Json, Later}
+use Rattle.wasi_script.specs.declared.script.Script.{Script}
+use Rattle.wasi_script.specs.declared.top.Status.{Status}
+use Rattle.wasi_script.specs.declared.top.Status.TheVariants as statuses
+use Rattle.wasi_script.specs.declared.top.NoScript.{NoScript}
+use Rattle.wasi_script.specs.declared.top.NoScript.TheVariants as none
+
+-- how many bytes a script has at most
+abbrev pub most_script : ℕ
+most_script = 16777216
+
+-- the plan of a source's bytes, or why they are refused
+unfoldable pub verdict_within : List ℕ → Result Plan Refusal
+verdict_within left = if nat_lt most_script (length left) then Err Later else verdict_of left
+
+-- what reading leaves: nothing, or of bytes that are too many those behind the first one past the limit
+unfoldable pub left_unread : List ℕ → List ℕ
+left_unread left = drop (most_script + 1) left
+
+-- the one word `run`
+abbrev pub is_run : List (List ℕ) → Bool
+is_run [] = false
+is_run (word ∷ []) = bytes_eq word (codes "run")
+is_run (word ∷ more ∷ words) = false
+
+abbrev pub usage_line : List ℕ
+usage_line = codes "usage: wasirun run | wasirun gen N" ++ 10 ∷ []
+
+abbrev pub refusal_line : Refusal → List ℕ
+refusal_line Json = codes "refused: json" ++ 10 ∷ []
+refusal_line Later = codes "refused: later" ++ 10 ∷ []
+
+-- what has to be written
+pub data Due : Type 0 where
+  the_usage : Due
+  the_refusal : Refusal → Due
+  the_report : Plan → Due
+
+abbrev pub due_of : Result Plan Refusal → Due
+due_of (Ok plan) = the_report plan
+due_of (Err refusal) = the_refusal refusal
+
+-- by whether the words are `run`, and the bytes that the source has left
+abbrev pub due : Bool → List ℕ → Due
+due true left = due_of (verdict_within left)
+due false left = the_usage
+
+-- the text is what is due
+abbrev pub IsText : Due → List ℕ → Type 0
+IsText the_usage text = text ≡ usage_line
+IsText (the_refusal refusal) text = text ≡ refusal_line refusal
+IsText (the_report plan) text = Reports plan text
+
+-- the status of what was written whole
+abbrev pub status_of : Due → Status
+status_of the_usage = statuses.Usage
+status_of (the_refusal refusal) = statuses.Refused refusal
+status_of (the_report plan) = statuses.Done
+
+-- a status that isn't one of a fault or of want of memory is the one that is due
+abbrev pub IsDue : Status → Due → Type 0
+IsDue statuses.Done d = statuses.Done ≡ status_of d
+IsDue statuses.Usage d = statuses.Usage ≡ status_of d
+IsDue (statuses.Refused refusal) d = statuses.Refused refusal ≡ status_of d
+IsDue statuses.ReadFault d = ⊤
+IsDue statuses.WriteFault d = ⊤
+IsDue statuses.NoMemory d = ⊤
+
+-- the sink took the text that is due, and no other byte
+pub record Wrote (d : Due) (taken now : List ℕ) : Type 0 where
+  pub text : List ℕ
+  pub is_text : IsText d text
+  pub took : now ≡ taken ++ text
+
+-- the sink took a front of the text that is due
+pub record WroteFront (d : Due) (taken now : List ℕ) : Type 0 where
+  pub text : List ℕ
+  pub is_text : IsText d text
+  pub front : TookFront taken now text
+
+-- what the sink took, by the status
+abbrev pub Writes : Status → Due → List ℕ → List ℕ → Type 0
+Writes statuses.Done d taken now = Wrote d taken now
+Writes statuses.Usage d taken now = Wrote d taken now
+Writes (statuses.Refused refusal) d taken now = Wrote d taken now
+Writes statuses.ReadFault d taken now = now ≡ taken
+Writes statuses.NoMemory d taken now = now ≡ taken
+Writes statuses.WriteFault d taken now = WroteFront d taken now
+
+-- what the source has left, by the status, where the words are `run`
+abbrev pub Leaves : Status → List ℕ → List ℕ → Type 0
+Leaves statuses.Done left rest = rest ≡ left_unread left
+Leaves statuses.Usage left rest = ⊤
+Leaves (statuses.Refused refusal) left rest = rest ≡ left_unread left
+Leaves statuses.ReadFault left rest = ⊤
+Leaves statuses.NoMemory left rest = ⊤
+Leaves statuses.WriteFault left rest = rest ≡ left_unread left
+
+-- a text that was written under a status: all of it was taken; or the sink failed, and a front of it was taken
+pub data Written (told rose : Type 0) (taken now text : List ℕ) (status : Status) : Status → Type 0 where
+  whole : (told → now ≡ taken ++ text) → Written told rose taken now text status status
+  in_part : rose → (told → TookFront taken now text) → Written told rose taken now text status statuses.WriteFault
+
+-- reading to the end gave the script, or a refusal; a fault and want of memory are free
+abbrev pub ReadsScript : Result Script NoScript → List ℕ → List ℕ → Type 0
+ReadsScript (Ok script) left rest = (verdict_within left ≡ Ok (plan script)) × (rest ≡ left_unread left)
+ReadsScript (Err (none.Refused refusal)) left rest = (verdict_within left ≡ Err refusal) × (rest ≡ left_unread left)
+ReadsScript (Err none.Fault) left rest = ⊤
+ReadsScript (Err none.Memory) left rest = ⊤

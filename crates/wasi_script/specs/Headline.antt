@@ -1,0 +1,40 @@
+-- What the report of a script holds.
+use Rattle.std.specs.Prelude.{◌≡◌, ℕ, ◌+◌, List, map, slice_range, All, Contains}
+use Rattle.std.specs.List.Sorted.{IsStrictlySortedBy}
+use Rattle.std.specs.Ordering.{nat_cmp}
+use Rattle.wasi_tree.specs.Given.{given_of}
+use Rattle.wasi_script.specs.Reach.{InReach}
+use Rattle.wasi_script.specs.Report.{Report, report_text}
+use Rattle.wasi_script.specs.Run.{Turned, Run, answers_of, named}
+use Rattle.wasi_script.specs.Script.{Plan}
+use Rattle.wasi_script.specs.Start.{start}
+use Rattle.wasi_script.specs.State.{State}
+use Rattle.wasi_script.specs.declared.script.Shown.{Shown}
+
+-- the bytes of a range of memory
+abbrev pub shown_in : List ℕ → Shown → List ℕ
+shown_in memory range = slice_range memory range.ptr (range.ptr + range.len)
+
+-- the answers of the turns, and of the state after them the ranges to be shown, what was written out, and the tree
+abbrev pub told_of : List Shown → List Turned → State → List ℕ → Report
+told_of show turns last touched = record {
+  answers = answers_of turns;
+  memory = map (shown_in last.memory) show;
+  stderr = last.stderr;
+  stdout = last.stdout;
+  touched = touched;
+  tree = map given_of last.tree.nodes;
+}
+
+-- The text is the report of the run of the plan's calls from its start, in which no turn is faulted. The touched nodes are
+-- listed rising; each at which a path of a call answered Ok ended is among them, and each is reached from a directory
+-- that the guest was given, or was made by the run.
+pub record Reports (plan : Plan) (text : List ℕ) : Type 0 where
+  pub turns : List Turned
+  pub last : State
+  pub touched : List ℕ
+  pub run : Run 0 (start plan) plan.calls turns last
+  pub rising : IsStrictlySortedBy nat_cmp touched
+  pub ends : All (Contains touched) (named turns)
+  pub in_reach : (n : ℕ) → Contains touched n → InReach (start plan) last n
+  pub text_is : text ≡ report_text (told_of plan.show turns last touched)
