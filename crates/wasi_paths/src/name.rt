@@ -44,7 +44,7 @@ impl<'a> Name<'a> {
     pub fn is_dot(&self) -> bool
         ensures { result ≡ is_dot_text (name_bytes self.now) }
     {
-        self.text == "."
+        self.as_str() == "."
     }
 }
 
