@@ -258,7 +258,7 @@ moved f n = file (record f { position = f.position + n })
 -- a descriptor that was put back, by what its handle stood for before
 pub put_moved : (stands again : ℕ → Held) (table : List Slot) (fd h position n : ℕ) → again h ≡ stands h → map (place_of again) table ≡ map (place_of stands) table
     → slice_set (map (place_of again) table) fd (place_of again (slots.File h (position + n)))
-      ≡ slice_set (map (place_of stands) table) fd (moved (record { node = (stands h).node; mode = (stands h).mode; position = position }) n)
+    ≡ slice_set (map (place_of stands) table) fd (moved (record { node = (stands h).node; mode = (stands h).mode; position = position }) n)
 put_moved stands again table fd h position n e kept = λ i. slice_set (kept i) fd (file (record { node = (e i).node; mode = (e i).mode; position = position + n }))
 
 module _ (rose : Type 0) (old : Handles) (w v : World) (places places' : List Place) (memory memory' stdout stderr part : List ℕ) (fd iovs : ℕ) (buffer : Iovec) (f : OpenFile) where

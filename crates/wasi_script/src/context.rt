@@ -72,11 +72,7 @@ impl<H: Host> WasiP1Ctx<H> {
 
     /// A context with the three standard streams as descriptors 0 to 2, and the directory of a handle as descriptor 3,
     /// which takes the handle over. Nothing is asked of the host.
-    pub fn new(
-        alloc: Global,
-        host: H,
-        preopen: Handle,
-    ) -> Result<WasiP1Ctx<H>, CtxRefused<H>>
+    pub fn new(alloc: Global, host: H, preopen: Handle) -> Result<WasiP1Ctx<H>, CtxRefused<H>>
         requires live { contains (H.live host) preopen ≡ true }
         ensures made { IfOk result (λ c. c ≡ record { host = host; slots = first_slots preopen; stdout = []; stderr = [] }) }
         ensures handed_back { IfErr result (λ refused. refused.host ≡ host) }
@@ -175,7 +171,13 @@ impl<H: Host> WasiP1Ctx<H> {
             Ok(count) => count,
             Err(error) => return Err(error),
         };
-        put_file(&self.host, &mut self.slots, fd, handle, position + count as u64);
+        put_file(
+            &self.host,
+            &mut self.slots,
+            fd,
+            handle,
+            position + count as u64,
+        );
         Ok(Value::Number(count as u64))
     }
 }

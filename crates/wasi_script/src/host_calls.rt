@@ -15,9 +15,7 @@ ghost use Rattle.wasi_host.specs.ValidTree.{is_entry_name};
 use crate::calls::{Errno, P1Error, TrapKind};
 use crate::context::Slot;
 use crate::guest::{GuestMemory, Iovec};
-use wasi_host::{
-    ErrorCode, FileType, FollowSymlinks, Handle, Host, HostError, OpenOptions,
-};
+use wasi_host::{ErrorCode, FileType, FollowSymlinks, Handle, Host, HostError, OpenOptions};
 use wasi_paths::Name;
 
 /// The error number of the same name.
@@ -181,22 +179,33 @@ fn slot_for(kind: FileType, handle: Handle) -> Slot
 {
     match kind {
         FileType::Directory => Slot::Directory { handle },
-        FileType::RegularFile => Slot::File { handle, position: 0 },
-        FileType::SymbolicLink => Slot::File { handle, position: 0 },
-        FileType::CharacterDevice => Slot::File { handle, position: 0 },
-        FileType::BlockDevice => Slot::File { handle, position: 0 },
-        FileType::Unknown => Slot::File { handle, position: 0 },
+        FileType::RegularFile => Slot::File {
+            handle,
+            position: 0,
+        },
+        FileType::SymbolicLink => Slot::File {
+            handle,
+            position: 0,
+        },
+        FileType::CharacterDevice => Slot::File {
+            handle,
+            position: 0,
+        },
+        FileType::BlockDevice => Slot::File {
+            handle,
+            position: 0,
+        },
+        FileType::Unknown => Slot::File {
+            handle,
+            position: 0,
+        },
     }
 }
 
 #[tactic(auto, using(wasi_host::proofs::Chain::live_rules))]
 /// Opens a name for reading, and gives its descriptor. Where the host fails at the new handle's metadata, the handle is
 /// closed again.
-pub fn open_slot<H: Host>(
-    host: &mut H,
-    directory: Handle,
-    name: Name<'_>,
-) -> Result<Slot, P1Error>
+pub fn open_slot<H: Host>(host: &mut H, directory: Handle, name: Name<'_>) -> Result<Slot, P1Error>
     requires { contains (H.live host.old) directory ≡ true }
     ensures count { H.faults host.old ≤ H.faults host.new }
     ensures io { result ≡ Err (P1Error.Errno Errno.Io) → Rose (H.faults host.old) (H.faults host.new) }
@@ -268,7 +277,7 @@ pub fn put_file<H: Host>(host: &H, slots: &mut Vec<Slot>, fd: u32, file: Handle,
     ensures all { All (IsLive (H.live host.now)) slots.new.items }
     ensures row { map (place_of (H.world host.now).held) slots.new.items
         ≡ slice_set (map (place_of (H.world host.now).held) slots.old.items) fd
-          (place_of (H.world host.now).held (Slot.File file position)) }
+        (place_of (H.world host.now).held (Slot.File file position)) }
 {
     slots[fd as usize] = Slot::File {
         handle: file,

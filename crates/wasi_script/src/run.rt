@@ -49,7 +49,12 @@ pub fn call<H: Host>(
         context.old context.new memory.old memory.new call result }
 {
     match call {
-        Call::PathOpen { fd, path, path_len, .. } => context.path_open(memory, fd, path, path_len),
+        Call::PathOpen {
+            fd,
+            path,
+            path_len,
+            ..
+        } => context.path_open(memory, fd, path, path_len),
         Call::FdRead { fd, iovs, .. } => context.fd_read(memory, fd, iovs),
     }
 }

@@ -150,7 +150,11 @@ pub fn run_script<S: Source, K: Sink>(
     let script = match read_from(alloc, source) {
         Ok(script) => script,
         Err(NoScript::Refused(refusal)) => {
-            return written(sink, refusal_line(refusal).as_bytes(), Status::Refused(refusal));
+            return written(
+                sink,
+                refusal_line(refusal).as_bytes(),
+                Status::Refused(refusal),
+            );
         }
         Err(NoScript::Fault) => return Status::ReadFault,
         Err(NoScript::Memory) => return Status::NoMemory,
@@ -160,3 +164,6 @@ pub fn run_script<S: Source, K: Sink>(
         Err(AllocError) => Status::NoMemory,
     }
 }
+
+#[cfg(test)]
+mod tests;
