@@ -6,7 +6,7 @@ use Rattle.std.specs.List.{list_any, list_all}
 use Rattle.std.specs.Str.{bytes_eq}
 use Rattle.std.specs.String.{string_bytes}
 use Rattle.std.proofs.Math.Bool.{and_assoc}
-use Rattle.std.proofs.lemmas.List.{drop_more, drop_all, take_more}
+use Rattle.std.proofs.lemmas.List.{drop_more, drop_all, take_more, map_push}
 use Rattle.std.proofs.lemmas.List.Folds.{list_any-append, list_all-map}
 use Rattle.std.proofs.lemmas.Map.Text.{is_eq-slice_cmp}
 use denote.Ref.{Bor}
@@ -74,12 +74,8 @@ seen_none seen entries is = record {
   rest = rw (are_new-none (names entries)) refl;
 }
 
-map-push : {A B : Type 0} (f : A → B) (xs : List A) (x : A) → map f (xs ++ x ∷ []) ≡ map f xs ++ f x ∷ []
-map-push f [] x = refl
-map-push f (y ∷ ys) x = ap (λ zs. f y ∷ zs) (map-push f ys x)
-
 names-take : (entries : List NewEntry) (i : ℕ) (e : NewEntry) → i < length entries → names (take (i + 1) entries) ≡ names (take i entries) ++ string_bytes (slice_index_or entries i e).name ∷ []
-names-take entries i e h = rw (take_more entries i e h, map-push pair_of (take i entries) (slice_index_or entries i e), map-push {B = List ℕ} (λ (p : List ℕ × ℕ). p.0) (map pair_of (take i entries)) (pair_of (slice_index_or entries i e))) refl
+names-take entries i e h = rw (take_more entries i e h, map_push pair_of (take i entries) (slice_index_or entries i e), map_push {Y = List ℕ} (λ (p : List ℕ × ℕ). p.0) (map pair_of (take i entries)) (pair_of (slice_index_or entries i e))) refl
 
 names-drop : (entries : List NewEntry) (i : ℕ) (e : NewEntry) → i < length entries → names (drop i entries) ≡ string_bytes (slice_index_or entries i e).name ∷ names (drop (i + 1) entries)
 names-drop entries i e h = rw (drop_more entries i e h) refl

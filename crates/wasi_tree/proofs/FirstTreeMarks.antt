@@ -1,7 +1,7 @@
 use Rattle.std.proofs.Common.{◌≡◌, ℕ, zero, suc, ◌+◌, ◌<◌, Bool, true, false, not, ◌&&◌, List, [], ◌∷◌, ◌++◌, map, drop, length, length-append, slice_index_or, slice_set, refl, sym, ap, ◌∙◌, subst, arith}
 use Rattle.std.specs.List.{All}
 use Rattle.std.proofs.Math.Bool.{and_assoc}
-use Rattle.std.proofs.lemmas.List.{drop_more, length-set}
+use Rattle.std.proofs.lemmas.List.{drop_more, length-set, get_or_append_left}
 use Rattle.wasi_tree.specs.declared.node.NewEntry.{NewEntry}
 use Rattle.wasi_tree.specs.declared.node.NewNode.{NewNode}
 use Rattle.wasi_tree.specs.Given.{given, given_content}
@@ -60,11 +60,6 @@ pub numbers_of-drop : (nodes : List NewNode) (i : ℕ) (d : NewNode) → i < len
     → numbers_of (map given (drop i nodes)) ≡ numbers_in (given_content (slice_index_or nodes i d).content) ++ numbers_of (map given (drop (i + 1) nodes))
 numbers_of-drop nodes i d h = rw (drop_more nodes i d h) refl
 
-get_or-front : (xs ys : List ℕ) (k d : ℕ) → k < length xs → slice_index_or (xs ++ ys) k d ≡ slice_index_or xs k d
-get_or-front [] ys k d h = absurd (omega arith)
-get_or-front (x ∷ xs) ys zero d h = refl
-get_or-front (x ∷ xs) ys (suc k) d h = get_or-front xs ys k d (omega arith)
-
 All-first : (high x : ℕ) (xs : List ℕ) → All (λ n. n < high) (x ∷ xs) → x < high
 All-first high x xs all = all 0 x (omega arith)
 
@@ -77,7 +72,7 @@ All-tail high (x ∷ xs) ys all = All-tail high xs ys (All-rest high x (xs ++ ys
 
 All-front : (high : ℕ) (xs ys : List ℕ) → All (λ n. n < high) (xs ++ ys) → All (λ n. n < high) xs
 All-front high [] ys all = λ k d h. absurd (omega arith)
-All-front high (x ∷ xs) ys all = λ k d h. subst (λ z. z < high) (get_or-front (x ∷ xs) ys k d h) (all k d (omega (arith, length-append xs ys)))
+All-front high (x ∷ xs) ys all = λ k d h. subst (λ z. z < high) (get_or_append_left (x ∷ xs) ys d k h) (all k d (omega (arith, length-append xs ys)))
 
 pub number_below : (high : ℕ) (entries : List NewEntry) (i : ℕ) (e : NewEntry) → All (λ n. n < high) (entry_numbers entries) → i < length entries → (slice_index_or entries i e).node < high
 number_below high [] i e all h = absurd (omega arith)

@@ -6,10 +6,12 @@ use Rattle.std.specs.Cmp.Lexicographic.{slice_cmp, nat_list_cmp_total}
 use Rattle.std.specs.FinMap as maps
 use Rattle.std.specs.Str.{bytes_eq}
 use Rattle.std.proofs.lemmas.Bool.{and_parts, eqb-true}
+use Rattle.std.proofs.lemmas.List.Elements.{All-cons}
 use Rattle.std.proofs.lemmas.Map.Text.{is_eq-slice_cmp}
+use Rattle.std.proofs.lemmas.Slice.Eq.{bytes_eq-Decides}
 use Rattle.wasi_host.specs.Tree.{Names}
 use Rattle.wasi_tree.specs.FirstTree.{are_distinct}
-use Rattle.wasi_tree.proofs.FirstTreeOnce.{times, once, times-cons, not_true, nat_eq-refl, All-put}
+use Rattle.wasi_tree.proofs.FirstTreeOnce.{times, once, times-cons, not_true}
 
 abbrev pub texts : List (List ℕ × ℕ) → List (List ℕ)
 texts es = map (λ e. e.0) es
@@ -22,16 +24,6 @@ find_in name es = maps.find (slice_cmp nat_cmp) name es
 
 abbrev pub put_in : List ℕ → ℕ → List (List ℕ × ℕ) → List (List ℕ × ℕ)
 put_in name n es = maps.put (slice_cmp nat_cmp) name n es
-
-bytes_eq-same : (xs ys : List ℕ) → bytes_eq xs ys ≡ true → xs ≡ ys
-bytes_eq-same [] [] is = refl
-bytes_eq-same [] (y ∷ ys) is = cc
-bytes_eq-same (x ∷ xs) [] is = cc
-bytes_eq-same (x ∷ xs) (y ∷ ys) is =
-    let parts = and_parts (nat_eq x y) (bytes_eq xs ys) is in
-    let first : x ≡ y = eqb-true x y parts.0 in
-    let rest : xs ≡ ys = bytes_eq-same xs ys parts.1 in
-    cc
 
 -- a text that is missing is not found
 missing : (name : List ℕ) (es : List (List ℕ × ℕ)) → list_any (bytes_eq name) (texts es) ≡ false → find_in name es ≡ None
@@ -52,14 +44,14 @@ times-put n name k (e ∷ es) none =
     ] none
 
 All-put_in : (P : List ℕ × ℕ → Type 0) (name : List ℕ) (k : ℕ) (es : List (List ℕ × ℕ)) → find_in name es ≡ None → P (name, k) → All P es → All P (put_in name k es)
-All-put_in P name k [] none p all = All-put P (name, k) [] p all
+All-put_in P name k [] none p all = All-cons P (name, k) [] p all
 All-put_in P name k (e ∷ es) none p all =
     let rest : All P es = λ i d h. all (suc i) d (omega arith) in
     elim (slice_cmp nat_cmp name e.0) as (λ r. cond (is_eq r) (Some e.1) (find_in name es) ≡ None
     → All P (maps.Entries.by_order r ((name, k) ∷ e ∷ es) ((e.0, k) ∷ es) (e ∷ put_in name k es))) [
-      | Less ↦ λ _. All-put P (name, k) (e ∷ es) p all
+      | Less ↦ λ _. All-cons P (name, k) (e ∷ es) p all
       | Equal ↦ λ some. cc
-      | Greater ↦ λ none'. All-put P e (put_in name k es) (all 0 e (omega arith)) (All-put_in P name k es none' p rest)
+      | Greater ↦ λ none'. All-cons P e (put_in name k es) (all 0 e (omega arith)) (All-put_in P name k es none' p rest)
     ] none
 
 no_length : (es : List (List ℕ × ℕ)) → length es ≡ 0 → es ≡ []
@@ -100,10 +92,6 @@ All-from P (e ∷ es) is all =
     let rest : All P es = λ i d h. all (suc i) d (omega arith) in
     subst (All P) (sym (entries-more e es)) (All-put_in P e.0 e.1 (maps.entries (names_from es)) (new_name e es parts.0) (all 0 e (omega arith)) (All-from P es parts.1 rest))
 
-bytes_eq-refl : (name : List ℕ) → bytes_eq name name ≡ true
-bytes_eq-refl [] = refl
-bytes_eq-refl (b ∷ bs) = rw (nat_eq-refl b) (bytes_eq-refl bs)
-
 -- an entry that holds a node, and passes a test that all entries pass
 pub record IsFound (p : List ℕ × ℕ → Bool) (es : List (List ℕ × ℕ)) (n : ℕ) : Type 0 where
   pub name : List ℕ
@@ -113,7 +101,7 @@ pub record IsFound (p : List ℕ × ℕ → Bool) (es : List (List ℕ × ℕ)) 
 find_more : (e : List ℕ × ℕ) (es : List (List ℕ × ℕ)) (name : List ℕ) (n : ℕ) → list_any (bytes_eq e.0) (texts es) ≡ false → find_in name es ≡ Some n → find_in name (e ∷ es) ≡ Some n
 find_more e es name n new found = rw (is_eq-slice_cmp name e.0) (elim (bytes_eq name e.0) as (λ b. bytes_eq name e.0 ≡ b → cond b (Some e.1) (find_in name es) ≡ Some n) [
   | true ↦ λ is.
-      let same : name ≡ e.0 = bytes_eq-same name e.0 is in
+      let same : name ≡ e.0 = (bytes_eq-Decides name e.0).0 is in
       let none : find_in name es ≡ None = subst (λ q. find_in q es ≡ None) (sym same) (missing e.0 es new) in
       cc
   | false ↦ λ is. found
@@ -127,7 +115,7 @@ found_in p (e ∷ es) n is passes some =
     elim (nat_eq e.1 n) as (λ b. nat_eq e.1 n ≡ b → IsFound p (e ∷ es) n) [
       | true ↦ λ same. subst (λ k. IsFound p (e ∷ es) k) (eqb-true e.1 n same) (record {
         name = e.0;
-        found = rw (is_eq-slice_cmp e.0 e.0, bytes_eq-refl e.0) refl;
+        found = rw (is_eq-slice_cmp e.0 e.0, (bytes_eq-Decides e.0 e.0).1 refl) refl;
         passes = tests.0;
       })
       | false ↦ λ apart.

@@ -2,8 +2,10 @@ use Rattle.std.proofs.Common.{◌≡◌, ℕ, zero, suc, ◌+◌, ◌-◌, ◌<�
 use Rattle.std.specs.List.{All, list_all}
 use Rattle.std.proofs.Math.ListN.{replicate}
 use Rattle.std.proofs.lemmas.List.{length-set, get_or-set_same, get_or-set_other, get_or-replicate, get_or-drop, length-replicate}
-use Rattle.std.proofs.lemmas.Bool.{cases_eq, and_parts, ltb-true}
-use Rattle.std.proofs.lemmas.List.Sums.{sum_by-cons}
+use Rattle.std.proofs.Math.Bool.{and-false}
+use Rattle.std.proofs.lemmas.Bool.{true≢false, cases_eq, and_parts, ltb-true, ne_eqb}
+use Rattle.std.proofs.lemmas.List.Elements.{All-nil, All-cons, All-append}
+use Rattle.std.proofs.lemmas.List.Sums.{sum_by-cons, sum_by-append}
 use Rattle.wasi_host.specs.ValidTree.{is_entry_name}
 use Rattle.wasi_tree.specs.Given.{Given, GivenContent, file, directory, link, entries_of, entry_count}
 use Rattle.wasi_tree.specs.FirstTree.{are_distinct, is_first_entry, is_first_content, is_first_node, are_first_nodes, numbers_from}
@@ -24,19 +26,9 @@ times-cons n m ns = sum_by-cons (λ k. cond (nat_eq k n) 1 0) m ns ∙ ap (λ k.
 pub nat_eq-refl : (n : ℕ) → nat_eq n n ≡ true
 nat_eq-refl n = grind arith
 
-pub nat_eq-apart : (m n : ℕ) → (m ≡ n → ⊥) → nat_eq m n ≡ false
-nat_eq-apart m n apart = grind (arith, apart)
-
 pub not_true : (b : Bool) → not b ≡ true → b ≡ false
 not_true true is = sym is
 not_true false is = refl
-
-true_not_false : true ≡ false → ⊥
-true_not_false is = cc
-
-pub and_no : (b : Bool) → (b && false) ≡ false
-and_no true = refl
-and_no false = refl
 
 -- a mark that is set anew: its place has it, each other place stays
 once-set : (marks : List Bool) (m n : ℕ) → m < length marks → slice_index_or marks m false ≡ false
@@ -44,7 +36,7 @@ once-set : (marks : List Bool) (m n : ℕ) → m < length marks → slice_index_
 once-set marks m n within free = ⊎_elim
     (λ (e : m ≡ n). subst (λ k. once (slice_index_or (slice_set marks m true) k false) ≡ once (slice_index_or marks k false) + once (nat_eq m k)) e
     (rw (get_or-set_same marks m true false within, free, nat_eq-refl m) refl))
-    (λ (e : m ≡ n → ⊥). rw (get_or-set_other marks m n true false (λ q. e (sym q)), nat_eq-apart m n e) (omega arith))
+    (λ (e : m ≡ n → ⊥). rw (get_or-set_other marks m n true false (λ q. e (sym q)), ne_eqb m n e) (omega arith))
     (cases_eq m n)
 
 -- of numbers that had no mark: a place has a mark in the end as often as before and as it stands in the list
@@ -66,7 +58,7 @@ pub record IsTaken (marks : List Bool) (ns : List ℕ) : Type 0 where
 
 -- a number that had a mark, or stands twice
 taken : (marks : List Bool) (ns : List ℕ) → All (λ k. k < length marks) ns → are_unmarked marks ns ≡ false → IsTaken marks ns
-taken marks [] below again = absurd (true_not_false again)
+taken marks [] below again = absurd (true≢false again)
 taken marks (m ∷ ns) below again = elim (slice_index_or marks m false) as (λ b. slice_index_or marks m false ≡ b → (not b && are_unmarked (slice_set marks m true) ns) ≡ false → IsTaken marks (m ∷ ns)) [
   | true ↦ λ is _. record {
     number = m;
@@ -92,7 +84,7 @@ pub all-not : (p : ℕ → Bool) (k c n : ℕ) → k ≤ n → n < k + c → p n
 all-not p k zero n low high is = absurd (omega arith)
 all-not p k (suc c) n low high is = ⊎_elim
     (λ (e : k ≡ n). ap (λ b. b && list_all p (numbers_from (k + 1) c)) (ap p e ∙ is))
-    (λ (e : k ≡ n → ⊥). rw (all-not p (k + 1) c n (omega (arith, e)) (omega arith) is) (and_no (p k)))
+    (λ (e : k ≡ n → ⊥). rw (all-not p (k + 1) c n (omega (arith, e)) (omega arith) is) (and-false (p k)))
     (cases_eq k n)
 
 all-same : (p : ℕ → Bool) (k : ℕ) (marks : List Bool) → ((i : ℕ) → i < length marks → slice_index_or marks i false ≡ p (k + i)) → list_all (λ b. b) marks ≡ list_all p (numbers_from k (length marks))
@@ -100,10 +92,6 @@ all-same p k [] same = refl
 all-same p k (b ∷ marks) same =
     let first : b ≡ p k = same 0 (omega arith) ∙ ap p (omega arith) in
     rw (first, all-same p (k + 1) marks (λ i h. same (suc i) (omega arith) ∙ ap p (omega arith))) refl
-
-times-append : (n : ℕ) (ms ns : List ℕ) → times n (ms ++ ns) ≡ times n ms + times n ns
-times-append n [] ns = omega arith
-times-append n (m ∷ ms) ns = omega (arith, times-append n ms ns, times-cons n m ms, times-cons n m (ms ++ ns))
 
 pub times-numbers : (n : ℕ) (entries : List (List ℕ × ℕ)) → count_by (λ e. nat_eq e.1 n) entries ≡ times n (map (λ e. e.1) entries)
 times-numbers n [] = refl
@@ -118,7 +106,7 @@ entry_count-times n (g ∷ gs) =
     sum_by-cons (λ (h : Given). count_by (λ e. nat_eq e.1 n) (entries_of h.content)) g gs
     ∙ ap (λ k. k + entry_count n gs) (times-numbers n (entries_of g.content))
     ∙ ap (λ k. times n (numbers_in g.content) + k) (entry_count-times n gs)
-    ∙ sym (times-append n (numbers_in g.content) (numbers_of gs))
+    ∙ sym (sum_by-append (λ k. cond (nat_eq k n) 1 0) (numbers_in g.content) (numbers_of gs))
 
 once-1 : (b : Bool) (n : ℕ) → once b ≡ n → b ≡ nat_eq n 1
 once-1 true n is = rw (← is) refl
@@ -143,7 +131,7 @@ not_once count nodes above below again =
     let nothing : once (slice_index_or (replicate count false) found.number false) ≡ 0 = ap once free in
     let twice : 2 ≤ times found.number (numbers_of nodes) = omega arith in
     counted nodes (numbers_from 1 (count - 1))
-    ∙ all-not (λ n. nat_eq (times n (numbers_of nodes)) 1) 1 (count - 1) found.number (omega arith) (omega arith) (nat_eq-apart (times found.number (numbers_of nodes)) 1 (λ e. omega (arith, twice, e)))
+    ∙ all-not (λ n. nat_eq (times n (numbers_of nodes)) 1) 1 (count - 1) found.number (omega arith) (omega arith) (ne_eqb (times found.number (numbers_of nodes)) 1 (λ e. omega (arith, twice, e)))
 
 -- else each number has a mark exactly where it stands once
 pub are_once : (count : ℕ) (nodes : List Given) (marks : List Bool) → All (λ n. n < count) (numbers_of nodes)
@@ -162,40 +150,29 @@ are_once count nodes marks below free is =
 abbrev IsWithin : ℕ → ℕ → Type 0
 IsWithin count n = (0 < n) × (n < count)
 
-pub All-put : {X : Type 0} (P : X → Type 0) (n : X) (ns : List X) → P n → All P ns → All P (n ∷ ns)
-All-put P n ns p ps zero d h = p
-All-put P n ns p ps (suc k) d h = ps k d (omega arith)
-
-All-join : (P : ℕ → Type 0) (ms ns : List ℕ) → All P ms → All P ns → All P (ms ++ ns)
-All-join P [] ns all rest = rest
-All-join P (m ∷ ms) ns all rest = All-put P m (ms ++ ns) (all 0 m (omega arith)) (All-join P ms ns (λ k d h. all (suc k) d (omega arith)) rest)
-
-pub All-none : {X : Type 0} (P : X → Type 0) → All P []
-All-none P k d h = absurd (omega arith)
-
 entries-within : (count k : ℕ) (entries : List (List ℕ × ℕ)) → list_all (is_first_entry count k) entries ≡ true → All (IsWithin count) (map (λ e. e.1) entries)
-entries-within count k [] is = All-none (IsWithin count)
+entries-within count k [] is = All-nil (IsWithin count)
 entries-within count k (e ∷ entries) is =
     let parts = and_parts (is_first_entry count k e) (list_all (is_first_entry count k) entries) is in
     let ends = and_parts (is_entry_name e.0 && nat_lt k e.1) (nat_lt e.1 count) parts.0 in
     let low = and_parts (is_entry_name e.0) (nat_lt k e.1) ends.0 in
-    All-put (IsWithin count) e.1 (map (λ f. f.1) entries) (omega (arith, ltb-true k e.1 low.1), ltb-true e.1 count ends.1) (entries-within count k entries parts.1)
+    All-cons (IsWithin count) e.1 (map (λ f. f.1) entries) (omega (arith, ltb-true k e.1 low.1), ltb-true e.1 count ends.1) (entries-within count k entries parts.1)
 
 content-within : (count k : ℕ) (content : GivenContent) → is_first_content count k content ≡ true → All (IsWithin count) (numbers_in content)
-content-within count k (file bytes) is = All-none (IsWithin count)
+content-within count k (file bytes) is = All-nil (IsWithin count)
 content-within count k (directory entries) is = entries-within count k entries (and_parts (list_all (is_first_entry count k) entries) (are_distinct (map (λ e. e.0) entries)) is).0
-content-within count k (link text) is = All-none (IsWithin count)
+content-within count k (link text) is = All-nil (IsWithin count)
 
-pub first_of_five : (a b c d e : Bool) → (a && b && c && d && e) ≡ true → a ≡ true
+first_of_five : (a b c d e : Bool) → (a && b && c && d && e) ≡ true → a ≡ true
 first_of_five true b c d e is = refl
 first_of_five false b c d e is = is
 
 nodes-within : (count k : ℕ) (nodes : List Given) → are_first_nodes count k nodes ≡ true → All (IsWithin count) (numbers_of nodes)
-nodes-within count k [] is = All-none (IsWithin count)
+nodes-within count k [] is = All-nil (IsWithin count)
 nodes-within count k (g ∷ gs) is =
     let parts = and_parts (is_first_node count k g) (are_first_nodes count (k + 1) gs) is in
     let content : is_first_content count k g.content ≡ true = first_of_five (is_first_content count k g.content) _ _ _ _ parts.0 in
-    All-join (IsWithin count) (numbers_in g.content) (numbers_of gs) (content-within count k g.content content) (nodes-within count (k + 1) gs parts.1)
+    All-append (IsWithin count) (numbers_in g.content) (numbers_of gs) (content-within count k g.content content) (nodes-within count (k + 1) gs parts.1)
 
 pub numbers_above : (count : ℕ) (nodes : List Given) → are_first_nodes count 0 nodes ≡ true → All (λ n. 0 < n) (numbers_of nodes)
 numbers_above count nodes is = λ k d h. (nodes-within count 0 nodes is k d h).0

@@ -2,7 +2,9 @@ use Rattle.std.proofs.Common.{◌≡◌, ℕ, zero, suc, ◌+◌, ◌-◌, ◌^�
 use Rattle.std.specs.List.{All, list_all}
 use Rattle.std.specs.FinMap as maps
 use Rattle.std.specs.Cmp.Lexicographic.{nat_list_cmp_total}
-use Rattle.std.proofs.lemmas.Bool.{and_parts, eqb-true, ltb-true, leb-true, cases_eq}
+use Rattle.std.proofs.Math.Bool.{and-false}
+use Rattle.std.proofs.lemmas.Bool.{and_parts, eqb-true, ltb-true, leb-true, ne_eqb, cases_eq}
+use Rattle.std.proofs.lemmas.List.Elements.{All-nil, All-cons}
 use Rattle.std.proofs.lemmas.List.Sums.{sum_by-cons}
 use Rattle.wasi_host.specs.Time.{IsTime, zero_time}
 use Rattle.wasi_host.specs.Tree.{Tree, Node, Names, node_at, next_of, names_of, is_directory, is_gone, stray, default_bits}
@@ -12,17 +14,17 @@ use Rattle.wasi_host.specs.declared.values.Limits.{Limits}
 use Rattle.wasi_tree.specs.Given.{Given, GivenContent, file, directory, link, entries_of, entry_count, content_from, node_from, nodes_from, tree_of}
 use Rattle.wasi_tree.specs.FirstTree.{AreLimits, is_dir_content, is_first_entry, are_distinct, is_first_content, has_default_bits, is_zero, is_zero_time, is_first_node, are_first_nodes, numbers_from, starts_with_directory, is_first_tree}
 use Rattle.wasi_tree.specs.FirstTreeMarks.{numbers_of}
-use Rattle.wasi_tree.proofs.FirstTreeOnce.{times, once, times-cons, times-numbers, entry_count-times, numbers_above, nat_eq-apart, and_no, all-not, All-put, All-none}
+use Rattle.wasi_tree.proofs.FirstTreeOnce.{times, once, times-cons, times-numbers, entry_count-times, numbers_above, all-not}
 use Rattle.wasi_tree.proofs.FirstTreeNames.{texts, names_from, times-from, All-from, IsFound, found_in}
 
--- the five parts of the test of a node
+-- what the test of a node says
 pub record IsFirst (count k : ℕ) (g : Given) : Type 0 where
   pub content : is_first_content count k g.content ≡ true
   pub atime : is_zero_time g.atime ≡ true
   pub mtime : is_zero_time g.mtime ≡ true
   pub btime : is_zero_time g.btime ≡ true
 
-is_first : (count k : ℕ) (g : Given) → is_first_node count k g ≡ true → IsFirst count k g
+pub is_first : (count k : ℕ) (g : Given) → is_first_node count k g ≡ true → IsFirst count k g
 is_first count k g is =
     let content = is_first_content count k g.content in
     let bits = has_default_bits (is_dir_content g.content) g.bits in
@@ -31,7 +33,7 @@ is_first count k g is =
     let third = and_parts (content && bits) (is_zero_time g.atime) fourth.0 in
     record { content = (and_parts content bits third.0).0; atime = third.1; mtime = fourth.1; btime = last.1 }
 
-is_time : (time : SystemTime) → is_zero_time time ≡ true → IsTime time
+pub is_time : (time : SystemTime) → is_zero_time time ≡ true → IsTime time
 is_time time is = omega (arith, eqb-true time.nanoseconds 0 (and_parts (is_zero time.seconds) (nat_eq time.nanoseconds 0) is).1)
 
 first_at : (count k : ℕ) (gs : List Given) (n : ℕ) (d : Given) → are_first_nodes count k gs ≡ true → n < length gs → is_first_node count (k + n) (slice_index_or gs n d) ≡ true
@@ -137,7 +139,7 @@ times-zero : (ns : List ℕ) → All (λ n. 0 < n) ns → times 0 ns ≡ 0
 times-zero [] above = refl
 times-zero (n ∷ ns) above =
     let first : 0 < n = above 0 n (omega arith) in
-    let apart : nat_eq n 0 ≡ false = nat_eq-apart n 0 (λ e. omega arith) in
+    let apart : nat_eq n 0 ≡ false = ne_eqb n 0 (λ e. omega arith) in
     times-cons 0 n ns ∙ ap (λ b. once b + times 0 ns) apart ∙ zero-add (times 0 ns) ∙ times-zero ns (λ k d h. above (suc k) d (omega arith))
 
 -- a test that all pass, at one number
@@ -154,7 +156,7 @@ pub record IsFirstTree (limits : Limits) (nodes : List Given) : Type 0 where
   pub each : are_first_nodes (length nodes) 0 nodes ≡ true
   pub once : list_all (λ n. nat_eq (entry_count n nodes) 1) (numbers_from 1 (length nodes - 1)) ≡ true
 
-is_tree : (limits : Limits) (nodes : List Given) → is_first_tree limits nodes ≡ true → IsFirstTree limits nodes
+pub is_tree : (limits : Limits) (nodes : List Given) → is_first_tree limits nodes ≡ true → IsFirstTree limits nodes
 unfolding is_first_tree
 is_tree limits nodes is =
     let start = starts_with_directory nodes in
@@ -168,7 +170,7 @@ is_tree limits nodes is =
 root_count : (limits : Limits) (nodes : List Given) → IsFirstTree limits nodes → entry_count 0 nodes ≡ 0
 root_count limits nodes is = entry_count-times 0 nodes ∙ times-zero (numbers_of nodes) (numbers_above (length nodes) nodes is.each)
 
-other_count : (limits : Limits) (nodes : List Given) (n : ℕ) → IsFirstTree limits nodes → 0 < n → n < length nodes → entry_count n nodes ≡ 1
+pub other_count : (limits : Limits) (nodes : List Given) (n : ℕ) → IsFirstTree limits nodes → 0 < n → n < length nodes → entry_count n nodes ≡ 1
 other_count limits nodes n is low high = eqb-true (entry_count n nodes) 1 (all-at (λ m. nat_eq (entry_count m nodes) 1) 1 (length nodes - 1) n is.once (omega arith) (omega arith))
 
 reached_below : (limits : Limits) (nodes : List Given) → IsFirstTree limits nodes → (most n : ℕ) → n < most → n < length nodes → Reached (tree_of nodes limits) (0 ∷ []) n
@@ -195,7 +197,7 @@ known_gone : (t : Tree) (nodes : List Given) (n : ℕ) (content : GivenContent) 
 known_gone t nodes n (file bytes) is = refl
 known_gone t nodes n (directory entries) is = ⊎_elim
     (λ p. ap (λ k. not (nat_eq k 0) && nat_eq (entry_count n nodes) 0) p.0)
-    (λ p. ap (λ k. not (nat_eq n 0) && nat_eq k 0) p.0 ∙ and_no (not (nat_eq n 0)))
+    (λ p. ap (λ k. not (nat_eq n 0) && nat_eq k 0) p.0 ∙ and-false (not (nat_eq n 0)))
     is.stands
 known_gone t nodes n (link text) is = refl
 
@@ -203,12 +205,12 @@ known_links : (t : Tree) (nodes : List Given) (n : ℕ) → IsKnown t nodes n �
 known_links t nodes n is = ⊎_elim (λ p. omega (arith, p.1)) (λ p. omega (arith, p.0, is.links)) is.stands
 
 entries_valid : (t : Tree) (nodes : List Given) (n : ℕ) (entries : List (List ℕ × ℕ)) → IsKnown t nodes n → list_all (is_first_entry (length nodes) n) entries ≡ true → All (IsEntry t) entries
-entries_valid t nodes n [] known is = All-none (IsEntry t)
+entries_valid t nodes n [] known is = All-nil (IsEntry t)
 entries_valid t nodes n (e ∷ entries) known is =
     let parts = and_parts (is_first_entry (length nodes) n e) (list_all (is_first_entry (length nodes) n) entries) is in
     let ends = and_parts (is_entry_name e.0 && nat_lt n e.1) (nat_lt e.1 (length nodes)) parts.0 in
     let good : is_entry_name e.0 ≡ true = (and_parts (is_entry_name e.0) (nat_lt n e.1) ends.0).0 in
-    All-put (IsEntry t) e entries (record { name = good; within = omega (arith, known.next, ltb-true e.1 (length nodes) ends.1) }) (entries_valid t nodes n entries known parts.1)
+    All-cons (IsEntry t) e entries (record { name = good; within = omega (arith, known.next, ltb-true e.1 (length nodes) ends.1) }) (entries_valid t nodes n entries known parts.1)
 
 content_valid : (t : Tree) (nodes : List Given) (n : ℕ) (content : GivenContent) → IsKnown t nodes n → is_gone (node_at t n).content ≡ false
     → is_first_content (length nodes) n content ≡ true → IsValidContent t n (content_from nodes n content)

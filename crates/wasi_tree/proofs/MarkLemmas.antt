@@ -10,7 +10,6 @@ use Rattle.std.specs.List.Sorted.{IsStrictlySortedBy}
 use Rattle.std.specs.declared.cmp.Ordering.TheVariants.{Less}
 use Rattle.std.specs.FinSet.{contains, empty, insert, from_list, members, contains-empty, same_set, nat_cmp-IsAntisymmetric}
 use Rattle.std.specs.Cmp.{nat_cmp_total}
-use Rattle.wasi_host.specs.Tree.{Nodes}
 use Rattle.wasi_tree.specs.Marks.{marked_from, marked}
 
 marked_before : (k : ℕ) (marks : List Bool) (q : ℕ) → q < k → contains (marked_from k marks) q ≡ false
@@ -29,12 +28,9 @@ contains-marked : (marks : List Bool) (q : ℕ) → contains (marked marks) q �
 unfolding marked
 contains-marked marks q = marked_at 0 marks q q (omega arith)
 
-same : (s t : Nodes) → ((q : ℕ) → contains s q ≡ contains t q) → s ≡ t
-same s t is = same_set nat_cmp_total nat_cmp-IsAntisymmetric s t is
-
 -- a mark is set
 pub marked-set : (marks : List Bool) (i : ℕ) → i < length marks → marked (slice_set marks i true) ≡ insert (marked marks) i
-marked-set marks i within = same _ _ (λ q. elim (cases_eq q i) [
+marked-set marks i within = same_set nat_cmp_total nat_cmp-IsAntisymmetric _ _ (λ q. elim (cases_eq q i) [
   | inl here ↦ grind (arith, members, nat_tests, contains-marked, common_steps)
   | inr other ↦ grind (arith, members, nat_tests, contains-marked, get_or-set_other marks i q true false other)
 ])

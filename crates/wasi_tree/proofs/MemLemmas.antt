@@ -1,19 +1,20 @@
-use Rattle.std.proofs.Common.{◌≡◌, ◌≢◌, ◌<◌, ℕ, true, false, cond, List, [], ◌∷◌, ◌++◌, Option, Some, None, Result, Ok, Err, option_to_list, is_none, inl, inr, refl, sym, ap, ◌∙◌, subst, arith}
+use Rattle.std.proofs.Common.{◌≡◌, ◌≢◌, ◌<◌, ℕ, true, false, List, [], ◌∷◌, ◌++◌, Option, Some, None, Result, Ok, Err, option_to_list, inl, inr, refl, sym, ap, ◌∙◌, subst, arith}
 use Rattle.std.proofs.lemmas.List.{append-nil}
 use Rattle.std.proofs.lemmas.Bool.{cases_lt, true≢false}
 use Rattle.std.specs.Ordering.{nat_cmp}
 use Rattle.std.specs.FinSet.{contains, contains-empty}
 use Rattle.wasi_host.specs.Options.{Options, OnlyRead}
-use Rattle.wasi_host.specs.Tree.{Tree, Content, File, Directory, Link, is_directory, node_at, next_of, child}
+use Rattle.wasi_host.specs.Tree.{Tree, is_directory, node_at, next_of, child}
 use Rattle.wasi_host.specs.HostCall.{HostCall, OpenAt, Stat, Pread, Dup, Close}
 use Rattle.wasi_host.specs.Refusal.{refusal}
-use Rattle.wasi_host.specs.Step.{open_step, opened_step, is_cut, file_cut, with_nodes}
+use Rattle.wasi_host.specs.Step.{with_nodes}
 use Rattle.wasi_host.specs.Answer.{unless, opened, metadata_of, stat_answer}
 use Rattle.wasi_host.specs.Meaning.{World, MeansErr, AfterErr, Stepped, Looked, Told}
 use Rattle.wasi_host.specs.declared.errors.ErrorCode.{ErrorCode}
 use Rattle.wasi_host.specs.declared.errors.ErrorCode.TheVariants.{Io}
 use Rattle.wasi_host.specs.declared.errors.HostError.TheVariants.{Code}
 use Rattle.wasi_host.specs.declared.values.Held.{Held}
+use Rattle.wasi_host.proofs.Chain.{free, open_step-only_read, made_by-only_read}
 use Rattle.wasi_tree.specs.MemState.{MemState, live_of, held_in, world_of}
 use Rattle.wasi_tree.specs.Sound.{IsWhole}
 use Rattle.wasi_tree.proofs.SlotLemmas.{holds-released, holds-given}
@@ -43,37 +44,15 @@ never_io t Close io = grind (arith)
 pub unless_io : {B : Type 0} (t : Tree) (call : HostCall) (b : B) → unless (refusal t call) b ≢ Err Io
 unless_io t call b is = elim (refusal t call) as (λ r. r ≢ Some Io → unless r b ≡ Err Io → ⊥) [ None ↦ λ never e. (cc) | Some code ↦ λ never e. never (cc) ] (never_io t call) is
 
-unless_ok : {B : Type 0} (refused : Option ErrorCode) (b a : B) → unless refused b ≡ Ok a → refused ≡ None
-unless_ok None b a is = refl
-unless_ok (Some code) b a is = absurd (cc)
-
-not_cut : (o : Options) (content : Content) → o.truncate ≡ false → is_cut o content ≡ false
-not_cut o (File bytes links) kept = kept
-not_cut o (Directory names gone) kept = refl
-not_cut o (Link text links) kept = refl
-
-found : (t : Tree) (d : ℕ) (name : List ℕ) (o : Options) → refusal t (OpenAt d name o) ≡ None → OnlyRead o → is_none (child t d name) ≡ false
-unfolding refusal
-found t d name o none only = grind (arith)
-
--- an open for reading that isn't refused makes no step
-open_step-read : (t : Tree) (d : ℕ) (name : List ℕ) (o : Options) → OnlyRead o → is_none (child t d name) ≡ false → open_step t d name o ≡ t
-unfolding open_step
-open_step-read t d name o only there = at_child (child t d name) there
-  where
-    at_child : (c : Option ℕ) → is_none c ≡ false → opened_step t d name o c ≡ t
-    at_child None is = absurd (cc)
-    at_child (Some n) is = ap (λ b. cond b (file_cut t n) t) (not_cut o (node_at t n).content only.truncates_not)
-
 open_stepped : (w v : World) (d : ℕ) (name : List ℕ) (o : Options) (held : Held) → OnlyRead o → opened w.tree d name o ≡ Ok held → v.tree ≡ w.tree → v.touched ≡ with_nodes w.touched (d ∷ option_to_list (child w.tree d name)) → Stepped w (OpenAt d name o) v
 open_stepped w v d name o held only is tree touched =
-    let there = found w.tree d name o (unless_ok (refusal w.tree (OpenAt d name o)) _ held is) only in
+    let none = free (refusal w.tree (OpenAt d name o)) _ held is in
     record {
-      tree = tree ∙ sym (open_step-read w.tree d name o only there);
+      tree = tree ∙ sym (open_step-only_read w.tree d name o only none);
       touched =
           touched ∙ ap (with_nodes w.touched)
           (sym (append-nil (d ∷ option_to_list (child w.tree d name)))
-          ∙ ap (λ b. (d ∷ option_to_list (child w.tree d name)) ++ cond b (next_of w.tree ∷ []) []) (sym there));
+          ∙ ap (λ made. (d ∷ option_to_list (child w.tree d name)) ++ made) (sym (made_by-only_read w.tree d name o only none)));
     }
 
 -- an open for reading that is answered Ok

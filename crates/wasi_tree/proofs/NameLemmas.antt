@@ -6,7 +6,7 @@ use Rattle.std.specs.Map.{lookup}
 use Rattle.std.specs.Cmp.{eq_by_cmp_equiv}
 use Rattle.std.specs.BTreeMap.{is_at}
 use Rattle.std.specs.Cmp.Lexicographic.{slice_cmp, nat_list_cmp_total}
-use Rattle.std.proofs.lemmas.List.{append-nil}
+use Rattle.std.proofs.lemmas.List.{append-nil, map_push}
 use Rattle.std.proofs.lemmas.Map.Text.{btree_map_updates_text, is_eq-slice_cmp}
 use Rattle.std.specs.BTreeMap.{BTreeMap, Updates}
 use lib.Dec.{T}
@@ -82,15 +82,11 @@ entries-names_in es sorted =
     get-from_entries nat_list_cmp_total (map text_entry es) q ∙ sym (get-from_sorted (slice_cmp nat_cmp) (map text_entry es) q rising)))
     ∙ entries-from_sorted (slice_cmp nat_cmp) (map text_entry es) rising
 
-map-push : {A B : Type 0} (f : A → B) (xs : List A) (x : A) → map f (xs ++ x ∷ []) ≡ map f xs ++ f x ∷ []
-map-push f [] x = refl
-map-push f (y ∷ xs) x = ap (λ l. f y ∷ l) (map-push f xs x)
-
 -- the last entry is put in
 pub last_put : {Y : Type 0} (old new : List NewEntry) (entry : NewEntry) (m n : BTreeMap (String Y) ℕ) (all : Names) → old ≡ new ++ entry ∷ [] → names_in n.entries ≡ insert (names_in m.entries) (string_bytes entry.name) entry.node → with_entries (map pair_of old) (names_in m.entries) ≡ all → with_entries (map pair_of new) (names_in n.entries) ≡ all
 last_put old new entry m n all popped put so_far =
     ap (with_entries (map pair_of new)) put
-    ∙ sym (ap (λ l. with_entries l (names_in m.entries)) (ap (map pair_of) popped ∙ map-push pair_of new entry) ∙ with_entries-push (map pair_of new) (pair_of entry) (names_in m.entries))
+    ∙ sym (ap (λ l. with_entries l (names_in m.entries)) (ap (map pair_of) popped ∙ map_push pair_of new entry) ∙ with_entries-push (map pair_of new) (pair_of entry) (names_in m.entries))
     ∙ so_far
 
 -- all entries are copied

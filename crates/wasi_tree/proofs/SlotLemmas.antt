@@ -5,7 +5,6 @@ use Rattle.std.specs.Ordering.{nat_cmp}
 use Rattle.std.specs.FinSet.{contains, insert, remove, members, contains-empty, same_set, nat_cmp-IsAntisymmetric}
 use Rattle.std.specs.Cmp.{nat_cmp_total}
 use Rattle.slab.specs.Slab.{Slab, Updates}
-use Rattle.wasi_host.specs.Meaning.{Handles}
 use Rattle.wasi_host.specs.Tree.{Tree, next_of}
 use Rattle.wasi_host.specs.declared.values.Held.{Held}
 use Rattle.wasi_tree.specs.MemState.{live_from, live_of, held_in, or_nothing}
@@ -28,19 +27,16 @@ pub contains-live : (slots : List (Option Held)) (q : ℕ) → contains (live_of
 unfolding live_of
 contains-live slots q = live_at 0 slots q q (omega arith)
 
-same : (s t : Handles) → ((q : ℕ) → contains s q ≡ contains t q) → s ≡ t
-same s t is = same_set nat_cmp_total nat_cmp-IsAntisymmetric s t is
-
 -- a handle was given
 pub live-given : (old new : Slab Held) (h : ℕ) (held : Held) → Updates old new h (Some held) → live_of new.slots ≡ insert (live_of old.slots) h
-live-given old new h held updates = same _ _ (λ q. elim (cases_eq q h) [
+live-given old new h held updates = same_set nat_cmp_total nat_cmp-IsAntisymmetric _ _ (λ q. elim (cases_eq q h) [
   | inl here ↦ grind (arith, members, nat_tests, contains-live, updates.changed)
   | inr other ↦ grind (arith, members, nat_tests, contains-live, updates.others q other)
 ])
 
 -- a handle was taken back
 pub live-released : (old new : Slab Held) (h : ℕ) → Updates old new h None → live_of new.slots ≡ remove (live_of old.slots) h
-live-released old new h updates = same _ _ (λ q. elim (cases_eq q h) [
+live-released old new h updates = same_set nat_cmp_total nat_cmp-IsAntisymmetric _ _ (λ q. elim (cases_eq q h) [
   | inl here ↦ grind (arith, members, nat_tests, contains-live, updates.changed)
   | inr other ↦ grind (arith, members, nat_tests, contains-live, updates.others q other)
 ])
@@ -91,5 +87,3 @@ holds-given tree old new h held holds live is within others = record {
         subst (λ x. x.node < next_of tree) (sym (others q before)) (holds.within q before)
   ];
 }
-
-pub ruleset state_rules = (holds-released, holds-given)

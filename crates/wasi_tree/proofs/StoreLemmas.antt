@@ -9,6 +9,7 @@ use Rattle.wasi_host.specs.Refusal.{refusal, first_row, name_rows}
 use Rattle.wasi_host.specs.declared.errors.ErrorCode.{ErrorCode}
 use Rattle.wasi_host.specs.Answer.{reached, or_next, metadata_of, metadata_from}
 use Rattle.wasi_host.specs.declared.values.Limits.{Limits}
+use Rattle.wasi_host.proofs.Chain.{found-only_read}
 use Rattle.wasi_tree.specs.Rows.{node_of, tree_in}
 use Rattle.wasi_tree.specs.Sound.{IsSound, IsSoundNode}
 use Rattle.wasi_tree.specs.declared.row.Row.{Row}
@@ -54,8 +55,7 @@ child_below count node name sound = if_some (get (names_of node.content) name) (
 
 -- an open for reading that isn't refused finds a node
 pub open_found : (t : Tree) (d : ℕ) (name : List ℕ) (o : Options) → refusal t (OpenAt d name o) ≡ None → OnlyRead o → child t d name ≢ None
-unfolding refusal
-open_found t d name o none only missing = grind (arith)
+open_found t d name o none only missing = let found = (found-only_read t d name o only none).1 in cc
 
 -- a row for the name refuses an open
 pub open_refused : (t : Tree) (d : ℕ) (name : List ℕ) (o : Options) (code : ErrorCode) → is_directory (node_at t d).content ≡ true → are_refused o ≡ false → first_row (name_rows t d name) ≡ Some code → refusal t (OpenAt d name o) ≡ Some code

@@ -7,7 +7,7 @@ ghost use Rattle.wasi_tree.specs.Given.{given, given_content};
 ghost use Rattle.wasi_tree.specs.FirstTree.{is_first_tree};
 
 use super::MemTree;
-use crate::errors::HandleError;
+use crate::errors::{HandleError, TreeError};
 use crate::node::{NewContent, NewEntry, NewNode};
 use std::alloc::{AllocError, Global};
 use std::test::Fail;
@@ -41,7 +41,7 @@ fn node(content: NewContent, is_directory: bool) -> NewNode
 
 /// Node 0 has the file `f` and the directory `d`, in this order.
 #[tactic(auto, unfolding(crate::specs::FirstTree::is_first_tree))]
-fn small_tree(alloc: Global) -> Result<Vec<NewNode>, AllocError>
+fn small_nodes(alloc: Global) -> Result<Vec<NewNode>, AllocError>
     ensures { IfOk result (λ nodes. is_first_tree LIMITS (map given nodes.items) ≡ true) }
 {
     let file = NewEntry {
@@ -58,6 +58,10 @@ fn small_tree(alloc: Global) -> Result<Vec<NewNode>, AllocError>
         node(NewContent::File(bytes), false),
         node(NewContent::Dir(Vec::new(alloc)), true),
     ]?)
+}
+
+fn small_tree(alloc: Global) -> Result<MemTree, TreeError> {
+    MemTree::new(alloc, small_nodes(alloc)?, LIMITS)
 }
 
 /// Opens a name of node 0 for reading.
@@ -78,14 +82,34 @@ fn opened(tree: &mut MemTree, text: &'static str) -> Result<Handle, HostError>
     Ok(file)
 }
 
+/// The first name of node 0.
+fn first_name(nodes: &[NewNode]) -> Option<&str> {
+    match &nodes.first()?.content {
+        NewContent::Dir(entries) => Some(entries.first()?.name.as_str()),
+        NewContent::File(_) => None,
+        NewContent::Link(_) => None,
+    }
+}
+
 #[test]
-fn opens_and_reads(rt: HostRuntime) -> Result<(), Fail> {
-    let alloc = rt.alloc();
-    let mut tree = MemTree::new(alloc, small_tree(alloc)?, LIMITS)?;
-    assert_eq!(rt;
-        opened(&mut tree, "g"),
-        Err(HostError::Code(ErrorCode::NoEntry))
-    );
+fn gives_handles_of_directories(rt: HostRuntime) -> Result<(), Fail> {
+    let mut tree = small_tree(rt.alloc())?;
+    assert_eq!(rt; tree.handle(1), Err(HandleError::NotDirectory));
+    assert_eq!(rt; tree.handle(9), Err(HandleError::NotDirectory));
+    Ok(())
+}
+
+#[test]
+fn opens_no_missing_name(rt: HostRuntime) -> Result<(), Fail> {
+    let mut tree = small_tree(rt.alloc())?;
+    let missing = opened(&mut tree, "g");
+    assert_eq!(rt; missing, Err(HostError::Code(ErrorCode::NoEntry)));
+    Ok(())
+}
+
+#[test]
+fn reads(rt: HostRuntime) -> Result<(), Fail> {
+    let mut tree = small_tree(rt.alloc())?;
     let file = opened(&mut tree, "f")?;
     let mut buf = [0; 2];
     assert_eq!(rt; tree.pread(file, &mut buf, 1), Ok(2));
@@ -95,11 +119,21 @@ fn opens_and_reads(rt: HostRuntime) -> Result<(), Fail> {
 }
 
 #[test]
-fn touches_and_lists(rt: HostRuntime) -> Result<(), Fail> {
-    let alloc = rt.alloc();
-    let mut tree = MemTree::new(alloc, small_tree(alloc)?, LIMITS)?;
-    assert_eq!(rt; tree.handle(1), Err(HandleError::NotDirectory));
-    assert_eq!(rt; tree.handle(9), Err(HandleError::NotDirectory));
+#[tactic(auto, using(wasi_host::proofs::Chain::live_rules))]
+fn reads_through_a_second_handle(rt: HostRuntime) -> Result<(), Fail> {
+    let mut tree = small_tree(rt.alloc())?;
+    let file = opened(&mut tree, "f")?;
+    let second = tree.dup(file)?;
+    tree.close(file);
+    let mut buf = [0; 2];
+    assert_eq!(rt; tree.pread(second, &mut buf, 3), Ok(2));
+    assert_eq!(rt; buf, *b"lo");
+    Ok(())
+}
+
+#[test]
+fn tells_metadata(rt: HostRuntime) -> Result<(), Fail> {
+    let mut tree = small_tree(rt.alloc())?;
     let file = opened(&mut tree, "f")?;
     let metadata = tree.stat(file)?;
     assert_eq!(rt; metadata.file_type(), FileType::RegularFile);
@@ -107,8 +141,24 @@ fn touches_and_lists(rt: HostRuntime) -> Result<(), Fail> {
         (metadata.ino(), metadata.len(), metadata.nlink()),
         (1, 5, 1)
     );
-    assert_eq!(rt; tree.touched(alloc)?.as_slice(), [0, 1].as_slice());
-    let nodes = tree.nodes(alloc)?;
+    Ok(())
+}
+
+#[test]
+fn tells_touched_nodes(rt: HostRuntime) -> Result<(), Fail> {
+    let mut tree = small_tree(rt.alloc())?;
+    let file = opened(&mut tree, "f")?;
+    tree.close(file);
+    let touched = tree.touched(rt.alloc())?;
+    assert_eq!(rt; touched.as_slice(), [0, 1].as_slice());
+    Ok(())
+}
+
+#[test]
+fn lists_names_in_byte_order(rt: HostRuntime) -> Result<(), Fail> {
+    let tree = small_tree(rt.alloc())?;
+    let nodes = tree.nodes(rt.alloc())?;
     assert_eq!(rt; nodes.len(), 3);
+    assert_eq!(rt; first_name(&nodes), Some("d"));
     Ok(())
 }
