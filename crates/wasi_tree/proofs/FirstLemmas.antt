@@ -1,4 +1,4 @@
-use Rattle.std.proofs.Common.{◌≡◌, ◌<◌, ◌≤◌, ℕ, zero, suc, ◌+◌, ◌-◌, Bool, true, false, cond, not, ◌&&◌, nat_eq, nat_lt, nat_le, inl, inr, lit<, List, [], ◌∷◌, Option, Some, map, length, refl, sym, ap, ◌∙◌, subst, arith, slice_index_or}
+use Rattle.std.proofs.Common.{◌≡◌, ◌<◌, ◌≤◌, ℕ, zero, suc, ◌+◌, Bool, true, false, cond, not, ◌&&◌, nat_eq, nat_lt, lit<, List, [], ◌∷◌, Option, Some, map, length, refl, sym, ap, ◌∙◌, subst, arith, slice_index_or}
 use Rattle.std.proofs.Math.Bool.{and-false}
 use Rattle.std.proofs.lemmas.Bool.{true≢false, and_parts, ltb-true}
 use Rattle.std.proofs.lemmas.List.{length-map}
@@ -7,14 +7,12 @@ use Rattle.std.specs.Ordering.{nat_cmp, eq_by_cmp}
 use Rattle.std.specs.Cmp.Lexicographic.{slice_cmp, nat_list_cmp_total}
 use Rattle.std.specs.FinMap as maps
 use Rattle.std.specs.FinSet as set
-use Rattle.wasi_host.specs.Time.{IsTime}
 use Rattle.wasi_host.specs.ValidTree.{is_entry_name}
 use Rattle.wasi_host.specs.Tree.{Tree, Node, File, Directory, node_at, stray, names_of}
-use Rattle.wasi_host.specs.declared.system_time.SystemTime.{SystemTime}
 use Rattle.wasi_host.specs.declared.values.Limits.{Limits}
 use Rattle.wasi_tree.specs.Given.{Given, GivenContent, file, directory, link, entry_count, content_from, nodes_from, tree_of}
 use Rattle.wasi_tree.specs.First.{first_content, first_node}
-use Rattle.wasi_tree.specs.FirstTree.{are_distinct, is_dir_content, is_first_entry, is_first_content, has_default_bits, is_zero, is_zero_time, is_first_node, are_first_nodes, numbers_from, starts_with_directory, is_first_tree}
+use Rattle.wasi_tree.specs.FirstTree.{are_distinct, is_dir_content, is_first_entry, is_first_content, is_first_node, are_first_nodes, starts_with_directory, is_first_tree}
 use Rattle.wasi_tree.proofs.FirstTreeValid.{is_first, is_time, is_tree, other_count}
 use Rattle.wasi_tree.specs.Rows.{node_of, tree_in}
 use Rattle.wasi_tree.specs.Sound.{IsSound, IsSoundNode}
