@@ -1,12 +1,17 @@
 -- What is known of an accepted script.
-use Rattle.std.proofs.Common.{ℕ, List, ◌≡◌, ◌≤◌, Option, Some, None, Ok, refl, subst, inl, inr, true}
+use Rattle.std.proofs.Common.{ℕ, List, ◌≡◌, ◌≤◌, ◌<◌, length, nat_lt, Bool, Option, Some, None, Result, Ok, Err, refl, subst, inl, inr, true, false, arith}
 use Rattle.std.specs.Prelude.{sum_by, if◌then◌else◌}
 use Rattle.std.specs.List.{list_all}
-use Rattle.std.proofs.lemmas.Bool.{cases_Bool, and_parts, leb-true}
+use Rattle.std.proofs.lemmas.Bool.{cases_Bool, and_parts, leb-true, lt-ltb}
 use Rattle.serde_json.specs.Data.{Data}
 use Rattle.wasi_tree.specs.FirstTree.{is_first_tree}
 use Rattle.wasi_script.specs.Lists.{◌>>=◌}
-use Rattle.wasi_script.specs.Script.{Plan, default_limits, most_memory, has_one_preopen, is_piece_within, is_shown_within, is_built_call, is_first_script, script_of, value_of, or_later, or_json, verdict_of}
+use Rattle.wasi_script.specs.Script.{Plan, default_limits, most_memory, has_one_preopen, is_piece_within, is_shown_within, is_built_call, is_first_script, script_of, value_of, or_later, or_json, most_script, verdict_of, Reads}
+use Rattle.wasi_script.specs.declared.script.Refusal.{Refusal}
+use Rattle.wasi_script.specs.declared.script.Refusal.TheVariants.{Later}
+use Rattle.wasi_script.specs.declared.script.Script.{Script}
+use Rattle.wasi_script.specs.declared.script.ScriptError.{ScriptError}
+use Rattle.wasi_script.specs.declared.script.ScriptError.TheVariants.{Refused, Memory}
 
 abbrev pub kept_first : Plan → Option Plan
 kept_first s = if is_first_script s then Some s else None
@@ -31,9 +36,29 @@ first_json : (d : Option Data) (p : Plan) → or_json d ≡ Ok p → is_first_sc
 first_json None p e = absurd (cc)
 first_json (Some d) p e = first_later (script_of d) p e
 
+-- too many bytes are refused unread
+pub too_many : (bytes : List ℕ) → most_script < length bytes → verdict_of bytes ≡ Err Later
+unfolding verdict_of
+too_many bytes over = let long = lt-ltb most_script (length bytes) over in rw long refl
+
+pub not_too_many : (bytes : List ℕ) (verdict : Result Plan Refusal) → length bytes ≤ most_script → or_json (value_of bytes) ≡ verdict → verdict_of bytes ≡ verdict
+unfolding verdict_of
+not_too_many bytes verdict fits is = let short : nat_lt most_script (length bytes) ≡ false = grind (arith) in rw short is
+
+first_within : (over : Bool) (d : Option Data) (p : Plan) → (if over then Err Later else or_json d) ≡ Ok p → is_first_script p ≡ true
+first_within true d p e = absurd (cc)
+first_within false d p e = first_json d p e
+
 -- an accepted script can be run today
 pub first_of_verdict : (bytes : List ℕ) (p : Plan) → verdict_of bytes ≡ Ok p → is_first_script p ≡ true
-first_of_verdict bytes p e = first_json (value_of bytes) p e
+unfolding verdict_of
+first_of_verdict bytes p e = first_within (nat_lt most_script (length bytes)) (value_of bytes) p e
+
+-- what is read of the bytes is their verdict
+pub reads_within : (result : Result Script ScriptError) (bytes : List ℕ) → length bytes ≤ most_script → Reads result (or_json (value_of bytes)) → Reads result (verdict_of bytes)
+reads_within (Ok s) bytes fits reads = not_too_many bytes _ fits reads
+reads_within (Err (Refused refusal)) bytes fits reads = not_too_many bytes _ fits reads
+reads_within (Err Memory) bytes fits reads = reads
 
 pub record IsFirst (s : Plan) : Type 0 where
   pub tree : is_first_tree default_limits s.nodes ≡ true

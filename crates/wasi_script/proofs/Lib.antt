@@ -19,3 +19,4 @@ pub mod FirstScripts
 mod Starts
 mod Tops
 mod Headlines
+mod RunLaws

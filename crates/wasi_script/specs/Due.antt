@@ -1,9 +1,9 @@
 -- What the program has to write, and what stands after it, by its status.
-use Rattle.std.specs.Prelude.{◌≡◌, ℕ, ◌+◌, ◌++◌, Bool, true, false, nat_lt, if◌then◌else◌, List, [], ◌∷◌, length, drop, codes, Result, Ok, Err, ⊤}
+use Rattle.std.specs.Prelude.{◌≡◌, ℕ, ◌+◌, ◌++◌, Bool, true, false, List, [], ◌∷◌, drop, codes, Result, Ok, Err, ⊤}
 use Rattle.std.specs.Str.{bytes_eq}
 use Rattle.wasi_script.specs.Ends.{TookFront}
 use Rattle.wasi_script.specs.Headline.{Reports}
-use Rattle.wasi_script.specs.Script.{Plan, plan, verdict_of}
+use Rattle.wasi_script.specs.Script.{Plan, plan, most_script, verdict_of}
 use Rattle.wasi_script.specs.declared.script.Refusal.{Refusal}
 use Rattle.wasi_script.specs.declared.script.Refusal.TheVariants.{Json, Later}
 use Rattle.wasi_script.specs.declared.script.Script.{Script}
@@ -11,14 +11,6 @@ use Rattle.wasi_script.specs.declared.top.Status.{Status}
 use Rattle.wasi_script.specs.declared.top.Status.TheVariants as statuses
 use Rattle.wasi_script.specs.declared.top.NoScript.{NoScript}
 use Rattle.wasi_script.specs.declared.top.NoScript.TheVariants as none
-
--- how many bytes a script has at most
-abbrev pub most_script : ℕ
-most_script = 16777216
-
--- the plan of a source's bytes, or why they are refused
-unfoldable pub verdict_within : List ℕ → Result Plan Refusal
-verdict_within left = if nat_lt most_script (length left) then Err Later else verdict_of left
 
 -- what reading leaves: nothing, or of bytes that are too many those behind the first one past the limit
 unfoldable pub left_unread : List ℕ → List ℕ
@@ -49,7 +41,7 @@ due_of (Err refusal) = the_refusal refusal
 
 -- by whether the words are `run`, and the bytes that the source has left
 abbrev pub due : Bool → List ℕ → Due
-due true left = due_of (verdict_within left)
+due true left = due_of (verdict_of left)
 due false left = the_usage
 
 -- the text is what is due
@@ -110,7 +102,7 @@ pub data Written (told rose : Type 0) (taken now text : List ℕ) (status : Stat
 
 -- reading to the end gave the script, or a refusal; a fault and want of memory are free
 abbrev pub ReadsScript : Result Script NoScript → List ℕ → List ℕ → Type 0
-ReadsScript (Ok script) left rest = (verdict_within left ≡ Ok (plan script)) × (rest ≡ left_unread left)
-ReadsScript (Err (none.Refused refusal)) left rest = (verdict_within left ≡ Err refusal) × (rest ≡ left_unread left)
+ReadsScript (Ok script) left rest = (verdict_of left ≡ Ok (plan script)) × (rest ≡ left_unread left)
+ReadsScript (Err (none.Refused refusal)) left rest = (verdict_of left ≡ Err refusal) × (rest ≡ left_unread left)
 ReadsScript (Err none.Fault) left rest = ⊤
 ReadsScript (Err none.Memory) left rest = ⊤

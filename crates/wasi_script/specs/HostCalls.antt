@@ -1,5 +1,5 @@
 -- What the parts of a call give, in the words of its row.
-use Rattle.std.specs.Prelude.{◌≡◌, ◌⊎◌, ℕ, true, false, List, [], ◌∷◌, length, Result, Ok, Err, OnErr, All, Contains, option_to_list}
+use Rattle.std.specs.Prelude.{◌≡◌, ◌⊎◌, ℕ, true, false, List, [], ◌∷◌, ◌++◌, length, Result, Ok, Err, OnErr, All, Contains, option_to_list}
 use Rattle.std.specs.Result.{result_map_both}
 use Rattle.std.specs.FinSet.{contains, insert}
 use Rattle.wasi_host.specs.Tree.{Nodes, child}
@@ -50,6 +50,11 @@ GotSlot old (slots.File h position) new = (contains old h ≡ false) × (new ≡
 abbrev pub SlotGot : Handles → Result Slot P1Error → Handles → Type 0
 SlotGot old (Ok slot) new = GotSlot old slot new
 SlotGot old (Err e) new = new ≡ old
+
+-- a new descriptor is the last one, with a new handle; a refusal leaves what is live, and the descriptors
+abbrev pub Gets : {A : Type 0} → Handles → List Slot → Result A P1Error → Handles → List Slot → Type 0
+Gets old before (Ok x) new after = (slot : Slot) × GotSlot old slot new × (after ≡ before ++ slot ∷ [])
+Gets old before (Err e) new after = (new ≡ old) × (after ≡ before)
 
 -- what a part of a row gives; or memory was wanted; or the host failed, where its count rose
 abbrev pub GivesOrElse : {A : Type 0} → Type 0 → Row A → Row A → Type 0

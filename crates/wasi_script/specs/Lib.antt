@@ -22,3 +22,4 @@ pub mod Script
 pub mod Start
 pub mod Headline
 pub mod Due
+pub mod RunLaws

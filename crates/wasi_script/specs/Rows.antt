@@ -157,7 +157,8 @@ fd_read s fd iovs = do
   bytes ← read_last s.tree r
   give (Number (length bytes), with_read s fd r bytes)
 
--- the row of a call
+-- the row of a call whose flags and rights are those of a plain open for reading, and whose list of buffers has one item;
+-- no script with others is run yet
 abbrev pub turn : State → Call → Row (Value × State)
 turn s (PathOpen fd dirflags path path_len oflags base inheriting fdflags) = path_open s fd path path_len
 turn s (FdRead fd iovs iovs_len) = fd_read s fd iovs

@@ -1,5 +1,5 @@
 -- Which bytes are scripts, and of which of them a run can be made today.
-use Rattle.std.specs.Prelude.{◌≡◌, ℕ, ◌+◌, List, [], ◌∷◌, map, length, slice_get, slice_index, sum_by, Bool, false, ◌&&◌, nat_eq, nat_le, codes, if◌then◌else◌, Option, Some, None, option_map, Result, Ok, Err}
+use Rattle.std.specs.Prelude.{◌≡◌, ℕ, ◌+◌, List, [], ◌∷◌, map, length, slice_get, slice_index, sum_by, Bool, false, ◌&&◌, nat_eq, nat_le, nat_lt, codes, if◌then◌else◌, Option, Some, None, option_map, Result, Ok, Err}
 use Rattle.std.specs.List.{list_all}
 use Rattle.std.specs.Str.{is_utf8}
 use Rattle.std.specs.String.{string_bytes}
@@ -268,9 +268,13 @@ abbrev pub or_json : Option Data → Result Plan Refusal
 or_json None = Err Json
 or_json (Some d) = or_later (first_script_of d)
 
+-- how many bytes a script has at most
+abbrev pub most_script : ℕ
+most_script = 16777216
+
 -- the plan of bytes that are a script, or why they are refused
-abbrev pub verdict_of : List ℕ → Result Plan Refusal
-verdict_of bytes = or_json (value_of bytes)
+unfoldable pub verdict_of : List ℕ → Result Plan Refusal
+verdict_of bytes = if nat_lt most_script (length bytes) then Err Later else or_json (value_of bytes)
 
 -- want of memory is free
 abbrev pub Reads : Result Script ScriptError → Result Plan Refusal → Type 0

@@ -1,5 +1,5 @@
 // The context of a guest's calls: its descriptors over a host.
-ghost use Rattle.std.specs.Prelude.{◌≡◌, ◌≤◌, [], ◌∷◌, length, IsTrue, true, IfOk, IfErr, Err};
+ghost use Rattle.std.specs.Prelude.{◌≡◌, ◌≤◌, [], ◌∷◌, length, IsTrue, true, IfOk, IfErr, OnErr, Err};
 ghost use Rattle.std.specs.FinSet.{contains};
 ghost use Rattle.wasi_host.specs.Meaning.{Rose};
 ghost use Rattle.wasi_script.specs.declared.calls.Call.TheVariants.{PathOpen, FdRead};
@@ -68,6 +68,7 @@ pub struct Ended<H: Host> {
 
 impl<H: Host> WasiP1Ctx<H> {
     ghost use Rattle.wasi_script.specs.CallTurn.{TakesTurn};
+    ghost use Rattle.wasi_script.specs.HostCalls.{Gets};
     ghost use Rattle.wasi_script.specs.Slots.{first_slots};
 
     /// A context with the three standard streams as descriptors 0 to 2, and the directory of a handle as descriptor 3,
@@ -120,6 +121,8 @@ impl<H: Host> WasiP1Ctx<H> {
         ensures count { H.faults self.old.host ≤ H.faults self.new.host }
         ensures io { result ≡ Err (P1Error.Errno Errno.Io) → Rose (H.faults self.old.host) (H.faults self.new.host) }
         ensures memory { memory.new ≡ memory.old }
+        ensures handles { Gets (H.live self.old.host) self.old.slots result (H.live self.new.host) self.new.slots }
+        ensures outputs { (self.new.stdout ≡ self.old.stdout) × (self.new.stderr ≡ self.old.stderr) }
         ensures turn { IsTrue H.told → TakesTurn H.world (Rose (H.faults self.old.host) (H.faults self.new.host))
             self.old self.new memory.old memory.new (PathOpen fd 0 path path_len 0 2 0 0) result }
     {
@@ -148,6 +151,9 @@ impl<H: Host> WasiP1Ctx<H> {
         iovs: u32,
     ) -> Result<Value, P1Error>
         ensures size { length memory.new ≡ length memory.old }
+        ensures handles { H.live self.new.host ≡ H.live self.old.host }
+        ensures outputs { (self.new.stdout ≡ self.old.stdout) × (self.new.stderr ≡ self.old.stderr) }
+        ensures kept { OnErr result ((memory.new ≡ memory.old) × (self.new.slots ≡ self.old.slots)) }
         ensures count { H.faults self.old.host ≤ H.faults self.new.host }
         ensures io { result ≡ Err (P1Error.Errno Errno.Io) → Rose (H.faults self.old.host) (H.faults self.new.host) }
         ensures turn { IsTrue H.told → TakesTurn H.world (Rose (H.faults self.old.host) (H.faults self.new.host))

@@ -9,7 +9,7 @@ ghost use Rattle.wasi_script.specs.Slots.{IsLive};
 ghost use Rattle.wasi_script.specs.State.{place_of};
 ghost use Rattle.wasi_script.specs.Rows.{range, text_in, one_name, name_in, buffer_in, directory_in, file_in, reading};
 ghost use Rattle.wasi_script.specs.Range.{IsInMemory};
-ghost use Rattle.wasi_script.specs.HostCalls.{error_of, open_file_of, slot_for, SlotGot, OpensSlot, ReadsInto, OpensInto};
+ghost use Rattle.wasi_script.specs.HostCalls.{error_of, open_file_of, slot_for, SlotGot, Gets, OpensSlot, ReadsInto, OpensInto};
 ghost use Rattle.wasi_host.specs.ValidTree.{is_entry_name};
 
 use crate::calls::{Errno, P1Error, TrapKind};
@@ -202,9 +202,9 @@ fn slot_for(kind: FileType, handle: Handle) -> Slot
     }
 }
 
-#[tactic(auto, using(wasi_host::proofs::Chain::live_rules))]
 /// Opens a name for reading, and gives its descriptor. Where the host fails at the new handle's metadata, the handle is
 /// closed again.
+#[tactic(auto, using(wasi_host::proofs::Chain::live_rules))]
 pub fn open_slot<H: Host>(host: &mut H, directory: Handle, name: Name<'_>) -> Result<Slot, P1Error>
     requires { contains (H.live host.old) directory ≡ true }
     ensures count { H.faults host.old ≤ H.faults host.new }
@@ -297,6 +297,7 @@ pub fn open_into<H: Host>(
     ensures count { H.faults host.old ≤ H.faults host.new }
     ensures io { result ≡ Err (P1Error.Errno Errno.Io) → Rose (H.faults host.old) (H.faults host.new) }
     ensures all { All (IsLive (H.live host.new)) slots.new.items }
+    ensures live { Gets (H.live host.old) slots.old.items result (H.live host.new) slots.new.items }
     ensures told { IsTrue H.told → OpensInto (H.world host.old) (H.world host.new)
         (Rose (H.faults host.old) (H.faults host.new))
         (record { name = name_bytes name.entry; directory = ((H.world host.old).held directory).node })

@@ -7,10 +7,11 @@ ghost use Rattle.wasi_script.specs.Lists as lists;
 ghost use Rattle.wasi_script.specs.Lists.{same, list_of};
 ghost use Rattle.wasi_script.specs.Shapes as shapes;
 ghost use Rattle.wasi_script.specs.Script as specs;
-ghost use Rattle.wasi_script.specs.Script.{Reads, plan, script_of, verdict_of};
+ghost use Rattle.wasi_script.specs.Script.{Reads, plan, script_of, verdict_of, or_json};
 
 use crate::calls::Call;
 use crate::first::is_first_script;
+use crate::reading::MOST;
 use crate::shapes::{
     Form, Shaped, Unread, hex_bytes, is_text, items, needed, needed_list, number32, optional,
     optional_list, require,
@@ -433,8 +434,20 @@ fn value_from(alloc: Global, bytes: &[u8]) -> Result<Value, Unread>
 /// A node is `{"dir": {NAME: NODE ..}}` or `{"file": HEX}`, a preopen `{"node": NODE, "name": NAME, "perms": "ro"}`, the
 /// memory `{"size": BYTES, "pieces": [PIECE ..]}`, a piece `[OFFSET, "hex", HEX]` or `[OFFSET, "text", TEXT]`, a shown
 /// range `[PTR, LEN]`, and a call a list of its name and its arguments.
+///
+/// More than 16,777,216 bytes are refused unread.
+#[tactic(auto, using(crate::proofs::FirstScripts::too_many, crate::proofs::FirstScripts::reads_within))]
 pub fn read_script(alloc: Global, bytes: &[u8]) -> Result<Script, ScriptError>
     ensures { Reads result (verdict_of bytes.now) }
+{
+    if bytes.len() > MOST {
+        return Err(ScriptError::Refused(Refusal::Later));
+    }
+    script_in(alloc, bytes)
+}
+
+fn script_in(alloc: Global, bytes: &[u8]) -> Result<Script, ScriptError>
+    ensures { Reads result (or_json (specs.value_of bytes.now)) }
 {
     let value = match value_from(alloc, bytes) {
         Ok(value) => value,
