@@ -13,7 +13,7 @@ use Rattle.wasi_host.specs.Meaning.{World, Handles}
 use Rattle.wasi_host.proofs.Chain.{open_step-only_read, free}
 use Rattle.wasi_host.specs.declared.errors.ErrorCode.{ErrorCode}
 use Rattle.wasi_host.specs.declared.values.Held.{Held}
-use Rattle.wasi_script.specs.Rows.{Row, ◌>>=◌, give, from_host, Target, Reading, open_front, open_last, path_open, name_in, directory_in, file_in, node_in, ended_at, passes_front, reading, with_opened, read_front, read_last, fd_read, buffer_in, range, with_read}
+use Rattle.wasi_script.specs.Rows.{Row, ◌>>=◌, give, from_host, Target, Reading, open_front, open_last, path_open, text_in, one_name, directory_in, file_in, node_in, ended_at, passes_front, reading, with_opened, read_front, read_last, fd_read, buffer_in, range, with_read}
 use Rattle.wasi_script.specs.Range.{with_bytes}
 use Rattle.wasi_script.specs.State.{State, Place, OpenFile, closed, stream, directory, file, new_number, with_place, place_for, place_of}
 use Rattle.wasi_script.specs.Turn.{IsTurn, Touches, ends_of}
@@ -72,27 +72,35 @@ pub refuses : (rose reaches : Type 0) (s : State) (e : P1Error) (row : Row (Valu
 refuses rose reaches s e row is = inl (record { stays = refl; row_is = is })
 
 module _ (s : State) (fd path len : ℕ) where
-  pub open_no_name : (e : P1Error) → Err e ≡ name_in s.memory path len → path_open s fd path len ≡ Err e
+  pub open_no_text : (e : P1Error) → Err e ≡ text_in s.memory path len → path_open s fd path len ≡ Err e
   unfolding path_open open_front
-  open_no_name e is = rw (← is) refl
+  open_no_text e is = rw (← is) refl
 
-  pub open_no_directory : (e : P1Error) (name : List ℕ) → Ok name ≡ name_in s.memory path len → Err e ≡ directory_in (slice_get s.places fd) → path_open s fd path len ≡ Err e
+  pub open_no_directory : (e : P1Error) (text : List ℕ) → Ok text ≡ text_in s.memory path len → Err e ≡ directory_in (slice_get s.places fd) → path_open s fd path len ≡ Err e
   unfolding path_open open_front
-  open_no_directory e name named is = rw (← named, ← is) refl
+  open_no_directory e text found is = rw (← found, ← is) refl
+
+  pub open_no_name : (e : P1Error) (text : List ℕ) (d : ℕ) → Ok text ≡ text_in s.memory path len → Ok d ≡ directory_in (slice_get s.places fd) → Err e ≡ one_name text → path_open s fd path len ≡ Err e
+  unfolding path_open open_front
+  open_no_name e text d found within is = rw (← found, ← within, ← is) refl
 
   -- a front that was passed had found the directory
   pub front_aims : (target : Target) → open_front s fd path len ≡ Ok target → Ok target.directory ≡ directory_in (slice_get s.places fd)
   unfolding open_front
-  front_aims target is = aimed (name_in s.memory path len) (directory_in (slice_get s.places fd)) refl is
+  front_aims target is = aimed (text_in s.memory path len) (directory_in (slice_get s.places fd)) refl is
     where
-      aimed : (n : Row (List ℕ)) (d : Row ℕ) → directory_in (slice_get s.places fd) ≡ d → (n >>= (λ name. d >>= (λ x. give (let t : Target = record { name = name; directory = x } in t)))) ≡ Ok target → Ok target.directory ≡ directory_in (slice_get s.places fd)
-      aimed (Ok name) (Ok x) found same = let t : ◌≡◌ (record { name = name; directory = x }) target = (cc) in sym (found ∙ ap (λ (u : Target). Ok u.directory) t)
-      aimed (Ok name) (Err e) found same = absurd (cc)
+      named : (n : Row (List ℕ)) (x : ℕ) → directory_in (slice_get s.places fd) ≡ Ok x → (n >>= (λ name. give (let t : Target = record { name = name; directory = x } in t))) ≡ Ok target → Ok target.directory ≡ directory_in (slice_get s.places fd)
+      named (Ok name) x found same = let t : ◌≡◌ (record { name = name; directory = x }) target = (cc) in sym (found ∙ ap (λ (u : Target). Ok u.directory) t)
+      named (Err e) x found same = absurd (cc)
+
+      aimed : (t : Row (List ℕ)) (d : Row ℕ) → directory_in (slice_get s.places fd) ≡ d → (t >>= (λ text. d >>= (λ x. one_name text >>= (λ name. give (let t : Target = record { name = name; directory = x } in t))))) ≡ Ok target → Ok target.directory ≡ directory_in (slice_get s.places fd)
+      aimed (Ok text) (Ok x) found same = named (one_name text) x found same
+      aimed (Ok text) (Err e) found same = absurd (cc)
       aimed (Err e) d found same = absurd (cc)
 
-  pub front_is : (name : List ℕ) (d : ℕ) → Ok name ≡ name_in s.memory path len → Ok d ≡ directory_in (slice_get s.places fd) → open_front s fd path len ≡ Ok (record { name = name; directory = d })
+  pub front_is : (text name : List ℕ) (d : ℕ) → Ok text ≡ text_in s.memory path len → Ok d ≡ directory_in (slice_get s.places fd) → Ok name ≡ one_name text → open_front s fd path len ≡ Ok (record { name = name; directory = d })
   unfolding open_front
-  front_is name d named is = rw (← named, ← is) refl
+  front_is text name d found within is = rw (← found, ← within, ← is) refl
 
 -- an open of a name that is answered makes no step
 pub unrefused : (t : Tree) (target : Target) (r : Result Held ErrorCode) (place : Place) → opened t target.directory target.name reading ≡ r → last_of t target r ≡ Ok place
@@ -135,7 +143,7 @@ in_child t d n name (Some m) is has = elim (Contains-push_cases [] m n has) [ in
 near_name : (t : Tree) (d n : ℕ) (name : List ℕ) → Contains (d ∷ option_to_list (child t d name)) n → Reached t (d ∷ []) n
 near_name t d n name has = elim (Contains-append_cases (d ∷ []) (option_to_list (child t d name)) n has) [ inl one ↦ root n one | inr other ↦ in_child t d n name (child t d name) refl other ]
 
-module _ (rose : Type 0) (w v : World) (places places' : List Place) (memory stdout stderr : List ℕ) (fd path len : ℕ) (name : List ℕ) (d : ℕ) where
+module _ (rose : Type 0) (w v : World) (places places' : List Place) (memory stdout stderr : List ℕ) (fd path len : ℕ) (text name : List ℕ) (d : ℕ) where
   abbrev pub before : State
   before = state w places memory stdout stderr
 
@@ -145,14 +153,15 @@ module _ (rose : Type 0) (w v : World) (places places' : List Place) (memory std
   abbrev pub target : Target
   target = record { name = name; directory = d }
 
-  -- the name and the directory were found
+  -- the text, the directory and the name were found
   pub record Aimed : Type 0 where
-    pub named : Ok name ≡ name_in memory path len
+    pub found : Ok text ≡ text_in memory path len
     pub within : Ok d ≡ directory_in (slice_get places fd)
+    pub named : Ok name ≡ one_name text
 
   module _ (aimed : Aimed) where
     front : open_front before fd path len ≡ Ok target
-    front = front_is before fd path len name d aimed.named aimed.within
+    front = front_is before fd path len text name d aimed.found aimed.within aimed.named
 
     roots : node_in (slice_get places fd) ≡ d ∷ []
     roots = directory_root (slice_get places fd) d aimed.within

@@ -55,10 +55,6 @@ one_name text = if is_entry_name text then Ok text else Err (Errno errnos.Notsup
 abbrev pub text_in : List ℕ → ℕ → ℕ → Row (List ℕ)
 text_in memory at n = range memory at n >>= utf8_text
 
--- the name in a range of memory
-abbrev pub name_in : List ℕ → ℕ → ℕ → Row (List ℕ)
-name_in memory at n = text_in memory at n >>= one_name
-
 abbrev pub directory_in : Option Place → Row ℕ
 directory_in (Some (directory d)) = Ok d.node
 directory_in (Some (file f)) = Err (Errno errnos.Notdir)
@@ -82,11 +78,12 @@ pub record Target : Type 0 where
   pub name : List ℕ
   pub directory : ℕ
 
--- `path_open` as far as the host: the name, then the directory
+-- `path_open` as far as the host: the path's text, then the directory, then the one name that the text has to be
 unfoldable pub open_front : State → ℕ → ℕ → ℕ → Row Target
 open_front s fd path len = do
-  name ← name_in s.memory path len
+  text ← text_in s.memory path len
   d ← directory_in (slice_get s.places fd)
+  name ← one_name text
   give (record { name = name; directory = d })
 
 -- the descriptor that an open of the name gives, or the host's refusal
@@ -102,8 +99,9 @@ with_opened s target place = record s {
   places = with_place s.places place;
 }
 
--- a range that leaves the memory traps; a path that isn't one name is refused `notsup`; then a number that isn't a
--- directory's; then as the host refuses. The answer is the new descriptor's number
+-- a range that leaves the memory traps; bytes that aren't a text are refused `notsup`; then a number that isn't a
+-- directory's; then a text that isn't one name, `notsup`; then as the host refuses. The answer is the new descriptor's
+-- number
 unfoldable pub path_open : State → ℕ → ℕ → ℕ → Row (Value × State)
 path_open s fd path len = do
   target ← open_front s fd path len

@@ -7,7 +7,7 @@ ghost use Rattle.wasi_script.specs.declared.calls.Call.TheVariants.{PathOpen, Fd
 use crate::calls::{Call, Errno, P1Error, Value};
 use crate::guest::GuestMemory;
 use crate::host_calls::{
-    buffer_at, directory_at, file_at, name_at, open_into, put_file, range_at, read_into,
+    buffer_at, directory_at, file_at, name_of, open_into, put_file, range_at, read_into, text_at,
 };
 use std::alloc::{AllocError, Global};
 use std::marker::Model;
@@ -108,9 +108,9 @@ impl<H: Host> WasiP1Ctx<H> {
     }
 
     /// Opens the name in a range of memory in the directory of a descriptor, for reading, and answers the number of the
-    /// new descriptor. Refusals, in this order: trap Pointer where the range leaves the memory; Notsup where it isn't
-    /// one name that a directory may hold; Badf where the number isn't a directory's or file's, Notdir where it is a
-    /// file's; then the host's. Today the flags and rights are those of an open for reading, whatever they say.
+    /// new descriptor. Refusals, in this order: trap Pointer where the range leaves the memory; Notsup where its bytes
+    /// aren't UTF-8; Badf where the number isn't a directory's or file's, Notdir where it is a file's; Notsup where the
+    /// text isn't one name that a directory may hold; then the host's. Today the flags and rights are those of an open for reading, whatever they say.
     pub fn path_open(
         &mut self,
         memory: &mut GuestMemory,
@@ -126,12 +126,16 @@ impl<H: Host> WasiP1Ctx<H> {
         ensures turn { IsTrue H.told → TakesTurn H.world (Rose (H.faults self.old.host) (H.faults self.new.host))
             self.old self.new memory.old memory.new (PathOpen fd 0 path path_len 0 2 0 0) result }
     {
-        let name = match name_at(memory, path, path_len) {
-            Ok(name) => name,
+        let text = match text_at(memory, path, path_len) {
+            Ok(text) => text,
             Err(error) => return Err(error),
         };
         let directory = match directory_at(&self.host, &self.slots, fd) {
             Ok(directory) => directory,
+            Err(error) => return Err(error),
+        };
+        let name = match name_of(text) {
+            Ok(name) => name,
             Err(error) => return Err(error),
         };
         let number = match open_into(&mut self.host, &mut self.slots, directory, name) {

@@ -7,7 +7,7 @@ ghost use Rattle.wasi_host.specs.Meaning.{Rose};
 ghost use Rattle.wasi_script.specs.Errnos.{errno_of};
 ghost use Rattle.wasi_script.specs.Slots.{IsLive};
 ghost use Rattle.wasi_script.specs.State.{place_of};
-ghost use Rattle.wasi_script.specs.Rows.{range, text_in, one_name, name_in, buffer_in, directory_in, file_in, reading};
+ghost use Rattle.wasi_script.specs.Rows.{range, text_in, one_name, buffer_in, directory_in, file_in, reading};
 ghost use Rattle.wasi_script.specs.Range.{IsInMemory};
 ghost use Rattle.wasi_script.specs.HostCalls.{error_of, open_file_of, slot_for, SlotGot, Gets, OpensSlot, ReadsInto, OpensInto};
 ghost use Rattle.wasi_host.specs.ValidTree.{is_entry_name};
@@ -73,7 +73,7 @@ fn is_open_name(text: &str) -> bool
 }
 
 /// The text in a range of memory.
-fn text_at(memory: &GuestMemory, ptr: u32, n: u32) -> Result<&str, P1Error>
+pub fn text_at(memory: &GuestMemory, ptr: u32, n: u32) -> Result<&str, P1Error>
     ensures { result_map_both (λ text. text.now) (λ e. e) result ≡ text_in memory.now ptr n }
 {
     let Some(bytes) = memory.slice(ptr, n) else {
@@ -86,7 +86,7 @@ fn text_at(memory: &GuestMemory, ptr: u32, n: u32) -> Result<&str, P1Error>
 }
 
 /// A text as a name that a directory may hold.
-fn name_of(text: &str) -> Result<Name<'_>, P1Error>
+pub fn name_of(text: &str) -> Result<Name<'_>, P1Error>
     ensures { result_map_both name_bytes (λ e. e) result ≡ one_name text.now }
 {
     if !is_open_name(text) {
@@ -95,16 +95,6 @@ fn name_of(text: &str) -> Result<Name<'_>, P1Error>
     match Name::plain(text) {
         Some(name) => Ok(name),
         None => Err(P1Error::Errno(Errno::Notsup)),
-    }
-}
-
-/// The name in a range of memory.
-pub fn name_at(memory: &GuestMemory, ptr: u32, n: u32) -> Result<Name<'_>, P1Error>
-    ensures { result_map_both name_bytes (λ e. e) result ≡ name_in memory.now ptr n }
-{
-    match text_at(memory, ptr, n) {
-        Ok(text) => name_of(text),
-        Err(e) => Err(e),
     }
 }
 
