@@ -13,7 +13,7 @@ use std::alloc::{AllocError, Global};
 use std::marker::Model;
 use wasi_host::{Handle, Host};
 
-/// The three standard streams.
+/// The three standard streams: descriptors 0, 1 and 2, as POSIX numbers them.
 #[derive(Clone, Copy, Debug, PartialEq, Eq)]
 pub enum Stream {
     Input,
@@ -21,7 +21,7 @@ pub enum Stream {
     Error,
 }
 
-/// What a descriptor number stands for.
+/// What a descriptor number stands for, as the crate's `Descriptor` of `preview1.rs`. A position is in bytes.
 #[derive(Clone, Copy, Debug, PartialEq, Eq)]
 pub enum Slot {
     Closed,
@@ -30,7 +30,8 @@ pub enum Slot {
     File { handle: Handle, position: u64 },
 }
 
-/// The calls of one guest over a host, with its descriptors and what it wrote to the standard streams.
+/// The calls of one guest over a host, with its descriptors and what it wrote to the standard streams: the crate's
+/// `WasiP1Ctx` of `preview1.rs`. A method has the name and the rule of the call in `wasi_snapshot_preview1`.
 #[derive(Drop)]
 pub struct WasiP1Ctx<H: Host> {
     host: H,
@@ -110,7 +111,8 @@ impl<H: Host> WasiP1Ctx<H> {
     /// Opens the name in a range of memory in the directory of a descriptor, for reading, and answers the number of the
     /// new descriptor. Refusals, in this order: trap Pointer where the range leaves the memory; Notsup where its bytes
     /// aren't UTF-8; Badf where the number isn't a directory's or file's, Notdir where it is a file's; Notsup where the
-    /// text isn't one name that a directory may hold; then the host's. Today the flags and rights are those of an open for reading, whatever they say.
+    /// text isn't one name that a directory may hold; then the host's, which are those of POSIX's `openat`. Today the
+    /// flags and rights are those of an open for reading, whatever a guest would say.
     pub fn path_open(
         &mut self,
         memory: &mut GuestMemory,
@@ -147,7 +149,8 @@ impl<H: Host> WasiP1Ctx<H> {
 
     /// Reads a file's bytes at its position into the buffer of one record, and answers how many; the position is behind
     /// them afterwards. Refusals, in this order: trap Pointer where the record isn't aligned to 4 or leaves the memory;
-    /// Badf where the number isn't a file's; trap Pointer where the buffer leaves the memory; then the host's.
+    /// Badf where the number isn't a file's; trap Pointer where the buffer leaves the memory; then the host's, which are
+    /// those of POSIX's `pread`. At or past the end of the file the answer is 0.
     pub fn fd_read(
         &mut self,
         memory: &mut GuestMemory,

@@ -36,7 +36,7 @@ fn ends_run(answer: Answer) -> bool
     matches!(answer, Answer::Trap(_))
 }
 
-/// One call of the context.
+/// One call of the context, by the method of its name, with its arguments in the order of `wasi_snapshot_preview1`.
 pub fn call<H: Host>(
     context: &mut WasiP1Ctx<H>,
     memory: &mut GuestMemory,
