@@ -8,6 +8,8 @@ use Rattle.std.proofs.lemmas.Map.Views.{list_any-from_Contains, Contains-from_an
 use Rattle.std.specs.Cmp.{nat_eq_equiv}
 use Rattle.std.proofs.lemmas.List.Elements.{All-weaker, All-nil, All-cons, All-contains, All-contains_itself, Contains-append_right, Contains-push}
 use Rattle.std.proofs.lemmas.Bool.Decides.{nat_tests}
+use Rattle.std.proofs.lemmas.Bool.{eqb-true}
+use Rattle.wasi_script.proofs.SlotLemmas.{still}
 use Rattle.wasi_host.specs.Tree.{Tree, Nodes, child, node_at, next_of, is_directory, Content, File, Directory, Link}
 use Rattle.wasi_host.specs.Options.{OnlyRead}
 use Rattle.wasi_host.specs.HostCall.{OpenAt, Stat, Close}
@@ -46,11 +48,8 @@ touched_same old new may same = record {
   ends = All-nil _;
 }
 
-same_number : (x y : ℕ) → nat_eq x y ≡ true → x ≡ y
-same_number x y is = grind (arith, nat_tests)
-
 among : (n : ℕ) (ns : List ℕ) → list_any (nat_eq n) ns ≡ true → Contains ns n
-among n ns is = Contains-from_any same_number n ns is
+among n ns is = Contains-from_any eqb-true n ns is
 
 any_of : (n : ℕ) (ns : List ℕ) → Contains ns n → list_any (nat_eq n) ns ≡ true
 any_of n ns is = list_any-from_Contains nat_eq_equiv n ns is
@@ -175,9 +174,6 @@ stat_given t n code refused = (cc)
 
 place_slot : (t : Tree) (held : ℕ → Held) (h : ℕ) (metadata : Metadata) → stat_answer t (held h).node ≡ Ok metadata → place_of held (slot_for metadata.kind h) ≡ place_for t (held h)
 place_slot t held h metadata answer = ap (λ k. place_of held (slot_for k h)) (kind_known t _ metadata answer) ∙ slot_content (node_at t (held h).node).content held h
-
-still : (old : Handles) (h q : ℕ) → contains old q ≡ true → contains (insert old h) q ≡ true
-still old h q is = grind (arith, members, nat_tests)
 
 last_opened : (t u : Tree) (target : Target) (held : Held) → opened t target.directory target.name reading ≡ Ok held → u ≡ open_step t target.directory target.name reading → open_last t target ≡ Ok (place_for u held)
 last_opened t u target held answer made = rw (answer, made) refl

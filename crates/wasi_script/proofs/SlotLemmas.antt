@@ -29,7 +29,7 @@ pub map-again : (live : Handles) (held again : ℕ → Held) (table : List Slot)
     → All (IsLive live) table → map (place_of again) table ≡ map (place_of held) table
 map-again live held again table same all = same_places live held again table same (recursion_from_All _ table all)
 
-still : (live : Handles) (h q : ℕ) → contains live q ≡ true → contains (insert live h) q ≡ true
+pub still : (live : Handles) (h q : ℕ) → contains live q ≡ true → contains (insert live h) q ≡ true
 still live h q is = grind (arith, members, nat_tests)
 
 -- a handle more
