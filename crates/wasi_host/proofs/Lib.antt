@@ -1,1 +1,5 @@
 pub mod Chain
+pub mod Tracing
+pub mod EntryLemmas
+pub mod ValidSteps
+pub mod Times

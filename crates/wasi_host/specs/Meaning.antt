@@ -1,12 +1,15 @@
 -- What the calls of a host do to its meanings: the laws that every host keeps, and those of a host that tells its world.
-use Rattle.std.specs.Prelude.{◌≡◌, ◌⊎◌, ℕ, ◌+◌, ◌-◌, ◌^◌, ◌≤◌, min, true, false, ◌++◌, None, Result, Ok, Err}
+use Rattle.std.specs.Prelude.{◌≡◌, ◌⊎◌, ℕ, ◌+◌, ◌-◌, ◌^◌, ◌<◌, ◌≤◌, min, true, false, List, [], ◌∷◌, ◌++◌, Option, None, Result, Ok, Err}
 use Rattle.std.specs.Ordering.{nat_cmp}
 use Rattle.std.specs.FinSet.{FinSet, contains, insert}
-use Rattle.wasi_host.specs.Tree.{Tree, Nodes}
+use Rattle.wasi_host.specs.Tree.{Tree, Nodes, node_at, next_of, is_file}
 use Rattle.wasi_host.specs.HostCall.{HostCall}
-use Rattle.wasi_host.specs.Refusal.{refusal}
+use Rattle.wasi_host.specs.Refusal.{refusal, can_write}
+use Rattle.wasi_host.specs.Answer.{HostAnswer, host_answer}
 use Rattle.wasi_host.specs.Step.{step, found_by, made_by, with_nodes}
-use Rattle.wasi_host.specs.declared.values.Held.{Held}
+use Rattle.wasi_host.specs.declared.held.Held.{Held}
+use Rattle.wasi_host.specs.declared.lookup.Lookup.{Lookup}
+use Rattle.wasi_host.specs.declared.lookup.LookKind.{LookKind}
 use Rattle.wasi_host.specs.declared.errors.ErrorCode.{ErrorCode}
 use Rattle.wasi_host.specs.declared.errors.ErrorCode.TheVariants.{Io}
 use Rattle.wasi_host.specs.declared.errors.HostError.{HostError}
@@ -35,6 +38,21 @@ pub record HasCause {A : Type 0} (before now : ℕ) (result : Result A HostError
 abbrev pub LiveGot : Handles → Result ℕ HostError → Handles → Type 0
 LiveGot old (Ok h) new = (contains old h ≡ false) × (new ≡ insert old h)
 LiveGot old (Err e) new = new ≡ old
+
+-- after `Io` or want of memory: no entry, or one, whatever the call had got before it failed
+abbrev pub MaybeLogged : List Lookup → LookKind → ℕ → List Lookup → Type 0
+MaybeLogged old kind from new = (new ≡ old) ⊎ ((got : Option ℕ) × (new ≡ old ++ record { kind = kind; from = from; got = got } ∷ []))
+
+abbrev pub LoggedErr : List Lookup → LookKind → ℕ → HostError → List Lookup → Type 0
+LoggedErr old kind from Memory new = MaybeLogged old kind from new
+LoggedErr old kind from (Code Io) new = MaybeLogged old kind from new
+LoggedErr old kind from (Code code) new = new ≡ old ++ record { kind = kind; from = from; got = None } ∷ []
+
+-- a look-up of this kind from this handle, with the handle that it got
+abbrev pub Logged : {A : Type 0} → List Lookup → LookKind → ℕ → (A → Option ℕ) → Result A HostError → List Lookup
+    → Type 0
+Logged old kind from got (Ok a) new = new ≡ old ++ record { kind = kind; from = from; got = got a } ∷ []
+Logged old kind from got (Err e) new = LoggedErr old kind from e new
 
 -- a refusal is the one that is meant; `Io` and want of memory say nothing of what is meant
 abbrev pub MeansErr : {B : Type 0} → Result B ErrorCode → HostError → Type 0
@@ -76,9 +94,18 @@ After w call (Err e) v = AfterErr w call e v
 abbrev pub Keeps : Handles → Handles → World → World → Type 0
 Keeps old new w v = (h : ℕ) → contains old h ≡ true → contains new h ≡ true → v.held h ≡ w.held h
 
+-- a handle's node is a node of the tree, and a file where the handle was opened for writing
+pub record IsHeld (t : Tree) (held : Held) : Type 0 where
+  pub within : held.node < next_of t
+  pub writes_file : can_write held.mode ≡ true → is_file (node_at t held.node).content ≡ true
+
+-- each live handle stands for such a node
+pub record AllHeld (live : Handles) (w : World) : Type 0 where
+  pub each : (h : ℕ) → contains live h ≡ true → IsHeld w.tree (w.held h)
+
 -- what a call of a told host does: it answers by the table, and makes its one step where it answers Ok
-pub record Told {A B : Type 0} (old new : Handles) (w v : World) (call : HostCall) (shown : A → B) (meant : Result B ErrorCode) (result : Result A HostError) : Type 0 where
-  pub meaning : Means shown meant result
+pub record Told {A : Type 0} (old new : Handles) (w v : World) (call : HostCall) (shown : A → HostAnswer call) (result : Result A HostError) : Type 0 where
+  pub meaning : Means shown (host_answer w.tree call) result
   pub after : After w call result v
   pub keeps : Keeps old new w v
 
@@ -90,6 +117,3 @@ hosted (Err code) = Err (Code code)
 -- the answer of a call that can't be refused
 abbrev pub answered : Result (Unit {0}) HostError
 answered = Ok tt
-
-abbrev pub nothing_meant : Result (Unit {0}) ErrorCode
-nothing_meant = Ok tt

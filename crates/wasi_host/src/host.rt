@@ -1,14 +1,15 @@
-ghost use Rattle.std.specs.Prelude.{◌≡◌, ◌≤◌, ◌<◌, ◌^◌, ℕ, Bool, true, false, IsTrue, Ok, IfOk, OnOk, OnErr, length, take, drop};
+//! The trait of hosts, with its laws.
+ghost use Rattle.std.specs.Prelude.{◌≡◌, ◌≤◌, ◌<◌, ◌^◌, ◌-◌, ℕ, Bool, true, false, IsTrue, Ok, IfOk, OnOk, OnErr, List, Some, None, length, take, drop};
 ghost use Rattle.std.specs.Ordering.{nat_cmp};
 ghost use Rattle.std.specs.FinSet.{FinSet, contains, remove};
 ghost use Rattle.wasi_paths.specs.Name.{name_bytes};
 ghost use Rattle.wasi_host.specs.Options.{OnlyRead};
 ghost use Rattle.wasi_host.specs.HostCall.{OpenAt, Stat, Pread, Dup, Close};
-ghost use Rattle.wasi_host.specs.Answer.{opened, stat_answer, bytes_read};
-ghost use Rattle.wasi_host.specs.Meaning.{World, HasCause, LiveGot, Told, hosted, answered, nothing_meant};
+ghost use Rattle.wasi_host.specs.Meaning.{World, AllHeld, HasCause, LiveGot, Told, Logged, hosted, answered};
+ghost use Rattle.wasi_host.specs.declared.lookup.Lookup.{Lookup};
 ghost use Rattle.wasi_host.specs.Time.{HasTimes};
 
-use crate::{ErrorCode, Handle, HostError, Metadata, OpenOptions};
+use crate::{ErrorCode, Handle, HostError, LookKind, Metadata, OpenOptions};
 use wasi_paths::Name;
 
 /// A tree of files behind handles, which is all that the crates above ever see of one.
@@ -25,6 +26,9 @@ pub trait Host {
 
     /// The live handles.
     ghost live: { Self → FinSet nat_cmp };
+
+    /// The look-ups so far. Only `open_at` and `dup` add to them.
+    ghost lookups: { Self → List Lookup };
 
     /// Whether the host tells its world.
     ghost told: { Bool };
@@ -45,34 +49,30 @@ pub trait Host {
         requires options { OnlyRead options.now }
         ensures cause { HasCause (faults self.old) (faults self.new) result }
         ensures live { LiveGot (live self.old) result (live self.new) }
+        ensures logged { Logged (lookups self.old) LookKind.Open start (λ h. Some h) result (lookups self.new) }
         ensures told { IsTrue told → Told (live self.old) (live self.new) (world self.old) (world self.new)
             (OpenAt ((world self.old).held start).node (name_bytes name.entry) options.now)
-            (world self.new).held
-            (opened (world self.old).tree ((world self.old).held start).node (name_bytes name.entry) options.now)
-            result };
+            (world self.new).held result };
 
     /// Another live handle of the same node and access.
     fn dup(&mut self, handle: Handle) -> Result<Handle, HostError>
         requires { contains (live self.old) handle ≡ true }
         ensures cause { HasCause (faults self.old) (faults self.new) result }
         ensures live { LiveGot (live self.old) result (live self.new) }
+        ensures logged { Logged (lookups self.old) LookKind.Dup handle (λ h. Some h) result (lookups self.new) }
         ensures told { IsTrue told → Told (live self.old) (live self.new) (world self.old) (world self.new)
-            Dup
-            (world self.new).held
-            (Ok ((world self.old).held handle))
-            result };
+            (Dup ((world self.old).held handle)) (world self.new).held result };
 
     /// The metadata of what a handle stands for. It takes no memory.
     fn stat(&mut self, handle: Handle) -> Result<Metadata, ErrorCode>
         requires { contains (live self.old) handle ≡ true }
         ensures cause { HasCause (faults self.old) (faults self.new) (hosted result) }
         ensures live { live self.new ≡ live self.old }
+        ensures logged { lookups self.new ≡ lookups self.old }
         ensures times { IfOk result HasTimes }
         ensures told { IsTrue told → Told (live self.old) (live self.new) (world self.old) (world self.new)
             (Stat ((world self.old).held handle).node)
-            (λ metadata. metadata)
-            (stat_answer (world self.old).tree ((world self.old).held handle).node)
-            (hosted result) };
+            (λ metadata. metadata) (hosted result) };
 
     /// Reads a file's bytes from an offset on into the front of `buf`, and answers how many: as many as there are and
     /// `buf` takes, 0 at or past the end. The rest of `buf` stays. It takes no memory. Refusals: BadDescriptor without
@@ -81,21 +81,28 @@ pub trait Host {
         requires { contains (live self.old) file ≡ true }
         ensures cause { HasCause (faults self.old) (faults self.new) (hosted result) }
         ensures live { live self.new ≡ live self.old }
+        ensures logged { lookups self.new ≡ lookups self.old }
         ensures fits { IfOk result (λ n. n ≤ length buf.old) }
         ensures offset { OnOk result (offset < 2 ^ 63) }
         ensures rest { IfOk result (λ n. drop n buf.new ≡ drop n buf.old) }
         ensures kept { OnErr result (buf.new ≡ buf.old) }
         ensures told { IsTrue told → Told (live self.old) (live self.new) (world self.old) (world self.new)
             (Pread ((world self.old).held file) offset (length buf.old))
-            (λ n. take n buf.new)
-            (bytes_read (world self.old).tree ((world self.old).held file) offset (length buf.old))
-            (hosted result) };
+            (λ n. take n buf.new) (hosted result) };
 
     /// The handle isn't live any more. It can't fail, and takes no memory.
     fn close(&mut self, handle: Handle)
         requires { contains (live self.old) handle ≡ true }
         ensures faults { faults self.new ≡ faults self.old }
         ensures live { live self.new ≡ remove (live self.old) handle }
+        ensures logged { lookups self.new ≡ lookups self.old }
         ensures told { IsTrue told → Told (live self.old) (live self.new) (world self.old) (world self.new)
-            Close (λ unit. unit) nothing_meant answered };
+            Close (λ unit. unit) answered };
+
+    /// What holds of every host at any time, told or not: its count of faults is a number of 64 bits, and where it tells
+    /// its world, each live handle's node is a node of the tree, and a file where the handle was opened for writing. It
+    /// does nothing: its clauses are laws, for a caller that needs one of them.
+    fn laws(&self)
+        ensures faults { faults self.now ≤ 2 ^ 64 - 1 }
+        ensures held { IsTrue told → AllHeld (live self.now) (world self.now) };
 }

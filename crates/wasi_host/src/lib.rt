@@ -1,22 +1,41 @@
 //! What a host of a tree of files is: its values, the table of what it refuses, and the laws of the trait `Host`.
 #![tactic(auto)]
 
+mod advice;
+mod bits;
+mod dir_entry;
 mod errors;
 mod file_type;
 mod handle;
+mod held;
 mod host;
+mod laws;
+mod limits;
+mod lookup;
 mod metadata;
 mod open_options;
+mod sync_flags;
 mod system_time;
-mod values;
+mod timespec;
 
+pub use advice::Advice;
+pub use bits::Bits;
+pub use dir_entry::DirEntry;
 pub use errors::{ErrorCode, HostError};
 pub use file_type::FileType;
 pub use handle::Handle;
+pub use held::{AccessMode, Held};
 pub use host::Host;
+pub use laws::steps_keep_trees_valid;
+pub use limits::{FILE_MAX, Limits};
+pub use lookup::{LookKind, Lookup};
 pub use metadata::Metadata;
 pub use open_options::{
     FollowSymlinks, OFlags, OpenOptions, compute_oflags, dir_options, readdir_options,
 };
-pub use system_time::{SystemTime, Timespec, system_time_from_rustix, to_timespec};
-pub use values::{AccessMode, Advice, Bits, DirEntry, Held, Limits, SyncFlags};
+pub use sync_flags::SyncFlags;
+pub use system_time::{SystemTime, system_time_from_rustix};
+pub use timespec::{Timespec, to_timespec};
+
+/// The nanoseconds of a second.
+pub const NANOSECONDS: u32 = 1_000_000_000;

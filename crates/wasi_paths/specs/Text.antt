@@ -1,7 +1,8 @@
 -- Path texts, as the lists of their bytes.
-use Rattle.std.specs.Prelude.{ℕ, Bool, not, ◌&&◌, ◌||◌, nat_eq, List, [], codes}
-use Rattle.std.specs.Str.{bytes_eq}
+use Rattle.std.specs.Prelude.{ℕ, Bool, not, ◌&&◌, ◌||◌, nat_eq, nat_lt, List, [], length, codes, IsTrue}
+use Rattle.std.specs.Str.{bytes_eq, IsUtf8}
 use Rattle.std.specs.List.{list_any}
+use Rattle.wasi_paths.specs.declared.TheConstants.{NAME_MAX}
 
 -- it has the byte of `/`
 abbrev pub has_slash : List ℕ → Bool
@@ -17,3 +18,19 @@ is_dot_text text = bytes_eq text (codes ".")
 -- the text of a name: `.`, or a plain text
 abbrev pub is_name_text : List ℕ → Bool
 is_name_text text = is_dot_text text || is_plain text
+
+-- the bytes that a name can have
+pub record IsName (text : List ℕ) : Type 0 where
+  pub name : IsTrue (is_name_text text)
+  pub utf8 : IsUtf8 text
+
+abbrev pub has_nul : List ℕ → Bool
+has_nul text = list_any (λ b. nat_eq b 0) text
+
+-- it is longer than a name in a directory can be
+abbrev pub is_long : List ℕ → Bool
+is_long text = nat_lt NAME_MAX (length text)
+
+-- a name that a directory may hold: plain, without NUL, of at most 255 bytes
+abbrev pub is_entry_name : List ℕ → Bool
+is_entry_name name = is_plain name && not (has_nul name) && not (is_long name)

@@ -4,3 +4,6 @@
 mod name;
 
 pub use name::Name;
+
+/// The bytes of the longest name in a directory, POSIX's `NAME_MAX`.
+pub const NAME_MAX: usize = 255;

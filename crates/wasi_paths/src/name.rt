@@ -1,5 +1,9 @@
+//! Names.
 ghost use Rattle.std.specs.Prelude.{◌≡◌, ◌↔◌, IsTrue, IsSome, IfSome, codes};
-ghost use Rattle.wasi_paths.specs.Text.{has_slash, is_plain, is_dot_text, is_name_text};
+ghost use Rattle.std.specs.Str.{IsUtf8};
+ghost use Rattle.wasi_paths.specs.Text.{has_slash, is_plain, is_dot_text, is_name_text, has_nul, is_long, is_entry_name};
+
+use crate::NAME_MAX;
 
 /// One name in a directory: `.`, or a plain text, which isn't empty, has no `/`, and is neither `.` nor `..`.
 ///
@@ -27,7 +31,7 @@ impl<'a> Name<'a> {
 
     /// The name `.`, the directory itself.
     pub fn dot() -> Name<'static>
-        ensures { name_bytes result ≡ codes "." }
+        ensures bytes { name_bytes result ≡ codes "." }
     {
         Name { text: "." }
     }
@@ -36,15 +40,37 @@ impl<'a> Name<'a> {
     pub fn as_str(&self) -> &str
         ensures text { result.now ≡ name_bytes self.now }
         ensures name { IsTrue (is_name_text result.now) }
+        ensures utf8 { IsUtf8 result.now }
     {
         self.text
     }
 
     /// Whether it is `.`.
     pub fn is_dot(&self) -> bool
-        ensures { result ≡ is_dot_text (name_bytes self.now) }
+        ensures test { result ≡ is_dot_text (name_bytes self.now) }
     {
         self.as_str() == "."
+    }
+
+    /// Whether it has a NUL byte, so that no host has it.
+    pub fn has_nul(&self) -> bool
+        ensures test { result ≡ has_nul (name_bytes self.now) }
+    {
+        self.as_str().as_bytes().contains(&0)
+    }
+
+    /// Whether it has more than `NAME_MAX` bytes, so that no directory has it.
+    pub fn is_long(&self) -> bool
+        ensures test { result ≡ is_long (name_bytes self.now) }
+    {
+        self.as_str().len() > NAME_MAX
+    }
+
+    /// Whether a directory may hold it: it isn't `.`, has no NUL, and at most `NAME_MAX` bytes.
+    pub fn is_entry(&self) -> bool
+        ensures test { result ≡ is_entry_name (name_bytes self.now) }
+    {
+        is_plain(self.text) && !self.has_nul() && !self.is_long()
     }
 }
 
@@ -90,6 +116,17 @@ mod tests {
             ("/a", false),
         ] {
             assert_eq!(rt; Name::plain(text).is_some(), want, "of {text}");
+        }
+    }
+
+    #[test]
+    fn entries(rt: HostRuntime) {
+        for (name, want) in [
+            (Name::dot(), false),
+            (Name::plain("top").unwrap_or(Name::dot()), true),
+            (Name::plain("a\0b").unwrap_or(Name::dot()), false),
+        ] {
+            assert_eq!(rt; name.is_entry(), want, "of {name:?}");
         }
     }
 

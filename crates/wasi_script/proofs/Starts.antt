@@ -10,19 +10,20 @@ use Rattle.std.proofs.lemmas.List.{map-append, take_more}
 use Rattle.std.proofs.lemmas.List.Folds.{list_all_at, list_all-map}
 use Rattle.wasi_host.specs.Tree.{Tree, node_at, is_directory, stray}
 use Rattle.wasi_host.specs.ValidTree.{root, held}
-use Rattle.wasi_host.specs.declared.values.AccessMode.TheVariants.{PathOnly}
-use Rattle.wasi_host.specs.declared.values.Limits.{Limits}
+use Rattle.wasi_host.specs.declared.held.AccessMode.TheVariants.{PathOnly}
+use Rattle.wasi_host.specs.declared.limits.Limits.{Limits}
 use Rattle.wasi_tree.specs.Given.{Given, GivenContent, file, directory, link, content_from, nodes_from, tree_of}
 use Rattle.wasi_tree.specs.FirstTree.{is_dir_content}
 use Rattle.wasi_tree.specs.MemState.{MemState, held_in, world_of}
-use Rattle.wasi_script.specs.Range.{with_bytes}
-use Rattle.wasi_script.specs.Reach.{Confined}
-use Rattle.wasi_script.specs.Script.{PlannedPiece, planned_preopen, planned_piece, has_one_preopen, is_directory_given, is_piece_within}
-use Rattle.wasi_script.specs.Slots.{first_slots}
+use Rattle.wasi_guest.specs.Range.{with_bytes}
+use Rattle.wasi_p1.specs.Reach.{Confined}
+use Rattle.wasi_form.specs.Plan.{PlannedPiece, planned_preopen, planned_piece}
+use Rattle.wasi_form.specs.Built.{has_one_preopen, is_directory_given, is_piece_within}
+use Rattle.wasi_p1.specs.Slots.{first_slots}
 use Rattle.wasi_script.specs.Start.{IsGiven, IsBegun, with_pieces}
-use Rattle.wasi_script.specs.State.{State}
-use Rattle.wasi_script.specs.declared.script.Piece.{Piece}
-use Rattle.wasi_script.specs.declared.script.ScriptPreopen.{ScriptPreopen}
+use Rattle.wasi_p1.specs.Guest.{State}
+use Rattle.wasi_form.specs.declared.script.Piece.{Piece}
+use Rattle.wasi_form.specs.declared.script.ScriptPreopen.{ScriptPreopen}
 
 pub one_given : (nodes : List Given) (preopens : List ScriptPreopen) (d : ScriptPreopen) → has_one_preopen nodes (map planned_preopen preopens) ≡ true
     → IsGiven nodes (map planned_preopen preopens) (get_or preopens 0 d).node
@@ -50,16 +51,17 @@ unfolding node_at tree_of
 directory_given nodes limits n is = given_from nodes nodes 0 n is
 
 -- a context over a tree in memory that has given one handle
-pub begun_by : (made given : MemState) (tree : Tree) (h node : ℕ) → made ≡ record { tree = tree; slots = []; touched = empty } → given.tree ≡ made.tree → given.touched ≡ made.touched
-    → held_in given.slots h ≡ record { node = node; mode = PathOnly } → IsBegun world_of (record { host = given; slots = first_slots h; stdout = []; stderr = [] }) tree (node ∷ [])
-begun_by made given tree h node made-is tree-is touched-is held-is = record {
+pub begun_by : (made given : MemState) (tree : Tree) (h node : ℕ) → made.tree ≡ tree → made.touched ≡ empty → given.tree ≡ made.tree → given.touched ≡ made.touched
+    → held_in given.handles h ≡ record { node = node; mode = PathOnly } → IsBegun world_of (record { host = given; slots = first_slots h; stdout = []; stderr = [] }) tree (node ∷ [])
+begun_by made given tree h node made-is none tree-is touched-is held-is = record {
   state = λ memory. rw (tree-is, held-is, made-is) refl;
-  untouched = rw (touched-is, made-is) refl;
+  untouched = touched-is ∙ none;
 }
 
 -- at the start all that was come to is in reach
 pub confined_at_start : (s : State) → Confined s s empty
 confined_at_start s = record {
+  later = omega arith;
   descriptors = λ n has. inl (root n has);
   names = λ d n name near is. elim near [ inl reached ↦ inl (held d n name reached is) | inr made ↦ let low = made.fresh in let high = made.there in absurd (omega arith) ];
   touched_in = λ n has. let none = contains-empty nat_cmp n in absurd (cc);

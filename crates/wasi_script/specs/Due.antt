@@ -1,16 +1,15 @@
 -- What the program has to write, and what stands after it, by its status.
 use Rattle.std.specs.Prelude.{◌≡◌, ℕ, ◌+◌, ◌++◌, Bool, true, false, List, [], ◌∷◌, drop, codes, Result, Ok, Err, ⊤}
 use Rattle.std.specs.Str.{bytes_eq}
-use Rattle.wasi_script.specs.Ends.{TookFront}
+use Rattle.wasi_form.specs.Ends.{TookFront}
 use Rattle.wasi_script.specs.Headline.{Reports}
-use Rattle.wasi_script.specs.Script.{Plan, plan, most_script, verdict_of}
-use Rattle.wasi_script.specs.declared.script.Refusal.{Refusal}
-use Rattle.wasi_script.specs.declared.script.Refusal.TheVariants.{Json, Later}
-use Rattle.wasi_script.specs.declared.script.Script.{Script}
-use Rattle.wasi_script.specs.declared.top.Status.{Status}
-use Rattle.wasi_script.specs.declared.top.Status.TheVariants as statuses
-use Rattle.wasi_script.specs.declared.top.NoScript.{NoScript}
-use Rattle.wasi_script.specs.declared.top.NoScript.TheVariants as none
+use Rattle.wasi_form.specs.Plan.{Plan, plan}
+use Rattle.wasi_form.specs.Verdict.{most_script, verdict_of}
+use Rattle.wasi_form.specs.declared.verdict.Refusal.{Refusal}
+use Rattle.wasi_form.specs.declared.verdict.Refusal.TheVariants.{Json, Later}
+use Rattle.wasi_form.specs.declared.script.Script.{Script}
+use Rattle.wasi_script.specs.declared.status.Status.{Status}
+use Rattle.wasi_script.specs.declared.status.Status.TheVariants as statuses
 
 -- what reading leaves: nothing, or of bytes that are too many those behind the first one past the limit
 unfoldable pub left_unread : List ℕ → List ℕ
@@ -87,22 +86,42 @@ Writes statuses.NoMemory d taken now = now ≡ taken
 Writes statuses.WriteFault d taken now = WroteFront d taken now
 
 -- what the source has left, by the status, where the words are `run`
-abbrev pub Leaves : Status → List ℕ → List ℕ → Type 0
-Leaves statuses.Done left rest = rest ≡ left_unread left
-Leaves statuses.Usage left rest = ⊤
-Leaves (statuses.Refused refusal) left rest = rest ≡ left_unread left
-Leaves statuses.ReadFault left rest = ⊤
-Leaves statuses.NoMemory left rest = ⊤
-Leaves statuses.WriteFault left rest = rest ≡ left_unread left
+abbrev pub LeavesBytes : Status → List ℕ → List ℕ → Type 0
+LeavesBytes statuses.Done left rest = rest ≡ left_unread left
+LeavesBytes statuses.Usage left rest = ⊤
+LeavesBytes (statuses.Refused refusal) left rest = rest ≡ left_unread left
+LeavesBytes statuses.ReadFault left rest = ⊤
+LeavesBytes statuses.NoMemory left rest = ⊤
+LeavesBytes statuses.WriteFault left rest = rest ≡ left_unread left
+
+-- after a fault of reading, or want of memory, the sink took nothing
+abbrev pub KeepsSink : Status → List ℕ → List ℕ → Type 0
+KeepsSink statuses.ReadFault taken now = now ≡ taken
+KeepsSink statuses.NoMemory taken now = now ≡ taken
+KeepsSink statuses.Done taken now = ⊤
+KeepsSink statuses.Usage taken now = ⊤
+KeepsSink (statuses.Refused refusal) taken now = ⊤
+KeepsSink statuses.WriteFault taken now = ⊤
 
 -- a text that was written under a status: all of it was taken; or the sink failed, and a front of it was taken
 pub data Written (told rose : Type 0) (taken now text : List ℕ) (status : Status) : Status → Type 0 where
   whole : (told → now ≡ taken ++ text) → Written told rose taken now text status status
   in_part : rose → (told → TookFront taken now text) → Written told rose taken now text status statuses.WriteFault
 
+-- the statuses with which the program ends without a script
+abbrev pub EndsReading : Status → Type 0
+EndsReading (statuses.Refused refusal) = ⊤
+EndsReading statuses.ReadFault = ⊤
+EndsReading statuses.NoMemory = ⊤
+EndsReading statuses.Done = ⊥
+EndsReading statuses.Usage = ⊥
+EndsReading statuses.WriteFault = ⊥
+
 -- reading to the end gave the script, or a refusal; a fault and want of memory are free
-abbrev pub ReadsScript : Result Script NoScript → List ℕ → List ℕ → Type 0
+abbrev pub NotRead : Status → List ℕ → List ℕ → Type 0
+NotRead (statuses.Refused refusal) left rest = (verdict_of left ≡ Err refusal) × (rest ≡ left_unread left)
+NotRead status left rest = ⊤
+
+abbrev pub ReadsScript : Result Script Status → List ℕ → List ℕ → Type 0
 ReadsScript (Ok script) left rest = (verdict_of left ≡ Ok (plan script)) × (rest ≡ left_unread left)
-ReadsScript (Err (none.Refused refusal)) left rest = (verdict_of left ≡ Err refusal) × (rest ≡ left_unread left)
-ReadsScript (Err none.Fault) left rest = ⊤
-ReadsScript (Err none.Memory) left rest = ⊤
+ReadsScript (Err status) left rest = NotRead status left rest

@@ -3,13 +3,13 @@ use Rattle.std.specs.Prelude.{◌≡◌, ℕ, ◌+◌, List, map, slice_range, A
 use Rattle.std.specs.List.Sorted.{IsStrictlySortedBy}
 use Rattle.std.specs.Ordering.{nat_cmp}
 use Rattle.wasi_tree.specs.Given.{given_of}
-use Rattle.wasi_script.specs.Reach.{InReach}
-use Rattle.wasi_script.specs.Report.{Report, report_text}
-use Rattle.wasi_script.specs.Run.{Turned, Run, answers_of, named}
-use Rattle.wasi_script.specs.Script.{Plan}
+use Rattle.wasi_p1.specs.Reach.{InReach}
+use Rattle.wasi_form.specs.Report.{Report, report_text}
+use Rattle.wasi_p1.specs.Run.{Turned, Run, answers_of, named}
+use Rattle.wasi_form.specs.Plan.{Plan}
 use Rattle.wasi_script.specs.Start.{start}
-use Rattle.wasi_script.specs.State.{State}
-use Rattle.wasi_script.specs.declared.script.Shown.{Shown}
+use Rattle.wasi_p1.specs.Guest.{State}
+use Rattle.wasi_form.specs.declared.script.Shown.{Shown}
 
 -- the bytes of a range of memory
 abbrev pub shown_in : List ℕ → Shown → List ℕ
@@ -19,9 +19,9 @@ shown_in memory range = slice_range memory range.ptr (range.ptr + range.len)
 abbrev pub told_of : List Shown → List Turned → State → List ℕ → Report
 told_of show turns last touched = record {
   answers = answers_of turns;
-  memory = map (shown_in last.memory) show;
-  stderr = last.stderr;
-  stdout = last.stdout;
+  memory = map (shown_in last.guest.memory) show;
+  stderr = last.guest.stderr;
+  stdout = last.guest.stdout;
   touched = touched;
   tree = map given_of last.tree.nodes;
 }

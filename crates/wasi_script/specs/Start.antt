@@ -4,11 +4,12 @@ use Rattle.std.specs.FinSet.{empty}
 use Rattle.wasi_host.specs.Tree.{Tree}
 use Rattle.wasi_host.specs.Meaning.{World}
 use Rattle.wasi_tree.specs.Given.{Given, tree_of}
-use Rattle.wasi_script.specs.Range.{with_bytes}
-use Rattle.wasi_script.specs.Script.{Plan, PlannedPiece, PlannedPreopen, default_limits, is_directory_given}
-use Rattle.wasi_script.specs.Slots.{View}
-use Rattle.wasi_script.specs.State.{State, Place, stream, directory, state_of}
-use Rattle.wasi_script.specs.declared.context.Stream.TheVariants.{Input, Output, Error}
+use Rattle.wasi_guest.specs.Range.{with_bytes}
+use Rattle.wasi_form.specs.Plan.{Plan, PlannedPiece, PlannedPreopen}
+use Rattle.wasi_form.specs.Built.{default_limits, is_directory_given}
+use Rattle.wasi_p1.specs.Slots.{View}
+use Rattle.wasi_p1.specs.Guest.{State, Place, stream, directory, state_of}
+use Rattle.wasi_p1.specs.declared.context.Stream.TheVariants.{Input, Output, Error}
 
 -- the three streams, then the directories that the guest is given
 abbrev pub first_places : List ℕ → List Place
@@ -21,7 +22,10 @@ with_pieces memory (piece ∷ pieces) = with_pieces (with_bytes memory piece.off
 
 -- over a tree, with these directories, nothing is written out yet
 abbrev pub begun : Tree → List ℕ → List ℕ → State
-begun tree nodes memory = record { tree = tree; places = first_places nodes; memory = memory; stdout = []; stderr = [] }
+begun tree nodes memory = record {
+  tree = tree;
+  guest = record { places = first_places nodes; memory = memory; stdout = []; stderr = [] };
+}
 
 abbrev pub nodes_given : List PlannedPreopen → List ℕ
 nodes_given preopens = map (λ p. p.node) preopens

@@ -1,25 +1,25 @@
-// The context and the memory in which the calls of a script begin, and the memory that is shown after them.
+//! The context and the memory in which the calls of a script begin, and the memory that is shown after them.
 ghost use Rattle.std.specs.Prelude.{◌≡◌, ℕ, true, length, map, [], ◌∷◌, replicate, slice_get, IfOk};
 ghost use Rattle.std.specs.List.{list_all};
 ghost use Rattle.wasi_tree.specs.Given.{given, tree_of};
 ghost use Rattle.wasi_tree.specs.FirstTree.{is_first_tree};
 ghost use Rattle.wasi_tree.specs.MemState.{world_of};
-ghost use Rattle.wasi_script.specs.Script.{planned_piece, planned_preopen, default_limits, is_directory_given, has_one_preopen, is_piece_within, is_shown_within};
+ghost use Rattle.wasi_form.specs.Plan.{planned_piece, planned_preopen};
+ghost use Rattle.wasi_form.specs.Built.{default_limits, is_directory_given, has_one_preopen, is_piece_within, is_shown_within};
 ghost use Rattle.wasi_script.specs.Start.{with_pieces, IsBegun, IsGiven};
 ghost use Rattle.wasi_script.specs.Headline.{shown_in};
 
-use crate::context::WasiP1Ctx;
-use crate::first::DEFAULT_LIMITS;
-use crate::guest::GuestMemory;
-use crate::script::{Piece, ScriptPreopen, Shown};
 use std::alloc::{AllocError, Global};
+use wasi_form::{DEFAULT_LIMITS, Piece, ScriptPreopen, Shown};
+use wasi_guest::GuestMemory;
+use wasi_p1::WasiP1Ctx;
 use wasi_tree::{HandleError, MemTree, NewNode, TreeError};
 
 /// The node of the one directory that the guest is given.
 #[tactic(auto, using(crate::proofs::Starts::some_given, crate::proofs::Starts::one_given))]
 pub fn given_node(nodes: &Vec<NewNode>, preopens: &[ScriptPreopen]) -> u64
     requires { has_one_preopen (map given nodes.now.items) (map planned_preopen preopens.now) ≡ true }
-    ensures { IsGiven (map given nodes.now.items) (map planned_preopen preopens.now) result }
+    ensures given { IsGiven (map given nodes.now.items) (map planned_preopen preopens.now) result }
 {
     preopens[0].node
 }
@@ -32,7 +32,7 @@ pub fn first_context(
 ) -> Result<WasiP1Ctx<MemTree>, AllocError>
     requires first { is_first_tree default_limits (map given nodes.items) ≡ true }
     requires directory { is_directory_given (slice_get (map given nodes.items) node) ≡ true }
-    ensures { IfOk result (λ c. IsBegun world_of c (tree_of (map given nodes.items) default_limits) (node ∷ [])) }
+    ensures begun { IfOk result (λ c. IsBegun world_of c (tree_of (map given nodes.items) default_limits) (node ∷ [])) }
 {
     let mut tree = match MemTree::new(alloc, nodes, DEFAULT_LIMITS) {
         Ok(tree) => tree,
@@ -70,7 +70,7 @@ pub fn shown(
     ranges: &[Shown],
 ) -> Result<Vec<Vec<u8>>, AllocError>
     requires { list_all (is_shown_within (length memory.now)) ranges.now ≡ true }
-    ensures { IfOk result (λ list. map (λ bytes. bytes.items) list.items ≡ map (shown_in memory.now) ranges.now) }
+    ensures shown { IfOk result (λ list. map (λ bytes. bytes.items) list.items ≡ map (shown_in memory.now) ranges.now) }
 {
     let mut list = Vec::new(alloc);
     for range in ranges {

@@ -1,47 +1,17 @@
-// The program as a call: from the words of the command line and the bytes of a script to a report.
-ghost use Rattle.std.specs.Prelude.{◌≡◌, ◌≤◌, ◌↔◌, ◌⊎◌, ◌++◌, true, false, map, IsTrue, IfOk, IsErrOf};
+//! The program as a call: from the words of the command line and the bytes of a script to a report.
+ghost use Rattle.std.specs.Prelude.{◌≡◌, ◌≤◌, ◌↔◌, ◌⊎◌, ◌++◌, true, false, map, IsTrue, Err, IfOk, IfErr};
 ghost use Rattle.std.specs.String.{string_bytes};
 ghost use Rattle.wasi_host.specs.Meaning.{Rose};
-ghost use Rattle.wasi_script.specs.Script.{plan, is_first_script};
+ghost use Rattle.wasi_form.specs.Plan.{plan};
+ghost use Rattle.wasi_form.specs.Built.{is_built_script};
 ghost use Rattle.wasi_script.specs.Headline.{Reports};
-ghost use Rattle.wasi_script.specs.Due.{is_run, due, due_of, refusal_line, IsDue, Writes, Leaves, ReadsScript, Written};
+ghost use Rattle.wasi_script.specs.Due.{is_run, due, the_usage, due_of, refusal_line, IsDue, Writes, LeavesBytes, KeepsSink, EndsReading, ReadsScript, Written};
 
-use crate::ends::{Sink, Source};
-use crate::reading::{Unfinished, read_all};
-use crate::report::{Outcome, report};
-use crate::run::run_calls;
-use crate::script::{Refusal, Script, ScriptError, read_script};
 use crate::start::{first_context, first_memory, given_node, shown};
-use crate::writing::write_all;
+use crate::status::Status;
 use std::alloc::{AllocError, Global};
-
-/// How the program ended.
-#[derive(Clone, Copy, Debug, PartialEq, Eq)]
-pub enum Status {
-    /// The report was taken whole.
-    Done,
-    /// The words aren't `run`, and the line that says so was taken.
-    Usage,
-    /// The bytes aren't a script that can be run, and the line that says why was taken.
-    Refused(Refusal),
-    /// The source failed, and nothing was written.
-    ReadFault,
-    /// The sink failed, or took nothing of a piece. It took a front of what was to be written.
-    WriteFault,
-    /// Memory was wanted, and nothing was written.
-    NoMemory,
-}
-
-/// Why no script was read.
-#[derive(Clone, Copy, Debug, PartialEq, Eq)]
-pub enum NoScript {
-    /// The bytes aren't a script that can be run.
-    Refused(Refusal),
-    /// The source failed.
-    Fault,
-    /// Memory was wanted.
-    Memory,
-}
+use wasi_form::{Outcome, Refusal, Script, Sink, Source, read_all, read_script, report, write_all};
+use wasi_p1::run_calls;
 
 const USAGE: &str = "usage: wasirun run | wasirun gen N\n";
 
@@ -63,27 +33,20 @@ fn refusal_line(refusal: Refusal) -> &'static str
     }
 }
 
-fn read_from<S: Source>(alloc: Global, source: &mut S) -> Result<Script, NoScript>
+// The script that the source has left; or how the program ends without one.
+fn read_from<S: Source>(alloc: Global, source: &mut S) -> Result<Script, Status>
     ensures count { S.faults source.old ≤ S.faults source.new }
-    ensures cause { IsErrOf result NoScript.Fault → Rose (S.faults source.old) (S.faults source.new) }
-    ensures first { IfOk result (λ script. is_first_script (plan script) ≡ true) }
+    ensures cause { result ≡ Err Status.ReadFault → Rose (S.faults source.old) (S.faults source.new) }
+    ensures ends { IfErr result EndsReading }
+    ensures built { IfOk result (λ script. is_built_script (plan script) ≡ true) }
     ensures read { IsTrue S.told → ReadsScript result (S.left source.old) (S.left source.new) }
 {
-    let bytes = match read_all(alloc, source) {
-        Ok(bytes) => bytes,
-        Err(Unfinished::Long) => return Err(NoScript::Refused(Refusal::Later)),
-        Err(Unfinished::Fault) => return Err(NoScript::Fault),
-        Err(Unfinished::Memory) => return Err(NoScript::Memory),
-    };
-    match read_script(alloc, bytes.as_slice()) {
-        Ok(script) => Ok(script),
-        Err(ScriptError::Refused(refusal)) => Err(NoScript::Refused(refusal)),
-        Err(ScriptError::Memory) => Err(NoScript::Memory),
-    }
+    let bytes = read_all(alloc, source)?;
+    Ok(read_script(alloc, bytes.as_slice())?)
 }
 
 fn report_of(alloc: Global, script: Script) -> Result<Vec<u8>, AllocError>
-    requires { is_first_script (plan script) ≡ true }
+    requires { is_built_script (plan script) ≡ true }
     ensures { IfOk result (λ text. Reports (plan script) text.items) }
 {
     let node = given_node(&script.nodes, script.preopens.as_slice());
@@ -140,7 +103,10 @@ pub fn run_script<S: Source, K: Sink>(
         → ((result ≡ Status.Usage) ⊎ (result ≡ Status.WriteFault)) × (source.new ≡ source.old) }
     ensures exact { IsTrue S.told → IsDue result (due (is_run (map string_bytes words.now.items)) (S.left source.old)) }
     ensures left { IsTrue S.told → is_run (map string_bytes words.now.items) ≡ true
-        → Leaves result (S.left source.old) (S.left source.new) }
+        → LeavesBytes result (S.left source.old) (S.left source.new) }
+    ensures usage_line { IsTrue K.told → is_run (map string_bytes words.now.items) ≡ false
+        → Writes result the_usage (K.taken sink.old) (K.taken sink.new) }
+    ensures nothing { IsTrue K.told → KeepsSink result (K.taken sink.old) (K.taken sink.new) }
     ensures writes { IsTrue S.told → IsTrue K.told
         → Writes result (due (is_run (map string_bytes words.now.items)) (S.left source.old)) (K.taken sink.old) (K.taken sink.new) }
 {
@@ -149,15 +115,14 @@ pub fn run_script<S: Source, K: Sink>(
     }
     let script = match read_from(alloc, source) {
         Ok(script) => script,
-        Err(NoScript::Refused(refusal)) => {
+        Err(Status::Refused(refusal)) => {
             return written(
                 sink,
                 refusal_line(refusal).as_bytes(),
                 Status::Refused(refusal),
             );
         }
-        Err(NoScript::Fault) => return Status::ReadFault,
-        Err(NoScript::Memory) => return Status::NoMemory,
+        Err(status) => return status,
     };
     match report_of(alloc, script) {
         Ok(text) => written(sink, text.as_slice(), Status::Done),

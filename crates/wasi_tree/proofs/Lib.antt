@@ -6,6 +6,7 @@ pub mod FirstTreeValid
 pub mod SlotLemmas
 pub mod MarkLemmas
 pub mod NameLemmas
+pub mod NodeLemmas
 pub mod StoreLemmas
 pub mod MemLemmas
 pub mod FirstLemmas

@@ -17,7 +17,8 @@ marked_before k [] q before = contains-empty nat_cmp q
 marked_before k (false ∷ marks) q before = marked_before (k + 1) marks q (omega arith)
 marked_before k (true ∷ marks) q before = grind (arith, members, nat_tests, marked_before (k + 1) marks q (omega arith))
 
-marked_at : (k : ℕ) (marks : List Bool) (n q : ℕ) → q ≡ k + n → contains (marked_from k marks) q ≡ slice_index_or marks n false
+marked_at : (k : ℕ) (marks : List Bool) (n q : ℕ) → q ≡ k + n
+    → contains (marked_from k marks) q ≡ slice_index_or marks n false
 marked_at k [] n q is = contains-empty nat_cmp q
 marked_at k (false ∷ marks) zero q is = marked_before (k + 1) marks q (omega arith)
 marked_at k (false ∷ marks) (suc n) q is = marked_at (k + 1) marks n q (omega arith)
@@ -29,7 +30,8 @@ unfolding marked
 contains-marked marks q = marked_at 0 marks q q (omega arith)
 
 -- a mark is set
-pub marked-set : (marks : List Bool) (i : ℕ) → i < length marks → marked (slice_set marks i true) ≡ insert (marked marks) i
+pub marked-set : (marks : List Bool) (i : ℕ) → i < length marks
+    → marked (slice_set marks i true) ≡ insert (marked marks) i
 marked-set marks i within = same_set nat_cmp_total nat_cmp-IsAntisymmetric _ _ (λ q. elim (cases_eq q i) [
   | inl here ↦ grind (arith, members, nat_tests, contains-marked, common_steps)
   | inr other ↦ grind (arith, members, nat_tests, contains-marked, get_or-set_other marks i q true false other)
@@ -74,27 +76,34 @@ rising_places k (false ∷ marks) = rising_places (k + 1) marks
 rising_places k (true ∷ marks) = (above k (k + 1) marks (omega arith), rising_places (k + 1) marks)
 
 -- the next mark
-pub places-next : (marks : List Bool) (i : ℕ) → i < length marks → places_from i (drop i marks) ≡ cond (slice_index_or marks i false) (i ∷ places_from (i + 1) (drop (i + 1) marks)) (places_from (i + 1) (drop (i + 1) marks))
+pub places-next : (marks : List Bool) (i : ℕ) → i < length marks
+    → places_from i (drop i marks) ≡ cond (slice_index_or marks i false) (i ∷ places_from (i + 1) (drop (i + 1) marks)) (places_from (i + 1) (drop (i + 1) marks))
 places-next marks i within =
     let e : suc i ≡ i + 1 = omega arith in
     subst (λ j. places_from i (drop i marks) ≡ cond (slice_index_or marks i false) (i ∷ places_from (i + 1) (drop j marks)) (places_from (i + 1) (drop j marks))) e (at_place i marks i within)
   where
-    cases : (k : ℕ) (mark : Bool) (marks : List Bool) → places_from k (mark ∷ marks) ≡ cond mark (k ∷ places_from (k + 1) marks) (places_from (k + 1) marks)
+    cases : (k : ℕ) (mark : Bool) (marks : List Bool)
+        → places_from k (mark ∷ marks) ≡ cond mark (k ∷ places_from (k + 1) marks) (places_from (k + 1) marks)
     cases k true marks = refl
     cases k false marks = refl
 
-    at_place : (k : ℕ) (marks : List Bool) (i : ℕ) → i < length marks → places_from k (drop i marks) ≡ cond (slice_index_or marks i false) (k ∷ places_from (k + 1) (drop (suc i) marks)) (places_from (k + 1) (drop (suc i) marks))
+    at_place : (k : ℕ) (marks : List Bool) (i : ℕ) → i < length marks
+        → places_from k (drop i marks) ≡ cond (slice_index_or marks i false) (k ∷ places_from (k + 1) (drop (suc i) marks)) (places_from (k + 1) (drop (suc i) marks))
     at_place k [] i within = absurd (omega arith)
     at_place k (mark ∷ marks) zero within = cases k mark marks
     at_place k (mark ∷ marks) (suc i) within = at_place k marks i (omega arith)
 
-pub next_marked : (marks : List Bool) (i : ℕ) (xs all : List ℕ) → i < length marks → slice_index_or marks i false ≡ true → xs ++ places_from i (drop i marks) ≡ all → (xs ++ i ∷ []) ++ places_from (i + 1) (drop (i + 1) marks) ≡ all
+pub next_marked : (marks : List Bool) (i : ℕ) (xs all : List ℕ) → i < length marks
+    → slice_index_or marks i false ≡ true → xs ++ places_from i (drop i marks) ≡ all
+    → (xs ++ i ∷ []) ++ places_from (i + 1) (drop (i + 1) marks) ≡ all
 next_marked marks i xs all within mark so_far =
     append_assoc xs (i ∷ []) (places_from (i + 1) (drop (i + 1) marks))
     ∙ ap (λ l. xs ++ l) (sym (places-next marks i within ∙ ap (λ b. cond b (i ∷ places_from (i + 1) (drop (i + 1) marks)) (places_from (i + 1) (drop (i + 1) marks))) mark))
     ∙ so_far
 
-pub next_unmarked : (marks : List Bool) (i : ℕ) (xs all : List ℕ) → i < length marks → slice_index_or marks i false ≡ false → xs ++ places_from i (drop i marks) ≡ all → xs ++ places_from (i + 1) (drop (i + 1) marks) ≡ all
+pub next_unmarked : (marks : List Bool) (i : ℕ) (xs all : List ℕ) → i < length marks
+    → slice_index_or marks i false ≡ false → xs ++ places_from i (drop i marks) ≡ all
+    → xs ++ places_from (i + 1) (drop (i + 1) marks) ≡ all
 next_unmarked marks i xs all within mark so_far =
     ap (λ l. xs ++ l) (sym (places-next marks i within ∙ ap (λ b. cond b (i ∷ places_from (i + 1) (drop (i + 1) marks)) (places_from (i + 1) (drop (i + 1) marks))) mark))
     ∙ so_far

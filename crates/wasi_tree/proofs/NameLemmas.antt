@@ -21,11 +21,12 @@ use Rattle.std.specs.FinMap.Entries.{below_all}
 use Rattle.std.specs.FinMap.{get, insert, entries, from_entries, from_sorted, entries-from_sorted, get-from_sorted, get-from_entries, same_map, is_sorted, get-empty, get-insert, nat_cmp-IsAntisymmetric, slice_cmp-IsAntisymmetric}
 use Rattle.wasi_host.specs.Tree.{Names}
 use Rattle.wasi_tree.specs.Given.{pair_of}
-use Rattle.wasi_tree.specs.Rows.{names_in, text_entry}
+use Rattle.wasi_tree.specs.StoredTree.{names_in, text_entry}
 use Rattle.wasi_tree.specs.declared.node.NewEntry.{NewEntry}
 
 -- a look-up in the entries finds what the names have
-pub get-names_in : {Y : Type 0} (entries : List (String Y × ℕ)) (name : List ℕ) → get (names_in entries) name ≡ lookup (is_at (λ k. slice_cmp nat_cmp name (string_bytes k))) entries
+pub get-names_in : {Y : Type 0} (entries : List (String Y × ℕ)) (name : List ℕ)
+    → get (names_in entries) name ≡ lookup (is_at (λ k. slice_cmp nat_cmp name (string_bytes k))) entries
 get-names_in [] name = get-empty (slice_cmp nat_cmp) name
 get-names_in (entry ∷ entries) name =
     get-insert nat_list_cmp_total (names_in entries) (string_bytes entry.0) entry.1 name
@@ -39,7 +40,8 @@ abbrev pub with_entries : List (List ℕ × ℕ) → Names → Names
 with_entries [] names = names
 with_entries (entry ∷ es) names = insert (with_entries es names) entry.0 entry.1
 
-pub with_entries-push : (es : List (List ℕ × ℕ)) (entry : List ℕ × ℕ) (names : Names) → with_entries (es ++ entry ∷ []) names ≡ with_entries es (insert names entry.0 entry.1)
+pub with_entries-push : (es : List (List ℕ × ℕ)) (entry : List ℕ × ℕ) (names : Names)
+    → with_entries (es ++ entry ∷ []) names ≡ with_entries es (insert names entry.0 entry.1)
 with_entries-push [] entry names = refl
 with_entries-push (e ∷ es) entry names = ap (λ m. insert m e.0 e.1) (with_entries-push es entry names)
 
@@ -51,7 +53,9 @@ same_names : (m n : Names) → ((q : List ℕ) → get m q ≡ get n q) → m �
 same_names m n is = same_map nat_list_cmp_total (slice_cmp-IsAntisymmetric nat_cmp-IsAntisymmetric) m n is
 
 -- an insert into the map is one into its names
-pub names_in-inserted : {Y : Type 0} (m n : BTreeMap (String Y) ℕ) (key : String Y) (node : ℕ) → Updates string_cmp m n key (Some node) → names_in n.entries ≡ insert (names_in m.entries) (string_bytes key) node
+pub names_in-inserted : {Y : Type 0} (m n : BTreeMap (String Y) ℕ) (key : String Y) (node : ℕ)
+    → Updates string_cmp m n key (Some node)
+    → names_in n.entries ≡ insert (names_in m.entries) (string_bytes key) node
 names_in-inserted m n key node updates = same_names _ _ (λ q.
     get-names_in n.entries q
     ∙ btree_map_updates_text (string_bytes key) m n (Some node) updates q
@@ -65,17 +69,21 @@ both : (a b : Bool) → T a → T b → T (a && b)
 both true b p q = q
 both false b p q = p
 
-below_texts : {Y : Type 0} (key : String Y) (es : List (String Y × ℕ)) → AllByRecursion (λ k. string_cmp key k ≡ Less) (keys_of es) → T (below_all (slice_cmp nat_cmp) (string_bytes key) (map text_entry es))
+below_texts : {Y : Type 0} (key : String Y) (es : List (String Y × ℕ))
+    → AllByRecursion (λ k. string_cmp key k ≡ Less) (keys_of es)
+    → T (below_all (slice_cmp nat_cmp) (string_bytes key) (map text_entry es))
 below_texts key [] below = tt
 below_texts key (e ∷ es) below = both _ _ (subst (λ r. T (is_lt r)) (sym below.0) tt) (below_texts key es below.1)
 
-sorted_texts : {Y : Type 0} (es : List (String Y × ℕ)) → IsStrictlySortedBy string_cmp (keys_of es) → T (is_sorted (slice_cmp nat_cmp) (map text_entry es))
+sorted_texts : {Y : Type 0} (es : List (String Y × ℕ)) → IsStrictlySortedBy string_cmp (keys_of es)
+    → T (is_sorted (slice_cmp nat_cmp) (map text_entry es))
 unfolding IsStrictlySortedBy
 sorted_texts [] sorted = tt
 sorted_texts (e ∷ es) sorted = both _ _ (below_texts e.0 es sorted.0) (sorted_texts es sorted.1)
 
 -- the names of ordered entries are these entries
-pub entries-names_in : {Y : Type 0} (es : List (String Y × ℕ)) → IsStrictlySortedBy string_cmp (keys_of es) → entries (names_in es) ≡ map text_entry es
+pub entries-names_in : {Y : Type 0} (es : List (String Y × ℕ)) → IsStrictlySortedBy string_cmp (keys_of es)
+    → entries (names_in es) ≡ map text_entry es
 entries-names_in es sorted =
     let rising = sorted_texts es sorted in
     ap entries (same_names (names_in es) (from_sorted (map text_entry es)) (λ q.
@@ -83,19 +91,25 @@ entries-names_in es sorted =
     ∙ entries-from_sorted (slice_cmp nat_cmp) (map text_entry es) rising
 
 -- the last entry is put in
-pub last_put : {Y : Type 0} (old new : List NewEntry) (entry : NewEntry) (m n : BTreeMap (String Y) ℕ) (all : Names) → old ≡ new ++ entry ∷ [] → names_in n.entries ≡ insert (names_in m.entries) (string_bytes entry.name) entry.node → with_entries (map pair_of old) (names_in m.entries) ≡ all → with_entries (map pair_of new) (names_in n.entries) ≡ all
+pub last_put : {Y : Type 0} (old new : List NewEntry) (entry : NewEntry) (m n : BTreeMap (String Y) ℕ) (all : Names)
+    → old ≡ new ++ entry ∷ [] → names_in n.entries ≡ insert (names_in m.entries) (string_bytes entry.name) entry.node
+    → with_entries (map pair_of old) (names_in m.entries) ≡ all
+    → with_entries (map pair_of new) (names_in n.entries) ≡ all
 last_put old new entry m n all popped put so_far =
     ap (with_entries (map pair_of new)) put
     ∙ sym (ap (λ l. with_entries l (names_in m.entries)) (ap (map pair_of) popped ∙ map_push pair_of new entry) ∙ with_entries-push (map pair_of new) (pair_of entry) (names_in m.entries))
     ∙ so_far
 
 -- all entries are copied
-pub all_copied : {Y : Type 0} (copied : List NewEntry) (left es : List (String Y × ℕ)) → left ≡ [] → map pair_of copied ++ map text_entry left ≡ map text_entry es → IsStrictlySortedBy string_cmp (keys_of es) → map pair_of copied ≡ entries (names_in es)
+pub all_copied : {Y : Type 0} (copied : List NewEntry) (left es : List (String Y × ℕ)) → left ≡ []
+    → map pair_of copied ++ map text_entry left ≡ map text_entry es → IsStrictlySortedBy string_cmp (keys_of es)
+    → map pair_of copied ≡ entries (names_in es)
 all_copied copied left es done so_far sorted =
     sym (append-nil (map pair_of copied)) ∙ sym (ap (λ l. map pair_of copied ++ map text_entry l) done) ∙ so_far ∙ sym (entries-names_in es sorted)
 
 -- no entry is put in yet
-pub none_put : {Y : Type 0} (es : List (List ℕ × ℕ)) (none : List (String Y × ℕ)) → none ≡ [] → with_entries es (names_in none) ≡ from_entries es
+pub none_put : {Y : Type 0} (es : List (List ℕ × ℕ)) (none : List (String Y × ℕ)) → none ≡ []
+    → with_entries es (names_in none) ≡ from_entries es
 none_put es none is = ap (λ l. with_entries es (names_in l)) is ∙ with_entries-empty es
 
 pub ruleset name_rules = (get-names_in, get-no_names)

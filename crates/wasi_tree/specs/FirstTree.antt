@@ -1,19 +1,14 @@
 -- First trees: what a tree in memory can be made of today.
-use Rattle.std.specs.Prelude.{ℕ, zero, suc, ℤ, pos, negsuc, ◌+◌, ◌-◌, ◌^◌, ◌≤◌, Bool, true, false, not, ◌&&◌, nat_eq, nat_lt, nat_le, List, [], ◌∷◌, map, length}
+use Rattle.std.specs.Prelude.{ℕ, zero, suc, ℤ, pos, negsuc, ◌+◌, ◌-◌, Bool, true, false, not, ◌&&◌, nat_eq, nat_lt, nat_le, List, [], ◌∷◌, map, length}
 use Rattle.std.specs.List.{list_any, list_all}
-use Rattle.std.specs.Str.{bytes_eq}
-use Rattle.wasi_host.specs.ValidTree.{is_entry_name}
+use Rattle.std.specs.Str.{bytes_eq, is_utf8}
+use Rattle.wasi_paths.specs.Text.{is_entry_name}
+use Rattle.wasi_host.specs.ValidTree.{are_bytes}
 use Rattle.wasi_host.specs.declared.system_time.SystemTime.{SystemTime}
-use Rattle.wasi_host.specs.declared.values.Bits.{Bits}
-use Rattle.wasi_host.specs.declared.values.Limits.{Limits}
+use Rattle.wasi_host.specs.declared.bits.Bits.{Bits}
+use Rattle.wasi_host.specs.declared.limits.Limits.{Limits}
+use Rattle.wasi_host.specs.declared.limits.TheConstants.{FILE_MAX}
 use Rattle.wasi_tree.specs.Given.{Given, GivenContent, file, directory, link, entry_count}
-
--- each is 1 to 2^32
-pub record AreLimits (limits : Limits) : Type 0 where
-  pub some_nodes : 1 ≤ limits.nodes
-  pub most_nodes : limits.nodes ≤ 2 ^ 32
-  pub some_links : 1 ≤ limits.links
-  pub most_links : limits.links ≤ 2 ^ 32
 
 abbrev pub is_dir_content : GivenContent → Bool
 is_dir_content (file bytes) = false
@@ -25,13 +20,21 @@ abbrev pub are_distinct : List (List ℕ) → Bool
 are_distinct [] = true
 are_distinct (name ∷ names) = not (list_any (bytes_eq name) names) && are_distinct names
 
+-- a name that a directory may hold, in UTF-8
+abbrev pub is_first_name : List ℕ → Bool
+is_first_name name = is_entry_name name && is_utf8 name
+
+-- bytes, not too many for a file
+abbrev pub is_first_file : List ℕ → Bool
+is_first_file bytes = are_bytes bytes && nat_le (length bytes) FILE_MAX
+
 -- an entry of node k among so many nodes: its name is good, and its number is larger than k
 abbrev pub is_first_entry : ℕ → ℕ → List ℕ × ℕ → Bool
-is_first_entry count k entry = is_entry_name entry.0 && nat_lt k entry.1 && nat_lt entry.1 count
+is_first_entry count k entry = is_first_name entry.0 && nat_lt k entry.1 && nat_lt entry.1 count
 
 -- a file that isn't too large, or a directory of such entries that holds a name once
 abbrev pub is_first_content : ℕ → ℕ → GivenContent → Bool
-is_first_content count k (file bytes) = nat_le (length bytes) (2 ^ 30)
+is_first_content count k (file bytes) = is_first_file bytes
 is_first_content count k (directory entries) = list_all (is_first_entry count k) entries && are_distinct (map (λ e. e.0) entries)
 is_first_content count k (link text) = false
 

@@ -1,12 +1,13 @@
 -- Nodes as a list gives them: link counts, and which directories are gone, follow from the names.
-use Rattle.std.specs.Prelude.{ℕ, ◌+◌, not, ◌&&◌, nat_eq, List, [], ◌∷◌, map, count_by, sum_by}
+use Rattle.std.specs.Prelude.{ℕ, ◌+◌, Bool, true, false, not, ◌&&◌, nat_eq, List, [], ◌∷◌, map, count_by, sum_by}
 use Rattle.std.specs.String.{string_bytes}
 use Rattle.std.specs.FinMap as maps
 use Rattle.std.specs.FinSet as set
-use Rattle.wasi_host.specs.Tree.{Tree, Node, Content, File, Directory, Link}
+use Rattle.wasi_host.specs.Time.{zero_time}
+use Rattle.wasi_host.specs.Tree.{Tree, Node, Content, File, Directory, Link, default_bits}
 use Rattle.wasi_host.specs.declared.system_time.SystemTime.{SystemTime}
-use Rattle.wasi_host.specs.declared.values.Bits.{Bits}
-use Rattle.wasi_host.specs.declared.values.Limits.{Limits}
+use Rattle.wasi_host.specs.declared.bits.Bits.{Bits}
+use Rattle.wasi_host.specs.declared.limits.Limits.{Limits}
 use Rattle.wasi_tree.specs.declared.node.NewEntry.{NewEntry}
 use Rattle.wasi_tree.specs.declared.node.NewContent.{NewContent}
 use Rattle.wasi_tree.specs.declared.node.NewContent.TheVariants as new
@@ -43,14 +44,24 @@ given node = record {
   btime = node.btime;
 }
 
-abbrev pub entries_of : GivenContent → List (List ℕ × ℕ)
-entries_of (file bytes) = []
-entries_of (directory entries) = entries
-entries_of (link text) = []
+-- a new file may not be searched, or executed
+abbrev pub may_search : GivenContent → Bool
+may_search (file bytes) = false
+may_search (directory entries) = true
+may_search (link text) = true
+
+-- a node of this content, with the bits and times that a new one has
+abbrev pub new_given : GivenContent → Given
+new_given content = record { content = content; bits = default_bits (may_search content); atime = zero_time; mtime = zero_time; btime = zero_time }
+
+abbrev pub given_entries : GivenContent → List (List ℕ × ℕ)
+given_entries (file bytes) = []
+given_entries (directory entries) = entries
+given_entries (link text) = []
 
 -- how many entries of a list of nodes give a number
 abbrev pub entry_count : ℕ → List Given → ℕ
-entry_count n nodes = sum_by (λ g. count_by (λ e. nat_eq e.1 n) (entries_of g.content)) nodes
+entry_count n nodes = sum_by (λ g. count_by (λ e. nat_eq e.1 n) (given_entries g.content)) nodes
 
 -- a directory but node 0 that has no name is gone
 abbrev pub content_from : List Given → ℕ → GivenContent → Content

@@ -1,33 +1,43 @@
 -- A tree in memory with its live handles, as contracts see it.
-use Rattle.std.specs.Prelude.{ℕ, ◌+◌, List, [], ◌∷◌, Option, Some, None, slice_index_or, refl}
-use Rattle.std.specs.Coded.{Coded, code_by, coded×, coded_list, coded_option}
-use Rattle.std.specs.FinSet as set
+use Rattle.std.specs.Prelude.{ℕ, List, Option, Some, None, refl}
+use Rattle.std.specs.Ordering.{nat_cmp}
+use Rattle.std.specs.Coded.{Coded, code_by, coded×, coded_ℕ, coded_list}
+use Rattle.std.specs.FinMap as maps
+use Rattle.std.specs.FinSet.{from_list}
 use Rattle.wasi_host.specs.Tree.{Tree, Nodes}
 use Rattle.wasi_host.specs.TreeCode.{tree_code, nodes_code}
 use Rattle.wasi_host.specs.Meaning.{World, Handles}
-use Rattle.wasi_host.specs.contracts.values.Held as held
-use Rattle.wasi_host.specs.declared.values.AccessMode.TheVariants.{PathOnly}
-use Rattle.wasi_host.specs.declared.values.Held.{Held}
+use Rattle.wasi_host.specs.contracts.held.Held as held
+use Rattle.wasi_host.specs.contracts.lookup.Lookup as lookup
+use Rattle.wasi_host.specs.declared.held.AccessMode.TheVariants.{PathOnly}
+use Rattle.wasi_host.specs.declared.held.Held.{Held}
+use Rattle.wasi_host.specs.declared.lookup.Lookup.{Lookup}
 
--- the tree, what the handle of each number stands for where it is live, and the touched nodes
+-- the live handles by their numbers, each with what it stands for
+abbrev pub HeldMap : Type 0
+HeldMap = maps.FinMap nat_cmp Held
+
+-- the tree, the live handles, the touched nodes, and the look-ups so far
 pub record MemState : Type 0 where
   pub tree : Tree
-  pub slots : List (Option Held)
+  pub handles : HeldMap
   pub touched : Nodes
+  pub lookups : List Lookup
+
+abbrev pub handles_code : Coded HeldMap
+handles_code = maps.code coded_ℕ held.the_row.coded
 
 abbrev pub state_code : Coded MemState
 state_code =
-    code_by (Tree × (List (Option Held) × Nodes)) (coded× tree_code (coded× (coded_list (coded_option held.the_row.coded)) nodes_code))
-    (λ m. (m.tree, (m.slots, m.touched))) (λ p. record { tree = p.0; slots = p.1.0; touched = p.1.1 }) (λ _. refl)
+    code_by (Tree × (HeldMap × (Nodes × List Lookup)))
+    (coded× tree_code (coded× handles_code (coded× nodes_code (coded_list lookup.the_row.coded))))
+    (λ m. (m.tree, (m.handles, (m.touched, m.lookups))))
+    (λ p. record { tree = p.0; handles = p.1.0; touched = p.1.1.0; lookups = p.1.1.1 })
+    (λ _. refl)
 
-abbrev pub live_from : ℕ → List (Option Held) → Handles
-live_from k [] = set.empty
-live_from k (None ∷ slots) = live_from (k + 1) slots
-live_from k (Some held ∷ slots) = set.insert (live_from (k + 1) slots) k
-
--- the numbers whose slot is taken
-unfoldable pub live_of : List (Option Held) → Handles
-live_of slots = live_from 0 slots
+-- the numbers of the live handles
+unfoldable pub live_of : HeldMap → Handles
+live_of handles = from_list (maps.keys handles)
 
 -- of a number that isn't live: nothing that a handle was ever given for
 abbrev pub nothing_held : Held
@@ -37,8 +47,9 @@ abbrev pub or_nothing : Option Held → Held
 or_nothing None = nothing_held
 or_nothing (Some held) = held
 
-unfoldable pub held_in : List (Option Held) → ℕ → Held
-held_in slots h = or_nothing (slice_index_or slots h None)
+-- what the handle of a number stands for
+unfoldable pub held_in : HeldMap → ℕ → Held
+held_in handles h = or_nothing (maps.get handles h)
 
 abbrev pub world_of : MemState → World
-world_of m = record { tree = m.tree; held = held_in m.slots; touched = m.touched }
+world_of m = record { tree = m.tree; held = held_in m.handles; touched = m.touched }

@@ -1,3 +1,4 @@
+//! Why a tree in memory gives nothing.
 ghost use Rattle.std.specs.Prelude.{◌≡◌};
 ghost use Rattle.wasi_tree.specs.declared.errors.TreeError.TheVariants as tree;
 ghost use Rattle.wasi_tree.specs.declared.errors.HandleError.TheVariants as handle;

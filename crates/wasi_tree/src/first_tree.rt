@@ -1,41 +1,41 @@
+//! The test of first trees.
 ghost use Rattle.std.specs.Prelude.{◌≡◌, ◌<◌, true, false, not, List, map, drop, length, slice_index_or, slice_set, All, IfOk};
 ghost use Rattle.std.specs.Bool.{OnTrue};
 ghost use Rattle.std.specs.List.{list_all};
 ghost use Rattle.std.specs.Vec.{vec_len};
-ghost use Rattle.wasi_host.specs.ValidTree.{is_entry_name, has_nul, IsValidTree};
-ghost use Rattle.wasi_host.specs.declared.values.Limits.{Limits};
+ghost use Rattle.wasi_host.specs.ValidTree.{AreLimits, IsValidTree};
+ghost use Rattle.wasi_host.specs.declared.limits.Limits.{Limits};
 ghost use Rattle.wasi_tree.specs.Given.{Given, given, given_content, pair_of, tree_of};
-ghost use Rattle.wasi_tree.specs.FirstTreeMarks.{entry_numbers, numbers_in, numbers_of, stand_once, marked, are_unmarked};
-ghost use Rattle.wasi_tree.specs.FirstTree.{AreLimits, is_dir_content, is_first_entry, are_distinct, is_first_content, has_default_bits, is_zero_time, is_first_node, are_first_nodes, starts_with_directory, is_first_tree};
+ghost use Rattle.wasi_tree.specs.FirstTreeMarks.{entry_numbers, content_numbers, all_numbers, stand_once, with_marks, are_unmarked};
+ghost use Rattle.wasi_tree.specs.FirstTree.{is_dir_content, is_first_name, is_first_file, is_first_entry, are_distinct, is_first_content, has_default_bits, is_zero_time, is_first_node, are_first_nodes, starts_with_directory, is_first_tree};
 
 use crate::{NewContent, NewEntry, NewNode};
 use std::alloc::{AllocError, Global};
 use std::collections::BTreeSet;
-use wasi_host::{Bits, Limits, SystemTime};
+use wasi_host::{Bits, FILE_MAX, Limits, SystemTime};
 use wasi_paths::Name;
 
-fn is_entry_name(name: &str) -> bool
-    ensures test { result ≡ is_entry_name name.now }
+#[tactic(auto, using(crate::proofs::FirstTreeLemmas::type_rules))]
+fn is_first_name(name: &str) -> bool
+    ensures test { result ≡ is_first_name name.now }
 {
-    if Name::plain(name).is_none() {
-        return false;
+    match Name::plain(name) {
+        Some(name) => name.is_entry(),
+        None => false,
     }
-    if has_nul(name) {
-        return false;
-    }
-    name.len() <= 255
 }
 
-fn has_nul(text: &str) -> bool
-    ensures test { result ≡ has_nul text.now }
+#[tactic(auto, using(crate::proofs::FirstTreeLemmas::type_rules))]
+fn is_first_file(bytes: &[u8]) -> bool
+    ensures test { result ≡ is_first_file bytes.now }
 {
-    text.as_bytes().contains(&0)
+    bytes.len() <= FILE_MAX
 }
 
 fn is_first_entry(count: u64, directory: u64, entry: &NewEntry) -> bool
     ensures test { result ≡ is_first_entry count directory (pair_of entry.now) }
 {
-    is_entry_name(&entry.name) && directory < entry.node && entry.node < count
+    is_first_name(&entry.name) && directory < entry.node && entry.node < count
 }
 
 fn has_default_bits(is_directory: bool, bits: Bits) -> bool
@@ -91,7 +91,7 @@ fn is_first_content(
     ensures test { IfOk result (λ is. is ≡ is_first_content count number (given_content content.now)) }
 {
     match content {
-        NewContent::File(bytes) => Ok(bytes.len() <= 1 << 30),
+        NewContent::File(bytes) => Ok(is_first_file(bytes)),
         NewContent::Dir(entries) => {
             if !are_first_entries(count, number, entries) {
                 return Ok(false);
@@ -155,7 +155,7 @@ fn mark(marks: &mut Vec<bool>, number: u64) -> bool
 fn mark_entries(marks: &mut Vec<bool>, entries: &[NewEntry]) -> bool
     requires below { All (λ n. n < vec_len marks.old) (entry_numbers entries.now) }
     ensures unmarked { result ≡ are_unmarked marks.old.items (entry_numbers entries.now) }
-    ensures marked { OnTrue result (marks.new.items ≡ marked marks.old.items (entry_numbers entries.now)) }
+    ensures marked { OnTrue result (marks.new.items ≡ with_marks marks.old.items (entry_numbers entries.now)) }
     ensures len { vec_len marks.new ≡ vec_len marks.old }
 {
     for entry in entries {
@@ -167,9 +167,9 @@ fn mark_entries(marks: &mut Vec<bool>, entries: &[NewEntry]) -> bool
 }
 
 fn mark_content(marks: &mut Vec<bool>, content: &NewContent) -> bool
-    requires below { All (λ n. n < vec_len marks.old) (numbers_in (given_content content.now)) }
-    ensures unmarked { result ≡ are_unmarked marks.old.items (numbers_in (given_content content.now)) }
-    ensures marked { OnTrue result (marks.new.items ≡ marked marks.old.items (numbers_in (given_content content.now))) }
+    requires below { All (λ n. n < vec_len marks.old) (content_numbers (given_content content.now)) }
+    ensures unmarked { result ≡ are_unmarked marks.old.items (content_numbers (given_content content.now)) }
+    ensures marked { OnTrue result (marks.new.items ≡ with_marks marks.old.items (content_numbers (given_content content.now))) }
     ensures len { vec_len marks.new ≡ vec_len marks.old }
 {
     match content {
@@ -181,9 +181,9 @@ fn mark_content(marks: &mut Vec<bool>, content: &NewContent) -> bool
 
 #[tactic(auto, using(crate::proofs::FirstTreeMarks::marking_rules))]
 fn mark_nodes(marks: &mut Vec<bool>, nodes: &[NewNode]) -> bool
-    requires below { All (λ n. n < vec_len marks.old) (numbers_of (map given nodes.now)) }
-    ensures unmarked { result ≡ are_unmarked marks.old.items (numbers_of (map given nodes.now)) }
-    ensures marked { OnTrue result (marks.new.items ≡ marked marks.old.items (numbers_of (map given nodes.now))) }
+    requires below { All (λ n. n < vec_len marks.old) (all_numbers (map given nodes.now)) }
+    ensures unmarked { result ≡ are_unmarked marks.old.items (all_numbers (map given nodes.now)) }
+    ensures marked { OnTrue result (marks.new.items ≡ with_marks marks.old.items (all_numbers (map given nodes.now))) }
     ensures len { vec_len marks.new ≡ vec_len marks.old }
 {
     for node in nodes {
@@ -204,8 +204,8 @@ fn are_marked(marks: &[bool]) -> bool
 /// Whether each number from 1 on stands in exactly one entry.
 #[tactic(auto, using(crate::proofs::FirstTreeOnce::once_rules))]
 fn stand_once(alloc: Global, nodes: &[NewNode]) -> Result<bool, AllocError>
-    requires above { All (λ n. 0 < n) (numbers_of (map given nodes.now)) }
-    requires below { All (λ n. n < length nodes.now) (numbers_of (map given nodes.now)) }
+    requires above { All (λ n. 0 < n) (all_numbers (map given nodes.now)) }
+    requires below { All (λ n. n < length nodes.now) (all_numbers (map given nodes.now)) }
     ensures test { IfOk result (λ is. is ≡ stand_once (length nodes.now) (map given nodes.now)) }
 {
     let mut marks = vec![in alloc; false; nodes.len()]?;
@@ -286,27 +286,14 @@ mod tests {
     }
 
     fn node(alloc: Global, text: &str) -> Result<NewNode, AllocError> {
-        let content = content(alloc, text)?;
-        let time = SystemTime {
-            seconds: 0,
-            nanoseconds: 0,
-        };
-        let mtime = SystemTime {
-            seconds: if text == "touched" { 1 } else { 0 },
-            nanoseconds: 0,
-        };
-        let bits = Bits {
-            r: true,
-            w: true,
-            x: text == "executable" || is_dir_content(&content),
-        };
-        Ok(NewNode {
-            content,
-            bits,
-            atime: time,
-            mtime,
-            btime: time,
-        })
+        let mut node = NewNode::new(content(alloc, text)?);
+        if text == "executable" {
+            node.bits.x = true;
+        }
+        if text == "touched" {
+            node.mtime.seconds = 1;
+        }
+        Ok(node)
     }
 
     /// The answer at nodes that a text gives, between blanks: a word for a file or a link, else a directory's entries.

@@ -14,3 +14,4 @@ pub use errors::{HandleError, TreeError};
 pub use first_tree::{first_trees_are_valid, is_first_tree};
 pub use mem_tree::MemTree;
 pub use node::{NewContent, NewEntry, NewNode};
+pub use wasi_host::{Bits, Limits};

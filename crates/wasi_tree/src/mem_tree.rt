@@ -1,11 +1,13 @@
+//! The tree in memory, as a host.
 ghost use Rattle.std.specs.Prelude.{◌≡◌, ◌↔◌, ◌<◌, ℕ, true, false, List, [], Err, IfOk, IfErr, OnErr, map};
 ghost use Rattle.std.specs.Ordering.{nat_cmp};
 ghost use Rattle.std.specs.List.Sorted.{IsStrictlySortedBy};
 ghost use Rattle.std.specs.FinSet.{contains, insert, empty, from_list};
 ghost use Rattle.wasi_host.specs.Tree.{next_of, node_at, is_directory};
 ghost use Rattle.wasi_tree.specs.Given.{given, given_of, tree_of};
-ghost use Rattle.wasi_tree.specs.FirstTree.{AreLimits, is_first_tree};
-ghost use Rattle.wasi_tree.specs.MemState.{MemState, live_of, held_in, world_of};
+ghost use Rattle.wasi_host.specs.ValidTree.{AreLimits};
+ghost use Rattle.wasi_tree.specs.FirstTree.{is_first_tree};
+ghost use Rattle.wasi_tree.specs.MemState.{live_of, held_in, world_of};
 
 use crate::errors::{HandleError, TreeError};
 use crate::marks::Marks;
@@ -15,16 +17,18 @@ use crate::store::Store;
 use std::alloc::{AllocError, Global};
 use std::marker::Model;
 use wasi_host::{
-    AccessMode, ErrorCode, Handle, Held, Host, HostError, Limits, Metadata, OpenOptions,
+    AccessMode, ErrorCode, Handle, Held, Host, HostError, Limits, LookKind, Lookup, Metadata,
+    OpenOptions,
 };
 use wasi_paths::Name;
 
-/// A tree of files in memory, with its live handles, and the nodes that calls have touched.
+/// A tree of files in memory, with its live handles, the nodes that calls have touched, and the look-ups so far.
 #[derive(Debug, Drop)]
 pub struct MemTree {
     store: Store,
     slots: Slots,
     marks: Marks,
+    log: Vec<Lookup>,
 }
 
 impl Model for MemTree {
@@ -35,18 +39,22 @@ impl Model for MemTree {
 
     ghost coded = { state_code };
 
-    ghost view = { λ a. record { tree = a.store; slots = a.slots.slots; touched = a.marks.nodes } };
+    ghost view = { λ a. record { tree = a.store; handles = a.slots.handles; touched = a.marks.nodes; lookups = a.log.items } };
 
-    ghost invariant = { λ a. IsWhole a.store a.slots.slots a.marks.count };
+    ghost invariant = { λ a. IsWhole a.store a.slots.handles a.marks.count };
 }
 
 #[tactic(auto, using(crate::proofs::MemLemmas::mem_rules))]
 impl MemTree {
-    /// A tree of these nodes, which are a first tree: it has no live handle, and no node is touched.
+    /// A tree of these nodes, which are a first tree: it has no live handle, no node is touched, and there
+    /// is no look-up.
     pub fn new(alloc: Global, nodes: Vec<NewNode>, limits: Limits) -> Result<MemTree, TreeError>
         requires limits { AreLimits limits }
         requires first { is_first_tree limits (map given nodes.items) ≡ true }
-        ensures made { IfOk result (λ m. m ≡ record { tree = tree_of (map given nodes.items) limits; slots = []; touched = empty }) }
+        ensures tree { IfOk result (λ m. m.tree ≡ tree_of (map given nodes.items) limits) }
+        ensures live { IfOk result (λ m. live_of m.handles ≡ empty) }
+        ensures touched { IfOk result (λ m. m.touched ≡ empty) }
+        ensures lookups { IfOk result (λ m. m.lookups ≡ []) }
         ensures err { IfErr result (λ e. e ≡ TreeError.Memory) }
     {
         let store = Store::new(alloc, nodes, limits)?;
@@ -55,12 +63,13 @@ impl MemTree {
             store,
             slots: Slots::new(alloc),
             marks,
+            log: Vec::new(alloc),
         })
     }
 
     /// The tree as it is, as a list of nodes in memory of its own. The entries of each directory stand in byte order.
     pub fn nodes(&self, alloc: Global) -> Result<Vec<NewNode>, AllocError>
-        ensures { IfOk result (λ nodes. map given nodes.items ≡ map given_of self.now.tree.nodes) }
+        ensures nodes { IfOk result (λ nodes. map given nodes.items ≡ map given_of self.now.tree.nodes) }
     {
         self.store.to_new(alloc)
     }
@@ -68,11 +77,14 @@ impl MemTree {
     /// A handle of a directory, for its path alone.
     pub fn handle(&mut self, node: u64) -> Result<Handle, HandleError>
         ensures not_directory { (result ≡ Err HandleError.NotDirectory) ↔ (is_directory (node_at self.old.tree node).content ≡ false) }
-        ensures live { IfOk result (λ h. (contains (live_of self.old.slots) h ≡ false) × (live_of self.new.slots ≡ insert (live_of self.old.slots) h)) }
-        ensures held { IfOk result (λ h. held_in self.new.slots h ≡ record { node = node; mode = AccessMode.PathOnly }) }
-        ensures others { (h : ℕ) → contains (live_of self.old.slots) h ≡ true → held_in self.new.slots h ≡ held_in self.old.slots h }
+        ensures fresh { IfOk result (λ h. contains (live_of self.old.handles) h ≡ false) }
+        ensures live { IfOk result (λ h. live_of self.new.handles ≡ insert (live_of self.old.handles) h) }
+        ensures held { IfOk result (λ h. held_in self.new.handles h ≡ record { node = node; mode = AccessMode.PathOnly }) }
+        ensures others { (h : ℕ) → contains (live_of self.old.handles) h ≡ true
+            → held_in self.new.handles h ≡ held_in self.old.handles h }
         ensures tree { self.new.tree ≡ self.old.tree }
         ensures touched { self.new.touched ≡ self.old.touched }
+        ensures lookups { self.new.lookups ≡ self.old.lookups }
         ensures err { OnErr result (self.new ≡ self.old) }
     {
         if !self.store.is_directory(node) {
@@ -90,13 +102,23 @@ impl MemTree {
     {
         self.marks.list(alloc)
     }
+
+    /// The look-ups of all calls so far, the first one first: each with the handle that it began from, and the handle
+    /// that it made, if it made one.
+    pub fn lookups(&self) -> &Vec<Lookup>
+        ensures lookups { result.now.items ≡ self.now.lookups }
+    {
+        &self.log
+    }
 }
 
 #[tactic(auto, using(crate::proofs::MemLemmas::mem_rules))]
 impl Host for MemTree {
     ghost faults = { λ _. 0 };
 
-    ghost live = { λ m. live_of m.slots };
+    ghost live = { λ m. live_of m.handles };
+
+    ghost lookups = { λ m. m.lookups };
 
     ghost told = { true };
 
@@ -109,19 +131,42 @@ impl Host for MemTree {
         options: &OpenOptions,
     ) -> Result<Handle, HostError> {
         self.slots.reserve()?;
+        self.log.reserve(1)?;
         let directory = self.slots.held(start).node;
         let found = self.store.child(directory, name);
         self.marks.touch_found(directory, found);
-        match self.store.open_at(directory, name, options) {
-            Ok(held) => Ok(self.slots.give(held)),
-            Err(code) => Err(HostError::Code(code)),
+        match self.store.open_at(directory, name, found, options) {
+            Ok(held) => {
+                let handle = self.slots.give(held);
+                self.log.push_reserved(Lookup {
+                    kind: LookKind::Open,
+                    from: start,
+                    got: Some(handle),
+                });
+                Ok(handle)
+            }
+            Err(code) => {
+                self.log.push_reserved(Lookup {
+                    kind: LookKind::Open,
+                    from: start,
+                    got: None,
+                });
+                Err(HostError::Code(code))
+            }
         }
     }
 
     fn dup(&mut self, handle: Handle) -> Result<Handle, HostError> {
         self.slots.reserve()?;
+        self.log.reserve(1)?;
         let held = self.slots.held(handle);
-        Ok(self.slots.give(held))
+        let copy = self.slots.give(held);
+        self.log.push_reserved(Lookup {
+            kind: LookKind::Dup,
+            from: handle,
+            got: Some(copy),
+        });
+        Ok(copy)
     }
 
     fn stat(&mut self, handle: Handle) -> Result<Metadata, ErrorCode> {
@@ -138,6 +183,10 @@ impl Host for MemTree {
 
     fn close(&mut self, handle: Handle) {
         self.slots.release(handle);
+    }
+
+    fn laws(&self) {
+        let _store = &self.store;
     }
 }
 

@@ -1,3 +1,7 @@
+//! Nodes as plain data.
+ghost use Rattle.std.specs.Prelude.{◌≡◌};
+ghost use Rattle.wasi_tree.specs.Given.{given, given_content, new_given, may_search};
+
 use wasi_host::{Bits, SystemTime};
 
 /// A name in a directory, and the number of the node that it holds.
@@ -24,4 +28,37 @@ pub struct NewNode {
     pub atime: SystemTime,
     pub mtime: SystemTime,
     pub btime: SystemTime,
+}
+
+impl NewNode {
+    /// A node of this content, with the bits and times that a new one has: it may be read and written, a directory or a
+    /// link searched too, and its times are the epoch.
+    pub fn new(content: NewContent) -> NewNode
+        ensures node { given result ≡ new_given (given_content content) }
+    {
+        let x = content.may_search();
+        NewNode {
+            content,
+            bits: Bits {
+                r: true,
+                w: true,
+                x,
+            },
+            atime: SystemTime::EPOCH,
+            mtime: SystemTime::EPOCH,
+            btime: SystemTime::EPOCH,
+        }
+    }
+}
+
+impl NewContent {
+    fn may_search(&self) -> bool
+        ensures { result ≡ may_search (given_content self.now) }
+    {
+        match self {
+            NewContent::File(_) => false,
+            NewContent::Dir(_) => true,
+            NewContent::Link(_) => true,
+        }
+    }
 }

@@ -1,9 +1,10 @@
+//! One node, as it is stored.
 ghost use Rattle.std.specs.Prelude.{◌≡◌, IfOk, map};
 ghost use Rattle.std.specs.FinMap as maps;
 ghost use Rattle.wasi_host.specs.Tree.{is_directory, is_file, is_link, is_gone, names_of, bytes_of};
 ghost use Rattle.wasi_tree.specs.Given.{pair_of, given, given_content, given_of, content_given};
 ghost use Rattle.wasi_tree.specs.First.{first_node, first_content};
-ghost use Rattle.wasi_tree.specs.Rows.{names_in};
+ghost use Rattle.wasi_tree.specs.StoredTree.{names_in};
 ghost use Rattle.wasi_host.specs.Answer.{kind_of, size_of, links_of, metadata_from};
 
 use crate::node::{NewContent, NewEntry, NewNode};
@@ -40,11 +41,11 @@ pub struct Row {
 
 #[tactic(auto, using(crate::proofs::NameLemmas::name_rules))]
 impl RowContent {
-    ghost use Rattle.wasi_tree.specs.Rows.{content_of};
+    ghost use Rattle.wasi_tree.specs.StoredTree.{stored_content};
 
     /// The content of a node of a first tree.
     fn first(alloc: Global, content: NewContent) -> Result<RowContent, AllocError>
-        ensures { IfOk result (λ made. content_of made ≡ first_content (given_content content)) }
+        ensures { IfOk result (λ made. stored_content made ≡ first_content (given_content content)) }
     {
         match content {
             NewContent::File(bytes) => Ok(RowContent::File { bytes, links: 1 }),
@@ -58,7 +59,7 @@ impl RowContent {
 
     /// The content as a list of nodes gives it, in memory of its own.
     fn to_new(&self, alloc: Global) -> Result<NewContent, AllocError>
-        ensures { IfOk result (λ content. given_content content ≡ content_given (content_of self.now)) }
+        ensures { IfOk result (λ content. given_content content ≡ content_given (stored_content self.now)) }
     {
         match self {
             RowContent::File { bytes, .. } => {
@@ -72,7 +73,7 @@ impl RowContent {
     }
 
     pub fn is_directory(&self) -> bool
-        ensures { result ≡ is_directory (content_of self.now) }
+        ensures { result ≡ is_directory (stored_content self.now) }
     {
         match self {
             RowContent::File { .. } => false,
@@ -82,7 +83,7 @@ impl RowContent {
     }
 
     pub fn is_file(&self) -> bool
-        ensures { result ≡ is_file (content_of self.now) }
+        ensures { result ≡ is_file (stored_content self.now) }
     {
         match self {
             RowContent::File { .. } => true,
@@ -92,7 +93,7 @@ impl RowContent {
     }
 
     pub fn is_link(&self) -> bool
-        ensures { result ≡ is_link (content_of self.now) }
+        ensures { result ≡ is_link (stored_content self.now) }
     {
         match self {
             RowContent::File { .. } => false,
@@ -102,7 +103,7 @@ impl RowContent {
     }
 
     pub fn is_gone(&self) -> bool
-        ensures { result ≡ is_gone (content_of self.now) }
+        ensures { result ≡ is_gone (stored_content self.now) }
     {
         match self {
             RowContent::File { .. } => false,
@@ -112,7 +113,7 @@ impl RowContent {
     }
 
     pub fn kind(&self) -> FileType
-        ensures { result ≡ kind_of (content_of self.now) }
+        ensures { result ≡ kind_of (stored_content self.now) }
     {
         match self {
             RowContent::File { .. } => FileType::RegularFile,
@@ -122,7 +123,7 @@ impl RowContent {
     }
 
     pub fn size(&self) -> u64
-        ensures { result ≡ size_of (content_of self.now) }
+        ensures { result ≡ size_of (stored_content self.now) }
     {
         match self {
             RowContent::File { bytes, .. } => bytes.as_slice().len() as u64,
@@ -132,7 +133,7 @@ impl RowContent {
     }
 
     pub fn links(&self) -> u64
-        ensures { result ≡ links_of (content_of self.now) }
+        ensures { result ≡ links_of (stored_content self.now) }
     {
         match self {
             RowContent::File { links, .. } => *links,
@@ -143,7 +144,7 @@ impl RowContent {
 
     /// A file's bytes. Nothing of what is no file.
     pub fn bytes(&self) -> &[u8]
-        ensures { result.now ≡ bytes_of (content_of self.now) }
+        ensures { result.now ≡ bytes_of (stored_content self.now) }
     {
         match self {
             RowContent::File { bytes, .. } => bytes.as_slice(),
@@ -154,7 +155,7 @@ impl RowContent {
 
     /// The number under a name. Nothing in what is no directory.
     pub fn child(&self, name: &str) -> Option<u64>
-        ensures { result ≡ maps.get (names_of (content_of self.now)) name.now }
+        ensures { result ≡ maps.get (names_of (stored_content self.now)) name.now }
     {
         match self {
             RowContent::File { .. } => None,
@@ -165,11 +166,11 @@ impl RowContent {
 }
 
 impl Row {
-    ghost use Rattle.wasi_tree.specs.Rows.{node_of};
+    ghost use Rattle.wasi_tree.specs.StoredTree.{stored_node};
 
     /// The row of a node of a first tree.
     pub fn first(alloc: Global, node: NewNode) -> Result<Row, AllocError>
-        ensures { IfOk result (λ row. node_of row ≡ first_node (given node)) }
+        ensures { IfOk result (λ row. stored_node row ≡ first_node (given node)) }
     {
         Ok(Row {
             content: RowContent::first(alloc, node.content)?,
@@ -182,7 +183,7 @@ impl Row {
 
     /// The node as a list of nodes gives it, in memory of its own.
     pub fn to_new(&self, alloc: Global) -> Result<NewNode, AllocError>
-        ensures { IfOk result (λ node. given node ≡ given_of (node_of self.now)) }
+        ensures { IfOk result (λ node. given node ≡ given_of (stored_node self.now)) }
     {
         Ok(NewNode {
             content: self.content.to_new(alloc)?,
@@ -194,7 +195,7 @@ impl Row {
     }
 
     pub fn metadata(&self, node: u64) -> Metadata
-        ensures { result ≡ metadata_from node (node_of self.now) }
+        ensures { result ≡ metadata_from node (stored_node self.now) }
     {
         Metadata {
             kind: self.content.kind(),

@@ -1,6 +1,6 @@
-ghost use Rattle.std.specs.Prelude.{◌≡◌, ℕ, true, false, OnOk};
-ghost use Rattle.std.specs.FinSet.{contains, insert, remove};
-ghost use Rattle.slab.specs.Slab.{HasRoomFor};
+//! What each live handle stands for.
+ghost use Rattle.std.specs.Prelude.{◌≡◌, ◌<◌, ℕ, true, false, OnOk};
+ghost use Rattle.std.specs.FinSet.{contains, empty, insert, remove};
 ghost use Rattle.wasi_tree.specs.MemState.{live_of, held_in};
 
 use slab::Slab;
@@ -8,30 +8,29 @@ use std::alloc::{AllocError, Global};
 use std::marker::Model;
 use wasi_host::{Handle, Held};
 
-/// What each live handle stands for, by its number. Contracts see the slab.
+/// What each live handle stands for, by its number. Contracts see the live handles, and for how many more there is room.
 #[derive(Debug, Drop)]
 pub struct Slots {
     slab: Slab<Held>,
 }
 
 impl Model for Slots {
-    ghost use Rattle.slab.specs.Slab.{Slab, slab_code};
-    ghost use Rattle.wasi_host.specs.contracts.values.Held as held;
-    ghost use Rattle.wasi_host.specs.declared.values.Held.{Held};
+    ghost use Rattle.std.specs.Prelude.{◌-◌};
+    ghost use Rattle.slab.specs.Slab.{slab_len};
+    ghost use Rattle.wasi_tree.specs.LiveSlots.{LiveSlots, slots_code, handles_in};
 
-    ghost Value = { Slab Held };
+    ghost Value = { LiveSlots };
 
-    ghost coded = { slab_code held.the_row.coded };
+    ghost coded = { slots_code };
 
-    ghost view = { λ a. a.slab };
+    ghost view = { λ a. record { handles = handles_in a.slab.slots; room = a.slab.capacity - slab_len a.slab } };
 }
 
 #[tactic(auto, using(crate::proofs::SlotLemmas::slot_rules))]
 impl Slots {
-    ghost use Rattle.std.specs.Prelude.{[]};
-
+    /// No handle is live.
     pub fn new(alloc: Global) -> Self
-        ensures { result.slots ≡ [] }
+        ensures { live_of result.handles ≡ empty }
     {
         Slots {
             slab: Slab::new(alloc),
@@ -40,16 +39,16 @@ impl Slots {
 
     /// Makes room for one more handle.
     pub fn reserve(&mut self) -> Result<(), AllocError>
-        ensures same { self.new.slots ≡ self.old.slots }
-        ensures room { OnOk result (HasRoomFor self.new 1) }
+        ensures same { self.new.handles ≡ self.old.handles }
+        ensures room { OnOk result (0 < self.new.room) }
     {
         self.slab.reserve(1)
     }
 
     /// What a live handle stands for.
     pub fn held(&self, handle: Handle) -> Held
-        requires { contains (live_of self.now.slots) handle ≡ true }
-        ensures { result ≡ held_in self.now.slots handle }
+        requires { contains (live_of self.now.handles) handle ≡ true }
+        ensures { result ≡ held_in self.now.handles handle }
     {
         match self.slab.get(handle.number() as usize) {
             Some(held) => *held,
@@ -59,20 +58,22 @@ impl Slots {
 
     /// Gives a handle for this.
     pub fn give(&mut self, held: Held) -> Handle
-        requires { HasRoomFor self.old 1 }
-        ensures fresh { contains (live_of self.old.slots) result ≡ false }
-        ensures live { live_of self.new.slots ≡ insert (live_of self.old.slots) result }
-        ensures held { held_in self.new.slots result ≡ held }
-        ensures others { (h : ℕ) → contains (live_of self.old.slots) h ≡ true → held_in self.new.slots h ≡ held_in self.old.slots h }
+        requires { 0 < self.old.room }
+        ensures fresh { contains (live_of self.old.handles) result ≡ false }
+        ensures live { live_of self.new.handles ≡ insert (live_of self.old.handles) result }
+        ensures held { held_in self.new.handles result ≡ held }
+        ensures others { (h : ℕ) → contains (live_of self.old.handles) h ≡ true
+            → held_in self.new.handles h ≡ held_in self.old.handles h }
     {
         Handle::from_number(self.slab.insert_reserved(held) as u64)
     }
 
     /// Takes a live handle back.
     pub fn release(&mut self, handle: Handle)
-        requires { contains (live_of self.old.slots) handle ≡ true }
-        ensures live { live_of self.new.slots ≡ remove (live_of self.old.slots) handle }
-        ensures others { (h : ℕ) → contains (live_of self.new.slots) h ≡ true → held_in self.new.slots h ≡ held_in self.old.slots h }
+        requires { contains (live_of self.old.handles) handle ≡ true }
+        ensures live { live_of self.new.handles ≡ remove (live_of self.old.handles) handle }
+        ensures others { (h : ℕ) → contains (live_of self.new.handles) h ≡ true
+            → held_in self.new.handles h ≡ held_in self.old.handles h }
     {
         self.slab.remove(handle.number() as usize);
     }

@@ -1,21 +1,24 @@
+//! The nodes by number.
 ghost use Rattle.std.specs.Prelude.{◌≡◌, ◌<◌, ◌≤◌, ◌^◌, ℕ, OnOk, Some, None, IfSome, IfOk, OnErr, MatchResult, Ok, Err, take, drop, length, map, true};
 ghost use Rattle.wasi_paths.specs.Name.{name_bytes};
-ghost use Rattle.wasi_host.specs.Options.{OnlyRead, are_refused, creates, is_path_only};
+ghost use Rattle.wasi_host.specs.Options.{OnlyRead};
 ghost use Rattle.wasi_host.specs.Tree.{Tree, next_of, node_at, child, is_directory};
 ghost use Rattle.wasi_host.specs.HostCall.{OpenAt, Stat, Pread};
-ghost use Rattle.wasi_host.specs.Refusal.{refusal, first_row, name_rows, lacks_bit, can_read};
-ghost use Rattle.wasi_host.specs.Answer.{access_of, opened, metadata_of, bytes_read};
+ghost use Rattle.wasi_host.specs.Refusal.{refusal, first_row, name_rows};
+ghost use Rattle.wasi_host.specs.Answer.{opened, metadata_of, bytes_read};
+ghost use Rattle.wasi_host.specs.Meaning.{IsHeld};
+ghost use Rattle.std.specs.Option.{ForSome};
 ghost use Rattle.wasi_tree.specs.Given.{given, given_of, tree_of};
 ghost use Rattle.wasi_tree.specs.First.{first_node};
 ghost use Rattle.wasi_tree.specs.FirstTree.{is_first_tree};
-ghost use Rattle.wasi_tree.specs.Rows.{node_of};
+ghost use Rattle.wasi_tree.specs.StoredTree.{stored_node};
 ghost use Rattle.wasi_tree.specs.OpenRows.{missing_rows, found_rows};
 
 use crate::node::NewNode;
 use crate::row::Row;
 use std::alloc::{AllocError, Global};
 use std::marker::Model;
-use wasi_host::{AccessMode, ErrorCode, Held, Limits, Metadata, OpenOptions, compute_oflags};
+use wasi_host::{ErrorCode, Held, Limits, Metadata, OpenOptions};
 use wasi_paths::Name;
 
 /// The nodes of a tree, with its limits. Contracts see the tree.
@@ -33,12 +36,12 @@ impl Model for Store {
 
     ghost coded = { tree_code };
 
-    ghost use Rattle.wasi_tree.specs.Rows.{tree_in};
+    ghost use Rattle.wasi_tree.specs.StoredTree.{stored_tree};
     ghost use Rattle.wasi_tree.specs.Sound.{IsSound};
 
-    ghost view = { λ a. tree_in a.rows.items a.limits };
+    ghost view = { λ a. stored_tree a.rows.items a.limits };
 
-    ghost invariant = { λ a. IsSound (tree_in a.rows.items a.limits) };
+    ghost invariant = { λ a. IsSound (stored_tree a.rows.items a.limits) };
 }
 
 #[tactic(auto, using(crate::proofs::StoreLemmas::store_rules))]
@@ -73,8 +76,8 @@ impl Store {
     /// The node of a number.
     fn row(&self, n: u64) -> &Row
         requires { n < next_of self.now }
-        ensures node { node_at self.now n ≡ node_of result.now }
-        ensures sound { IsSoundNode (next_of self.now) (node_of result.now) }
+        ensures node { node_at self.now n ≡ stored_node result.now }
+        ensures sound { IsSoundNode (next_of self.now) (stored_node result.now) }
     {
         &self.rows[n as usize]
     }
@@ -108,11 +111,10 @@ impl Store {
         requires { directory < next_of self.now }
         ensures { result ≡ first_row (name_rows self.now directory (name_bytes name.entry)) }
     {
-        let text = name.as_str();
-        if text.as_bytes().contains(&0) {
+        if name.has_nul() {
             return Some(ErrorCode::Invalid);
         }
-        if text.len() > 255 {
+        if name.is_long() {
             return Some(ErrorCode::NameTooLong);
         }
         if !self.row(directory).bits.x {
@@ -126,7 +128,7 @@ impl Store {
         requires { directory < next_of self.now }
         ensures { result ≡ first_row (missing_rows self.now directory options.now) }
     {
-        if !creates(options) {
+        if !options.creates() {
             return Some(ErrorCode::NoEntry);
         }
         let row = self.row(directory);
@@ -164,7 +166,7 @@ impl Store {
         if row.content.is_directory() && options.is_write() {
             return Some(ErrorCode::IsDirectory);
         }
-        if is_path_only(options) {
+        if options.is_path_only() {
             return None;
         }
         if options.is_read() && !row.bits.r {
@@ -176,56 +178,60 @@ impl Store {
         None
     }
 
-    /// The code of the first row of an open that holds.
+    /// The code of the first row of an open that holds, where the name holds this node.
     #[tactic(auto, unfolding(wasi_host::specs::Refusal::refusal))]
     fn refuse_open(
         &self,
         directory: u64,
         name: Name<'_>,
+        found: Option<u64>,
         options: &OpenOptions,
     ) -> Option<ErrorCode>
-        requires { directory < next_of self.now }
+        requires within { directory < next_of self.now }
+        requires found { found ≡ child self.now directory (name_bytes name) }
+        requires below { ForSome found (λ n. n < next_of self.now) }
         ensures { result ≡ refusal self.now (OpenAt directory (name_bytes name.entry) options.now) }
     {
         if !self.row(directory).content.is_directory() {
             return Some(ErrorCode::NotDirectory);
         }
-        if are_refused(options) {
+        if options.are_refused() {
             return Some(ErrorCode::Invalid);
         }
         if let Some(code) = self.refuse_name(directory, name) {
             return Some(code);
         }
-        if creates(options) && options.is_dir_required() {
+        if options.creates() && options.is_dir_required() {
             return Some(ErrorCode::Invalid);
         }
-        let Some(node) = self.child(directory, name) else {
+        let Some(node) = found else {
             return self.refuse_missing(directory, options);
         };
         self.refuse_found(node, options)
     }
 
-    /// What the handle of an open stands for.
+    /// What the handle of an open stands for, where the name holds this node.
     pub fn open_at(
         &self,
         directory: u64,
         name: Name<'_>,
+        found: Option<u64>,
         options: &OpenOptions,
     ) -> Result<Held, ErrorCode>
         requires within { directory < next_of self.now }
+        requires found { found ≡ child self.now directory (name_bytes name) }
+        requires below { ForSome found (λ n. n < next_of self.now) }
         requires options { OnlyRead options.now }
         ensures opened { result ≡ opened self.now directory (name_bytes name.entry) options.now }
-        ensures below { IfOk result (λ held. held.node < next_of self.now) }
+        ensures held { IfOk result (IsHeld self.now) }
     {
-        if let Some(code) = self.refuse_open(directory, name, options) {
+        if let Some(code) = self.refuse_open(directory, name, found, options) {
             return Err(code);
         }
-        let Some(node) = self.child(directory, name) else {
-            return Err(ErrorCode::NoEntry);
-        };
+        let Some(node) = found else { unreachable!() };
         Ok(Held {
             node,
-            mode: access_of(options),
+            mode: options.access(),
         })
     }
 
@@ -251,7 +257,7 @@ impl Store {
             (λ code. bytes_read self.now file offset (length buf.old) ≡ Err code) }
     {
         let content = &self.row(file.node).content;
-        if !can_read(file.mode) || !content.is_file() {
+        if !file.mode.can_read() || !content.is_file() {
             return Err(ErrorCode::BadDescriptor);
         }
         if offset >= 1 << 63 {
@@ -262,7 +268,7 @@ impl Store {
 }
 
 fn first_rows(alloc: Global, nodes: Vec<NewNode>) -> Result<Vec<Row>, AllocError>
-    ensures { IfOk result (λ rows. map node_of rows.items ≡ map first_node (map given nodes.items)) }
+    ensures { IfOk result (λ rows. map stored_node rows.items ≡ map first_node (map given nodes.items)) }
 {
     let mut rows = Vec::with_capacity(alloc, nodes.len())?;
     for node in nodes {
@@ -272,55 +278,13 @@ fn first_rows(alloc: Global, nodes: Vec<NewNode>) -> Result<Vec<Row>, AllocError
 }
 
 fn new_nodes(alloc: Global, rows: &[Row]) -> Result<Vec<NewNode>, AllocError>
-    ensures { IfOk result (λ nodes. map given nodes.items ≡ map given_of (map node_of rows.now)) }
+    ensures { IfOk result (λ nodes. map given nodes.items ≡ map given_of (map stored_node rows.now)) }
 {
     let mut nodes = Vec::with_capacity(alloc, rows.len())?;
     for row in rows {
         nodes.push(row.to_new(alloc)?)?;
     }
     Ok(nodes)
-}
-
-fn are_refused(options: &OpenOptions) -> bool
-    ensures { result ≡ are_refused options.now }
-{
-    compute_oflags(options).is_err()
-}
-
-fn creates(options: &OpenOptions) -> bool
-    ensures { result ≡ creates options.now }
-{
-    options.is_create() || options.is_create_new()
-}
-
-fn is_path_only(options: &OpenOptions) -> bool
-    ensures { result ≡ is_path_only options.now }
-{
-    options.is_dir_required() && !options.is_write() && !options.is_readdir_required()
-}
-
-fn access_of(options: &OpenOptions) -> AccessMode
-    ensures { result ≡ access_of options.now }
-{
-    if is_path_only(options) {
-        return AccessMode::PathOnly;
-    }
-    match (options.is_write(), options.is_read()) {
-        (true, true) => AccessMode::ReadWrite,
-        (true, false) => AccessMode::Write,
-        (false, _) => AccessMode::Read,
-    }
-}
-
-fn can_read(mode: AccessMode) -> bool
-    ensures { result ≡ can_read mode }
-{
-    match mode {
-        AccessMode::Read => true,
-        AccessMode::ReadWrite => true,
-        AccessMode::Write => false,
-        AccessMode::PathOnly => false,
-    }
 }
 
 /// The bytes from an offset on; none at or past the end.

@@ -1,49 +1,22 @@
 ghost use Rattle.std.specs.Prelude.{◌≡◌, true, IfOk, map};
-ghost use Rattle.wasi_host.specs.Tree.{default_bits};
-ghost use Rattle.wasi_host.specs.Time.{zero_time};
 ghost use Rattle.std.specs.FinSet.{contains};
 ghost use Rattle.wasi_tree.specs.MemState.{live_of};
-ghost use Rattle.wasi_tree.specs.Given.{given, given_content};
+ghost use Rattle.wasi_tree.specs.Given.{given};
 ghost use Rattle.wasi_tree.specs.FirstTree.{is_first_tree};
 
 use super::MemTree;
 use crate::errors::{HandleError, TreeError};
+use crate::is_first_tree;
 use crate::node::{NewContent, NewEntry, NewNode};
 use std::alloc::{AllocError, Global};
 use std::test::Fail;
-use wasi_host::{
-    Bits, ErrorCode, FileType, Handle, Host, HostError, Limits, OpenOptions, SystemTime,
-};
+use wasi_host::{ErrorCode, FileType, Handle, Host, HostError, Limits, LookKind, OpenOptions};
 use wasi_paths::Name;
-
-const EPOCH: SystemTime = SystemTime {
-    seconds: 0,
-    nanoseconds: 0,
-};
 
 const LIMITS: Limits = Limits { nodes: 8, links: 8 };
 
-fn node(content: NewContent, is_directory: bool) -> NewNode
-    ensures { given result ≡ record { content = given_content content; bits = default_bits is_directory; atime = zero_time; mtime = zero_time; btime = zero_time } }
-{
-    NewNode {
-        content,
-        bits: Bits {
-            r: true,
-            w: true,
-            x: is_directory,
-        },
-        atime: EPOCH,
-        mtime: EPOCH,
-        btime: EPOCH,
-    }
-}
-
 /// Node 0 has the file `f` and the directory `d`, in this order.
-#[tactic(auto, unfolding(crate::specs::FirstTree::is_first_tree))]
-fn small_nodes(alloc: Global) -> Result<Vec<NewNode>, AllocError>
-    ensures { IfOk result (λ nodes. is_first_tree LIMITS (map given nodes.items) ≡ true) }
-{
+fn small_nodes(alloc: Global) -> Result<Vec<NewNode>, AllocError> {
     let file = NewEntry {
         name: String::from_str(alloc, "f")?,
         node: 1,
@@ -54,20 +27,24 @@ fn small_nodes(alloc: Global) -> Result<Vec<NewNode>, AllocError>
     };
     let bytes = Vec::from_slice(alloc, b"hello")?;
     Ok(vec![in alloc;
-        node(NewContent::Dir(vec![in alloc; file, directory]?), true),
-        node(NewContent::File(bytes), false),
-        node(NewContent::Dir(Vec::new(alloc)), true),
+        NewNode::new(NewContent::Dir(vec![in alloc; file, directory]?)),
+        NewNode::new(NewContent::File(bytes)),
+        NewNode::new(NewContent::Dir(Vec::new(alloc))),
     ]?)
 }
 
 fn small_tree(alloc: Global) -> Result<MemTree, TreeError> {
-    MemTree::new(alloc, small_nodes(alloc)?, LIMITS)
+    let nodes = small_nodes(alloc)?;
+    if !is_first_tree(alloc, &nodes, LIMITS)? {
+        return Err(TreeError::Invalid(0));
+    }
+    MemTree::new(alloc, nodes, LIMITS)
 }
 
 /// Opens a name of node 0 for reading.
 #[tactic(auto, using(crate::proofs::SlotLemmas::slot_rules))]
 fn opened(tree: &mut MemTree, text: &'static str) -> Result<Handle, HostError>
-    ensures { IfOk result (λ h. contains (live_of tree.new.slots) h ≡ true) }
+    ensures { IfOk result (λ h. contains (live_of tree.new.handles) h ≡ true) }
 {
     let Ok(root) = tree.handle(0) else {
         return Err(HostError::Memory);
@@ -151,6 +128,27 @@ fn tells_touched_nodes(rt: HostRuntime) -> Result<(), Fail> {
     tree.close(file);
     let touched = tree.touched(rt.alloc())?;
     assert_eq!(rt; touched.as_slice(), [0, 1].as_slice());
+    Ok(())
+}
+
+#[test]
+fn tells_look_ups(rt: HostRuntime) -> Result<(), Fail> {
+    let mut tree = small_tree(rt.alloc())?;
+    let file = opened(&mut tree, "f")?;
+    let copy = tree.dup(file)?;
+    let missing = opened(&mut tree, "g");
+    assert!(rt; missing.is_err());
+    let lookups = tree.lookups();
+    assert_eq!(rt; lookups.len(), 3);
+    let made: [(LookKind, Option<Handle>); 3] = [
+        (LookKind::Open, Some(file)),
+        (LookKind::Dup, Some(copy)),
+        (LookKind::Open, None),
+    ];
+    for (lookup, (kind, got)) in lookups.iter().zip(made) {
+        assert_eq!(rt; (lookup.kind, lookup.got), (kind, got));
+    }
+    assert_eq!(rt; lookups[1].from, file);
     Ok(())
 }
 

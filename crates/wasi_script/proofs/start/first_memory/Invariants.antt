@@ -1,5 +1,5 @@
 use Rattle.std.proofs.Common.{◌≡◌, length, map, take, replicate}
-use Rattle.wasi_script.specs.Script.{planned_piece}
+use Rattle.wasi_form.specs.Plan.{planned_piece}
 use Rattle.wasi_script.specs.Start.{with_pieces}
 use Rattle.wasi_script.proofs.start.first_memory.Given as goal
 

@@ -1,15 +1,26 @@
-use Rattle.wasi_script.proofs.FirstScripts.{first_of_verdict}
-use Rattle.wasi_script.proofs.Tops.{judged, judged_long}
+use Rattle.std.proofs.lemmas.Result.{err_from_is_err_and}
+use Rattle.wasi_form.proofs.BuiltScripts.{first_of_verdict}
+use Rattle.wasi_script.proofs.Tops.{judged, unread, no_script}
 use Rattle.wasi_script.proofs.top.read_from.Goals as goal
 
-pub returns-in-Err-Long-clause-read : goal.returns-in-Err-Long-clause-read
-returns-in-Err-Long-clause-read g c = λ told. let long = rw c.in-Err-Long.field-0-is at (c.in-Err-Long.ensures.bytes told) in judged_long _ _ long.0 long.1
+pub returns-in_err-bytes-clause-read : goal.returns-in_err-bytes-clause-read
+returns-in_err-bytes-clause-read g c = λ told.
+    let error = err_from_is_err_and c.from_residual.result c.from_residual.ensures.1 in
+    rw (error.1, error.2) (unread _ _ _ (c.in_err-bytes.ensures.bytes told))
 
-pub returns-in-Ok-read_script-clause-read : goal.returns-in-Ok-read_script-clause-read
-returns-in-Ok-read_script-clause-read g c = λ told. let all = c.in-Ok.ensures.bytes told in judged c.in-Ok.bytes.items _ _ _ (rw c.as_slice.ensures.value at c.in-Ok-read_script.ensures) all.0 all.1 all.2
+pub returns-in_err-read_script-clause-read : goal.returns-in_err-read_script-clause-read
+returns-in_err-read_script-clause-read g c = λ told.
+    let residual = c.from_residual-in_err-read_script in
+    let error = err_from_is_err_and residual.result residual.ensures.1 in
+    let all = c.in_ok-bytes.ensures.bytes told in
+    let reads = rw c.as_slice.ensures.value at c.in_err-read_script.ensures.verdict in
+    rw (error.1, error.2) (no_script _ reads all.0 all.1 all.2)
 
-pub returns-in-Err-Refused-clause-read : goal.returns-in-Err-Refused-clause-read
-returns-in-Err-Refused-clause-read g c = λ told. let all = c.in-Ok.ensures.bytes told in judged c.in-Ok.bytes.items _ _ _ (rw (c.as_slice.ensures.value, c.in-Err-Refused.field-0-is) at c.in-Err-Refused.ensures) all.0 all.1 all.2
+pub returns-clause-built : goal.returns-clause-built
+returns-clause-built g c = first_of_verdict _ _ c.in_ok-read_script.ensures.verdict
 
-pub returns-in-Ok-read_script-clause-first : goal.returns-in-Ok-read_script-clause-first
-returns-in-Ok-read_script-clause-first g c = first_of_verdict _ _ c.in-Ok-read_script.ensures
+pub returns-clause-read : goal.returns-clause-read
+returns-clause-read g c = λ told.
+    let all = c.in_ok-bytes.ensures.bytes told in
+    let reads = rw c.as_slice.ensures.value at c.in_ok-read_script.ensures.verdict in
+    judged _ reads all.0 all.1 all.2

@@ -1,9 +1,9 @@
-use Rattle.std.proofs.Common.{refl}
+use Rattle.std.proofs.Common.{refl, ◌≡◌, ℕ, List}
 use Rattle.std.proofs.lemmas.Result.{IfOk-weaker}
-use Rattle.wasi_script.specs.Script.{plan}
-use Rattle.wasi_script.proofs.FirstScripts.{first_parts}
+use Rattle.wasi_form.specs.Plan.{Plan, plan}
+use Rattle.wasi_form.proofs.BuiltScripts.{IsFirst, first_parts}
 use Rattle.wasi_script.proofs.Starts.{confined_at_start}
-use Rattle.wasi_script.proofs.Headlines.{begun_at, reports}
+use Rattle.wasi_script.proofs.Headlines.{begun_at, RanPlan, reports}
 use Rattle.wasi_script.proofs.top.report_of.Goals as goal
 
 pub given_node-node-requires : goal.given_node-node-requires
@@ -16,15 +16,25 @@ pub first_context-requires-clause-first : goal.first_context-requires-clause-fir
 first_context-requires-clause-first c = (first_parts (plan c.args.script) c.requires).tree
 
 pub shown-requires : goal.shown-requires
-shown-requires c = rw (c.as_slice-3.ensures.value, c.run_calls.ensures.size, c.in_ok-memory.ensures.size) (first_parts (plan c.args.script) c.requires).show
+shown-requires c =
+    let parts = first_parts (plan c.args.script) c.requires in
+    rw (c.as_slice-3.ensures.value, c.run_calls.ensures.size, c.in_ok-memory.ensures.size) parts.show
 
 pub returns : goal.returns
 returns c =
-    let alone = rw c.as_slice.ensures.value at c.given_node-node.ensures.alone in
+    let alone = rw c.as_slice.ensures.value at c.given_node-node.ensures.given.alone in
     let written = rw c.as_slice-2.ensures.value at c.in_ok-memory.ensures.written in
-    let begins = begun_at (plan c.args.script) _ _ _ c.in_ok-context.ensures alone written in
-    let near = c.in-Ok.ensures.confined refl (rw c.in_ok-context.ensures.untouched (confined_at_start _)) in
-    let shown-is = rw c.as_slice-3.ensures.value at c.in_ok-shown.ensures in
+    let untouched = c.in_ok-context.ensures.begun.untouched in
+    let run : RanPlan (plan c.args.script) _ _ _ = record {
+      first = _;
+      begins = begun_at (plan c.args.script) c.in_ok-context.ensures.begun alone written;
+      ran = c.in-Ok.ensures.run refl;
+      confined = c.in-Ok.ensures.confined refl (rw untouched (confined_at_start _));
+    } in
+    let shown-is = rw c.as_slice-3.ensures.value at c.in_ok-shown.ensures.shown in
     let listed = rw c.into_parts-ended.ensures.host at c.in_ok-touched.ensures.nodes in
-    let tree-is = rw c.into_parts-ended.ensures.host at c.in_ok-nodes.ensures in
-    IfOk-weaker c.report.result _ _ (λ text is. reports (plan c.args.script) _ _ _ _ _ _ _ _ _ _ begins (c.in-Ok.ensures.run refl) near shown-is listed c.in_ok-touched.ensures.rising tree-is c.into_parts-ended.ensures.stderr c.into_parts-ended.ensures.stdout is) c.report.ensures
+    let tree-is = rw c.into_parts-ended.ensures.host at c.in_ok-nodes.ensures.nodes in
+    IfOk-weaker c.report.result _ _
+    (λ text is. reports _ run listed c.in_ok-touched.ensures.rising
+    (rw (shown-is, tree-is, c.into_parts-ended.ensures.stderr, c.into_parts-ended.ensures.stdout) at is))
+    c.report.ensures.text

@@ -1,7 +1,7 @@
 use Rattle.std.proofs.Common.{◌≡◌, map, vec_len}
 use Rattle.std.specs.FinMap as maps
 use Rattle.wasi_tree.specs.Given.{pair_of}
-use Rattle.wasi_tree.specs.Rows.{names_in}
+use Rattle.wasi_tree.specs.StoredTree.{names_in}
 use Rattle.wasi_tree.proofs.NameLemmas.{with_entries}
 use Rattle.wasi_tree.proofs.row.first_names.Given as goal
 

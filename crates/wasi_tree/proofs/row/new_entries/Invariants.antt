@@ -1,6 +1,6 @@
 use Rattle.std.proofs.Common.{◌≡◌, ◌++◌, map}
 use Rattle.wasi_tree.specs.Given.{pair_of}
-use Rattle.wasi_tree.specs.Rows.{text_entry}
+use Rattle.wasi_tree.specs.StoredTree.{text_entry}
 use Rattle.wasi_tree.proofs.row.new_entries.Given as goal
 
 abbrev pub invariant-loop-name : goal.invariant-loop-name

@@ -1,0 +1,88 @@
+-- Reading the items of a list, one after another.
+use Rattle.std.proofs.Common.{ℕ, suc, List, [], ◌∷◌, ◌++◌, ◌+◌, ◌≡◌, ◌<◌, ◌≤◌, Option, Some, None, refl, ◌∙◌, ap, subst, arith, length, drop, get_or, map, add-one, append_assoc, append-nil, drop-cons}
+use Rattle.std.specs.Prelude.{option_map}
+use Rattle.std.proofs.lemmas.Grind.{common_steps}
+use Rattle.std.proofs.lemmas.List.{map-append}
+use Rattle.serde_json.specs.Data.{Data, Items, no_items, item}
+use Rattle.serde_json.specs.View.{view, items_view}
+use Rattle.serde_json.specs.declared.value.Value.{Value}
+use Rattle.wasi_form.specs.declared.shapes.Unread.{Unread}
+use Rattle.wasi_form.specs.declared.shapes.Unread.TheVariants.{Shape, Memory}
+use Rattle.wasi_form.specs.IsRead.{IsUnread}
+use Rattle.wasi_form.specs.Lists.{items_all, pushed, same, ◌>>=◌}
+
+-- what was read so far, before what is read of the rest
+abbrev pub before : {A : Type 0} → List A → Option (List A) → Option (List A)
+before done rest = option_map (λ xs. done ++ xs) rest
+
+abbrev pub SoFar : {A : Type 0} → (Data → Option A) → List Value → ℕ → List A → Type 0
+SoFar of values i done = items_all of (items_view values) ≡ before done (items_all of (items_view (drop i values)))
+
+pub then_cons : {A : Type 0} (x : A) (rest : Option (List A)) (done : List A) → before done (rest >>= (λ xs. Some (x ∷ xs))) ≡ before (done ++ x ∷ []) rest
+then_cons x None done = refl
+then_cons x (Some xs) done = rw append_assoc refl
+
+none_more : {A : Type 0} (of : Data → Option A) (values : List Value) (i : ℕ) (d : Value) (done : List A)
+    → SoFar of values i done → i < length values → of (view (get_or values i d)) ≡ None → items_all of (items_view values) ≡ None
+unfolding items_all
+none_more of values i d done so within none = so ∙ rw (drop-cons values i d, none) refl
+
+one_more : {A : Type 0} (of : Data → Option A) (values : List Value) (i : ℕ) (d : Value) (done : List A) (x : A)
+    → SoFar of values i done → i < length values → of (view (get_or values i d)) ≡ Some x → SoFar of values (i + 1) (done ++ x ∷ [])
+unfolding items_all
+one_more of values i d done x so within some = so ∙ rw (drop-cons values i d, some, add-one) (then_cons x (items_all of (items_view (drop (suc i) values))) done)
+
+pub no_more : {A : Type 0} (of : Data → Option A) (values : List Value) (i : ℕ) (done : List A)
+    → SoFar of values i done → length values ≤ i → items_all of (items_view values) ≡ Some done
+unfolding items_all
+no_more of values i done so all =
+    let none : drop i values ≡ [] = grind (arith, common_steps) in
+    so ∙ rw (none, append-nil) refl
+
+-- an item that isn't read
+fails_more : {A : Type 0} (of : Data → Option A) (values : List Value) (i : ℕ) (d : Value) (done : List A) (e : Unread)
+    → SoFar of values i done → i < length values → IsUnread e (of (view (get_or values i d))) → IsUnread e (items_all of (items_view values))
+fails_more of values i d done Shape so within none = none_more of values i d done so within none
+fails_more of values i d done Memory so within free = tt
+
+-- the same, where the item has a name
+pub fails_at : {A : Type 0} (of : Data → Option A) (values : List Value) (i : ℕ) (d : Value) (done : List A) (e : Unread)
+    → SoFar of values i done → i < length values → d ≡ get_or values i d → IsUnread e (of (view d)) → IsUnread e (items_all of (items_view values))
+fails_at of values i d done e so within is fails = fails_more of values i d done e so within (subst (λ (v : Value). IsUnread e (of (view v))) is fails)
+
+pub more_at : {T A : Type 0} (see : T → A) (of : Data → Option A) (values : List Value) (i : ℕ) (d : Value) (done : List T) (x : T)
+    → SoFar of values i (map see done) → i < length values → d ≡ get_or values i d → of (view d) ≡ Some (see x)
+    → SoFar of values (i + 1) (map see (done ++ x ∷ []))
+more_at see of values i d done x so within is some =
+    rw map-append (one_more of values i d (map see done) (see x) so within (subst (λ (v : Value). of (view v) ≡ Some (see x)) is some))
+
+pub map_same : {A : Type 0} (xs : List A) → map same xs ≡ xs
+map_same [] = refl
+map_same (x ∷ xs) = ap (λ ys. x ∷ ys) (map_same xs)
+
+-- what was read so far, if all was, before what is read of the rest
+abbrev pub after : {A : Type 0} → Option (List A) → Option (List A) → Option (List A)
+after None rest = None
+after (Some done) rest = before done rest
+
+pub after-nil : {A : Type 0} (rest : Option (List A)) → rest ≡ after (Some []) rest
+after-nil None = refl
+after-nil (Some xs) = refl
+
+pub after-no_items : {A : Type 0} (of : Data → Option A) (found : Option (List A)) → after found (items_all of no_items) ≡ found
+unfolding items_all
+after-no_items of None = refl
+after-no_items of (Some done) = rw append-nil refl
+
+pub after-item : {V T A : Type 0} (items : V → List T) (see : T → A) (of : Data → Option A) (found all : Option V) (x : Option T) (d : Data) (ds : Items)
+    → option_map items all ≡ pushed (option_map items found) x → of d ≡ option_map see x
+    → after (option_map (λ v. map see (items v)) found) (items_all of (item d ds)) ≡ after (option_map (λ v. map see (items v)) all) (items_all of ds)
+unfolding items_all
+after-item items see of None None x d ds is read = refl
+after-item items see of None (Some all) x d ds is read = absurd (cc)
+after-item items see of (Some done) None None d ds is read = rw read refl
+after-item items see of (Some done) None (Some x) d ds is read = absurd (cc)
+after-item items see of (Some done) (Some all) None d ds is read = absurd (cc)
+after-item items see of (Some done) (Some all) (Some x) d ds is read =
+    let added : items all ≡ items done ++ x ∷ [] = cc in
+    rw (read, added, map-append) (then_cons (see x) (items_all of ds) (map see (items done)))

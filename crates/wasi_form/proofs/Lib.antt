@@ -1,0 +1,12 @@
+pub mod Fronts
+pub mod Telling
+pub mod Grammar
+pub mod Unreads
+pub mod FoundParts
+pub mod ReadBack
+pub mod Items
+pub mod Keys
+pub mod Entries
+pub mod Lengths
+pub mod Values
+pub mod BuiltScripts

@@ -1,0 +1,374 @@
+-- A report's text tells the report: the text tells the value's JSON, and that tells each part.
+use Rattle.std.proofs.Common.{ℕ, ℤ, pos, negsuc, ◌^◌, ◌<◌, ◌≤◌, List, [], ◌∷◌, ◌++◌, ◌≡◌, Bool, true, false, cond, Less, Greater, Some, append_assoc, refl, sym, ap, ap₂, ◌∙◌, map, decimal, arith, codes}
+use Rattle.std.specs.Cmp.Lexicographic.{slice_cmp}
+use Rattle.std.specs.Fmt.{signed_decimal}
+use Rattle.std.specs.List.{AllByRecursion}
+use Rattle.std.specs.List.Sorted.{IsStrictlySortedBy}
+use Rattle.std.specs.Ordering.{nat_cmp, ordering_reverse}
+use Rattle.std.specs.Str.{bytes_eq}
+use Rattle.std.proofs.lemmas.Cmp.{nat_list_cmp_total}
+use Rattle.std.proofs.lemmas.List.{append-nil, append_cancel_right}
+use Rattle.std.proofs.lemmas.Fmt.{decimal_injective, signed_decimal_injective}
+use Rattle.hex.specs.Hex.{IsBytes, encode_lower}
+use Rattle.hex.proofs.HexLemmas.{decode_of-encode_lower, decode_of-same}
+use Rattle.json.specs.Json as json
+use Rattle.json.specs.Tree as tree
+use Rattle.json.specs.Print.{print}
+use Rattle.json.proofs.Printed.Decimals.{IsNumber-decimal, IsNumber-signed_decimal}
+use Rattle.json.proofs.Printed.Trees.{document-print}
+use Rattle.serde_json.specs.Data.{Data, Members, member, no_members, put}
+use Rattle.serde_json.specs.Find.{of_integer}
+use Rattle.serde_json.specs.View.{items_of}
+use Rattle.serde_json.specs.Written.{number_text, outline, items_outline, members_outline, compact_text}
+use Rattle.serde_json.proofs.Texts.{print-outline}
+use Rattle.wasi_host.proofs.Times as times
+use Rattle.wasi_host.specs.declared.system_time.SystemTime.{SystemTime}
+use Rattle.wasi_host.specs.declared.bits.Bits.{Bits}
+use Rattle.wasi_tree.specs.Given.{Given, GivenContent, file, directory, link}
+use Rattle.wasi_guest.specs.declared.answer.Answer.{Answer}
+use Rattle.wasi_guest.specs.declared.answer.Answer.TheVariants as answers
+use Rattle.wasi_guest.specs.declared.errno.Errno.{Errno}
+use Rattle.wasi_guest.specs.declared.errno.Errno.TheVariants as errno
+use Rattle.wasi_guest.specs.declared.answer.TrapKind.TheVariants.{Pointer}
+use Rattle.wasi_guest.specs.declared.answer.Value.TheVariants.{Number}
+use Rattle.wasi_guest.specs.ErrnoName.{errno_name}
+use Rattle.wasi_form.specs.Report.{Report, report_value, report_text, put_all, number_value, answer_value, hex_value, node_value, time_value, times_value, content_member, bits_text, bit_letter}
+use Rattle.wasi_form.specs.ReadBack.{FitsAnswer, FitsContent, FitsTime, FitsNode, IsOrdered, ReportsAreTold}
+
+-- ---- the JSON of a value has numbers, and is shallow
+
+record IsShallow (n : ℕ) (j : json.Json) : Type 0 where
+  numbers : tree.HasNumbers j
+  depth : tree.depth j ≤ n
+
+record AreShallow (n : ℕ) (js : json.Items) : Type 0 where
+  numbers : tree.ItemsHaveNumbers js
+  depth : tree.items_depth js ≤ n
+
+record AreMembersShallow (n : ℕ) (ms : json.Members) : Type 0 where
+  numbers : tree.MembersHaveNumbers ms
+  depth : tree.members_depth ms ≤ n
+
+abbrev Same : ℕ → ℕ → Type 0
+Same m n = m ≡ n
+
+-- ---- values of lists, one after another
+
+shallow_list : {A : Type 0} (n : ℕ) (P : A → Type 0) (value_of : A → Data) → ((a : A) → P a → IsShallow n (outline (value_of a)))
+    → (items : List A) → AllByRecursion P items → AreShallow n (items_outline (items_of (map value_of items)))
+shallow_list n P value_of each [] all = record { numbers = tt; depth = omega arith }
+shallow_list n P value_of each (a ∷ items) all =
+    let first = each a all.0 in
+    let rest = shallow_list n P value_of each items all.1 in
+    record { numbers = (first.numbers, rest.numbers); depth = omega arith }
+
+same_list : {A : Type 0} (P : A → Type 0) (value_of : A → Data) → ((a b : A) → P a → P b → outline (value_of a) ≡ outline (value_of b) → a ≡ b)
+    → (xs ys : List A) → AllByRecursion P xs → AllByRecursion P ys → items_outline (items_of (map value_of xs)) ≡ items_outline (items_of (map value_of ys)) → xs ≡ ys
+same_list P value_of each [] [] p q e = refl
+same_list P value_of each [] (b ∷ ys) p q e = absurd (cc)
+same_list P value_of each (a ∷ xs) [] p q e = absurd (cc)
+same_list P value_of each (a ∷ xs) (b ∷ ys) p q e =
+    let first : outline (value_of a) ≡ outline (value_of b) = cc in
+    let rest : items_outline (items_of (map value_of xs)) ≡ items_outline (items_of (map value_of ys)) = cc in
+    ap₂ (λ x xs. x ∷ xs) (each a b p.0 q.0 first) (same_list P value_of each xs ys p.1 q.1 rest)
+
+-- ---- numbers, bytes and answers
+
+same_number : (m n : ℕ) → m < 2 ^ 64 → n < 2 ^ 64 → outline (number_value m) ≡ outline (number_value n) → m ≡ n
+same_number m n p q e = let text : decimal m ≡ decimal n = cc in decimal_injective m n p q text
+
+shallow_number : (n : ℕ) → n < 2 ^ 64 → IsShallow 0 (outline (number_value n))
+shallow_number n fits = record { numbers = IsNumber-decimal n fits; depth = omega arith }
+
+same_bytes : (xs ys : List ℕ) → IsBytes xs → IsBytes ys → encode_lower xs ≡ encode_lower ys → xs ≡ ys
+same_bytes xs ys p q e = decode_of-same (encode_lower xs) xs ys (decode_of-encode_lower xs p) (rw e (decode_of-encode_lower ys q))
+
+same_hex : (xs ys : List ℕ) → IsBytes xs → IsBytes ys → outline (hex_value xs) ≡ outline (hex_value ys) → xs ≡ ys
+same_hex xs ys p q e = let text : encode_lower xs ≡ encode_lower ys = cc in same_bytes xs ys p q text
+
+abbrev all_errnos : List Errno
+all_errnos =
+    errno.Acces ∷ errno.Already ∷ errno.Badf ∷ errno.Busy ∷ errno.Exist ∷ errno.Fbig ∷ errno.Ilseq ∷ errno.Inprogress ∷ errno.Intr ∷ errno.Inval ∷ errno.Io
+    ∷ errno.Isdir ∷ errno.Loop ∷ errno.Mlink ∷ errno.Nametoolong ∷ errno.Noent ∷ errno.Nomem ∷ errno.Nospc ∷ errno.Notdir ∷ errno.Notempty ∷ errno.Notsup
+    ∷ errno.Overflow ∷ errno.Perm ∷ errno.Pipe ∷ errno.Spipe ∷ []
+
+abbrev named : List Errno → List ℕ → Errno
+named [] name = errno.Io
+named (e ∷ es) name = cond (bytes_eq (errno_name e) name) e (named es name)
+
+named-name : (e : Errno) → named all_errnos (errno_name e) ≡ e
+named-name errno.Acces = refl
+named-name errno.Already = refl
+named-name errno.Badf = refl
+named-name errno.Busy = refl
+named-name errno.Exist = refl
+named-name errno.Fbig = refl
+named-name errno.Ilseq = refl
+named-name errno.Inprogress = refl
+named-name errno.Intr = refl
+named-name errno.Inval = refl
+named-name errno.Io = refl
+named-name errno.Isdir = refl
+named-name errno.Loop = refl
+named-name errno.Mlink = refl
+named-name errno.Nametoolong = refl
+named-name errno.Noent = refl
+named-name errno.Nomem = refl
+named-name errno.Nospc = refl
+named-name errno.Notdir = refl
+named-name errno.Notempty = refl
+named-name errno.Notsup = refl
+named-name errno.Overflow = refl
+named-name errno.Perm = refl
+named-name errno.Pipe = refl
+named-name errno.Spipe = refl
+
+same_errno : (d e : Errno) → errno_name d ≡ errno_name e → d ≡ e
+same_errno d e same = sym (named-name d) ∙ ap (named all_errnos) same ∙ named-name e
+
+shallow_answer : (a : Answer) → FitsAnswer a → IsShallow 1 (outline (answer_value a))
+shallow_answer (answers.Ok (Number n)) fits = record { numbers = (IsNumber-decimal n fits, tt); depth = omega arith }
+shallow_answer (answers.Errno e) fits = record { numbers = (tt, tt); depth = omega arith }
+shallow_answer (answers.Trap Pointer) fits = record { numbers = (tt, tt); depth = omega arith }
+
+same_answer : (a b : Answer) → FitsAnswer a → FitsAnswer b → outline (answer_value a) ≡ outline (answer_value b) → a ≡ b
+same_answer (answers.Ok (Number m)) (answers.Ok (Number n)) p q e =
+    let text : decimal m ≡ decimal n = cc in ap (λ k. answers.Ok (Number k)) (decimal_injective m n p q text)
+same_answer (answers.Ok (Number m)) (answers.Errno f) p q e = let first : Same 111 101 = cc in absurd (omega arith)
+same_answer (answers.Ok (Number m)) (answers.Trap Pointer) p q e = let first : Same 111 116 = cc in absurd (omega arith)
+same_answer (answers.Errno d) (answers.Ok (Number n)) p q e = let first : Same 101 111 = cc in absurd (omega arith)
+same_answer (answers.Errno d) (answers.Errno f) p q e = let name : errno_name d ≡ errno_name f = cc in ap answers.Errno (same_errno d f name)
+same_answer (answers.Errno d) (answers.Trap Pointer) p q e = let first : Same 101 116 = cc in absurd (omega arith)
+same_answer (answers.Trap Pointer) (answers.Ok (Number n)) p q e = let first : Same 116 111 = cc in absurd (omega arith)
+same_answer (answers.Trap Pointer) (answers.Errno f) p q e = let first : Same 116 101 = cc in absurd (omega arith)
+same_answer (answers.Trap Pointer) (answers.Trap Pointer) p q e = refl
+
+-- ---- bits and times
+
+same_letter : (letter : ℕ) (x y : Bool) → (letter ≡ 45 → ⊥) → bit_letter letter x ≡ bit_letter letter y → x ≡ y
+same_letter letter true true other e = refl
+same_letter letter true false other e = absurd (other e)
+same_letter letter false true other e = absurd (other (sym e))
+same_letter letter false false other e = refl
+
+same_bits : (a b : Bits) → bits_text a ≡ bits_text b → a ≡ b
+same_bits a b e =
+    let r_text : bit_letter 114 a.r ≡ bit_letter 114 b.r = cc in
+    let w_text : bit_letter 119 a.w ≡ bit_letter 119 b.w = cc in
+    let x_text : bit_letter 120 a.x ≡ bit_letter 120 b.x = cc in
+    let make : Bool → Bool → Bool → Bits = λ r w x. record { r = r; w = w; x = x } in
+    ap (λ r. make r a.w a.x) (same_letter 114 a.r b.r (λ h. omega arith) r_text) ∙ ap (λ w. make b.r w a.x) (same_letter 119 a.w b.w (λ h. omega arith) w_text)
+    ∙ ap (make b.r b.w) (same_letter 120 a.x b.x (λ h. omega arith) x_text)
+
+integer_text : (z : ℤ) → number_text (of_integer z) ≡ signed_decimal z
+integer_text (pos n) = refl
+integer_text (negsuc n) = refl
+
+shallow_time : (t : SystemTime) → FitsTime t → IsShallow 1 (outline (time_value t))
+shallow_time t fits = record {
+  numbers = (rw integer_text (IsNumber-signed_decimal t.seconds fits.seconds), (IsNumber-decimal t.nanoseconds fits.nanoseconds, tt));
+  depth = omega arith;
+}
+
+told_time : (s t : SystemTime) → FitsTime s → FitsTime t → outline (time_value s) ≡ outline (time_value t) → s ≡ t
+told_time s t p q e =
+    let seconds_text : number_text (of_integer s.seconds) ≡ number_text (of_integer t.seconds) = cc in
+    let nanoseconds_text : decimal s.nanoseconds ≡ decimal t.nanoseconds = cc in
+    times.same_time s t
+    (signed_decimal_injective s.seconds t.seconds p.seconds q.seconds (sym (integer_text s.seconds) ∙ seconds_text ∙ integer_text t.seconds))
+    (decimal_injective s.nanoseconds t.nanoseconds p.nanoseconds q.nanoseconds nanoseconds_text)
+
+-- ---- a directory whose names rise
+
+abbrev Entries : Type 0
+Entries = List (List ℕ × ℕ)
+
+abbrev IsRising : Entries → Type 0
+IsRising entries = IsStrictlySortedBy (slice_cmp nat_cmp) (map (λ e. e.0) entries)
+
+abbrev in_order : Entries → Members
+in_order [] = no_members
+in_order (e ∷ es) = member e.0 (number_value e.1) (in_order es)
+
+below_middle : (name : List ℕ) (done : Entries) (e : List ℕ × ℕ) (more : Entries)
+    → AllByRecursion (λ y. slice_cmp nat_cmp name y ≡ Less) (map (λ e. e.0) (done ++ e ∷ more)) → slice_cmp nat_cmp name e.0 ≡ Less
+below_middle name [] e more h = h.0
+below_middle name (x ∷ done) e more h = below_middle name done e more h.1
+
+put_last : (done : Entries) (e : List ℕ × ℕ) (more : Entries) → IsRising (done ++ e ∷ more) → put e.0 (number_value e.1) (in_order done) ≡ in_order (done ++ e ∷ [])
+unfolding IsStrictlySortedBy
+put_last [] e more h = refl
+put_last (first ∷ done) e more h =
+    let above : slice_cmp nat_cmp e.0 first.0 ≡ Greater = nat_list_cmp_total.antisymm e.0 first.0 ∙ ap ordering_reverse (below_middle first.0 done e more h.0) in
+    rw above (ap (member first.0 (number_value first.1)) (put_last done e more h.1))
+
+put_after : (done more : Entries) → IsRising (done ++ more) → put_all more (in_order done) ≡ in_order (done ++ more)
+put_after done [] h = ap in_order (sym (append-nil done))
+put_after done (e ∷ more) h =
+    ap (put_all more) (put_last done e more h) ∙ put_after (done ++ e ∷ []) more (rw append_assoc h) ∙ ap in_order (append_assoc done (e ∷ []) more)
+
+put_rising : (entries : Entries) → IsRising entries → put_all entries no_members ≡ in_order entries
+put_rising entries h = put_after [] entries h
+
+shallow_entries : (entries : Entries) → AllByRecursion (λ e. e.1 < 2 ^ 64) entries → AreMembersShallow 0 (members_outline (in_order entries))
+shallow_entries [] fits = record { numbers = tt; depth = omega arith }
+shallow_entries (e ∷ es) fits =
+    let rest = shallow_entries es fits.1 in
+    record { numbers = (IsNumber-decimal e.1 fits.0, rest.numbers); depth = omega arith }
+
+same_entries : (xs ys : Entries) → AllByRecursion (λ e. e.1 < 2 ^ 64) xs → AllByRecursion (λ e. e.1 < 2 ^ 64) ys
+    → members_outline (in_order xs) ≡ members_outline (in_order ys) → xs ≡ ys
+same_entries [] [] p q e = refl
+same_entries [] (y ∷ ys) p q e = absurd (cc)
+same_entries (x ∷ xs) [] p q e = absurd (cc)
+same_entries (x ∷ xs) (y ∷ ys) p q e =
+    let name : x.0 ≡ y.0 = cc in
+    let text : decimal x.1 ≡ decimal y.1 = cc in
+    let rest : members_outline (in_order xs) ≡ members_outline (in_order ys) = cc in
+    let make : List ℕ → ℕ → List ℕ × ℕ = λ k n. (k, n) in
+    ap₂ (λ z zs. z ∷ zs) (ap₂ make name (decimal_injective x.1 y.1 p.0 q.0 text)) (same_entries xs ys p.1 q.1 rest)
+
+-- ---- nodes
+
+shallow_content : (c : GivenContent) (ms : Members) → FitsContent c → AreMembersShallow 2 (members_outline ms) → AreMembersShallow 2 (members_outline (content_member c ms))
+shallow_content (file bytes) ms fits others = record { numbers = (tt, others.numbers); depth = omega arith }
+shallow_content (directory entries) ms fits others =
+    let inside : AreMembersShallow 0 (members_outline (put_all entries no_members)) = rw (put_rising entries fits.0) (shallow_entries entries fits.1) in
+    record { numbers = (inside.numbers, others.numbers); depth = omega arith }
+shallow_content (link text) ms fits others = record { numbers = (tt, others.numbers); depth = omega arith }
+
+same_content : (c d : GivenContent) (ms ns : Members) → FitsContent c → FitsContent d → members_outline (content_member c ms) ≡ members_outline (content_member d ns)
+    → (c ≡ d) × (members_outline ms ≡ members_outline ns)
+same_content (file xs) (file ys) ms ns p q e =
+    let text : encode_lower xs ≡ encode_lower ys = cc in
+    let rest : members_outline ms ≡ members_outline ns = cc in
+    (ap file (same_bytes xs ys p q text), rest)
+same_content (file xs) (directory ys) ms ns p q e = let first : Same 102 100 = cc in absurd (omega arith)
+same_content (file xs) (link ys) ms ns p q e = let first : Same 102 108 = cc in absurd (omega arith)
+same_content (directory xs) (file ys) ms ns p q e = let first : Same 100 102 = cc in absurd (omega arith)
+same_content (directory xs) (directory ys) ms ns p q e =
+    let inside : members_outline (put_all xs no_members) ≡ members_outline (put_all ys no_members) = cc in
+    let rest : members_outline ms ≡ members_outline ns = cc in
+    let rising = rw (put_rising xs p.0, put_rising ys q.0) at inside in
+    (ap directory (same_entries xs ys p.1 q.1 rising), rest)
+same_content (directory xs) (link ys) ms ns p q e = let first : Same 100 108 = cc in absurd (omega arith)
+same_content (link xs) (file ys) ms ns p q e = let first : Same 108 102 = cc in absurd (omega arith)
+same_content (link xs) (directory ys) ms ns p q e = let first : Same 108 100 = cc in absurd (omega arith)
+same_content (link xs) (link ys) ms ns p q e =
+    let text : xs ≡ ys = cc in
+    let rest : members_outline ms ≡ members_outline ns = cc in
+    (ap link text, rest)
+
+shallow_node : (g : Given) → FitsNode g → IsShallow 3 (outline (node_value g))
+shallow_node g fits =
+    let accessed = shallow_time g.atime fits.atime in
+    let modified = shallow_time g.mtime fits.mtime in
+    let created = shallow_time g.btime fits.btime in
+    let times : AreMembersShallow 2 (members_outline (member (codes "times") (times_value g) no_members)) =
+    record { numbers = ((accessed.numbers, (modified.numbers, (created.numbers, tt))), tt); depth = omega arith } in
+    let content = shallow_content g.content _ fits.content times in
+    record { numbers = (tt, content.numbers); depth = omega arith }
+
+same_node : (a b : Given) → FitsNode a → FitsNode b → outline (node_value a) ≡ outline (node_value b) → a ≡ b
+same_node a b p q e =
+    let letters : bits_text a.bits ≡ bits_text b.bits = cc in
+    let times_of : Given → Members = λ g. member (codes "times") (times_value g) no_members in
+    let inside : members_outline (content_member a.content (times_of a)) ≡ members_outline (content_member b.content (times_of b)) = cc in
+    let parts = same_content a.content b.content (times_of a) (times_of b) p.content q.content inside in
+    let times : members_outline (times_of a) ≡ members_outline (times_of b) = parts.1 in
+    let accessed : outline (time_value a.atime) ≡ outline (time_value b.atime) = cc in
+    let modified : outline (time_value a.mtime) ≡ outline (time_value b.mtime) = cc in
+    let created : outline (time_value a.btime) ≡ outline (time_value b.btime) = cc in
+    let make : GivenContent → Bits → SystemTime → SystemTime → SystemTime → Given = λ c bits s t u. record { content = c; bits = bits; atime = s; mtime = t; btime = u } in
+    ap (λ c. make c a.bits a.atime a.mtime a.btime) parts.0
+    ∙ ap (λ bits. make b.content bits a.atime a.mtime a.btime) (same_bits a.bits b.bits letters)
+    ∙ ap (λ t. make b.content b.bits t a.mtime a.btime) (told_time a.atime b.atime p.atime q.atime accessed)
+    ∙ ap (λ t. make b.content b.bits b.atime t a.btime) (told_time a.mtime b.mtime p.mtime q.mtime modified)
+    ∙ ap (make b.content b.bits b.atime b.mtime) (told_time a.btime b.btime p.btime q.btime created)
+
+-- ---- reports
+
+shallow_report : (r : Report) → IsOrdered r → IsShallow 128 (outline (report_value r))
+shallow_report r h =
+    let answers = shallow_list 1 FitsAnswer answer_value shallow_answer r.answers h.answers in
+    let memory = shallow_list 0 IsBytes hex_value (λ bytes fits. record { numbers = tt; depth = omega arith }) r.memory h.memory in
+    let touched = shallow_list 0 (λ n. n < 2 ^ 64) number_value shallow_number r.touched h.touched in
+    let nodes = shallow_list 3 FitsNode node_value shallow_node r.tree h.tree in
+    record { numbers = (answers.numbers, (memory.numbers, (tt, (tt, (touched.numbers, (nodes.numbers, tt)))))); depth = omega arith }
+
+-- ---- the parts of an object's JSON
+
+abbrev members_in : json.Json → json.Members
+members_in json.null = json.no_members
+members_in (json.boolean b) = json.no_members
+members_in (json.number s) = json.no_members
+members_in (json.string s) = json.no_members
+members_in (json.array js) = json.no_members
+members_in (json.object ms) = ms
+
+abbrev items_in : json.Json → json.Items
+items_in json.null = json.no_items
+items_in (json.boolean b) = json.no_items
+items_in (json.number s) = json.no_items
+items_in (json.string s) = json.no_items
+items_in (json.array js) = js
+items_in (json.object ms) = json.no_items
+
+abbrev text_in : json.Json → List ℕ
+text_in json.null = []
+text_in (json.boolean b) = []
+text_in (json.number s) = s
+text_in (json.string s) = s
+text_in (json.array js) = []
+text_in (json.object ms) = []
+
+abbrev after_first : json.Members → json.Members
+after_first json.no_members = json.no_members
+after_first (json.member k j ms) = ms
+
+abbrev items_first : json.Members → json.Items
+items_first json.no_members = json.no_items
+items_first (json.member k j ms) = items_in j
+
+abbrev text_first : json.Members → List ℕ
+text_first json.no_members = []
+text_first (json.member k j ms) = text_in j
+
+-- the JSON of a list
+abbrev list_json : {A : Type 0} → (A → Data) → List A → json.Items
+list_json value_of items = items_outline (items_of (map value_of items))
+
+same_report : (a b : Report) → IsOrdered a → IsOrdered b → outline (report_value a) ≡ outline (report_value b) → a ≡ b
+same_report a b p q e =
+    let from_answers = ap members_in e in
+    let from_memory = ap after_first from_answers in
+    let from_stderr = ap after_first from_memory in
+    let from_stdout = ap after_first from_stderr in
+    let from_touched = ap after_first from_stdout in
+    let from_tree = ap after_first from_touched in
+    let answers : list_json answer_value a.answers ≡ list_json answer_value b.answers = ap items_first from_answers in
+    let memory : list_json hex_value a.memory ≡ list_json hex_value b.memory = ap items_first from_memory in
+    let stderr : encode_lower a.stderr ≡ encode_lower b.stderr = ap text_first from_stderr in
+    let stdout : encode_lower a.stdout ≡ encode_lower b.stdout = ap text_first from_stdout in
+    let touched : list_json number_value a.touched ≡ list_json number_value b.touched = ap items_first from_touched in
+    let nodes : list_json node_value a.tree ≡ list_json node_value b.tree = ap items_first from_tree in
+    let make : List Answer → List (List ℕ) → List ℕ → List ℕ → List ℕ → List Given → Report =
+    λ answers memory stderr stdout touched tree. record { answers = answers; memory = memory; stderr = stderr; stdout = stdout; touched = touched; tree = tree } in
+    ap (λ x. make x a.memory a.stderr a.stdout a.touched a.tree) (same_list FitsAnswer answer_value same_answer a.answers b.answers p.answers q.answers answers)
+    ∙ ap (λ x. make b.answers x a.stderr a.stdout a.touched a.tree) (same_list IsBytes hex_value same_hex a.memory b.memory p.memory q.memory memory)
+    ∙ ap (λ x. make b.answers b.memory x a.stdout a.touched a.tree) (same_bytes a.stderr b.stderr p.stderr q.stderr stderr)
+    ∙ ap (λ x. make b.answers b.memory b.stderr x a.touched a.tree) (same_bytes a.stdout b.stdout p.stdout q.stdout stdout)
+    ∙ ap (λ x. make b.answers b.memory b.stderr b.stdout x a.tree) (same_list (λ n. n < 2 ^ 64) number_value same_number a.touched b.touched p.touched q.touched touched)
+    ∙ ap (make b.answers b.memory b.stderr b.stdout b.touched) (same_list FitsNode node_value same_node a.tree b.tree p.tree q.tree nodes)
+
+pub told : ReportsAreTold
+unfolding report_text
+told a b p q e =
+    let first = shallow_report a p in
+    let second = shallow_report b q in
+    let texts : compact_text (report_value a) ≡ compact_text (report_value b) = append_cancel_right _ _ (10 ∷ []) e in
+    let printed : print (tree.json_tokens (outline (report_value a))) ≡ print (tree.json_tokens (outline (report_value b))) =
+    print-outline (report_value a) ∙ texts ∙ sym (print-outline (report_value b)) in
+    let documents : Some (outline (report_value a)) ≡ Some (outline (report_value b)) =
+    sym (document-print (outline (report_value a)) first.numbers first.depth) ∙ ap json.document printed ∙ document-print (outline (report_value b)) second.numbers second.depth in
+    same_report a b p q (cc)

@@ -1,0 +1,17 @@
+pub mod Ends
+pub mod IsRead
+pub mod Lists
+pub mod Shapes
+pub mod Plan
+pub mod NodeForm
+pub mod PreopenForm
+pub mod MemoryForm
+pub mod CallForm
+pub mod ScriptForm
+pub mod Built
+pub mod Verdict
+pub mod Report
+pub mod Told
+pub mod ReadBack
+pub mod Tokens
+pub mod Parts

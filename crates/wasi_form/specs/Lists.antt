@@ -1,0 +1,44 @@
+-- Options one after another, and lists of a shape.
+use Rattle.std.specs.Prelude.{List, [], ◌∷◌, ◌++◌, Bool, if◌then◌else◌, Option, Some, None, option_and_then}
+use Rattle.serde_json.specs.Data.{Data, Items, no_items, item}
+use Rattle.serde_json.specs.Find as find
+
+-- what is seen of a value that is seen as it is
+abbrev pub same : {A : Type 0} → A → A
+same x = x
+
+-- the ? of the logic
+infixl 10 ◌>>=◌
+abbrev pub ◌>>=◌ : {A B : Type 0} → Option A → (A → Option B) → Option B
+o >>= f = option_and_then f o
+
+-- a step of a block that goes on where a test holds
+abbrev pub only_if : Bool → Option (Unit {0})
+only_if holds = if holds then Some tt else None
+
+-- a part that must be there
+abbrev pub needed : {A : Type 0} → (Data → Option A) → Option Data → Option A
+needed of part = option_and_then of part
+
+-- a part that may be left out
+abbrev pub optional : {A : Type 0} → (Data → Option A) → A → Option Data → Option A
+optional of absent None = Some absent
+optional of absent (Some d) = of d
+
+-- each item of the shape
+unfoldable pub items_all : {A : Type 0} → (Data → Option A) → Items → Option (List A)
+items_all of no_items = Some []
+items_all of (item d ds) = do
+  x ← of d
+  xs ← items_all of ds
+  Some (x ∷ xs)
+
+-- the list with one more item, where both are there
+abbrev pub pushed : {A : Type 0} → Option (List A) → Option A → Option (List A)
+pushed None x = None
+pushed (Some xs) None = None
+pushed (Some xs) (Some x) = Some (xs ++ x ∷ [])
+
+-- a list, each item of the shape
+abbrev pub list_of : {A : Type 0} → (Data → Option A) → Data → Option (List A)
+list_of of d = find.as_array d >>= items_all of

@@ -1,0 +1,54 @@
+-- A script as plain data.
+use Rattle.std.specs.Prelude.{ℕ, List, map}
+use Rattle.std.specs.String.{string_bytes}
+use Rattle.wasi_tree.specs.Given.{Given, given}
+use Rattle.wasi_guest.specs.declared.call.Call.{Call}
+use Rattle.wasi_form.specs.declared.script.Script.{Script}
+use Rattle.wasi_form.specs.declared.script.ScriptPreopen.{ScriptPreopen}
+use Rattle.wasi_form.specs.declared.script.Piece.{Piece}
+use Rattle.wasi_form.specs.declared.memory.ScriptMemory.{ScriptMemory}
+use Rattle.wasi_form.specs.declared.script.Shown.{Shown}
+
+-- a directory that the guest is given, by its node and the name that the guest knows
+pub record PlannedPreopen : Type 0 where
+  pub node : ℕ
+  pub name : List ℕ
+
+-- bytes that stand in the guest's memory from an offset on
+pub record PlannedPiece : Type 0 where
+  pub offset : ℕ
+  pub bytes : List ℕ
+
+-- the size of the guest's memory, and what stands in it
+pub record PlannedMemory : Type 0 where
+  pub size : ℕ
+  pub pieces : List PlannedPiece
+
+-- a script as plain data
+pub record Plan : Type 0 where
+  pub nodes : List Given
+  pub preopens : List PlannedPreopen
+  pub size : ℕ
+  pub pieces : List PlannedPiece
+  pub show : List Shown
+  pub calls : List Call
+
+abbrev pub planned_preopen : ScriptPreopen → PlannedPreopen
+planned_preopen preopen = record { node = preopen.node; name = string_bytes preopen.name }
+
+abbrev pub planned_piece : Piece → PlannedPiece
+planned_piece piece = record { offset = piece.offset; bytes = piece.bytes.items }
+
+abbrev pub planned_memory : ScriptMemory → PlannedMemory
+planned_memory memory = record { size = memory.size; pieces = map planned_piece memory.pieces.items }
+
+-- what a script in Rust stands for
+abbrev pub plan : Script → Plan
+plan s = record {
+  nodes = map given s.nodes.items;
+  preopens = map planned_preopen s.preopens.items;
+  size = s.size;
+  pieces = map planned_piece s.pieces.items;
+  show = s.show.items;
+  calls = s.calls.items;
+}

@@ -1,0 +1,38 @@
+//! A script: a tree of files, what the guest is given of it, its memory, and its calls.
+
+use wasi_guest::Call;
+use wasi_tree::NewNode;
+
+/// A directory that the guest is given, to be read alone: its node's number, and the name under which the guest knows
+/// it.
+#[derive(Debug, Drop)]
+pub struct ScriptPreopen {
+    pub node: u64,
+    pub name: String,
+}
+
+/// Bytes that stand in the guest's memory from an offset on.
+#[derive(Debug, Drop)]
+pub struct Piece {
+    pub offset: u32,
+    pub bytes: Vec<u8>,
+}
+
+/// A range of the guest's memory that is to be shown after the run.
+#[derive(Clone, Copy, Debug, PartialEq, Eq)]
+pub struct Shown {
+    pub ptr: u32,
+    pub len: u32,
+}
+
+/// A tree of files, the directories that the guest is given, the size of its memory in bytes, the pieces that are
+/// written there before the run, the ranges that are shown after it, and the calls.
+#[derive(Drop)]
+pub struct Script {
+    pub nodes: Vec<NewNode>,
+    pub preopens: Vec<ScriptPreopen>,
+    pub size: u32,
+    pub pieces: Vec<Piece>,
+    pub show: Vec<Shown>,
+    pub calls: Vec<Call>,
+}

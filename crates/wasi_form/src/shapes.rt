@@ -1,0 +1,250 @@
+//! What a value of JSON is read as.
+ghost use Rattle.std.specs.Prelude.{◌≡◌, ◌^◌, [], Option, string_bytes, option_map, map};
+ghost use Rattle.std.specs.List.{list_all};
+ghost use Rattle.std.specs.BTreeMap.{keys};
+ghost use Rattle.serde_json.specs.Data.{Data};
+ghost use Rattle.serde_json.specs.Find as find;
+ghost use Rattle.serde_json.specs.View.{view, items_view, members_view};
+ghost use Rattle.wasi_form.specs.IsRead.{IsRead};
+ghost use Rattle.wasi_form.specs.Lists as lists;
+ghost use Rattle.wasi_form.specs.Lists.{same, items_all, list_of};
+ghost use Rattle.wasi_form.specs.Shapes as shapes;
+
+use hex::FromHexError;
+use json::Invalid;
+use serde_json::{Map, Value};
+use std::alloc::{AllocError, AllocFailed, Global};
+
+/// Why a value isn't read: it is of another shape, or memory was wanted.
+#[derive(Clone, Copy, Debug, PartialEq, Eq)]
+pub enum Unread {
+    Shape,
+    Memory,
+}
+
+impl From<AllocError> for Unread {
+    ghost use Rattle.wasi_form.specs.declared.shapes.Unread.TheVariants.{Memory};
+
+    ghost from_gives = { λ _ e. e ≡ Memory };
+
+    fn from(_: AllocError) -> Self {
+        Unread::Memory
+    }
+}
+
+impl<T: Drop> From<AllocFailed<T>> for Unread {
+    ghost use Rattle.wasi_form.specs.declared.shapes.Unread.TheVariants.{Memory};
+
+    ghost from_gives = { λ _ e. e ≡ Memory };
+
+    fn from(_: AllocFailed<T>) -> Self {
+        Unread::Memory
+    }
+}
+
+impl From<Invalid> for Unread {
+    ghost use Rattle.wasi_form.specs.declared.shapes.Unread.TheVariants.{Shape};
+
+    ghost from_gives = { λ _ e. e ≡ Shape };
+
+    fn from(_: Invalid) -> Self {
+        Unread::Shape
+    }
+}
+
+/// The objects of a script, each with keys of its own.
+#[derive(Clone, Copy, Debug, PartialEq, Eq)]
+pub enum Form {
+    Script,
+    Node,
+    Preopen,
+    Memory,
+}
+
+impl Form {
+    fn has_key(self, key: &str) -> bool
+        ensures { result ≡ shapes.has_key self key.now }
+    {
+        match self {
+            Form::Script => is_script_key(key),
+            Form::Node => key == "dir" || key == "file",
+            Form::Preopen => key == "node" || key == "name" || key == "perms",
+            Form::Memory => key == "size" || key == "pieces",
+        }
+    }
+
+    fn has_each(self, members: &Map<String, Value>) -> bool
+        ensures { result ≡ list_all (λ k. shapes.has_key self (string_bytes k)) (keys members.now) }
+    {
+        members.keys().all(|key| self.has_key(key.as_str()))
+    }
+
+    fn has_keys(self, members: &Map<String, Value>) -> bool
+        ensures { result ≡ shapes.all_keys self (members_view members.now.entries) }
+    {
+        self.has_each(members)
+    }
+
+    /// Whether a value is an object with keys of this form alone.
+    pub fn is_of(self, value: &Value) -> bool
+        ensures { result ≡ shapes.is_object self (view value.now) }
+    {
+        match value.as_object() {
+            Some(members) => self.has_keys(members),
+            None => false,
+        }
+    }
+}
+
+fn is_script_key(key: &str) -> bool
+    ensures { result ≡ shapes.has_key Form.Script key.now }
+{
+    key == "nodes" || key == "preopens" || key == "memory" || key == "calls" || key == "show"
+}
+
+/// A type that is read of a value.
+pub trait Shaped: Drop + Sized {
+    /// What is seen of what is read.
+    ghost Seen: { Type 0 };
+
+    ghost see: { Self → Self.Seen };
+
+    ghost of: { Data → Option Self.Seen };
+
+    fn read(alloc: Global, value: &Value) -> Result<Self, Unread>
+        ensures { IsRead Self.see result (Self.of (view value.now)) };
+}
+
+impl Shaped for u64 {
+    ghost use Rattle.std.specs.Prelude.{ℕ};
+
+    ghost Seen = { ℕ };
+
+    ghost see = { same };
+
+    ghost of = { shapes.u64_of };
+
+    fn read(_alloc: Global, value: &Value) -> Result<u64, Unread> {
+        value.as_u64().ok_or(Unread::Shape)
+    }
+}
+
+impl Shaped for u32 {
+    ghost use Rattle.std.specs.Prelude.{ℕ};
+
+    ghost Seen = { ℕ };
+
+    ghost see = { same };
+
+    ghost of = { shapes.u32_of };
+
+    fn read(alloc: Global, value: &Value) -> Result<u32, Unread> {
+        number32(u64::read(alloc, value)?)
+    }
+}
+
+impl Shaped for String {
+    ghost use Rattle.std.specs.Prelude.{ℕ, List};
+
+    ghost Seen = { List ℕ };
+
+    ghost see = { string_bytes };
+
+    ghost of = { find.as_str };
+
+    fn read(alloc: Global, value: &Value) -> Result<String, Unread> {
+        match value.as_str() {
+            Some(text) => Ok(String::from_str(alloc, text)?),
+            None => Err(Unread::Shape),
+        }
+    }
+}
+
+/// A list, each item of its shape.
+impl<T: Shaped> Shaped for Vec<T> {
+    ghost use Rattle.std.specs.Prelude.{List};
+
+    ghost Seen = { List T.Seen };
+
+    ghost see = { λ v. map T.see v.items };
+
+    ghost of = { list_of T.of };
+
+    fn read(alloc: Global, value: &Value) -> Result<Vec<T>, Unread> {
+        list(alloc, value)
+    }
+}
+
+/// A number of 32 bits.
+pub fn number32(n: u64) -> Result<u32, Unread>
+    ensures { IsRead same result (shapes.below (2 ^ 32) n) }
+{
+    if n < 0x1_0000_0000 {
+        Ok(n as u32)
+    } else {
+        Err(Unread::Shape)
+    }
+}
+
+/// Goes on where a test holds.
+pub fn require(holds: bool) -> Result<(), Unread>
+    ensures { IsRead same result (lists.only_if holds) }
+{
+    if holds { Ok(()) } else { Err(Unread::Shape) }
+}
+
+/// A part that must be there.
+pub fn needed<T: Shaped>(alloc: Global, value: Option<&Value>) -> Result<T, Unread>
+    ensures { IsRead T.see result (lists.needed T.of (option_map (λ v. view v.now) value.entry)) }
+{
+    match value {
+        Some(value) => T::read(alloc, value),
+        None => Err(Unread::Shape),
+    }
+}
+
+/// The items of a list, each of its shape.
+pub fn items<T: Shaped>(alloc: Global, values: &[Value]) -> Result<Vec<T>, Unread>
+    ensures { IsRead (λ v. map T.see v.items) result (items_all T.of (items_view values.now)) }
+{
+    let mut read = Vec::new(alloc);
+    for item in values {
+        let next = T::read(alloc, item)?;
+        read.push(next)?;
+    }
+    Ok(read)
+}
+
+/// A list, each item of its shape.
+pub fn list<T: Shaped>(alloc: Global, value: &Value) -> Result<Vec<T>, Unread>
+    ensures { IsRead (λ v. map T.see v.items) result (list_of T.of (view value.now)) }
+{
+    match value.as_array() {
+        Some(values) => items(alloc, values.as_slice()),
+        None => Err(Unread::Shape),
+    }
+}
+
+/// Whether a value is this text.
+pub fn is_text(value: &Value, text: &str) -> bool
+    ensures { result ≡ shapes.is_text text.now (view value.now) }
+{
+    match value.as_str() {
+        Some(found) => found == text,
+        None => false,
+    }
+}
+
+/// The bytes of a hex text.
+pub fn hex_bytes(alloc: Global, value: &Value) -> Result<Vec<u8>, Unread>
+    ensures { IsRead (λ v. v.items) result (shapes.hex_of (view value.now)) }
+{
+    let Some(text) = value.as_str() else {
+        return Err(Unread::Shape);
+    };
+    match hex::decode(alloc, text) {
+        Ok(bytes) => Ok(bytes),
+        Err(FromHexError::OutOfMemory) => Err(Unread::Memory),
+        Err(_) => Err(Unread::Shape),
+    }
+}

@@ -1,0 +1,6 @@
+pub mod Steps
+pub mod Range
+pub mod Lending
+pub mod Iovec
+pub mod Room
+pub mod ErrnoName

@@ -1,0 +1,24 @@
+//! What a call answers.
+
+use crate::errno::Errno;
+
+/// Why a guest is stopped.
+#[derive(Clone, Copy, Debug, PartialEq, Eq)]
+pub enum TrapKind {
+    /// A range leaves the guest's memory, or a record in it isn't aligned.
+    Pointer,
+}
+
+/// What a call answers beside its success.
+#[derive(Clone, Copy, Debug, PartialEq, Eq)]
+pub enum Value {
+    Number(u64),
+}
+
+/// The answer of a call.
+#[derive(Clone, Copy, Debug, PartialEq, Eq)]
+pub enum Answer {
+    Ok(Value),
+    Errno(Errno),
+    Trap(TrapKind),
+}

@@ -1,0 +1,16 @@
+//! What a guest of `wasi_snapshot_preview1` sees: its memory, its calls as plain values, and what they answer.
+#![tactic(auto)]
+
+mod answer;
+mod answers;
+mod call;
+mod errno;
+mod iovec;
+mod memory;
+
+pub use answer::{Answer, TrapKind, Value};
+pub use answers::Answers;
+pub use call::Call;
+pub use errno::Errno;
+pub use iovec::Iovec;
+pub use memory::GuestMemory;

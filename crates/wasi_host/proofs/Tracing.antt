@@ -1,0 +1,115 @@
+-- Lemmas for callers of a host, on the look-ups that they add.
+use Rattle.std.proofs.Common.{◌≡◌, ◌⊎◌, inl, inr, ℕ, List, [], ◌∷◌, ◌++◌, Option, Some, None, refl, sym, ap, ◌∙◌, append_assoc}
+use Rattle.std.proofs.lemmas.List.{append-nil}
+use Rattle.wasi_host.specs.Meaning.{LoggedErr, MaybeLogged}
+use Rattle.wasi_host.specs.Lineage.{OrGot, OrGotIn, HasLineage, Traced, Only, Nothing}
+use Rattle.wasi_host.specs.declared.errors.ErrorCode.TheVariants.{Io}
+use Rattle.wasi_host.specs.declared.errors.HostError.{HostError}
+use Rattle.wasi_host.specs.declared.errors.HostError.TheVariants.{Code, Memory}
+use Rattle.wasi_host.specs.declared.lookup.Lookup.{Lookup}
+use Rattle.wasi_host.specs.declared.lookup.LookKind.{LookKind}
+
+-- ---- more handles are known
+
+or_got_more : (A B : ℕ → Type 0) → ((h : ℕ) → A h → B h) → (got : Option ℕ) (h : ℕ) → OrGot A got h → OrGot B got h
+or_got_more A B more None h has = more h has
+or_got_more A B more (Some g) h (inl has) = inl (more h has)
+or_got_more A B more (Some g) h (inr is) = inr is
+
+pub got_in_more : (A B : ℕ → Type 0) → ((h : ℕ) → A h → B h) → (piece : List Lookup) (h : ℕ) → OrGotIn A piece h
+    → OrGotIn B piece h
+got_in_more A B more [] h has = more h has
+got_in_more A B more (entry ∷ rest) h has = got_in_more (OrGot A entry.got) (OrGot B entry.got) (or_got_more A B more entry.got) rest h has
+
+pub lineage_more : (A B : ℕ → Type 0) → ((h : ℕ) → A h → B h) → (piece : List Lookup) → HasLineage A piece
+    → HasLineage B piece
+lineage_more A B more [] has = tt
+lineage_more A B more (entry ∷ rest) has =
+    (more entry.from has.0, lineage_more (OrGot A entry.got) (OrGot B entry.got) (or_got_more A B more entry.got) rest has.1)
+
+known_still : (A : ℕ → Type 0) (got : Option ℕ) (h : ℕ) → A h → OrGot A got h
+known_still A None h has = has
+known_still A (Some g) h has = inl has
+
+pub in_still : (A : ℕ → Type 0) (piece : List Lookup) (h : ℕ) → A h → OrGotIn A piece h
+in_still A [] h has = has
+in_still A (entry ∷ rest) h has = in_still (OrGot A entry.got) rest h (known_still A entry.got h has)
+
+-- ---- a piece behind another
+
+lineage-append : (A : ℕ → Type 0) (xs ys : List Lookup) → HasLineage A xs → HasLineage (OrGotIn A xs) ys
+    → HasLineage A (xs ++ ys)
+lineage-append A [] ys first second = second
+lineage-append A (x ∷ xs) ys first second = (first.0, lineage-append (OrGot A x.got) xs ys first.1 second)
+
+got_in-append : (A : ℕ → Type 0) (xs ys : List Lookup) (h : ℕ) → OrGotIn (OrGotIn A xs) ys h → OrGotIn A (xs ++ ys) h
+got_in-append A [] ys h has = has
+got_in-append A (x ∷ xs) ys h has = got_in-append (OrGot A x.got) xs ys h has
+
+-- a piece from handles that are kept, behind another
+pub traced_then : {Given Given' Kept Mid Kept' : ℕ → Type 0} {a b c : List Lookup} → ((h : ℕ) → Kept h → Given h)
+    → ((h : ℕ) → Given' h → Mid h)
+    → Traced Given Kept Mid a b → Traced Given' Mid Kept' b c → Traced Given Kept Kept' a c
+traced_then {Given} {Given'} {Kept} {Mid} {Kept'} {a} {b} {c} own from first second = record {
+  piece = first.piece ++ second.piece;
+  adds = second.adds ∙ ap (λ l. l ++ second.piece) first.adds ∙ append_assoc a first.piece second.piece;
+  lineage = lineage-append Given first.piece second.piece first.lineage
+      (lineage_more Given' (OrGotIn Given first.piece) (λ h has. got_in_more Kept Given own first.piece h (first.ends h (from h has))) second.piece second.lineage);
+  ends = λ h has. got_in-append Kept first.piece second.piece h (got_in_more Mid (OrGotIn Kept first.piece) first.ends second.piece h (second.ends h has));
+}
+
+-- ---- one call
+
+pub traced_none : (Given Kept Kept' : ℕ → Type 0) (old new : List Lookup) → new ≡ old → ((h : ℕ) → Kept' h → Kept h)
+    → Traced Given Kept Kept' old new
+traced_none Given Kept Kept' old new same less = record { piece = []; adds = same ∙ sym (append-nil old); lineage = tt; ends = less }
+
+traced_one : (Given Kept Kept' : ℕ → Type 0) (old new : List Lookup) (entry : Lookup) → Given entry.from
+    → new ≡ old ++ entry ∷ [] → ((h : ℕ) → Kept' h → OrGot Kept entry.got h) → Traced Given Kept Kept' old new
+traced_one Given Kept Kept' old new entry is adds ends = record { piece = entry ∷ []; adds = adds; lineage = (is, tt); ends = ends }
+
+-- a call that got a handle
+pub traced_got : (old new : List Lookup) (kind : LookKind) (from h : ℕ)
+    → new ≡ old ++ record { kind = kind; from = from; got = Some h } ∷ []
+    → Traced (Only from) Nothing (Only h) old new
+traced_got old new kind from h adds =
+    traced_one (Only from) Nothing (Only h) old new (record { kind = kind; from = from; got = Some h }) refl adds (λ q is. inr is)
+
+maybe_traced : (old new : List Lookup) (kind : LookKind) (from : ℕ) → MaybeLogged old kind from new
+    → Traced (Only from) Nothing Nothing old new
+maybe_traced old new kind from logged = elim logged [
+  | inl same ↦ traced_none (Only from) Nothing Nothing old new same (λ q none. none)
+  | inr adds ↦ traced_one (Only from) Nothing Nothing old new (record { kind = kind; from = from; got = adds.0 }) refl adds.1 (λ q none. absurd none)
+]
+
+-- a call that failed
+pub traced_err : (old new : List Lookup) (kind : LookKind) (from : ℕ) (e : HostError) → LoggedErr old kind from e new
+    → Traced (Only from) Nothing Nothing old new
+traced_err old new kind from Memory logged = maybe_traced old new kind from logged
+traced_err old new kind from (Code Io) logged = maybe_traced old new kind from logged
+traced_err old new kind from (Code code) logged =
+    traced_one (Only from) Nothing Nothing old new (record { kind = kind; from = from; got = None }) refl logged (λ q none. absurd none)
+
+-- ---- the same in other words
+
+-- calls that add none before or after
+pub traced_same : {Given Kept Kept' : ℕ → Type 0} {old new : List Lookup} (now : List Lookup) → now ≡ new
+    → Traced Given Kept Kept' old new → Traced Given Kept Kept' old now
+traced_same now same traced = record { piece = traced.piece; adds = same ∙ traced.adds; lineage = traced.lineage; ends = traced.ends }
+
+-- other handles are given
+pub traced_given : {Given Kept Kept' : ℕ → Type 0} {old new : List Lookup} (Given' : ℕ → Type 0)
+    → ((h : ℕ) → Given h → Given' h) → Traced Given Kept Kept' old new → Traced Given' Kept Kept' old new
+traced_given {Given} Given' more traced =
+    record { piece = traced.piece; adds = traced.adds; lineage = lineage_more Given Given' more traced.piece traced.lineage; ends = traced.ends }
+
+-- other handles are kept: each was kept, or is one that the piece got
+pub traced_kept : {Given Made : ℕ → Type 0} {old new : List Lookup} (Kept Kept' : ℕ → Type 0)
+    → ((h : ℕ) → Kept' h → Kept h ⊎ Made h) → Traced Given Nothing Made old new → Traced Given Kept Kept' old new
+traced_kept Kept Kept' each traced = record {
+  piece = traced.piece;
+  adds = traced.adds;
+  lineage = traced.lineage;
+  ends =
+      λ h has. elim (each h has) [ inl kept ↦ in_still Kept traced.piece h kept | inr made ↦ got_in_more Nothing Kept (λ q none. absurd none) traced.piece h (traced.ends h made) ];
+}

@@ -1,0 +1,42 @@
+//! What a live handle stands for.
+ghost use Rattle.std.specs.Prelude.{◌≡◌};
+ghost use Rattle.wasi_host.specs.Refusal.{can_read, can_write};
+
+/// What a live handle was opened for.
+#[derive(Clone, Copy, Debug, PartialEq, Eq)]
+pub enum AccessMode {
+    Read,
+    Write,
+    ReadWrite,
+    /// For looking up names and for metadata alone.
+    PathOnly,
+}
+
+impl AccessMode {
+    /// Whether bytes may be read.
+    pub fn can_read(self) -> bool
+        ensures test { result ≡ can_read self }
+    {
+        match self {
+            AccessMode::Read | AccessMode::ReadWrite => true,
+            AccessMode::Write | AccessMode::PathOnly => false,
+        }
+    }
+
+    /// Whether bytes may be written.
+    pub fn can_write(self) -> bool
+        ensures test { result ≡ can_write self }
+    {
+        match self {
+            AccessMode::Write | AccessMode::ReadWrite => true,
+            AccessMode::Read | AccessMode::PathOnly => false,
+        }
+    }
+}
+
+/// What a live handle stands for: a node, by its number, and what it was opened for.
+#[derive(Clone, Copy, Debug, PartialEq, Eq)]
+pub struct Held {
+    pub node: u64,
+    pub mode: AccessMode,
+}

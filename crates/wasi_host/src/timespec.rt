@@ -1,0 +1,52 @@
+//! Times to be set.
+ghost use Rattle.std.specs.Prelude.{◌≡◌};
+ghost use Rattle.wasi_host.specs.Time.{timespec_of};
+
+use crate::SystemTime;
+
+/// A time to be set, in the form that POSIX's `utimensat` takes.
+#[derive(Clone, Copy, Debug, PartialEq, Eq)]
+pub enum Timespec {
+    /// The time stays as it is.
+    Omit,
+    At { tv_sec: i64, tv_nsec: u32 },
+}
+
+/// A time to be set, by the crate's `to_timespec`: nothing is to be omitted.
+pub fn to_timespec(time: Option<SystemTime>) -> Timespec
+    ensures time { result ≡ timespec_of time }
+{
+    match time {
+        None => Timespec::Omit,
+        Some(time) => Timespec::At {
+            tv_sec: time.seconds,
+            tv_nsec: time.nanoseconds,
+        },
+    }
+}
+
+#[cfg(test)]
+mod tests {
+    use super::*;
+    use crate::system_time_from_rustix;
+
+    #[test]
+    fn times(rt: HostRuntime) {
+        assert_eq!(rt; to_timespec(None), Timespec::Omit);
+        for (seconds, nanoseconds) in [
+            (-1, 500_000_000),
+            (-1, 999_999_999),
+            (-1, 0),
+            (0, 500_000_000),
+        ] {
+            let want = Timespec::At {
+                tv_sec: seconds,
+                tv_nsec: nanoseconds,
+            };
+            let Some(time) = system_time_from_rustix(seconds, nanoseconds as u64) else {
+                panic!(rt; "no time");
+            };
+            assert_eq!(rt; to_timespec(Some(time)), want);
+        }
+    }
+}

@@ -1,0 +1,44 @@
+-- What a call adds to the look-ups, and the descriptors after it.
+use Rattle.std.proofs.Common.{ℕ, ◌≡◌, ◌⊎◌, inl, inr, List, ◌∷◌, Some, Ok, Err, slice_get, sym, ap, ◌∙◌, subst}
+use Rattle.wasi_host.specs.Lineage.{Traced, Only, Nothing}
+use Rattle.wasi_host.proofs.Tracing.{traced_then, traced_given, traced_kept}
+use Rattle.wasi_host.specs.declared.lookup.Lookup.{Lookup}
+use Rattle.wasi_p1.specs.Numbering.{with_new}
+use Rattle.wasi_p1.specs.Slots.{is_closed_slot}
+use Rattle.wasi_p1.specs.Owners.{handle_in, handles, uses, uses_in, IsHandle, under, MadeBy}
+use Rattle.wasi_p1.specs.declared.context.Slot.{Slot}
+use Rattle.wasi_p1.specs.declared.error.P1Error.{P1Error}
+use Rattle.wasi_p1.proofs.Counting.{one_of, item_is, handle_at, named_is, is_named}
+use Rattle.wasi_p1.proofs.Owning.{uses-new}
+
+-- a part of a call that gave a descriptor, which stands under its number
+pub traced_new : {Given : ℕ → Type 0} {old new : List Lookup} (table : List Slot) (slot : Slot)
+    → Traced Given Nothing (MadeBy (Ok slot)) old new
+    → Traced Given (IsHandle (handles table)) (IsHandle (handles (with_new is_closed_slot table slot))) old new
+traced_new table slot traced = traced_kept _ _ (λ q some.
+    elim (one_of (uses (handles table) q) (uses_in (handle_in slot) q) (uses-new table slot q) some) [
+      | inl was ↦ inl was
+      | inr made ↦ inr (item_is (handle_in slot) q made)
+    ]) traced
+
+-- one that was refused
+pub traced_refused : {Given Kept : ℕ → Type 0} {old new : List Lookup} (e : P1Error)
+    → Traced Given Nothing (MadeBy (Err e)) old new
+    → Traced Given Kept Kept old new
+traced_refused {Kept = Kept} e traced = traced_kept Kept Kept (λ q has. inl has) traced
+
+-- one that begins from the descriptor that the call names
+pub traced_at : {Kept Kept' : ℕ → Type 0} {old new : List Lookup} {slot : Slot} {h : ℕ} (table : List Slot) (fd : ℕ)
+    (fds : List ℕ)
+    → slice_get table fd ≡ Some slot → handle_in slot ≡ Some h → Traced (Only h) Kept Kept' old new
+    → Traced (IsHandle (under (handles table) (fd ∷ fds))) Kept Kept' old new
+traced_at {h = h} table fd fds is has traced =
+    let named = is_named (handles table) fd h fds (handle_at table fd is ∙ ap Some has) in
+    traced_given _ (λ q same. subst (IsHandle (under (handles table) (fd ∷ fds))) (sym same) named) traced
+
+-- the look-ups of one call more, from the descriptors that it names
+pub traced_on : {Given Kept' : ℕ → Type 0} {a b c : List Lookup} (mid : List Slot) (fds : List ℕ)
+    → Traced (IsHandle (under (handles mid) fds)) (IsHandle (handles mid)) Kept' b c
+    → Traced Given Given (IsHandle (handles mid)) a b
+    → Traced Given Given Kept' a c
+traced_on mid fds step so = traced_then (λ h has. has) (λ h named. named_is (handles mid) fds h named) so step

@@ -1,0 +1,38 @@
+use Rattle.std.proofs.Common.{refl, [], rules}
+use Rattle.std.proofs.lemmas.Result.{err_from_is_err_and}
+use Rattle.wasi_p1.proofs.CallTracing.{traced_at}
+use Rattle.wasi_p1.specs.Rows.{path_open}
+use Rattle.wasi_p1.proofs.Taking.{refused, asked_err, does_ok}
+use Rattle.wasi_p1.proofs.Fronts.{path_open_asks, with_places}
+use Rattle.wasi_p1.proofs.context.WasiP1Ctx.path_open.Goals as goal
+
+pub returns-in_err-number-clause-lineage : goal.returns-in_err-number-clause-lineage
+returns-in_err-number-clause-lineage g c =
+    rw (← c.self.view_is) (traced_at _ _ [] c.in_ok-directory.ensures.is refl c.in_err-number.ensures.lineage)
+
+pub returns-in_err-number-clause-turn : goal.returns-in_err-number-clause-turn
+returns-in_err-number-clause-turn g c =
+    let error = err_from_is_err_and c.from_residual-in_err-number.result c.from_residual-in_err-number.ensures.1 in
+    rw (error.1, error.2, ← c.self.view_is) (asked_err
+    (path_open_asks _ _ _ _ c.in_ok-text.ensures c.in_ok-directory.ensures.row c.in_ok-name.ensures.row)
+    c.in_err-number.ensures.from_host
+    (λ _. refl)
+    (record { slots = c.in_err-number.ensures.kept; stdout = refl; stderr = refl; memory = refl })
+    c.in_err-number.ensures.stays
+    c.in_err-number.ensures.told)
+
+pub returns-clause-lineage : goal.returns-clause-lineage
+returns-clause-lineage g c =
+    rw (← c.self.view_is) (traced_at _ _ [] c.in_ok-directory.ensures.is refl c.in_ok-number.ensures.lineage)
+
+pub returns-clause-turn : goal.returns-clause-turn
+returns-clause-turn g c = rw (← c.self.view_is) (does_ok with_places
+    (path_open_asks _ _ _ _ c.in_ok-text.ensures c.in_ok-directory.ensures.row c.in_ok-name.ensures.row)
+    refl
+    (let opens = c.in_ok-number.ensures.opens in (opens.0, tt, opens.1))
+    refl
+    (λ told. (c.in_ok-number.ensures.told told, refl)))
+
+pub returns-in_err-directory-clause-turn : goal.returns-in_err-directory-clause-turn
+unfolding path_open
+returns-in_err-directory-clause-turn g c = rw (← c.self.view_is) (search (rules, refused))

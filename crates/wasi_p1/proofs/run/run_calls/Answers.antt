@@ -1,0 +1,123 @@
+use Rattle.std.proofs.Common.{◌∙◌, inl, arith, sym, refl, length, take, drop, length-append, ◌≡◌, ◌+◌, ◌<◌, ◌≤◌}
+use Rattle.std.proofs.lemmas.List.{take_all}
+use Rattle.wasi_guest.specs.declared.call.Call.TheVariants.{PathOpen}
+use Rattle.wasi_host.proofs.Tracing.{traced_none}
+use Rattle.wasi_p1.proofs.CallTracing.{traced_on}
+use Rattle.wasi_p1.proofs.Runs.{nothing_yet, io_counted, turned_on, stood, stood_first, ended, all_done, call_at, calls_at}
+use Rattle.wasi_p1.proofs.Answering.{goes_on-push, each_answered, last_answered}
+use Rattle.wasi_p1.proofs.Confining.{turn_confines}
+use Rattle.wasi_p1.proofs.run.run_calls.Goals as goal
+
+-- ---- no call yet
+
+pub returns-in_default-clause-memory : goal.returns-in_default-clause-memory
+returns-in_default-clause-memory g c = λ told. stood_first
+
+pub loop-one-init : goal.loop-one-init
+loop-one-init g c = record {
+  size = refl;
+  ios = rw c.in-Ok.ensures.empty (inl (omega arith));
+  goes = rw c.in-Ok.ensures.empty tt;
+  handles = refl;
+  lineage = traced_none _ _ _ _ _ refl (λ h has. has);
+  run = λ told. rw c.in-Ok.ensures.empty nothing_yet;
+  confined = λ told start. start;
+  later = omega arith;
+  count = rw c.in-Ok.ensures.empty (omega arith);
+  room = let fits : c.len.result ≤ c.in-Ok.answers.spare = c.in-Ok.ensures.room in omega (arith, fits, c.len.ensures);
+}
+
+-- ---- one call more
+
+pub loop-one-preserved : goal.loop-one-preserved
+loop-one-preserved g c = record {
+  size = c.call-outcome.ensures.turn.size ∙ c.loop-one.invariant.size;
+  ios =
+      rw c.push.ensures.answers
+      (io_counted _ _ (sym c.in-Some.ensures) c.call-outcome.ensures.cause c.loop-one.invariant.ios);
+  goes =
+      rw c.push.ensures.answers
+      (goes_on-push _ _ c.loop-one.invariant.goes (sym c.ends_run.ensures ∙ c.if-ends_run.false));
+  handles = c.call-outcome.ensures.handles ∙ c.loop-one.invariant.handles;
+  lineage = traced_on _ _ c.call-outcome.ensures.lineage c.loop-one.invariant.lineage;
+  run = λ told.
+      let within : c.loop-one.one-index < length c.args.calls.now.items = omega arith in
+      let one = call_at c.args.calls.now.items c.loop-one.one-index (PathOpen 0 0 0 0 0 0 0 0) within in
+      let on = turned_on (sym c.in-Some.ensures) c.call-outcome.ensures.cause (c.call-outcome.ensures.turn.turn told)
+      (c.loop-one.invariant.run told) (sym c.ends_run.ensures ∙ c.if-ends_run.false) in
+      rw (c.push.ensures.answers, one) (rw c.deref-one-items.ensures.value at on);
+  confined = λ told start.
+      turn_confines (c.call-outcome.ensures.turn.turn told) (c.loop-one.invariant.confined told start);
+  later = omega arith;
+  count = rw (c.push.ensures.answers, length-append) (omega arith);
+  room = omega arith;
+}
+
+-- ---- memory was wanted
+
+pub returns-in-None-clause-size : goal.returns-in-None-clause-size
+returns-in-None-clause-size g c = c.call-outcome.ensures.turn.size ∙ c.loop-one.invariant.size
+
+pub returns-in-None-clause-handles : goal.returns-in-None-clause-handles
+returns-in-None-clause-handles g c = c.call-outcome.ensures.handles ∙ c.loop-one.invariant.handles
+
+pub returns-in-None-clause-lineage : goal.returns-in-None-clause-lineage
+returns-in-None-clause-lineage g c = traced_on _ _ c.call-outcome.ensures.lineage c.loop-one.invariant.lineage
+
+pub returns-in-None-clause-memory : goal.returns-in-None-clause-memory
+returns-in-None-clause-memory g c = λ told.
+    let n : c.len-in-None.result ≡ length c.loop-one.answers.answers = c.len-in-None.ensures.count in
+    let at : c.loop-one.one-index ≡ c.len-in-None.result = sym (n ∙ c.loop-one.invariant.count) in
+    stood (sym c.in-None.ensures) c.call-outcome.ensures.cause (c.call-outcome.ensures.turn.turn told) (sym n)
+    (rw at at (c.loop-one.invariant.run told))
+
+pub returns-in-None-clause-confined : goal.returns-in-None-clause-confined
+returns-in-None-clause-confined g c = λ told start.
+    turn_confines (c.call-outcome.ensures.turn.turn told) (c.loop-one.invariant.confined told start)
+
+-- ---- an answer that ends the run
+
+pub returns-then-ends_run-clause-size : goal.returns-then-ends_run-clause-size
+returns-then-ends_run-clause-size g c = c.call-outcome.ensures.turn.size ∙ c.loop-one.invariant.size
+
+pub returns-then-ends_run-clause-answers : goal.returns-then-ends_run-clause-answers
+returns-then-ends_run-clause-answers g c =
+    rw c.push.ensures.answers (last_answered c.args.calls.now.items c.loop-one.answers.answers _
+    (omega arith) c.loop-one.invariant.goes (sym c.ends_run.ensures ∙ c.if-ends_run.true))
+
+pub returns-then-ends_run-clause-ios : goal.returns-then-ends_run-clause-ios
+returns-then-ends_run-clause-ios g c =
+    rw c.push.ensures.answers
+    (io_counted _ _ (sym c.in-Some.ensures) c.call-outcome.ensures.cause c.loop-one.invariant.ios)
+
+pub returns-then-ends_run-clause-handles : goal.returns-then-ends_run-clause-handles
+returns-then-ends_run-clause-handles g c = c.call-outcome.ensures.handles ∙ c.loop-one.invariant.handles
+
+pub returns-then-ends_run-clause-lineage : goal.returns-then-ends_run-clause-lineage
+returns-then-ends_run-clause-lineage g c = traced_on _ _ c.call-outcome.ensures.lineage c.loop-one.invariant.lineage
+
+pub returns-then-ends_run-clause-run : goal.returns-then-ends_run-clause-run
+returns-then-ends_run-clause-run g c = λ told.
+    let within : c.loop-one.one-index < length c.args.calls.now.items = omega arith in
+    let all = calls_at c.args.calls.now.items c.loop-one.one-index (PathOpen 0 0 0 0 0 0 0 0) within in
+    let on = ended (sym c.in-Some.ensures) c.call-outcome.ensures.cause (c.call-outcome.ensures.turn.turn told)
+    (c.loop-one.invariant.run told) (drop (c.loop-one.one-index + 1) c.args.calls.now.items)
+    (sym c.ends_run.ensures ∙ c.if-ends_run.true) in
+    rw (c.push.ensures.answers) (rw (c.deref-one-items.ensures.value, all) at on)
+
+pub returns-then-ends_run-clause-confined : goal.returns-then-ends_run-clause-confined
+returns-then-ends_run-clause-confined g c = λ told start.
+    turn_confines (c.call-outcome.ensures.turn.turn told) (c.loop-one.invariant.confined told start)
+
+-- ---- all calls are answered
+
+pub returns-clause-size : goal.returns-clause-size
+returns-clause-size g c = c.loop-one.invariant.size
+
+pub returns-clause-answers : goal.returns-clause-answers
+returns-clause-answers g c = each_answered _ _ (omega arith) c.loop-one.invariant.goes
+
+pub returns-clause-run : goal.returns-clause-run
+returns-clause-run g c = λ told.
+    rw (take_all c.loop-one.one-index c.args.calls.now.items (omega arith)) at
+    (all_done (c.loop-one.invariant.run told))

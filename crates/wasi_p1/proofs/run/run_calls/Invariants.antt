@@ -1,0 +1,33 @@
+use Rattle.std.proofs.Common.{take, length, ◌+◌, ◌≤◌, ◌≡◌}
+use Rattle.std.specs.Prelude.{IsTrue}
+use Rattle.wasi_p1.specs.Guest.{state_of}
+use Rattle.wasi_p1.specs.Reach.{Confined}
+use Rattle.wasi_p1.specs.Run.{ios, Allows}
+use Rattle.wasi_p1.specs.CallTurn.{OthersStay}
+use Rattle.wasi_p1.specs.Owners.{RunTraced}
+use Rattle.wasi_p1.proofs.Runs.{SoFar}
+use Rattle.wasi_p1.proofs.Answering.{GoesOn}
+use Rattle.wasi_p1.proofs.run.run_calls.Given as goal
+
+abbrev pub invariant-loop-one : goal.invariant-loop-one
+invariant-loop-one g l = record {
+  size : length l.memory ≡ length l.fn.memory;
+  ios : Allows (g.H.Host.faults l.fn.context.host) (g.H.Host.faults l.context.host) (ios l.answers.answers);
+  goes : GoesOn l.answers.answers;
+  handles : OthersStay g.H.Host.live l.fn.context l.context;
+  lineage : RunTraced l.fn.context.slots l.context.slots (g.H.Host.lookups l.fn.context.host)
+      (g.H.Host.lookups l.context.host);
+  run : IsTrue g.H.Host.told
+      → SoFar (g.H.Host.faults l.fn.context.host) (g.H.Host.faults l.context.host)
+      (state_of g.H.Host.world l.fn.context l.fn.memory)
+      (take l.one-index l.calls.items) l.answers.answers (state_of g.H.Host.world l.context l.memory)
+      (g.H.Host.world l.context.host).touched;
+  confined : IsTrue g.H.Host.told
+      → Confined (state_of g.H.Host.world l.fn.context l.fn.memory) (state_of g.H.Host.world l.fn.context l.fn.memory)
+      (g.H.Host.world l.fn.context.host).touched
+      → Confined (state_of g.H.Host.world l.fn.context l.fn.memory) (state_of g.H.Host.world l.context l.memory)
+      (g.H.Host.world l.context.host).touched;
+  later : g.H.Host.faults l.fn.context.host ≤ g.H.Host.faults l.context.host;
+  count : length l.answers.answers ≡ l.one-index;
+  room : length l.calls.items ≤ l.answers.spare + l.one-index;
+}

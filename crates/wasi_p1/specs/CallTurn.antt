@@ -1,0 +1,94 @@
+-- What a call of the context does.
+use Rattle.std.specs.Prelude.{ℕ, ◌≡◌, ◌≤◌, ◌⊎◌, Bool, true, false, IsTrue, List, [], length, Result, Ok, Err, OnErr, is_ok, if◌then◌else◌}
+use Rattle.wasi_host.specs.Meaning.{World, Handles, Rose}
+use Rattle.wasi_host.specs.declared.lookup.Lookup.{Lookup}
+use Rattle.wasi_p1.specs.Slots.{View}
+use Rattle.wasi_p1.specs.Owners.{handles, unowned, CallTraced}
+use Rattle.wasi_p1.specs.CallParts.{IsFromHost}
+use Rattle.wasi_p1.specs.Guest.{Guest, State, guest_of, guest_by}
+use Rattle.wasi_p1.specs.Request.{Request, Reply, MayReply}
+use Rattle.wasi_p1.specs.Row.{Row, Program, done, asking}
+use Rattle.wasi_p1.specs.Rows.{row, turn}
+use Rattle.wasi_p1.specs.Turn.{IsTurn, Touches, ReachesHost, named_by, roots_of}
+use Rattle.wasi_guest.specs.declared.call.Call.{Call}
+use Rattle.wasi_guest.specs.declared.call.Call.TheVariants.{PathOpen, FdRead}
+use Rattle.wasi_guest.specs.declared.errno.Errno.TheVariants.{Io}
+use Rattle.wasi_p1.specs.declared.error.P1Error.{P1Error}
+use Rattle.wasi_p1.specs.declared.error.P1Error.TheVariants.{Errno, Memory}
+use Rattle.wasi_guest.specs.declared.answer.Value.{Value}
+
+-- the count of faults never falls, and `io` comes only where it rose
+pub record Causes {A : Type 0} (before now : ℕ) (result : Result A P1Error) : Type 0 where
+  pub later : before ≤ now
+  pub io : result ≡ Err (Errno Io) → Rose before now
+
+-- the live handles that belong to no descriptor stay
+abbrev pub OthersStay : {H : Type 0} → (H → Handles) → View H → View H → Type 0
+OthersStay live old new = unowned (live new.host) (handles new.slots) ≡ unowned (live old.host) (handles old.slots)
+
+-- the look-ups that a call adds begin from the descriptors that it names
+abbrev pub Looks : {H : Type 0} → (H → List Lookup) → View H → View H → List ℕ → Call → Type 0
+Looks lookups old new memory call = CallTraced old.slots new.slots memory call (lookups old.host) (lookups new.host)
+
+-- a world and a guest, as a state
+abbrev pub in_world : World → Guest → State
+in_world w g = record { tree = w.tree; guest = g }
+
+-- The answer and the state are those of the call's row, and the call touches no node but those reached from where its
+-- request starts, and those made, and each at which a path of it ended
+pub record Turns (rose : Type 0) (w v : World) (g g' : Guest) (call : Call)
+    (result : Result Value P1Error) : Type 0 where
+  pub turn : IsTurn rose (ReachesHost (in_world w g) call) (in_world w g) (in_world v g') result
+      (turn (in_world w g) call)
+  pub touched : Touches w.tree v.tree (roots_of (in_world w g) call)
+      (if is_ok result then named_by (in_world w g) call else []) w.touched v.touched
+
+-- from a context and a memory to those after it
+abbrev pub TakesTurn : {H : Type 0} → (H → World) → Type 0 → View H → View H → List ℕ → List ℕ → Call
+    → Result Value P1Error → Type 0
+TakesTurn world rose old new before after call result =
+    Turns rose (world old.host) (world new.host) (guest_of world old before) (guest_of world new after) call result
+
+-- nothing changed, and the host wasn't asked
+abbrev pub Same : {H : Type 0} → View H → View H → List ℕ → List ℕ → Type 0
+Same old new before after = (new ≡ old) × (after ≡ before)
+
+-- what is the guest's own stays
+pub record Kept {H : Type 0} (old new : View H) (before after : List ℕ) : Type 0 where
+  pub slots : new.slots ≡ old.slots
+  pub stdout : new.stdout ≡ old.stdout
+  pub stderr : new.stderr ≡ old.stderr
+  pub memory : after ≡ before
+
+-- a row that needs no tree: its answer and its guest, or want of memory
+abbrev pub IsDone : Type 0 → Guest → Result Value P1Error → Value × Guest → Type 0
+IsDone same g' (Ok x) p = p ≡ (x, g')
+IsDone same g' (Err e) p = (e ≡ Memory) × same
+
+-- a row that asks: an answer and a guest, or a refusal, that some reply leads to; or a host's refusal
+abbrev pub IsReplied : (r : Request) → (Reply r → Row (Value × Guest)) → Guest → Result Value P1Error → Type 0
+IsReplied r next g' (Ok x) = (reply : Reply r) × MayReply r reply × (next reply ≡ Ok (x, g'))
+IsReplied r next g' (Err e) = IsFromHost e ⊎ ((reply : Reply r) × MayReply r reply × (next reply ≡ Err e))
+
+-- What a row says without the tree. A refusal before it asks is the answer, or memory was wanted, and nothing changed
+abbrev pub AtFront : Type 0 → Guest → Result Value P1Error → Row (Program (Value × Guest)) → Type 0
+AtFront same g' result (Err e) = ((result ≡ Err e) ⊎ (result ≡ Err Memory)) × same
+AtFront same g' result (Ok (done p)) = IsDone same g' result p
+AtFront same g' result (Ok (asking r next)) = IsReplied r next g' result
+
+-- the calls that take memory; the others are never answered that it was wanted
+abbrev pub may_want : Call → Bool
+may_want (PathOpen fd dirflags path path_len oflags base inheriting fdflags) = true
+may_want (FdRead fd iovs iovs_len) = false
+
+-- What a call does to its guest, by its row. Over every host: what the row says without the tree, where each handle
+-- stands for what it stood for before the call; and only an answered call changes what is the guest's own. Over a host
+-- that tells its world: the turn
+pub record FollowsRow {H : Type 0} (told : Bool) (world : H → World) (faults : H → ℕ) (old new : View H)
+    (before after : List ℕ) (call : Call) (result : Result Value P1Error) : Type 0 where
+  pub size : length after ≡ length before
+  pub kept : OnErr result (Kept old new before after)
+  pub wants : result ≡ Err Memory → IsTrue (may_want call)
+  pub front : AtFront (Same old new before after) (guest_by (world old.host).held new after) result
+      (row (guest_of world old before) call)
+  pub turn : IsTrue told → TakesTurn world (Rose (faults old.host) (faults new.host)) old new before after call result

@@ -1,0 +1,24 @@
+-- The descriptors of a context by number, beside their closed numbers.
+use Rattle.std.specs.Prelude.{ℕ, ◌≤◌, ◌==◌, ◌≡◌, List, length, count_by}
+use Rattle.std.specs.Ordering.{nat_cmp}
+use Rattle.std.specs.BinaryHeap.{IsHeap}
+use Rattle.wasi_p1.specs.Numbering.{passes_at}
+use Rattle.wasi_p1.specs.Owners.{one_if}
+use Rattle.wasi_p1.specs.Slots.{is_closed_slot}
+use Rattle.wasi_p1.specs.declared.context.Slot.{Slot}
+
+-- what stands under each number, and for how many new descriptors there is room
+pub record SlotTable : Type 0 where
+  pub slots : List Slot
+  pub room : ℕ
+
+-- a heap of the numbers whose slot is closed, each of them once
+pub record HoldsClosed (heap : List ℕ) (slots : List Slot) : Type 0 where
+  pub order : IsHeap nat_cmp heap
+  pub each : (n : ℕ) → count_by (λ k. k == n) heap ≡ one_if (passes_at is_closed_slot slots n)
+  pub count : length heap ≡ count_by is_closed_slot slots
+
+-- the same, and it has room for every number
+pub record IsIndexed (heap : List ℕ) (capacity : ℕ) (slots : List Slot) : Type 0 where
+  pub closed : HoldsClosed heap slots
+  pub room : length slots ≤ capacity

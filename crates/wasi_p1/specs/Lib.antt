@@ -1,0 +1,17 @@
+pub mod Slots
+pub mod Numbering
+pub mod Descriptors
+pub mod Owners
+pub mod Guest
+pub mod Errnos
+pub mod Request
+pub mod Row
+pub mod Rows
+pub mod Turn
+pub mod CallTurn
+pub mod Run
+pub mod Reach
+pub mod Agree
+pub mod RunLaws
+pub mod Asked
+pub mod CallParts

@@ -1,0 +1,24 @@
+-- Which nodes a run may come to.
+use Rattle.std.specs.Prelude.{ℕ, ◌≡◌, ◌≤◌, ◌⊎◌, true, List, Some, Contains}
+use Rattle.std.specs.FinSet.{contains}
+use Rattle.std.specs.FinMap as map
+use Rattle.wasi_host.specs.Tree.{Nodes, node_at, names_of, next_of}
+use Rattle.wasi_host.specs.ValidTree.{Reached}
+use Rattle.wasi_p1.specs.Guest.{State, nodes_of}
+use Rattle.wasi_p1.specs.Turn.{IsMade}
+
+-- reached at the start from a descriptor's node, so at the start of a guest's run from a preopen
+abbrev pub Inside : State → ℕ → Type 0
+Inside start n = Reached start.tree (nodes_of start.guest.places) n
+
+-- inside at the start, or made since
+abbrev pub InReach : State → State → ℕ → Type 0
+InReach start now n = Inside start n ⊎ IsMade start.tree now.tree n
+
+-- Each descriptor's node, each node that a directory in reach holds, and each touched node is in reach. Every turn keeps it.
+pub record Confined (start now : State) (touched : Nodes) : Type 0 where
+  pub later : next_of start.tree ≤ next_of now.tree
+  pub descriptors : (n : ℕ) → Contains (nodes_of now.guest.places) n → InReach start now n
+  pub names : (d n : ℕ) (name : List ℕ) → InReach start now d
+      → map.get (names_of (node_at now.tree d).content) name ≡ Some n → InReach start now n
+  pub touched_in : (n : ℕ) → contains touched n ≡ true → InReach start now n

@@ -1,0 +1,65 @@
+-- What a call did, against its row.
+use Rattle.std.specs.Prelude.{ℕ, ◌<◌, ◌≤◌, List, ◌≡◌, ◌⊎◌, true, Result, Ok, Err, All}
+use Rattle.std.specs.FinSet.{contains}
+use Rattle.wasi_host.specs.Tree.{Tree, Nodes, next_of}
+use Rattle.wasi_host.specs.ValidTree.{Reached}
+use Rattle.wasi_p1.specs.Guest.{State}
+use Rattle.wasi_p1.specs.Row.{Row, Asks, starts, path_ends}
+use Rattle.wasi_p1.specs.Rows.{row}
+use Rattle.wasi_guest.specs.declared.call.Call.{Call}
+use Rattle.wasi_guest.specs.declared.errno.Errno.TheVariants as errnos
+use Rattle.wasi_p1.specs.declared.error.P1Error.{P1Error}
+use Rattle.wasi_p1.specs.declared.error.P1Error.TheVariants.{Errno, Memory}
+use Rattle.wasi_guest.specs.declared.answer.Value.{Value}
+
+-- the answer is the row's first refusal, and the state stays
+pub record Refuses (before after : State) (e : P1Error) (row : Row (Value × State)) : Type 0 where
+  pub stays : after ≡ before
+  pub row_is : row ≡ Err e
+
+-- memory was wanted, and the state stays
+pub record Wants (before after : State) (e : P1Error) : Type 0 where
+  pub memory : e ≡ Memory
+  pub stays : after ≡ before
+
+-- the state before, with the one step that the row makes in the tree
+abbrev pub StepTaken : State → State → Row (Value × State) → Type 0
+StepTaken before after (Ok p) = after ≡ record before { tree = p.1.tree }
+StepTaken before after (Err e) = ⊥
+
+-- the host failed where the row comes to it: the state stays, or has the row's step alone
+pub record Faults (rose reaches : Type 0) (before after : State) (e : P1Error)
+    (row : Row (Value × State)) : Type 0 where
+  pub io : e ≡ Errno errnos.Io
+  pub count : rose
+  pub came : reaches
+  pub state : (after ≡ before) ⊎ StepTaken before after row
+
+-- the answer and the state after it are the row's; or memory was wanted; or the host failed
+abbrev pub IsTurn : Type 0 → Type 0 → State → State → Result Value P1Error → Row (Value × State) → Type 0
+IsTurn rose reaches before after (Ok x) row = row ≡ Ok (x, after)
+IsTurn rose reaches before after (Err e) row =
+    Refuses before after e row ⊎ (Wants before after e ⊎ Faults rose reaches before after e row)
+
+-- a node that was made between two trees
+pub record IsMade (t t' : Tree) (n : ℕ) : Type 0 where
+  pub fresh : next_of t ≤ n
+  pub there : n < next_of t'
+
+-- what a call touches: nothing is given up; it comes to nodes reached from the roots, or made, and to all that its paths ended at
+pub record Touches (t t' : Tree) (roots paths : List ℕ) (old new : Nodes) : Type 0 where
+  pub stays : (n : ℕ) → contains old n ≡ true → contains new n ≡ true
+  pub near : (n : ℕ) → contains new n ≡ true → (contains old n ≡ true) ⊎ (Reached t roots n ⊎ IsMade t t' n)
+  pub ends : All (λ n. contains new n ≡ true) paths
+
+-- no refusal of the row stands before its request
+abbrev pub ReachesHost : State → Call → Type 0
+ReachesHost s call = Asks (row s.guest call)
+
+-- the nodes at which the paths of a call end
+abbrev pub named_by : State → Call → List ℕ
+named_by s call = path_ends s.tree (row s.guest call)
+
+-- the nodes from which a call reads or changes the tree
+abbrev pub roots_of : State → Call → List ℕ
+roots_of s call = starts (row s.guest call)

@@ -1,0 +1,32 @@
+//! Laws of what is defined.
+ghost use Rattle.wasi_p1.specs.Owners.{LiveStays};
+ghost use Rattle.wasi_p1.specs.Agree.{TurnsAgree, RunsAgree};
+ghost use Rattle.wasi_p1.specs.RunLaws.{RunsAreFunctions, TurnsAreConfined};
+
+use wasi_host::Host;
+
+/// What a call answers, and does to what is in its reach, rests on the guest and on what is in reach.
+pub fn turns_agree()
+    ensures agree { TurnsAgree }
+{}
+
+/// The run of calls from a state is a function of the two where no turn is faulted.
+pub fn runs_are_functions()
+    ensures one_run { RunsAreFunctions }
+{}
+
+/// A turn keeps what was come to in reach of the start: a node of a descriptor or under a name in reach, and each node
+/// that was touched, is reached from a descriptor at the start or was made since.
+pub fn turns_are_confined<H: Host>()
+    ensures confined { TurnsAreConfined H.world }
+{}
+
+/// Calls answer the same, and do the same to what is in reach, from two states that are the same to the guest.
+pub fn runs_agree()
+    ensures agree { RunsAgree }
+{}
+
+/// A call that leaves the descriptors, and the handles of no descriptor, leaves all live handles.
+pub fn live_handles_stay()
+    ensures stay { LiveStays }
+{}

@@ -1,7 +1,0 @@
--- Answers with room for more.
-use Rattle.std.specs.Prelude.{ℕ, List}
-use Rattle.wasi_script.specs.declared.calls.Answer.{Answer}
-
-pub record Room : Type 0 where
-  pub answers : List Answer
-  pub spare : ℕ

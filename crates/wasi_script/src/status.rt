@@ -1,0 +1,85 @@
+//! How the program ends.
+ghost use Rattle.std.specs.Prelude.{◌≡◌, ◌↔◌, ◌⊎◌, IsNone};
+ghost use Rattle.wasi_script.specs.Exit.{exit_code, unfinished_status, script_status};
+
+use wasi_form::{Refusal, ScriptError, Unfinished};
+
+/// How the program ended.
+#[derive(Clone, Copy, Debug, PartialEq, Eq)]
+pub enum Status {
+    /// The report was taken whole.
+    Done,
+    /// The words aren't `run`, and the line that says so was taken.
+    Usage,
+    /// The bytes aren't a script that can be run, and the line that says why was taken.
+    Refused(Refusal),
+    /// The source failed, and nothing was written.
+    ReadFault,
+    /// The sink failed, or took nothing of a piece. It took a front of what was to be written.
+    WriteFault,
+    /// Memory was wanted, and nothing was written.
+    NoMemory,
+}
+
+impl Status {
+    /// The exit status of the process: 0 for a report, and a number of its own for each other end. They are the
+    /// program's own; 1 is left to a process that is stopped.
+    pub fn exit_code(self) -> u8
+        ensures code { result ≡ exit_code self }
+    {
+        match self {
+            Status::Done => 0,
+            Status::Usage => 2,
+            Status::Refused(_) => 3,
+            Status::ReadFault => 4,
+            Status::WriteFault => 5,
+            Status::NoMemory => 6,
+        }
+    }
+
+    /// One line for a person: what happened, and where to read more. `None` where what was written says it.
+    pub fn message(self) -> Option<&'static str>
+        ensures silent { IsNone result ↔ ((self ≡ Status.Done) ⊎ (self ≡ Status.Usage)) }
+    {
+        match self {
+            Status::Done => None,
+            Status::Usage => None,
+            Status::Refused(Refusal::Json) => Some(
+                "wasirun: the script isn't JSON; docs/SCRIPT.md says what a script is",
+            ),
+            Status::Refused(Refusal::Later) => Some(
+                "wasirun: the script has a form that isn't built, or more than 16,777,216 bytes; docs/SCRIPT.md says what is built",
+            ),
+            Status::ReadFault => Some(
+                "wasirun: standard input couldn't be read to its end, and nothing was written",
+            ),
+            Status::WriteFault => Some(
+                "wasirun: standard output took only a part of what was to be written",
+            ),
+            Status::NoMemory => Some("wasirun: out of memory, and nothing was written"),
+        }
+    }
+}
+
+impl From<Unfinished> for Status {
+    ghost from_gives = { λ error status. status ≡ unfinished_status error };
+
+    fn from(error: Unfinished) -> Self {
+        match error {
+            Unfinished::Long => Status::Refused(Refusal::Later),
+            Unfinished::Fault => Status::ReadFault,
+            Unfinished::Memory => Status::NoMemory,
+        }
+    }
+}
+
+impl From<ScriptError> for Status {
+    ghost from_gives = { λ error status. status ≡ script_status error };
+
+    fn from(error: ScriptError) -> Self {
+        match error {
+            ScriptError::Refused(refusal) => Status::Refused(refusal),
+            ScriptError::Memory => Status::NoMemory,
+        }
+    }
+}
