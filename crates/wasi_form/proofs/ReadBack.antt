@@ -180,13 +180,13 @@ told_time s t p q e =
 
 -- ---- a directory whose names rise
 
-abbrev Entries : Type 0
+abbrev pub Entries : Type 0
 Entries = List (List ℕ × ℕ)
 
-abbrev IsRising : Entries → Type 0
+abbrev pub IsRising : Entries → Type 0
 IsRising entries = IsStrictlySortedBy (slice_cmp nat_cmp) (map (λ e. e.0) entries)
 
-abbrev in_order : Entries → Members
+abbrev pub in_order : Entries → Members
 in_order [] = no_members
 in_order (e ∷ es) = member e.0 (number_value e.1) (in_order es)
 
@@ -207,7 +207,7 @@ put_after done [] h = ap in_order (sym (append-nil done))
 put_after done (e ∷ more) h =
     ap (put_all more) (put_last done e more h) ∙ put_after (done ++ e ∷ []) more (rw append_assoc h) ∙ ap in_order (append_assoc done (e ∷ []) more)
 
-put_rising : (entries : Entries) → IsRising entries → put_all entries no_members ≡ in_order entries
+pub put_rising : (entries : Entries) → IsRising entries → put_all entries no_members ≡ in_order entries
 put_rising entries h = put_after [] entries h
 
 shallow_entries : (entries : Entries) → AllByRecursion (λ e. e.1 < 2 ^ 64) entries → AreMembersShallow 0 (members_outline (in_order entries))

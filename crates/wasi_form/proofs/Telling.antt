@@ -1,46 +1,48 @@
--- Entries one after another, and the items and members that are left to be told.
-use Rattle.std.proofs.Common.{ℕ, List, [], ◌∷◌, ◌++◌, ◌≡◌, ◌<◌, ◌+◌, Ordering, Less, Equal, Greater, refl, sym, ap, ◌∙◌, map, take, drop, length, get_or, append_assoc}
-use Rattle.std.proofs.lemmas.List.{map-append, take_more, drop_more}
-use Rattle.std.specs.BTreeMap.{insert_entry}
-use Rattle.std.specs.Ordering.{match_ordering}
+-- The names of a directory in order, and the items and members that are left to be told.
+use Rattle.std.proofs.Common.{ℕ, zero, suc, List, [], ◌∷◌, ◌++◌, ◌≡◌, ◌<◌, ◌+◌, Less, refl, sym, ap, ◌∙◌, map, drop, length, get_or, slice_index_or, append_assoc, arith}
+use Rattle.std.proofs.lemmas.List.{drop_more, length-map}
+use Rattle.std.specs.Cmp.Lexicographic.{slice_cmp}
+use Rattle.std.specs.FinMap.{entries}
+use Rattle.std.specs.List.{AllByRecursion}
+use Rattle.std.specs.List.Sorted.{IsStrictlySortedBy}
+use Rattle.std.specs.Map.{keys_of}
+use Rattle.std.specs.Ordering.{nat_cmp}
 use Rattle.std.specs.Prelude.{String, string_bytes}
 use Rattle.std.specs.String.{string_cmp}
 use Rattle.std.specs.declared.alloc.Global.{Global}
 use Rattle.json.specs.Token.{Token, key}
 use Rattle.json.specs.Tree.{items_tokens, members_tokens}
-use Rattle.serde_json.specs.Data.{Data, array, item, Members, no_members, put}
+use Rattle.serde_json.specs.Data.{Data, array, item, Members, no_members}
 use Rattle.serde_json.specs.View.{items_of}
 use Rattle.serde_json.specs.Written.{items_outline, members_outline}
-use Rattle.wasi_tree.specs.Given.{GivenContent, file, directory, link, pair_of}
-use Rattle.wasi_tree.specs.declared.node.NewEntry.{NewEntry}
-use Rattle.wasi_form.specs.Report.{put_all, number_value, list_value, content_member}
-use Rattle.wasi_form.specs.Told.{told, told_at, content_told, numbers_of}
+use Rattle.wasi_host.specs.Tree.{Tree, Node, node_at, next_of, stray}
+use Rattle.wasi_tree.specs.Given.{Given, GivenContent, file, directory, link, given_of}
+use Rattle.wasi_tree.specs.StoredTree.{names_in, text_entry}
+use Rattle.wasi_tree.proofs.NameLemmas.{entries-names_in}
+use Rattle.wasi_form.specs.Report.{put_all, number_value, node_value, list_value, content_member}
+use Rattle.wasi_form.specs.Told.{told, told_at, content_told}
+use Rattle.wasi_form.proofs.ReadBack.{IsRising, in_order, put_rising}
 
 abbrev Number : Type 0
 Number = String Global × ℕ
 
 -- ---- a map of numbers
 
-chosen : (o : Ordering) (a b c : List Number) → numbers_of (match_ordering o a b c) ≡ match_ordering o (numbers_of a) (numbers_of b) (numbers_of c)
-chosen Less a b c = refl
-chosen Equal a b c = refl
-chosen Greater a b c = refl
+below_in_text : (name : String Global) (es : List Number) → AllByRecursion (λ k. string_cmp name k ≡ Less) (keys_of es)
+    → AllByRecursion (λ k. slice_cmp nat_cmp (string_bytes name) k ≡ Less) (map (λ e. e.0) (map text_entry es))
+below_in_text name [] below = tt
+below_in_text name (e ∷ es) below = (below.0, below_in_text name es below.1)
 
-pub number_put : (es : List Number) (k : String Global) (n : ℕ) → numbers_of (insert_entry string_cmp es k n) ≡ put (string_bytes k) (number_value n) (numbers_of es)
-number_put [] k n = refl
-number_put (e ∷ es) k n = chosen (string_cmp k e.0) _ _ _ ∙ rw (number_put es k n) refl
+rising_in_text : (es : List Number) → IsStrictlySortedBy string_cmp (keys_of es) → IsRising (map text_entry es)
+unfolding IsStrictlySortedBy
+rising_in_text [] ordered = tt
+rising_in_text (e ∷ es) ordered = (below_in_text e.0 es ordered.0, rising_in_text es ordered.1)
 
-put_all-push : (entries : List (List ℕ × ℕ)) (entry : List ℕ × ℕ) (ms : Members)
-    → put_all (entries ++ entry ∷ []) ms ≡ put entry.0 (number_value entry.1) (put_all entries ms)
-put_all-push [] entry ms = refl
-put_all-push (e ∷ entries) entry ms = put_all-push entries entry (put e.0 (number_value e.1) ms)
-
--- one more entry of a list
-pub put_next : (entries : List NewEntry) (i : ℕ) (entry : NewEntry) → i < length entries → entry ≡ get_or entries i entry
-    → put (string_bytes entry.name) (number_value entry.node) (put_all (map pair_of (take i entries)) no_members)
-    ≡ put_all (map pair_of (take (i + 1) entries)) no_members
-put_next entries i entry within here =
-    rw (take_more entries i entry within, ← here, map-append) (sym (put_all-push (map pair_of (take i entries)) (pair_of entry) no_members))
+-- the names that ordered entries hold are told in the entries' order
+pub names_in_order : (es : List Number) → IsStrictlySortedBy string_cmp (keys_of es)
+    → in_order (map text_entry es) ≡ put_all (entries (names_in es)) no_members
+names_in_order es ordered =
+    sym (ap (λ names. put_all names no_members) (entries-names_in es ordered) ∙ put_rising (map text_entry es) (rising_in_text es ordered))
 
 -- ---- what is left
 
@@ -50,13 +52,27 @@ items_told value_of items = items_tokens (items_outline (items_of (map value_of 
 
 -- the tokens of these members and of the object's end
 abbrev pub numbers_told : List Number → List Token
-numbers_told es = members_tokens (members_outline (numbers_of es))
+numbers_told es = members_tokens (members_outline (in_order (map text_entry es)))
 
 pub item_next : {A : Type 0} (value_of : A → Data) (items : List A) (i : ℕ) (a : A) (now next all : List Token)
     → now ++ items_told value_of (drop i items) ≡ all → i < length items → a ≡ get_or items i a → next ≡ now ++ told (value_of a)
     → next ++ items_told value_of (drop (i + 1) items) ≡ all
 item_next value_of items i a now next all so within here told_now =
     rw (told_now, append_assoc) (sym (ap (λ rest. now ++ items_told value_of rest) (drop_more items i a within ∙ ap (λ x. x ∷ drop (i + 1) items) (sym here))) ∙ so)
+
+given_at : (nodes : List Node) (n : ℕ) (node : Given) → n < length nodes → node ≡ given_of (slice_index_or nodes n stray)
+    → node ≡ get_or (map given_of nodes) n node
+given_at [] n node within is = absurd (omega arith)
+given_at (first ∷ nodes) zero node within is = is
+given_at (first ∷ nodes) (suc n) node within is = given_at nodes n node (omega arith) is
+
+-- the node of the next number of a tree is told
+pub node_next : (t : Tree) (n : ℕ) (node : Given) (now next all : List Token)
+    → now ++ items_told node_value (drop n (map given_of t.nodes)) ≡ all → n < next_of t → node ≡ given_of (node_at t n)
+    → next ≡ now ++ told (node_value node) → next ++ items_told node_value (drop (n + 1) (map given_of t.nodes)) ≡ all
+unfolding node_at
+node_next t n node now next all so within is told_now =
+    item_next node_value (map given_of t.nodes) n node now next all so (omega (arith, length-map t.nodes given_of)) (given_at t.nodes n node within is) told_now
 
 pub number_next : (left rest : List Number) (name : String Global) (n : ℕ) (now next all : List Token)
     → now ++ numbers_told left ≡ all → left ≡ (name, n) ∷ rest → next ≡ now ++ key (string_bytes name) ∷ told (number_value n)

@@ -5,9 +5,10 @@ use Rattle.serde_json.specs.Data.{unsigned, Data, number, string, array, object,
 use Rattle.serde_json.specs.Find.{of_integer}
 use Rattle.serde_json.specs.View.{items_of}
 use Rattle.serde_json.specs.Written.{compact_text}
+use Rattle.wasi_host.specs.Tree.{Node}
 use Rattle.wasi_host.specs.declared.system_time.SystemTime.{SystemTime}
 use Rattle.wasi_host.specs.declared.bits.Bits.{Bits}
-use Rattle.wasi_tree.specs.Given.{Given, given, GivenContent, file, directory, link}
+use Rattle.wasi_tree.specs.Given.{Given, given_of, GivenContent, file, directory, link}
 use Rattle.wasi_guest.specs.ErrnoName.{errno_name}
 use Rattle.wasi_guest.specs.declared.answer.Answer.{Answer}
 use Rattle.wasi_guest.specs.declared.answer.Answer.TheVariants as answers
@@ -27,15 +28,15 @@ pub record Report : Type 0 where
   pub touched : List ℕ
   pub tree : List Given
 
--- what a run came to, as plain data
-abbrev pub reported : Outcome → Report
-reported o = record {
+-- what a run came to and the nodes of the tree that it left, as plain data
+abbrev pub reported : Outcome → List Node → Report
+reported o nodes = record {
   answers = o.answers.answers;
   memory = map (λ bytes. bytes.items) o.shown.items;
   stderr = o.stderr.items;
   stdout = o.stdout.items;
   touched = o.touched.items;
-  tree = map given o.nodes.items;
+  tree = map given_of nodes;
 }
 
 -- an object with one member

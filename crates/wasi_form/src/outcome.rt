@@ -1,16 +1,17 @@
 //! What a run came to, and its report as a text.
 ghost use Rattle.std.specs.Prelude.{◌≡◌, ◌++◌, IfOk, OnOk, map};
-ghost use Rattle.wasi_tree.specs.Given.{given};
+ghost use Rattle.wasi_tree.specs.Given.{given_of};
 ghost use Rattle.wasi_form.specs.Report.{reported, report_value, report_text, list_value, hex_value, node_value};
 ghost use Rattle.wasi_form.specs.Told.{told, told_at};
 
 use crate::told::{Told, tell_bytes, tell_list};
+use crate::told_nodes::tell_node;
 use json::Writer;
 use std::alloc::{AllocError, Global};
 use wasi_guest::Answers;
-use wasi_tree::NewNode;
+use wasi_tree::MemTree;
 
-/// What a run came to.
+/// What a run came to, but for the tree that it left.
 #[derive(Drop)]
 pub struct Outcome {
     /// The answer of each call, in order.
@@ -21,24 +22,29 @@ pub struct Outcome {
     pub stderr: Vec<u8>,
     /// The numbers of the nodes that were touched.
     pub touched: Vec<u64>,
-    /// The tree, a node's number being its place.
-    pub nodes: Vec<NewNode>,
 }
 
-/// The report's text: one object of JSON with no space and with keys in byte order, and a newline.
-pub fn report(alloc: Global, outcome: &Outcome) -> Result<Vec<u8>, AllocError>
-    ensures text { IfOk result (λ text. text.items ≡ report_text (reported outcome.now)) }
+/// The report's text: one object of JSON with no space and with keys in byte order, and a newline. The nodes of the tree
+/// are listed by their numbers.
+pub fn report(alloc: Global, outcome: &Outcome, tree: &MemTree) -> Result<Vec<u8>, AllocError>
+    ensures text { IfOk result (λ text. text.items ≡ report_text (reported outcome.now tree.now.tree.nodes)) }
 {
     let mut out = Writer::new(Vec::new(alloc));
-    tell_outcome(alloc, outcome, &mut out)?;
+    tell_outcome(alloc, outcome, tree, &mut out)?;
     let mut text = out.into_inner();
     text.push(b'\n')?;
     Ok(text)
 }
 
-fn tell_outcome(alloc: Global, outcome: &Outcome, out: &mut Writer) -> Result<(), AllocError>
+fn tell_outcome(
+    alloc: Global,
+    outcome: &Outcome,
+    tree: &MemTree,
+    out: &mut Writer,
+) -> Result<(), AllocError>
     ensures before { out.new.before ≡ out.old.before }
-    ensures tokens { OnOk result (out.new.tokens ≡ out.old.tokens ++ told (report_value (reported outcome.now))) }
+    ensures tokens { OnOk result (out.new.tokens
+        ≡ out.old.tokens ++ told (report_value (reported outcome.now tree.now.tree.nodes))) }
 {
     out.begin_object()?;
     tell_list_at(alloc, "answers", outcome.answers.as_slice(), out)?;
@@ -46,7 +52,8 @@ fn tell_outcome(alloc: Global, outcome: &Outcome, out: &mut Writer) -> Result<()
     tell_bytes_at(alloc, "stderr", outcome.stderr.as_slice(), out)?;
     tell_bytes_at(alloc, "stdout", outcome.stdout.as_slice(), out)?;
     tell_list_at(alloc, "touched", outcome.touched.as_slice(), out)?;
-    tell_nodes_at(alloc, "tree", outcome.nodes.as_slice(), out)?;
+    out.key("tree")?;
+    tell_tree(alloc, tree, out)?;
     out.end_object()
 }
 
@@ -88,16 +95,17 @@ fn tell_texts_at(
     tell_list_at(alloc, name, texts, out)
 }
 
-fn tell_nodes_at(
-    alloc: Global,
-    name: &str,
-    nodes: &[NewNode],
-    out: &mut Writer,
-) -> Result<(), AllocError>
+// The nodes by their numbers, each as the tree lends it.
+fn tell_tree(alloc: Global, tree: &MemTree, out: &mut Writer) -> Result<(), AllocError>
     ensures before { out.new.before ≡ out.old.before }
-    ensures tokens { OnOk result (out.new.tokens ≡ out.old.tokens ++ told_at name.now (list_value node_value (map given nodes.now))) }
+    ensures tokens { OnOk result (out.new.tokens
+        ≡ out.old.tokens ++ told (list_value node_value (map given_of tree.now.tree.nodes))) }
 {
-    tell_list_at(alloc, name, nodes, out)
+    out.begin_array()?;
+    for n in 0..tree.count() {
+        tell_node(alloc, &tree.node(n), out)?;
+    }
+    out.end_array()
 }
 
 #[cfg(test)]
@@ -105,17 +113,16 @@ mod tests {
     use super::*;
     use std::test::Fail;
     use wasi_guest::{Answer, Errno, TrapKind};
-    use wasi_host::{Bits, SystemTime};
-    use wasi_tree::{NewContent, NewEntry};
+    use wasi_host::Limits;
+    use wasi_tree::{NewContent, NewEntry, NewNode, TreeError, is_first_tree};
 
-    fn node(content: NewContent, r: bool, w: bool, x: bool) -> NewNode {
-        NewNode {
-            content,
-            bits: Bits { r, w, x },
-            atime: SystemTime::EPOCH,
-            mtime: SystemTime::EPOCH,
-            btime: SystemTime::EPOCH,
+    const LIMITS: Limits = Limits { nodes: 8, links: 8 };
+
+    fn tree_of(alloc: Global, nodes: Vec<NewNode>) -> Result<MemTree, TreeError> {
+        if !is_first_tree(alloc, &nodes, LIMITS)? {
+            return Err(TreeError::Invalid(0));
         }
+        MemTree::new(alloc, nodes, LIMITS)
     }
 
     #[test]
@@ -127,11 +134,12 @@ mod tests {
             stdout: Vec::new(alloc),
             stderr: Vec::new(alloc),
             touched: Vec::new(alloc),
-            nodes: vec![in alloc; node(NewContent::Dir(Vec::new(alloc)), true, true, true)]?,
         };
+        let root = NewNode::new(NewContent::Dir(Vec::new(alloc)));
+        let tree = tree_of(alloc, vec![in alloc; root]?)?;
         let want =
             "{\"answers\":[],\"memory\":[],\"stderr\":\"\",\"stdout\":\"\",\"touched\":[],\"tree\":[{\"bits\":\"rwx\",\"dir\":{},\"times\":[[0,0],[0,0],[0,0]]}]}\n";
-        assert_eq!(rt; report(alloc, &outcome)?.as_slice(), want.as_bytes());
+        assert_eq!(rt; report(alloc, &outcome, &tree)?.as_slice(), want.as_bytes());
         Ok(())
     }
 
@@ -151,40 +159,21 @@ mod tests {
             name: String::from_str(alloc, "a\"")?,
             node: 2,
         })?;
-        let mut file = node(
-            NewContent::File(vec![in alloc; 0u8, 255]?),
-            true,
-            false,
-            false,
-        );
-        file.mtime = SystemTime {
-            seconds: -1,
-            nanoseconds: 5,
-        };
-        file.btime = SystemTime {
-            seconds: 7,
-            nanoseconds: 999_999_999,
-        };
         let mut nodes = Vec::new(alloc);
-        nodes.push(node(NewContent::Dir(entries), true, true, true))?;
-        nodes.push(file)?;
-        nodes.push(node(
-            NewContent::Link(String::from_str(alloc, "../b")?),
-            true,
-            true,
-            false,
-        ))?;
+        nodes.push(NewNode::new(NewContent::Dir(entries)))?;
+        nodes.push(NewNode::new(NewContent::File(vec![in alloc; 0u8, 255]?)))?;
+        nodes.push(NewNode::new(NewContent::Dir(Vec::new(alloc))))?;
         let outcome = Outcome {
             answers,
             shown: vec![in alloc; vec![in alloc; 171u8, 1]?]?,
             stdout: vec![in alloc; 104u8]?,
             stderr: vec![in alloc; 105u8]?,
             touched: vec![in alloc; 0u64, 2]?,
-            nodes,
         };
+        let tree = tree_of(alloc, nodes)?;
         let want =
-            "{\"answers\":[{\"ok\":4},{\"errno\":\"noent\"},{\"trap\":\"pointer\"}],\"memory\":[\"ab01\"],\"stderr\":\"69\",\"stdout\":\"68\",\"touched\":[0,2],\"tree\":[{\"bits\":\"rwx\",\"dir\":{\"a\\\"\":2,\"f\":1},\"times\":[[0,0],[0,0],[0,0]]},{\"bits\":\"r--\",\"file\":\"00ff\",\"times\":[[0,0],[-1,5],[7,999999999]]},{\"bits\":\"rw-\",\"link\":\"../b\",\"times\":[[0,0],[0,0],[0,0]]}]}\n";
-        assert_eq!(rt; report(alloc, &outcome)?.as_slice(), want.as_bytes());
+            "{\"answers\":[{\"ok\":4},{\"errno\":\"noent\"},{\"trap\":\"pointer\"}],\"memory\":[\"ab01\"],\"stderr\":\"69\",\"stdout\":\"68\",\"touched\":[0,2],\"tree\":[{\"bits\":\"rwx\",\"dir\":{\"a\\\"\":2,\"f\":1},\"times\":[[0,0],[0,0],[0,0]]},{\"bits\":\"rw-\",\"file\":\"00ff\",\"times\":[[0,0],[0,0],[0,0]]},{\"bits\":\"rwx\",\"dir\":{},\"times\":[[0,0],[0,0],[0,0]]}]}\n";
+        assert_eq!(rt; report(alloc, &outcome, &tree)?.as_slice(), want.as_bytes());
         Ok(())
     }
 }

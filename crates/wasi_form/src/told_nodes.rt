@@ -1,47 +1,53 @@
 //! How the nodes of a tree are reported.
-ghost use Rattle.std.specs.Prelude.{◌≡◌, ◌++◌, IfOk, OnOk, map};
+ghost use Rattle.std.specs.FinMap as maps;
+ghost use Rattle.std.specs.Prelude.{◌≡◌, ◌++◌, OnOk};
 ghost use Rattle.serde_json.specs.Data.{object, string, no_members};
-ghost use Rattle.wasi_tree.specs.Given.{given, given_content, pair_of};
+ghost use Rattle.wasi_tree.specs.Lent.{lent, lent_content};
+ghost use Rattle.wasi_tree.specs.StoredTree.{names_in};
 ghost use Rattle.wasi_form.specs.Report.{bits_text, times_value, put_all, node_value, bit_letter};
-ghost use Rattle.wasi_form.specs.Told.{told, content_told, numbers_of};
+ghost use Rattle.wasi_form.specs.Told.{told, content_told};
 
 use crate::told::{Told, tell_bytes};
 use json::Writer;
 use std::alloc::{AllocError, Global};
 use std::collections::BTreeMap;
 use wasi_host::Bits;
-use wasi_tree::{NewContent, NewEntry, NewNode};
+use wasi_tree::{LentContent, LentNode};
 
-impl Told for NewNode {
-    ghost value = { λ node. node_value (given node) };
-
-    fn tell(&self, alloc: Global, out: &mut Writer) -> Result<(), AllocError> {
-        out.begin_object()?;
-        out.key("bits")?;
-        tell_bits(alloc, self.bits, out)?;
-        tell_content(alloc, &self.content, out)?;
-        out.key("times")?;
-        tell_times(alloc, self, out)?;
-        out.end_object()
-    }
+/// A node, as one object with no space and with keys in byte order.
+pub fn tell_node(alloc: Global, node: &LentNode<'_>, out: &mut Writer) -> Result<(), AllocError>
+    ensures before { out.new.before ≡ out.old.before }
+    ensures tokens { OnOk result (out.new.tokens ≡ out.old.tokens ++ told (node_value (lent node.now))) }
+{
+    out.begin_object()?;
+    out.key("bits")?;
+    tell_bits(alloc, node.bits, out)?;
+    tell_content(alloc, &node.content, out)?;
+    out.key("times")?;
+    tell_times(alloc, node, out)?;
+    out.end_object()
 }
 
-fn tell_content(alloc: Global, content: &NewContent, out: &mut Writer) -> Result<(), AllocError>
+fn tell_content(
+    alloc: Global,
+    content: &LentContent<'_>,
+    out: &mut Writer,
+) -> Result<(), AllocError>
     ensures before { out.new.before ≡ out.old.before }
-    ensures tokens { OnOk result (out.new.tokens ≡ out.old.tokens ++ content_told (given_content content.now)) }
+    ensures tokens { OnOk result (out.new.tokens ≡ out.old.tokens ++ content_told (lent_content content.now)) }
 {
     match content {
-        NewContent::File(bytes) => {
+        LentContent::File(bytes) => {
             out.key("file")?;
-            tell_bytes(alloc, bytes.as_slice(), out)
+            tell_bytes(alloc, bytes, out)
         }
-        NewContent::Dir(entries) => {
+        LentContent::Dir(names) => {
             out.key("dir")?;
-            tell_entries(alloc, entries.as_slice(), out)
+            tell_numbers(names, out)
         }
-        NewContent::Link(text) => {
+        LentContent::Link(text) => {
             out.key("link")?;
-            out.string(text.as_str())
+            out.string(text)
         }
     }
 }
@@ -63,9 +69,9 @@ fn tell_bits(alloc: Global, bits: Bits, out: &mut Writer) -> Result<(), AllocErr
     out.string(text.as_str())
 }
 
-fn tell_times(alloc: Global, node: &NewNode, out: &mut Writer) -> Result<(), AllocError>
+fn tell_times(alloc: Global, node: &LentNode<'_>, out: &mut Writer) -> Result<(), AllocError>
     ensures before { out.new.before ≡ out.old.before }
-    ensures tokens { OnOk result (out.new.tokens ≡ out.old.tokens ++ told (times_value (given node.now))) }
+    ensures tokens { OnOk result (out.new.tokens ≡ out.old.tokens ++ told (times_value (lent node.now))) }
 {
     out.begin_array()?;
     node.atime.tell(alloc, out)?;
@@ -74,34 +80,66 @@ fn tell_times(alloc: Global, node: &NewNode, out: &mut Writer) -> Result<(), All
     out.end_array()
 }
 
-fn tell_entries(alloc: Global, entries: &[NewEntry], out: &mut Writer) -> Result<(), AllocError>
-    ensures before { out.new.before ≡ out.old.before }
-    ensures tokens { OnOk result (out.new.tokens ≡ out.old.tokens ++ told (object (put_all (map pair_of entries.now) no_members))) }
-{
-    let numbers = by_name(alloc, entries)?;
-    tell_numbers(&numbers, out)
-}
-
-// The number of each name, the last one where a name stands twice.
-fn by_name(alloc: Global, entries: &[NewEntry]) -> Result<BTreeMap<String, u64>, AllocError>
-    ensures { IfOk result (λ numbers. numbers_of numbers.entries ≡ put_all (map pair_of entries.now) no_members) }
-{
-    let mut numbers = BTreeMap::new(alloc);
-    for entry in entries {
-        let name = String::from_str(alloc, entry.name.as_str())?;
-        drop(numbers.insert(name, entry.node)?);
-    }
-    Ok(numbers)
-}
-
+// The number of each name, in the names' byte order.
 fn tell_numbers(numbers: &BTreeMap<String, u64>, out: &mut Writer) -> Result<(), AllocError>
     ensures before { out.new.before ≡ out.old.before }
-    ensures tokens { OnOk result (out.new.tokens ≡ out.old.tokens ++ told (object (numbers_of numbers.now.entries))) }
+    ensures tokens { OnOk result (out.new.tokens ≡ out.old.tokens ++ told (object (put_all (maps.entries (names_in numbers.now.entries)) no_members))) }
 {
     out.begin_object()?;
-    for (name, number) in numbers {
+    for (name, number) in numbers.iter() {
         out.key(name.as_str())?;
         out.u64(*number)?;
     }
     out.end_object()
+}
+
+#[cfg(test)]
+mod tests {
+    use super::*;
+    use std::test::Fail;
+    use wasi_host::SystemTime;
+
+    fn text_of(alloc: Global, node: &LentNode<'_>) -> Result<Vec<u8>, AllocError> {
+        let mut out = Writer::new(Vec::new(alloc));
+        tell_node(alloc, node, &mut out)?;
+        Ok(out.into_inner())
+    }
+
+    #[test]
+    fn content_bits_and_times(rt: HostRuntime) -> Result<(), Fail> {
+        let alloc = rt.alloc();
+        let file = LentNode {
+            content: LentContent::File(&[0, 255]),
+            bits: Bits {
+                r: true,
+                w: false,
+                x: false,
+            },
+            atime: SystemTime::EPOCH,
+            mtime: SystemTime {
+                seconds: -1,
+                nanoseconds: 5,
+            },
+            btime: SystemTime {
+                seconds: 7,
+                nanoseconds: 999_999_999,
+            },
+        };
+        let link = LentNode {
+            content: LentContent::Link("../b"),
+            bits: Bits {
+                r: true,
+                w: true,
+                x: false,
+            },
+            atime: SystemTime::EPOCH,
+            mtime: SystemTime::EPOCH,
+            btime: SystemTime::EPOCH,
+        };
+        let want = "{\"bits\":\"r--\",\"file\":\"00ff\",\"times\":[[0,0],[-1,5],[7,999999999]]}";
+        assert_eq!(rt; text_of(alloc, &file)?.as_slice(), want.as_bytes());
+        let want = "{\"bits\":\"rw-\",\"link\":\"../b\",\"times\":[[0,0],[0,0],[0,0]]}";
+        assert_eq!(rt; text_of(alloc, &link)?.as_slice(), want.as_bytes());
+        Ok(())
+    }
 }

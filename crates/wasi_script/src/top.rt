@@ -58,16 +58,14 @@ fn report_of(alloc: Global, script: Script) -> Result<Vec<u8>, AllocError>
     let shown = shown(alloc, &memory, script.show.as_slice())?;
     let ended = context.into_parts();
     let touched = ended.host.touched(alloc)?;
-    let nodes = ended.host.nodes(alloc)?;
     let outcome = Outcome {
         answers,
         shown,
         stdout: ended.stdout,
         stderr: ended.stderr,
         touched,
-        nodes,
     };
-    report(alloc, &outcome)
+    report(alloc, &outcome, &ended.host)
 }
 
 fn written<K: Sink>(sink: &mut K, text: &[u8], status: Status) -> Status

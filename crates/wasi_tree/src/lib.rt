@@ -13,5 +13,5 @@ mod store;
 pub use errors::{HandleError, TreeError};
 pub use first_tree::{first_trees_are_valid, is_first_tree};
 pub use mem_tree::MemTree;
-pub use node::{NewContent, NewEntry, NewNode};
+pub use node::{LentContent, LentNode, NewContent, NewEntry, NewNode};
 pub use wasi_host::{Bits, Limits};

@@ -7,11 +7,12 @@ ghost use Rattle.wasi_host.specs.Tree.{next_of, node_at, is_directory};
 ghost use Rattle.wasi_tree.specs.Given.{given, given_of, tree_of};
 ghost use Rattle.wasi_host.specs.ValidTree.{AreLimits};
 ghost use Rattle.wasi_tree.specs.FirstTree.{is_first_tree};
+ghost use Rattle.wasi_tree.specs.Lent.{lent};
 ghost use Rattle.wasi_tree.specs.MemState.{live_of, held_in, world_of};
 
 use crate::errors::{HandleError, TreeError};
 use crate::marks::Marks;
-use crate::node::NewNode;
+use crate::node::{LentNode, NewNode};
 use crate::slots::Slots;
 use crate::store::Store;
 use std::alloc::{AllocError, Global};
@@ -72,6 +73,21 @@ impl MemTree {
         ensures nodes { IfOk result (λ nodes. map given nodes.items ≡ map given_of self.now.tree.nodes) }
     {
         self.store.to_new(alloc)
+    }
+
+    /// How many nodes there are, those without a name included. Their numbers are those below.
+    pub fn count(&self) -> u64
+        ensures count { result ≡ next_of self.now.tree }
+    {
+        self.store.count()
+    }
+
+    /// The node of a number as it is, lent without a copy.
+    pub fn node(&self, n: u64) -> LentNode<'_>
+        requires { n < next_of self.now.tree }
+        ensures node { lent result ≡ given_of (node_at self.now.tree n) }
+    {
+        self.store.lend(n)
     }
 
     /// A handle of a directory, for its path alone.

@@ -2,6 +2,7 @@
 ghost use Rattle.std.specs.Prelude.{◌≡◌};
 ghost use Rattle.wasi_tree.specs.Given.{given, given_content, new_given, may_search};
 
+use std::collections::BTreeMap;
 use wasi_host::{Bits, SystemTime};
 
 /// A name in a directory, and the number of the node that it holds.
@@ -61,4 +62,23 @@ impl NewContent {
             NewContent::Link(_) => true,
         }
     }
+}
+
+/// A node as a tree lends it, without a copy.
+#[derive(Drop)]
+pub struct LentNode<'a> {
+    pub content: LentContent<'a>,
+    pub bits: Bits,
+    pub atime: SystemTime,
+    pub mtime: SystemTime,
+    pub btime: SystemTime,
+}
+
+/// What a lent node is: a file's bytes, a directory's names in byte order, each with the number of the node that it
+/// holds, or a link's text.
+#[derive(Drop)]
+pub enum LentContent<'a> {
+    File(&'a [u8]),
+    Dir(&'a BTreeMap<String, u64>),
+    Link(&'a str),
 }

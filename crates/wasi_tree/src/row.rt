@@ -4,10 +4,11 @@ ghost use Rattle.std.specs.FinMap as maps;
 ghost use Rattle.wasi_host.specs.Tree.{is_directory, is_file, is_link, is_gone, names_of, bytes_of};
 ghost use Rattle.wasi_tree.specs.Given.{pair_of, given, given_content, given_of, content_given};
 ghost use Rattle.wasi_tree.specs.First.{first_node, first_content};
+ghost use Rattle.wasi_tree.specs.Lent.{lent, lent_content};
 ghost use Rattle.wasi_tree.specs.StoredTree.{names_in};
 ghost use Rattle.wasi_host.specs.Answer.{kind_of, size_of, links_of, metadata_from};
 
-use crate::node::{NewContent, NewEntry, NewNode};
+use crate::node::{LentContent, LentNode, NewContent, NewEntry, NewNode};
 use std::alloc::{AllocError, Global};
 use std::collections::BTreeMap;
 use wasi_host::{Bits, FileType, Metadata, SystemTime};
@@ -69,6 +70,17 @@ impl RowContent {
             RowContent::Link { text, .. } => {
                 Ok(NewContent::Link(String::from_str(alloc, text.as_str())?))
             }
+        }
+    }
+
+    /// The content, lent.
+    fn lend(&self) -> LentContent<'_>
+        ensures { lent_content result ≡ content_given (stored_content self.now) }
+    {
+        match self {
+            RowContent::File { bytes, .. } => LentContent::File(bytes.as_slice()),
+            RowContent::Dir { names, .. } => LentContent::Dir(names),
+            RowContent::Link { text, .. } => LentContent::Link(text.as_str()),
         }
     }
 
@@ -192,6 +204,19 @@ impl Row {
             mtime: self.mtime,
             btime: self.btime,
         })
+    }
+
+    /// The node, lent.
+    pub fn lend(&self) -> LentNode<'_>
+        ensures { lent result ≡ given_of (stored_node self.now) }
+    {
+        LentNode {
+            content: self.content.lend(),
+            bits: self.bits,
+            atime: self.atime,
+            mtime: self.mtime,
+            btime: self.btime,
+        }
     }
 
     pub fn metadata(&self, node: u64) -> Metadata

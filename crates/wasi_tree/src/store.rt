@@ -11,10 +11,11 @@ ghost use Rattle.std.specs.Option.{ForSome};
 ghost use Rattle.wasi_tree.specs.Given.{given, given_of, tree_of};
 ghost use Rattle.wasi_tree.specs.First.{first_node};
 ghost use Rattle.wasi_tree.specs.FirstTree.{is_first_tree};
+ghost use Rattle.wasi_tree.specs.Lent.{lent};
 ghost use Rattle.wasi_tree.specs.StoredTree.{stored_node};
 ghost use Rattle.wasi_tree.specs.OpenRows.{missing_rows, found_rows};
 
-use crate::node::NewNode;
+use crate::node::{LentNode, NewNode};
 use crate::row::Row;
 use std::alloc::{AllocError, Global};
 use std::marker::Model;
@@ -71,6 +72,14 @@ impl Store {
         ensures { result ≡ next_of self.now }
     {
         self.rows.as_slice().len() as u64
+    }
+
+    /// The node of a number, lent.
+    pub fn lend(&self, n: u64) -> LentNode<'_>
+        requires { n < next_of self.now }
+        ensures { lent result ≡ given_of (node_at self.now n) }
+    {
+        self.row(n).lend()
     }
 
     /// The node of a number.

@@ -8,5 +8,5 @@ unfolding report_text
 returns c =
     let before = c.tell_outcome.ensures.before ∙ c.new-out.ensures.before ∙ c.new.ensures.items in
     let tokens = rw c.new-out.ensures.tokens at c.in_ok-tell_outcome.ensures.tokens in
-    let text = rw (before, tokens, print-outline (report_value (reported c.args.outcome.now))) at c.into_inner-text.ensures.items in
+    let text = rw (before, tokens, print-outline (report_value (reported c.args.outcome.now c.args.tree.now.tree.nodes))) at c.into_inner-text.ensures.items in
     record { text = c.in_ok-push.ensures.items ∙ ap (λ (bytes : List ℕ). bytes ++ 10 ∷ []) text }

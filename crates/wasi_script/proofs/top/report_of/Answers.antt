@@ -33,8 +33,7 @@ returns c =
     } in
     let shown-is = rw c.as_slice-3.ensures.value at c.in_ok-shown.ensures.shown in
     let listed = rw c.into_parts-ended.ensures.host at c.in_ok-touched.ensures.nodes in
-    let tree-is = rw c.into_parts-ended.ensures.host at c.in_ok-nodes.ensures.nodes in
     IfOk-weaker c.report.result _ _
     (λ text is. reports _ run listed c.in_ok-touched.ensures.rising
-    (rw (shown-is, tree-is, c.into_parts-ended.ensures.stderr, c.into_parts-ended.ensures.stdout) at is))
+    (rw (shown-is, c.into_parts-ended.ensures.host, c.into_parts-ended.ensures.stderr, c.into_parts-ended.ensures.stdout) at is))
     c.report.ensures.text
