@@ -101,3 +101,24 @@ impl Descriptors {
         self.slots[fd as usize] = slot;
     }
 }
+
+#[cfg(test)]
+mod tests {
+    use super::*;
+
+    #[test]
+    fn numbers(rt: HostRuntime) -> Result<(), AllocError> {
+        let mut descriptors = Descriptors::first(rt.alloc(), Handle::from_number(7))?;
+        for number in 4..40 {
+            assert!(rt; descriptors.get(number).is_none());
+            descriptors.reserve()?;
+            let file = Slot::File {
+                handle: Handle::from_number(8),
+                position: 0,
+            };
+            assert_eq!(rt; descriptors.put(file), number as u64);
+            assert!(rt; descriptors.get(number).is_some());
+        }
+        Ok(())
+    }
+}
