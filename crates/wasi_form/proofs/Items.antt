@@ -9,7 +9,7 @@ use Rattle.serde_json.specs.declared.value.Value.{Value}
 use Rattle.wasi_form.specs.declared.shapes.Unread.{Unread}
 use Rattle.wasi_form.specs.declared.shapes.Unread.TheVariants.{Shape, Memory}
 use Rattle.wasi_form.specs.IsRead.{IsUnread}
-use Rattle.wasi_form.specs.Lists.{items_all, pushed, same, ◌>>=◌}
+use Rattle.wasi_form.specs.Lists.{items_all, none_waits, forms_in, pushed, form_pushed, same, ◌>>=◌}
 
 -- what was read so far, before what is read of the rest
 abbrev pub before : {A : Type 0} → List A → Option (List A) → Option (List A)
@@ -60,23 +60,56 @@ pub map_same : {A : Type 0} (xs : List A) → map same xs ≡ xs
 map_same [] = refl
 map_same (x ∷ xs) = ap (λ ys. x ∷ ys) (map_same xs)
 
--- what was read so far, if all was, before what is read of the rest
-abbrev pub after : {A : Type 0} → Option (List A) → Option (List A) → Option (List A)
+-- ---- forms that may wait
+
+-- what was read so far, if none of it waits, before what is read of the rest
+abbrev pub built_before : {A : Type 0} → Option (List A) → Option (List A) → Option (List A)
+built_before None rest = None
+built_before (Some done) rest = before done rest
+
+-- the same, if all of it is of its shape
+abbrev pub after : {A : Type 0} → Option (Option (List A)) → Option (Option (List A)) → Option (Option (List A))
 after None rest = None
-after (Some done) rest = before done rest
+after (Some done) rest = option_map (built_before done) rest
 
-pub after-nil : {A : Type 0} (rest : Option (List A)) → rest ≡ after (Some []) rest
+pub after-nil : {A : Type 0} (rest : Option (Option (List A))) → rest ≡ after (Some (Some [])) rest
 after-nil None = refl
-after-nil (Some xs) = refl
+after-nil (Some None) = refl
+after-nil (Some (Some xs)) = refl
 
-pub after-no_items : {A : Type 0} (of : Data → Option A) (found : Option (List A)) → after found (items_all of no_items) ≡ found
+pub after-no_items : {A : Type 0} (of : Data → Option (Option A)) (found : Option (Option (List A))) → after found (forms_in of no_items) ≡ found
 unfolding items_all
 after-no_items of None = refl
-after-no_items of (Some done) = rw append-nil refl
+after-no_items of (Some None) = refl
+after-no_items of (Some (Some done)) = rw append-nil refl
 
-pub after-item : {V T A : Type 0} (items : V → List T) (see : T → A) (of : Data → Option A) (found all : Option V) (x : Option T) (d : Data) (ds : Items)
-    → option_map items all ≡ pushed (option_map items found) x → of d ≡ option_map see x
-    → after (option_map (λ v. map see (items v)) found) (items_all of (item d ds)) ≡ after (option_map (λ v. map see (items v)) all) (items_all of ds)
+-- what is seen of a list
+abbrev pub seen_by : {V T A : Type 0} → (V → List T) → (T → A) → Option V → Option (List A)
+seen_by items see list = option_map (λ v. map see (items v)) list
+
+one_built : {V T A : Type 0} (items : V → List T) (see : T → A) (done all : Option V) (x : Option T) (xs : List (Option A))
+    → option_map items all ≡ pushed (option_map items done) x
+    → built_before (seen_by items see done) (none_waits (option_map see x ∷ xs)) ≡ built_before (seen_by items see all) (none_waits xs)
+one_built items see None None x xs is = refl
+one_built items see None (Some all) x xs is = absurd (cc)
+one_built items see (Some done) None None xs is = refl
+one_built items see (Some done) None (Some x) xs is = absurd (cc)
+one_built items see (Some done) (Some all) None xs is = absurd (cc)
+one_built items see (Some done) (Some all) (Some x) xs is =
+    let added : items all ≡ items done ++ x ∷ [] = cc in
+    rw (added, map-append) (then_cons (see x) (none_waits xs) (map see (items done)))
+
+rest_built : {V T A : Type 0} (items : V → List T) (see : T → A) (done all : Option V) (x : Option T) (rest : Option (List (Option A)))
+    → option_map items all ≡ pushed (option_map items done) x
+    → option_map (built_before (seen_by items see done)) (option_map none_waits (rest >>= (λ xs. Some (option_map see x ∷ xs))))
+    ≡ option_map (built_before (seen_by items see all)) (option_map none_waits rest)
+rest_built items see done all x None is = refl
+rest_built items see done all x (Some xs) is = ap Some (one_built items see done all x xs is)
+
+pub after-item : {V T A : Type 0} (items : V → List T) (see : T → A) (of : Data → Option (Option A))
+    (found all : Option (Option V)) (x : Option (Option T)) (d : Data) (ds : Items)
+    → option_map (option_map items) all ≡ form_pushed (option_map (option_map items) found) x → of d ≡ option_map (option_map see) x
+    → after (option_map (seen_by items see) found) (forms_in of (item d ds)) ≡ after (option_map (seen_by items see) all) (forms_in of ds)
 unfolding items_all
 after-item items see of None None x d ds is read = refl
 after-item items see of None (Some all) x d ds is read = absurd (cc)
@@ -84,5 +117,5 @@ after-item items see of (Some done) None None d ds is read = rw read refl
 after-item items see of (Some done) None (Some x) d ds is read = absurd (cc)
 after-item items see of (Some done) (Some all) None d ds is read = absurd (cc)
 after-item items see of (Some done) (Some all) (Some x) d ds is read =
-    let added : items all ≡ items done ++ x ∷ [] = cc in
-    rw (read, added, map-append) (then_cons (see x) (items_all of ds) (map see (items done)))
+    let added : option_map items all ≡ pushed (option_map items done) x = cc in
+    rw read (rest_built items see done all x (items_all of ds) added)

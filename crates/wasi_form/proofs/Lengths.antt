@@ -1,23 +1,43 @@
 -- Lists of another length than a form has.
-use Rattle.std.proofs.Common.{List, [], ◌∷◌, ◌≡◌, ◌<◌, None, refl, arith, length}
+use Rattle.std.proofs.Common.{ℕ, List, [], ◌∷◌, ◌≡◌, ◌<◌, Bool, false, None, refl, arith, length}
 use Rattle.serde_json.specs.View.{items_view}
 use Rattle.serde_json.specs.declared.value.Value.{Value}
-use Rattle.wasi_form.specs.MemoryForm.{piece_in, range_in}
+use Rattle.wasi_form.specs.Shapes.{two_in, three_in}
+use Rattle.wasi_form.specs.NodeForm.{is_bits_text}
 
-pub short_is_no_range : (xs : List Value) → length xs < 2 → range_in (items_view xs) ≡ None
-short_is_no_range [] short = refl
-short_is_no_range (x ∷ []) short = refl
-short_is_no_range (x ∷ y ∷ xs) short = absurd (omega arith)
+pub short_is_no_two : (xs : List Value) → length xs < 2 → two_in (items_view xs) ≡ None
+short_is_no_two [] short = refl
+short_is_no_two (x ∷ []) short = refl
+short_is_no_two (x ∷ y ∷ xs) short = absurd (omega arith)
 
-pub long_is_no_range : (xs : List Value) → 2 < length xs → range_in (items_view xs) ≡ None
-long_is_no_range [] long = absurd (omega arith)
-long_is_no_range (x ∷ []) long = absurd (omega arith)
-long_is_no_range (x ∷ y ∷ []) long = absurd (omega arith)
-long_is_no_range (x ∷ y ∷ z ∷ xs) long = refl
+pub long_is_no_two : (xs : List Value) → 2 < length xs → two_in (items_view xs) ≡ None
+long_is_no_two [] long = absurd (omega arith)
+long_is_no_two (x ∷ []) long = absurd (omega arith)
+long_is_no_two (x ∷ y ∷ []) long = absurd (omega arith)
+long_is_no_two (x ∷ y ∷ z ∷ xs) long = refl
 
-pub other_is_no_piece : (xs : List Value) → (length xs ≡ 3 → ⊥) → piece_in (items_view xs) ≡ None
-other_is_no_piece [] other = refl
-other_is_no_piece (x ∷ []) other = refl
-other_is_no_piece (x ∷ y ∷ []) other = refl
-other_is_no_piece (x ∷ y ∷ z ∷ []) other = absurd (other refl)
-other_is_no_piece (x ∷ y ∷ z ∷ u ∷ xs) other = refl
+pub short_is_no_three : (xs : List Value) → length xs < 3 → three_in (items_view xs) ≡ None
+short_is_no_three [] short = refl
+short_is_no_three (x ∷ []) short = refl
+short_is_no_three (x ∷ y ∷ []) short = refl
+short_is_no_three (x ∷ y ∷ z ∷ xs) short = absurd (omega arith)
+
+pub long_is_no_three : (xs : List Value) → 3 < length xs → three_in (items_view xs) ≡ None
+long_is_no_three [] long = absurd (omega arith)
+long_is_no_three (x ∷ []) long = absurd (omega arith)
+long_is_no_three (x ∷ y ∷ []) long = absurd (omega arith)
+long_is_no_three (x ∷ y ∷ z ∷ []) long = absurd (omega arith)
+long_is_no_three (x ∷ y ∷ z ∷ u ∷ xs) long = refl
+
+pub short_is_no_bits : (xs : List ℕ) → length xs < 3 → is_bits_text xs ≡ false
+short_is_no_bits [] short = refl
+short_is_no_bits (x ∷ []) short = refl
+short_is_no_bits (x ∷ y ∷ []) short = refl
+short_is_no_bits (x ∷ y ∷ z ∷ xs) short = absurd (omega arith)
+
+pub long_is_no_bits : (xs : List ℕ) → 3 < length xs → is_bits_text xs ≡ false
+long_is_no_bits [] long = absurd (omega arith)
+long_is_no_bits (x ∷ []) long = absurd (omega arith)
+long_is_no_bits (x ∷ y ∷ []) long = absurd (omega arith)
+long_is_no_bits (x ∷ y ∷ z ∷ []) long = absurd (omega arith)
+long_is_no_bits (x ∷ y ∷ z ∷ u ∷ xs) long = refl

@@ -1,6 +1,7 @@
 pub mod Fronts
 pub mod Telling
 pub mod Grammar
+pub mod Firsts
 pub mod Unreads
 pub mod FoundParts
 pub mod ReadBack
@@ -8,5 +9,7 @@ pub mod Items
 pub mod Keys
 pub mod Entries
 pub mod Lengths
+pub mod Places
+pub mod Arguments
 pub mod Values
 pub mod BuiltScripts

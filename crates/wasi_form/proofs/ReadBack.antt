@@ -1,14 +1,16 @@
 -- A report's text tells the report: the text tells the value's JSON, and that tells each part.
-use Rattle.std.proofs.Common.{ℕ, ℤ, pos, negsuc, ◌^◌, ◌<◌, ◌≤◌, List, [], ◌∷◌, ◌++◌, ◌≡◌, Bool, true, false, cond, Less, Greater, Some, append_assoc, refl, sym, ap, ap₂, ◌∙◌, map, decimal, arith, codes}
+use Rattle.std.proofs.Common.{ℕ, ℤ, pos, negsuc, ◌≤◌, List, [], ◌∷◌, ◌++◌, ◌≡◌, Bool, true, false, cond, if◌then◌else◌, All, Less, Greater, Some, append_assoc, refl, sym, ap, ap₂, ◌∙◌, map, decimal, arith, codes}
 use Rattle.std.specs.Cmp.Lexicographic.{slice_cmp}
 use Rattle.std.specs.Fmt.{signed_decimal}
 use Rattle.std.specs.List.{AllByRecursion}
 use Rattle.std.specs.List.Sorted.{IsStrictlySortedBy}
 use Rattle.std.specs.Ordering.{nat_cmp, ordering_reverse}
 use Rattle.std.specs.Str.{bytes_eq}
+use Rattle.std.specs.Str.Parse.{digits_value}
 use Rattle.std.proofs.lemmas.Cmp.{nat_list_cmp_total}
 use Rattle.std.proofs.lemmas.List.{append-nil, append_cancel_right}
-use Rattle.std.proofs.lemmas.Fmt.{decimal_injective, signed_decimal_injective}
+use Rattle.std.proofs.lemmas.List.Elements.{All-head, All-tail}
+use Rattle.std.proofs.lemmas.Fmt.{decimal_injective, decimal_is_IsNumeral, signed_decimal_injective}
 use Rattle.hex.specs.Hex.{IsBytes, encode_lower}
 use Rattle.hex.proofs.HexLemmas.{decode_of-encode_lower, decode_of-same}
 use Rattle.json.specs.Json as json
@@ -29,11 +31,13 @@ use Rattle.wasi_guest.specs.declared.answer.Answer.{Answer}
 use Rattle.wasi_guest.specs.declared.answer.Answer.TheVariants as answers
 use Rattle.wasi_guest.specs.declared.errno.Errno.{Errno}
 use Rattle.wasi_guest.specs.declared.errno.Errno.TheVariants as errno
+use Rattle.wasi_guest.specs.declared.answer.TrapKind.{TrapKind}
 use Rattle.wasi_guest.specs.declared.answer.TrapKind.TheVariants.{Pointer}
-use Rattle.wasi_guest.specs.declared.answer.Value.TheVariants.{Number}
+use Rattle.wasi_guest.specs.declared.answer.Value.{Value}
+use Rattle.wasi_guest.specs.declared.answer.Value.TheVariants as values
 use Rattle.wasi_guest.specs.ErrnoName.{errno_name}
-use Rattle.wasi_form.specs.Report.{Report, report_value, report_text, put_all, number_value, answer_value, hex_value, node_value, time_value, times_value, content_member, bits_text, bit_letter}
-use Rattle.wasi_form.specs.ReadBack.{FitsAnswer, FitsContent, FitsTime, FitsNode, IsOrdered, ReportsAreTold}
+use Rattle.wasi_form.specs.Report.{Report, report_value, report_text, put_all, number_value, success_value, trap_name, answer_value, hex_value, node_value, time_value, times_value, content_member, bits_text, bit_letter}
+use Rattle.wasi_form.specs.ReadBack.{FitsNumber, FitsValue, FitsAnswer, FitsEntry, FitsContent, FitsTime, FitsNode, IsOrdered, ReportsAreTold}
 
 -- ---- the JSON of a value has numbers, and is shallow
 
@@ -55,29 +59,58 @@ Same m n = m ≡ n
 -- ---- values of lists, one after another
 
 shallow_list : {A : Type 0} (n : ℕ) (P : A → Type 0) (value_of : A → Data) → ((a : A) → P a → IsShallow n (outline (value_of a)))
-    → (items : List A) → AllByRecursion P items → AreShallow n (items_outline (items_of (map value_of items)))
+    → (items : List A) → All P items → AreShallow n (items_outline (items_of (map value_of items)))
 shallow_list n P value_of each [] all = record { numbers = tt; depth = omega arith }
 shallow_list n P value_of each (a ∷ items) all =
-    let first = each a all.0 in
-    let rest = shallow_list n P value_of each items all.1 in
+    let first = each a (All-head P a items all) in
+    let rest = shallow_list n P value_of each items (All-tail P a items all) in
     record { numbers = (first.numbers, rest.numbers); depth = omega arith }
 
 same_list : {A : Type 0} (P : A → Type 0) (value_of : A → Data) → ((a b : A) → P a → P b → outline (value_of a) ≡ outline (value_of b) → a ≡ b)
-    → (xs ys : List A) → AllByRecursion P xs → AllByRecursion P ys → items_outline (items_of (map value_of xs)) ≡ items_outline (items_of (map value_of ys)) → xs ≡ ys
+    → (xs ys : List A) → All P xs → All P ys → items_outline (items_of (map value_of xs)) ≡ items_outline (items_of (map value_of ys)) → xs ≡ ys
 same_list P value_of each [] [] p q e = refl
 same_list P value_of each [] (b ∷ ys) p q e = absurd (cc)
 same_list P value_of each (a ∷ xs) [] p q e = absurd (cc)
 same_list P value_of each (a ∷ xs) (b ∷ ys) p q e =
     let first : outline (value_of a) ≡ outline (value_of b) = cc in
     let rest : items_outline (items_of (map value_of xs)) ≡ items_outline (items_of (map value_of ys)) = cc in
-    ap₂ (λ x xs. x ∷ xs) (each a b p.0 q.0 first) (same_list P value_of each xs ys p.1 q.1 rest)
+    ap₂ (λ x xs. x ∷ xs) (each a b (All-head P a xs p) (All-head P b ys q) first)
+    (same_list P value_of each xs ys (All-tail P a xs p) (All-tail P b ys q) rest)
 
--- ---- numbers, bytes and answers
+-- ---- the parts of a JSON value
 
-same_number : (m n : ℕ) → m < 2 ^ 64 → n < 2 ^ 64 → outline (number_value m) ≡ outline (number_value n) → m ≡ n
+abbrev members_in : json.Json → json.Members
+members_in (json.object ms) = ms
+members_in _ = json.no_members
+
+abbrev items_in : json.Json → json.Items
+items_in (json.array js) = js
+items_in _ = json.no_items
+
+-- of a number or a string
+abbrev text_in : json.Json → List ℕ
+text_in (json.number s) = s
+text_in (json.string s) = s
+text_in _ = []
+
+abbrev after_first : json.Members → json.Members
+after_first json.no_members = json.no_members
+after_first (json.member k j ms) = ms
+
+abbrev items_first : json.Members → json.Items
+items_first json.no_members = json.no_items
+items_first (json.member k j ms) = items_in j
+
+abbrev text_first : json.Members → List ℕ
+text_first json.no_members = []
+text_first (json.member k j ms) = text_in j
+
+-- ---- numbers, bytes and names
+
+same_number : (m n : ℕ) → FitsNumber m → FitsNumber n → outline (number_value m) ≡ outline (number_value n) → m ≡ n
 same_number m n p q e = let text : decimal m ≡ decimal n = cc in decimal_injective m n p q text
 
-shallow_number : (n : ℕ) → n < 2 ^ 64 → IsShallow 0 (outline (number_value n))
+shallow_number : (n : ℕ) → FitsNumber n → IsShallow 0 (outline (number_value n))
 shallow_number n fits = record { numbers = IsNumber-decimal n fits; depth = omega arith }
 
 same_bytes : (xs ys : List ℕ) → IsBytes xs → IsBytes ys → encode_lower xs ≡ encode_lower ys → xs ≡ ys
@@ -92,56 +125,85 @@ all_errnos =
     ∷ errno.Isdir ∷ errno.Loop ∷ errno.Mlink ∷ errno.Nametoolong ∷ errno.Noent ∷ errno.Nomem ∷ errno.Nospc ∷ errno.Notdir ∷ errno.Notempty ∷ errno.Notsup
     ∷ errno.Overflow ∷ errno.Perm ∷ errno.Pipe ∷ errno.Spipe ∷ []
 
-abbrev named : List Errno → List ℕ → Errno
-named [] name = errno.Io
-named (e ∷ es) name = cond (bytes_eq (errno_name e) name) e (named es name)
+-- the first of these that has this name, or else the other
+abbrev named : {A : Type 0} → (A → List ℕ) → A → List A → List ℕ → A
+named name_of other [] name = other
+named name_of other (a ∷ more) name = cond (bytes_eq (name_of a) name) a (named name_of other more name)
 
-named-name : (e : Errno) → named all_errnos (errno_name e) ≡ e
-named-name errno.Acces = refl
-named-name errno.Already = refl
-named-name errno.Badf = refl
-named-name errno.Busy = refl
-named-name errno.Exist = refl
-named-name errno.Fbig = refl
-named-name errno.Ilseq = refl
-named-name errno.Inprogress = refl
-named-name errno.Intr = refl
-named-name errno.Inval = refl
-named-name errno.Io = refl
-named-name errno.Isdir = refl
-named-name errno.Loop = refl
-named-name errno.Mlink = refl
-named-name errno.Nametoolong = refl
-named-name errno.Noent = refl
-named-name errno.Nomem = refl
-named-name errno.Nospc = refl
-named-name errno.Notdir = refl
-named-name errno.Notempty = refl
-named-name errno.Notsup = refl
-named-name errno.Overflow = refl
-named-name errno.Perm = refl
-named-name errno.Pipe = refl
-named-name errno.Spipe = refl
+abbrev errno_named : List ℕ → Errno
+errno_named name = named errno_name errno.Io all_errnos name
 
-same_errno : (d e : Errno) → errno_name d ≡ errno_name e → d ≡ e
-same_errno d e same = sym (named-name d) ∙ ap (named all_errnos) same ∙ named-name e
+named-errno_name : (e : Errno) → errno_named (errno_name e) ≡ e
+named-errno_name errno.Acces = refl
+named-errno_name errno.Already = refl
+named-errno_name errno.Badf = refl
+named-errno_name errno.Busy = refl
+named-errno_name errno.Exist = refl
+named-errno_name errno.Fbig = refl
+named-errno_name errno.Ilseq = refl
+named-errno_name errno.Inprogress = refl
+named-errno_name errno.Intr = refl
+named-errno_name errno.Inval = refl
+named-errno_name errno.Io = refl
+named-errno_name errno.Isdir = refl
+named-errno_name errno.Loop = refl
+named-errno_name errno.Mlink = refl
+named-errno_name errno.Nametoolong = refl
+named-errno_name errno.Noent = refl
+named-errno_name errno.Nomem = refl
+named-errno_name errno.Nospc = refl
+named-errno_name errno.Notdir = refl
+named-errno_name errno.Notempty = refl
+named-errno_name errno.Notsup = refl
+named-errno_name errno.Overflow = refl
+named-errno_name errno.Perm = refl
+named-errno_name errno.Pipe = refl
+named-errno_name errno.Spipe = refl
+
+abbrev trap_named : List ℕ → TrapKind
+trap_named name = named trap_name Pointer (Pointer ∷ []) name
+
+named-trap_name : (kind : TrapKind) → trap_named (trap_name kind) ≡ kind
+named-trap_name Pointer = refl
+
+-- ---- answers, read back from their JSON
+
+shallow_value : (v : Value) → FitsValue v → IsShallow 0 (outline (success_value v))
+shallow_value values.Unit fits = record { numbers = tt; depth = omega arith }
+shallow_value (values.Number n) fits = shallow_number n fits
+
+abbrev value_back : json.Json → Value
+value_back (json.number text) = values.Number (digits_value 10 text)
+value_back _ = values.Unit
+
+value_is_back : (v : Value) → FitsValue v → value_back (outline (success_value v)) ≡ v
+value_is_back values.Unit fits = refl
+value_is_back (values.Number n) fits = ap values.Number (decimal_is_IsNumeral n fits).1
 
 shallow_answer : (a : Answer) → FitsAnswer a → IsShallow 1 (outline (answer_value a))
-shallow_answer (answers.Ok (Number n)) fits = record { numbers = (IsNumber-decimal n fits, tt); depth = omega arith }
+shallow_answer (answers.Ok v) fits =
+    let inside = shallow_value v fits in record { numbers = (inside.numbers, tt); depth = omega arith }
 shallow_answer (answers.Errno e) fits = record { numbers = (tt, tt); depth = omega arith }
-shallow_answer (answers.Trap Pointer) fits = record { numbers = (tt, tt); depth = omega arith }
+shallow_answer (answers.Trap kind) fits = record { numbers = (tt, tt); depth = omega arith }
+
+-- the answer with this value under this key
+abbrev answer_under : List ℕ → json.Json → Answer
+answer_under key j =
+    if bytes_eq key (codes "ok") then answers.Ok (value_back j)
+    else if bytes_eq key (codes "errno") then answers.Errno (errno_named (text_in j))
+    else answers.Trap (trap_named (text_in j))
+
+abbrev answer_back : json.Members → Answer
+answer_back json.no_members = answers.Ok values.Unit
+answer_back (json.member key j others) = answer_under key j
+
+answer_is_back : (a : Answer) → FitsAnswer a → answer_back (members_in (outline (answer_value a))) ≡ a
+answer_is_back (answers.Ok v) fits = ap answers.Ok (value_is_back v fits)
+answer_is_back (answers.Errno e) fits = ap answers.Errno (named-errno_name e)
+answer_is_back (answers.Trap kind) fits = ap answers.Trap (named-trap_name kind)
 
 same_answer : (a b : Answer) → FitsAnswer a → FitsAnswer b → outline (answer_value a) ≡ outline (answer_value b) → a ≡ b
-same_answer (answers.Ok (Number m)) (answers.Ok (Number n)) p q e =
-    let text : decimal m ≡ decimal n = cc in ap (λ k. answers.Ok (Number k)) (decimal_injective m n p q text)
-same_answer (answers.Ok (Number m)) (answers.Errno f) p q e = let first : Same 111 101 = cc in absurd (omega arith)
-same_answer (answers.Ok (Number m)) (answers.Trap Pointer) p q e = let first : Same 111 116 = cc in absurd (omega arith)
-same_answer (answers.Errno d) (answers.Ok (Number n)) p q e = let first : Same 101 111 = cc in absurd (omega arith)
-same_answer (answers.Errno d) (answers.Errno f) p q e = let name : errno_name d ≡ errno_name f = cc in ap answers.Errno (same_errno d f name)
-same_answer (answers.Errno d) (answers.Trap Pointer) p q e = let first : Same 101 116 = cc in absurd (omega arith)
-same_answer (answers.Trap Pointer) (answers.Ok (Number n)) p q e = let first : Same 116 111 = cc in absurd (omega arith)
-same_answer (answers.Trap Pointer) (answers.Errno f) p q e = let first : Same 116 101 = cc in absurd (omega arith)
-same_answer (answers.Trap Pointer) (answers.Trap Pointer) p q e = refl
+same_answer a b p q e = sym (answer_is_back a p) ∙ ap (λ j. answer_back (members_in j)) e ∙ answer_is_back b q
 
 -- ---- bits and times
 
@@ -210,13 +272,13 @@ put_after done (e ∷ more) h =
 pub put_rising : (entries : Entries) → IsRising entries → put_all entries no_members ≡ in_order entries
 put_rising entries h = put_after [] entries h
 
-shallow_entries : (entries : Entries) → AllByRecursion (λ e. e.1 < 2 ^ 64) entries → AreMembersShallow 0 (members_outline (in_order entries))
+shallow_entries : (entries : Entries) → All FitsEntry entries → AreMembersShallow 0 (members_outline (in_order entries))
 shallow_entries [] fits = record { numbers = tt; depth = omega arith }
 shallow_entries (e ∷ es) fits =
-    let rest = shallow_entries es fits.1 in
-    record { numbers = (IsNumber-decimal e.1 fits.0, rest.numbers); depth = omega arith }
+    let rest = shallow_entries es (All-tail FitsEntry e es fits) in
+    record { numbers = (IsNumber-decimal e.1 (All-head FitsEntry e es fits), rest.numbers); depth = omega arith }
 
-same_entries : (xs ys : Entries) → AllByRecursion (λ e. e.1 < 2 ^ 64) xs → AllByRecursion (λ e. e.1 < 2 ^ 64) ys
+same_entries : (xs ys : Entries) → All FitsEntry xs → All FitsEntry ys
     → members_outline (in_order xs) ≡ members_outline (in_order ys) → xs ≡ ys
 same_entries [] [] p q e = refl
 same_entries [] (y ∷ ys) p q e = absurd (cc)
@@ -226,7 +288,8 @@ same_entries (x ∷ xs) (y ∷ ys) p q e =
     let text : decimal x.1 ≡ decimal y.1 = cc in
     let rest : members_outline (in_order xs) ≡ members_outline (in_order ys) = cc in
     let make : List ℕ → ℕ → List ℕ × ℕ = λ k n. (k, n) in
-    ap₂ (λ z zs. z ∷ zs) (ap₂ make name (decimal_injective x.1 y.1 p.0 q.0 text)) (same_entries xs ys p.1 q.1 rest)
+    ap₂ (λ z zs. z ∷ zs) (ap₂ make name (decimal_injective x.1 y.1 (All-head FitsEntry x xs p) (All-head FitsEntry y ys q) text))
+    (same_entries xs ys (All-tail FitsEntry x xs p) (All-tail FitsEntry y ys q) rest)
 
 -- ---- nodes
 
@@ -261,9 +324,9 @@ same_content (link xs) (link ys) ms ns p q e =
 
 shallow_node : (g : Given) → FitsNode g → IsShallow 3 (outline (node_value g))
 shallow_node g fits =
-    let accessed = shallow_time g.atime fits.atime in
-    let modified = shallow_time g.mtime fits.mtime in
-    let created = shallow_time g.btime fits.btime in
+    let accessed = shallow_time g.atime fits.times.atime in
+    let modified = shallow_time g.mtime fits.times.mtime in
+    let created = shallow_time g.btime fits.times.btime in
     let times : AreMembersShallow 2 (members_outline (member (codes "times") (times_value g) no_members)) =
     record { numbers = ((accessed.numbers, (modified.numbers, (created.numbers, tt))), tt); depth = omega arith } in
     let content = shallow_content g.content _ fits.content times in
@@ -282,63 +345,27 @@ same_node a b p q e =
     let make : GivenContent → Bits → SystemTime → SystemTime → SystemTime → Given = λ c bits s t u. record { content = c; bits = bits; atime = s; mtime = t; btime = u } in
     ap (λ c. make c a.bits a.atime a.mtime a.btime) parts.0
     ∙ ap (λ bits. make b.content bits a.atime a.mtime a.btime) (same_bits a.bits b.bits letters)
-    ∙ ap (λ t. make b.content b.bits t a.mtime a.btime) (told_time a.atime b.atime p.atime q.atime accessed)
-    ∙ ap (λ t. make b.content b.bits b.atime t a.btime) (told_time a.mtime b.mtime p.mtime q.mtime modified)
-    ∙ ap (make b.content b.bits b.atime b.mtime) (told_time a.btime b.btime p.btime q.btime created)
+    ∙ ap (λ t. make b.content b.bits t a.mtime a.btime) (told_time a.atime b.atime p.times.atime q.times.atime accessed)
+    ∙ ap (λ t. make b.content b.bits b.atime t a.btime) (told_time a.mtime b.mtime p.times.mtime q.times.mtime modified)
+    ∙ ap (make b.content b.bits b.atime b.mtime) (told_time a.btime b.btime p.times.btime q.times.btime created)
 
 -- ---- reports
 
 shallow_report : (r : Report) → IsOrdered r → IsShallow 128 (outline (report_value r))
+unfolding IsOrdered
 shallow_report r h =
-    let answers = shallow_list 1 FitsAnswer answer_value shallow_answer r.answers h.answers in
-    let memory = shallow_list 0 IsBytes hex_value (λ bytes fits. record { numbers = tt; depth = omega arith }) r.memory h.memory in
-    let touched = shallow_list 0 (λ n. n < 2 ^ 64) number_value shallow_number r.touched h.touched in
-    let nodes = shallow_list 3 FitsNode node_value shallow_node r.tree h.tree in
+    let answers = shallow_list 1 FitsAnswer answer_value shallow_answer r.answers h.0 in
+    let memory = shallow_list 0 IsBytes hex_value (λ bytes fits. record { numbers = tt; depth = omega arith }) r.memory h.1 in
+    let touched = shallow_list 0 FitsNumber number_value shallow_number r.touched h.4 in
+    let nodes = shallow_list 3 FitsNode node_value shallow_node r.tree h.5 in
     record { numbers = (answers.numbers, (memory.numbers, (tt, (tt, (touched.numbers, (nodes.numbers, tt)))))); depth = omega arith }
-
--- ---- the parts of an object's JSON
-
-abbrev members_in : json.Json → json.Members
-members_in json.null = json.no_members
-members_in (json.boolean b) = json.no_members
-members_in (json.number s) = json.no_members
-members_in (json.string s) = json.no_members
-members_in (json.array js) = json.no_members
-members_in (json.object ms) = ms
-
-abbrev items_in : json.Json → json.Items
-items_in json.null = json.no_items
-items_in (json.boolean b) = json.no_items
-items_in (json.number s) = json.no_items
-items_in (json.string s) = json.no_items
-items_in (json.array js) = js
-items_in (json.object ms) = json.no_items
-
-abbrev text_in : json.Json → List ℕ
-text_in json.null = []
-text_in (json.boolean b) = []
-text_in (json.number s) = s
-text_in (json.string s) = s
-text_in (json.array js) = []
-text_in (json.object ms) = []
-
-abbrev after_first : json.Members → json.Members
-after_first json.no_members = json.no_members
-after_first (json.member k j ms) = ms
-
-abbrev items_first : json.Members → json.Items
-items_first json.no_members = json.no_items
-items_first (json.member k j ms) = items_in j
-
-abbrev text_first : json.Members → List ℕ
-text_first json.no_members = []
-text_first (json.member k j ms) = text_in j
 
 -- the JSON of a list
 abbrev list_json : {A : Type 0} → (A → Data) → List A → json.Items
 list_json value_of items = items_outline (items_of (map value_of items))
 
 same_report : (a b : Report) → IsOrdered a → IsOrdered b → outline (report_value a) ≡ outline (report_value b) → a ≡ b
+unfolding IsOrdered
 same_report a b p q e =
     let from_answers = ap members_in e in
     let from_memory = ap after_first from_answers in
@@ -354,12 +381,12 @@ same_report a b p q e =
     let nodes : list_json node_value a.tree ≡ list_json node_value b.tree = ap items_first from_tree in
     let make : List Answer → List (List ℕ) → List ℕ → List ℕ → List ℕ → List Given → Report =
     λ answers memory stderr stdout touched tree. record { answers = answers; memory = memory; stderr = stderr; stdout = stdout; touched = touched; tree = tree } in
-    ap (λ x. make x a.memory a.stderr a.stdout a.touched a.tree) (same_list FitsAnswer answer_value same_answer a.answers b.answers p.answers q.answers answers)
-    ∙ ap (λ x. make b.answers x a.stderr a.stdout a.touched a.tree) (same_list IsBytes hex_value same_hex a.memory b.memory p.memory q.memory memory)
-    ∙ ap (λ x. make b.answers b.memory x a.stdout a.touched a.tree) (same_bytes a.stderr b.stderr p.stderr q.stderr stderr)
-    ∙ ap (λ x. make b.answers b.memory b.stderr x a.touched a.tree) (same_bytes a.stdout b.stdout p.stdout q.stdout stdout)
-    ∙ ap (λ x. make b.answers b.memory b.stderr b.stdout x a.tree) (same_list (λ n. n < 2 ^ 64) number_value same_number a.touched b.touched p.touched q.touched touched)
-    ∙ ap (make b.answers b.memory b.stderr b.stdout b.touched) (same_list FitsNode node_value same_node a.tree b.tree p.tree q.tree nodes)
+    ap (λ x. make x a.memory a.stderr a.stdout a.touched a.tree) (same_list FitsAnswer answer_value same_answer a.answers b.answers p.0 q.0 answers)
+    ∙ ap (λ x. make b.answers x a.stderr a.stdout a.touched a.tree) (same_list IsBytes hex_value same_hex a.memory b.memory p.1 q.1 memory)
+    ∙ ap (λ x. make b.answers b.memory x a.stdout a.touched a.tree) (same_bytes a.stderr b.stderr p.2 q.2 stderr)
+    ∙ ap (λ x. make b.answers b.memory b.stderr x a.touched a.tree) (same_bytes a.stdout b.stdout p.3 q.3 stdout)
+    ∙ ap (λ x. make b.answers b.memory b.stderr b.stdout x a.tree) (same_list FitsNumber number_value same_number a.touched b.touched p.4 q.4 touched)
+    ∙ ap (make b.answers b.memory b.stderr b.stdout b.touched) (same_list FitsNode node_value same_node a.tree b.tree p.5 q.5 nodes)
 
 pub told : ReportsAreTold
 unfolding report_text

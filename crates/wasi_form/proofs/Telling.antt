@@ -1,6 +1,7 @@
 -- The names of a directory in order, and the items and members that are left to be told.
-use Rattle.std.proofs.Common.{ℕ, zero, suc, List, [], ◌∷◌, ◌++◌, ◌≡◌, ◌<◌, ◌+◌, Less, refl, sym, ap, ◌∙◌, map, drop, length, get_or, slice_index_or, append_assoc, arith}
+use Rattle.std.proofs.Common.{ℕ, zero, suc, List, [], ◌∷◌, ◌++◌, ◌≡◌, ◌<◌, ◌+◌, All, Less, refl, sym, ap, ◌∙◌, map, drop, length, get_or, slice_index_or, append_assoc, arith}
 use Rattle.std.proofs.lemmas.List.{drop_more, length-map}
+use Rattle.std.proofs.lemmas.List.Elements.{All-map}
 use Rattle.std.specs.Cmp.Lexicographic.{slice_cmp}
 use Rattle.std.specs.FinMap.{entries}
 use Rattle.std.specs.List.{AllByRecursion}
@@ -10,7 +11,7 @@ use Rattle.std.specs.Ordering.{nat_cmp}
 use Rattle.std.specs.Prelude.{String, string_bytes}
 use Rattle.std.specs.String.{string_cmp}
 use Rattle.std.specs.declared.alloc.Global.{Global}
-use Rattle.json.specs.Token.{Token, key}
+use Rattle.json.specs.Token.{Token}
 use Rattle.json.specs.Tree.{items_tokens, members_tokens}
 use Rattle.serde_json.specs.Data.{Data, array, item, Members, no_members}
 use Rattle.serde_json.specs.View.{items_of}
@@ -19,7 +20,8 @@ use Rattle.wasi_host.specs.Tree.{Tree, Node, node_at, next_of, stray}
 use Rattle.wasi_tree.specs.Given.{Given, GivenContent, file, directory, link, given_of}
 use Rattle.wasi_tree.specs.StoredTree.{names_in, text_entry}
 use Rattle.wasi_tree.proofs.NameLemmas.{entries-names_in}
-use Rattle.wasi_form.specs.Report.{put_all, number_value, node_value, list_value, content_member}
+use Rattle.wasi_form.specs.Report.{put_all, node_value, list_value, content_member}
+use Rattle.wasi_form.specs.ReadBack.{FitsContent, FitsEntry}
 use Rattle.wasi_form.specs.Told.{told, told_at, content_told}
 use Rattle.wasi_form.proofs.ReadBack.{IsRising, in_order, put_rising}
 
@@ -43,6 +45,12 @@ pub names_in_order : (es : List Number) → IsStrictlySortedBy string_cmp (keys_
     → in_order (map text_entry es) ≡ put_all (entries (names_in es)) no_members
 names_in_order es ordered =
     sym (ap (λ names. put_all names no_members) (entries-names_in es ordered) ∙ put_rising (map text_entry es) (rising_in_text es ordered))
+
+-- the names that ordered entries hold are in order, and their numbers in range
+pub names_fit : (es : List Number) → IsStrictlySortedBy string_cmp (keys_of es) → All FitsEntry es
+    → FitsContent (directory (entries (names_in es)))
+names_fit es ordered numbers =
+    rw (entries-names_in es ordered) (rising_in_text es ordered, All-map FitsEntry text_entry es numbers)
 
 -- ---- what is left
 
@@ -73,11 +81,6 @@ pub node_next : (t : Tree) (n : ℕ) (node : Given) (now next all : List Token)
 unfolding node_at
 node_next t n node now next all so within is told_now =
     item_next node_value (map given_of t.nodes) n node now next all so (omega (arith, length-map t.nodes given_of)) (given_at t.nodes n node within is) told_now
-
-pub number_next : (left rest : List Number) (name : String Global) (n : ℕ) (now next all : List Token)
-    → now ++ numbers_told left ≡ all → left ≡ (name, n) ∷ rest → next ≡ now ++ key (string_bytes name) ∷ told (number_value n)
-    → next ++ numbers_told rest ≡ all
-number_next left rest name n now next all so is told_now = rw (told_now, append_assoc) (rw is at so)
 
 -- ---- one part after another
 

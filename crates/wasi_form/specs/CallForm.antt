@@ -1,41 +1,140 @@
 -- The forms of calls.
-use Rattle.std.specs.Prelude.{ℕ, List, length, slice_index, nat_eq, codes, if◌then◌else◌, Option, Some, None}
+use Rattle.std.specs.Prelude.{ℕ, List, [], ◌∷◌, Bool, true, false, ◌&&◌, codes, if◌then◌else◌, Option, Some, None, is_some}
+use Rattle.std.specs.Str.{bytes_eq}
 use Rattle.serde_json.specs.Data.{Data, Items, no_items, item}
 use Rattle.serde_json.specs.Find as find
 use Rattle.wasi_guest.specs.declared.call.Call.{Call}
-use Rattle.wasi_guest.specs.declared.call.Call.TheVariants.{PathOpen, FdRead}
-use Rattle.wasi_form.specs.Lists.{◌>>=◌, items_all}
-use Rattle.wasi_form.specs.Shapes.{u64_of, u32_at, is_text}
+use Rattle.wasi_guest.specs.declared.call.Call.TheVariants.{PathOpen, FdRead, FdWrite, FdClose}
+use Rattle.wasi_form.specs.declared.calls.Argument.{Argument}
+use Rattle.wasi_form.specs.declared.calls.Argument.TheVariants.{U32, U64, I64}
+use Rattle.wasi_form.specs.Lists.{◌>>=◌, only_if}
+use Rattle.wasi_form.specs.Shapes.{u64_of, i64_of, u32_of}
 
--- eight arguments, of 32 bits but for the rights, which have 64
-unfoldable pub path_open_of : List ℕ → Option Call
-path_open_of ns = if nat_eq (length ns) 8 then (do
-  fd ← u32_at ns 0
-  dirflags ← u32_at ns 1
-  path ← u32_at ns 2
-  path_len ← u32_at ns 3
-  oflags ← u32_at ns 4
-  fdflags ← u32_at ns 7
-  Some (PathOpen fd dirflags path path_len oflags (slice_index ns 5) (slice_index ns 6) fdflags)) else None
+-- the calls of `wasi_snapshot_preview1`, each with the types of its arguments
+abbrev pub call_rows : List (List ℕ × List Argument)
+call_rows =
+    (codes "args_get", U32 ∷ U32 ∷ [])
+    ∷ (codes "args_sizes_get", [])
+    ∷ (codes "environ_get", U32 ∷ U32 ∷ [])
+    ∷ (codes "environ_sizes_get", [])
+    ∷ (codes "clock_res_get", U32 ∷ [])
+    ∷ (codes "clock_time_get", U32 ∷ U64 ∷ [])
+    ∷ (codes "fd_advise", U32 ∷ U64 ∷ U64 ∷ U32 ∷ [])
+    ∷ (codes "fd_allocate", U32 ∷ U64 ∷ U64 ∷ [])
+    ∷ (codes "fd_close", U32 ∷ [])
+    ∷ (codes "fd_datasync", U32 ∷ [])
+    ∷ (codes "fd_sync", U32 ∷ [])
+    ∷ (codes "fd_fdstat_get", U32 ∷ [])
+    ∷ (codes "fd_fdstat_set_flags", U32 ∷ U32 ∷ [])
+    ∷ (codes "fd_fdstat_set_rights", U32 ∷ U64 ∷ U64 ∷ [])
+    ∷ (codes "fd_filestat_get", U32 ∷ [])
+    ∷ (codes "fd_filestat_set_size", U32 ∷ U64 ∷ [])
+    ∷ (codes "fd_filestat_set_times", U32 ∷ U64 ∷ U64 ∷ U32 ∷ [])
+    ∷ (codes "fd_pread", U32 ∷ U32 ∷ U32 ∷ U64 ∷ [])
+    ∷ (codes "fd_prestat_get", U32 ∷ [])
+    ∷ (codes "fd_prestat_dir_name", U32 ∷ U32 ∷ U32 ∷ [])
+    ∷ (codes "fd_pwrite", U32 ∷ U32 ∷ U32 ∷ U64 ∷ [])
+    ∷ (codes "fd_read", U32 ∷ U32 ∷ U32 ∷ [])
+    ∷ (codes "fd_readdir", U32 ∷ U32 ∷ U32 ∷ U64 ∷ [])
+    ∷ (codes "fd_renumber", U32 ∷ U32 ∷ [])
+    ∷ (codes "fd_seek", U32 ∷ I64 ∷ U32 ∷ [])
+    ∷ (codes "fd_tell", U32 ∷ [])
+    ∷ (codes "fd_write", U32 ∷ U32 ∷ U32 ∷ [])
+    ∷ (codes "path_create_directory", U32 ∷ U32 ∷ U32 ∷ [])
+    ∷ (codes "path_filestat_get", U32 ∷ U32 ∷ U32 ∷ U32 ∷ [])
+    ∷ (codes "path_filestat_set_times", U32 ∷ U32 ∷ U32 ∷ U32 ∷ U64 ∷ U64 ∷ U32 ∷ [])
+    ∷ (codes "path_link", U32 ∷ U32 ∷ U32 ∷ U32 ∷ U32 ∷ U32 ∷ U32 ∷ [])
+    ∷ (codes "path_open", U32 ∷ U32 ∷ U32 ∷ U32 ∷ U32 ∷ U64 ∷ U64 ∷ U32 ∷ [])
+    ∷ (codes "path_readlink", U32 ∷ U32 ∷ U32 ∷ U32 ∷ U32 ∷ [])
+    ∷ (codes "path_remove_directory", U32 ∷ U32 ∷ U32 ∷ [])
+    ∷ (codes "path_unlink_file", U32 ∷ U32 ∷ U32 ∷ [])
+    ∷ (codes "path_rename", U32 ∷ U32 ∷ U32 ∷ U32 ∷ U32 ∷ U32 ∷ [])
+    ∷ (codes "path_symlink", U32 ∷ U32 ∷ U32 ∷ U32 ∷ U32 ∷ [])
+    ∷ (codes "poll_oneoff", U32 ∷ U32 ∷ U32 ∷ [])
+    ∷ (codes "proc_exit", U32 ∷ [])
+    ∷ (codes "proc_raise", U32 ∷ [])
+    ∷ (codes "random_get", U32 ∷ U32 ∷ [])
+    ∷ (codes "sched_yield", [])
+    ∷ (codes "sock_accept", U32 ∷ U32 ∷ [])
+    ∷ (codes "sock_recv", U32 ∷ U32 ∷ U32 ∷ U32 ∷ [])
+    ∷ (codes "sock_send", U32 ∷ U32 ∷ U32 ∷ U32 ∷ [])
+    ∷ (codes "sock_shutdown", U32 ∷ U32 ∷ [])
+    ∷ []
 
--- three arguments of 32 bits
-unfoldable pub fd_read_of : List ℕ → Option Call
-fd_read_of ns = if nat_eq (length ns) 3 then (do
-  fd ← u32_at ns 0
-  iovs ← u32_at ns 1
-  iovs_len ← u32_at ns 2
-  Some (FdRead fd iovs iovs_len)) else None
+-- what stands at a name
+abbrev pub at_name : List (List ℕ × List Argument) → List ℕ → Option (List Argument)
+at_name [] name = None
+at_name (row ∷ rows) name = if bytes_eq name row.0 then Some row.1 else at_name rows name
 
--- the call of a name, with these arguments
-abbrev pub call_named : Data → List ℕ → Option Call
-call_named name ns =
-    if is_text (codes "path_open") name then path_open_of ns
-    else (if is_text (codes "fd_read") name then fd_read_of ns else None)
+-- the types of the arguments of the call of a name
+unfoldable pub arguments_of : List ℕ → Option (List Argument)
+arguments_of name = at_name call_rows name
+
+abbrev pub is_argument : Argument → Data → Bool
+is_argument U32 d = is_some (u32_of d)
+is_argument U64 d = is_some (u64_of d)
+is_argument I64 d = is_some (i64_of d)
+
+-- as many values, each a number of its type
+abbrev pub are_arguments : List Argument → Items → Bool
+are_arguments [] no_items = true
+are_arguments [] (item d ds) = false
+are_arguments (t ∷ ts) no_items = false
+are_arguments (t ∷ ts) (item d ds) = is_argument t d && are_arguments ts ds
+
+abbrev pub u64_at : ℕ → Items → Option ℕ
+u64_at i ds = find.get_item i ds >>= u64_of
+
+abbrev pub u32_at : ℕ → Items → Option ℕ
+u32_at i ds = find.get_item i ds >>= u32_of
+
+unfoldable pub path_open_of : Items → Option Call
+path_open_of ds = do
+  fd ← u32_at 0 ds
+  dirflags ← u32_at 1 ds
+  path ← u32_at 2 ds
+  path_len ← u32_at 3 ds
+  oflags ← u32_at 4 ds
+  base ← u64_at 5 ds
+  inheriting ← u64_at 6 ds
+  fdflags ← u32_at 7 ds
+  Some (PathOpen fd dirflags path path_len oflags base inheriting fdflags)
+
+unfoldable pub fd_read_of : Items → Option Call
+fd_read_of ds = do
+  fd ← u32_at 0 ds
+  iovs ← u32_at 1 ds
+  iovs_len ← u32_at 2 ds
+  Some (FdRead fd iovs iovs_len)
+
+unfoldable pub fd_write_of : Items → Option Call
+fd_write_of ds = do
+  fd ← u32_at 0 ds
+  iovs ← u32_at 1 ds
+  iovs_len ← u32_at 2 ds
+  Some (FdWrite fd iovs iovs_len)
+
+unfoldable pub fd_close_of : Items → Option Call
+fd_close_of ds = do
+  fd ← u32_at 0 ds
+  Some (FdClose fd)
+
+-- the call of a name with these arguments; all other names wait
+abbrev pub call_named : List ℕ → Items → Option Call
+call_named name ds =
+    if bytes_eq name (codes "path_open") then path_open_of ds
+    else (if bytes_eq name (codes "fd_read") then fd_read_of ds
+    else (if bytes_eq name (codes "fd_write") then fd_write_of ds
+    else (if bytes_eq name (codes "fd_close") then fd_close_of ds else None)))
 
 -- `[NAME, ARGUMENT ..]`
-abbrev pub call_in : Items → Option Call
+abbrev pub call_in : Items → Option (Option Call)
 call_in no_items = None
-call_in (item name ds) = items_all u64_of ds >>= call_named name
+call_in (item d ds) = do
+  name ← find.as_str d
+  arguments ← arguments_of name
+  _ ← only_if (are_arguments arguments ds)
+  Some (call_named name ds)
 
-abbrev pub call_of : Data → Option Call
+abbrev pub call_of : Data → Option (Option Call)
 call_of d = find.as_array d >>= call_in

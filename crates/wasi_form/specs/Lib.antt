@@ -7,6 +7,7 @@ pub mod NodeForm
 pub mod PreopenForm
 pub mod MemoryForm
 pub mod CallForm
+pub mod WaitingForm
 pub mod ScriptForm
 pub mod Built
 pub mod Verdict

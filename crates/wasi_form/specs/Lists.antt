@@ -1,5 +1,6 @@
 -- Options one after another, and lists of a shape.
-use Rattle.std.specs.Prelude.{List, [], ◌∷◌, ◌++◌, Bool, if◌then◌else◌, Option, Some, None, option_and_then}
+use Rattle.std.specs.Prelude.{List, [], ◌∷◌, ◌++◌, map, Vec, Bool, if◌then◌else◌, Option, Some, None, option_map, option_and_then}
+use Rattle.std.specs.declared.alloc.Global.{Global}
 use Rattle.serde_json.specs.Data.{Data, Items, no_items, item}
 use Rattle.serde_json.specs.Find as find
 
@@ -33,12 +34,44 @@ items_all of (item d ds) = do
   xs ← items_all of ds
   Some (x ∷ xs)
 
+-- a list, each item of the shape
+abbrev pub list_of : {A : Type 0} → (Data → Option A) → Data → Option (List A)
+list_of of d = find.as_array d >>= items_all of
+
+-- A form may wait until it is built. Where it does, a value of its shape is read as `Some None`.
+
+-- a form that never waits
+abbrev pub always : {A : Type 0} → (Data → Option A) → Data → Option (Option A)
+always of d = option_map Some (of d)
+
+-- the list, where none of its items waits
+abbrev pub none_waits : {A : Type 0} → List (Option A) → Option (List A)
+none_waits [] = Some []
+none_waits (None ∷ xs) = None
+none_waits (Some x ∷ xs) = do
+  ys ← none_waits xs
+  Some (x ∷ ys)
+
+-- items of a form that may wait
+abbrev pub forms_in : {A : Type 0} → (Data → Option (Option A)) → Items → Option (Option (List A))
+forms_in of ds = option_map none_waits (items_all of ds)
+
+-- a list of such
+abbrev pub forms_of : {A : Type 0} → (Data → Option (Option A)) → Data → Option (Option (List A))
+forms_of of d = find.as_array d >>= forms_in of
+
+-- what is seen of a list of forms that was read
+abbrev pub forms_seen : {T A : Type 0} → (T → A) → Option (Option (Vec T Global)) → Option (Option (List A))
+forms_seen see forms = option_map (option_map (λ v. map see v.items)) forms
+
 -- the list with one more item, where both are there
 abbrev pub pushed : {A : Type 0} → Option (List A) → Option A → Option (List A)
 pushed None x = None
 pushed (Some xs) None = None
 pushed (Some xs) (Some x) = Some (xs ++ x ∷ [])
 
--- a list, each item of the shape
-abbrev pub list_of : {A : Type 0} → (Data → Option A) → Data → Option (List A)
-list_of of d = find.as_array d >>= items_all of
+-- the same, where both are of their shapes
+abbrev pub form_pushed : {A : Type 0} → Option (Option (List A)) → Option (Option A) → Option (Option (List A))
+form_pushed None x = None
+form_pushed (Some xs) None = None
+form_pushed (Some xs) (Some x) = Some (pushed xs x)

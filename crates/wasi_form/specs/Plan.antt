@@ -2,6 +2,7 @@
 use Rattle.std.specs.Prelude.{ℕ, List, map}
 use Rattle.std.specs.String.{string_bytes}
 use Rattle.wasi_tree.specs.Given.{Given, given}
+use Rattle.wasi_fs.specs.declared.perms.FsPerms.{FsPerms}
 use Rattle.wasi_guest.specs.declared.call.Call.{Call}
 use Rattle.wasi_form.specs.declared.script.Script.{Script}
 use Rattle.wasi_form.specs.declared.script.ScriptPreopen.{ScriptPreopen}
@@ -9,10 +10,11 @@ use Rattle.wasi_form.specs.declared.script.Piece.{Piece}
 use Rattle.wasi_form.specs.declared.memory.ScriptMemory.{ScriptMemory}
 use Rattle.wasi_form.specs.declared.script.Shown.{Shown}
 
--- a directory that the guest is given, by its node and the name that the guest knows
+-- a directory that the guest is given: its node, the name that the guest knows, and what may be done below it
 pub record PlannedPreopen : Type 0 where
   pub node : ℕ
   pub name : List ℕ
+  pub perms : FsPerms
 
 -- bytes that stand in the guest's memory from an offset on
 pub record PlannedPiece : Type 0 where
@@ -34,7 +36,7 @@ pub record Plan : Type 0 where
   pub calls : List Call
 
 abbrev pub planned_preopen : ScriptPreopen → PlannedPreopen
-planned_preopen preopen = record { node = preopen.node; name = string_bytes preopen.name }
+planned_preopen preopen = record { node = preopen.node; name = string_bytes preopen.name; perms = preopen.perms }
 
 abbrev pub planned_piece : Piece → PlannedPiece
 planned_piece piece = record { offset = piece.offset; bytes = piece.bytes.items }

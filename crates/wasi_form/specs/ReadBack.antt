@@ -1,8 +1,7 @@
 -- A report's text tells the report.
-use Rattle.std.specs.Prelude.{◌≡◌, ◌^◌, ◌<◌, map, ⊤}
+use Rattle.std.specs.Prelude.{◌≡◌, ℕ, ◌^◌, ◌<◌, map, ⊤, All}
 use Rattle.std.specs.Cmp.Lexicographic.{slice_cmp}
 use Rattle.std.specs.Int.Signed.{mag}
-use Rattle.std.specs.List.{AllByRecursion}
 use Rattle.std.specs.List.Sorted.{IsStrictlySortedBy}
 use Rattle.std.specs.Ordering.{nat_cmp}
 use Rattle.hex.specs.Hex.{IsBytes}
@@ -12,41 +11,51 @@ use Rattle.wasi_form.specs.Report.{Report, report_text}
 use Rattle.wasi_guest.specs.declared.answer.Answer.{Answer}
 use Rattle.wasi_guest.specs.declared.answer.Answer.TheVariants as answers
 use Rattle.wasi_guest.specs.declared.answer.Value.{Value}
-use Rattle.wasi_guest.specs.declared.answer.Value.TheVariants.{Number}
+use Rattle.wasi_guest.specs.declared.answer.Value.TheVariants as values
+
+-- a number fits 64 bits
+abbrev pub FitsNumber : ℕ → Type 0
+FitsNumber n = n < 2 ^ 64
 
 abbrev pub FitsValue : Value → Type 0
-FitsValue (Number n) = n < 2 ^ 64
+FitsValue values.Unit = ⊤
+FitsValue (values.Number n) = FitsNumber n
 
 abbrev pub FitsAnswer : Answer → Type 0
 FitsAnswer (answers.Ok value) = FitsValue value
 FitsAnswer (answers.Errno errno) = ⊤
 FitsAnswer (answers.Trap kind) = ⊤
 
+-- the number under a name
+abbrev pub FitsEntry : {Name : Type 0} → Name × ℕ → Type 0
+FitsEntry entry = FitsNumber entry.1
+
 -- the names of a directory stand in strictly rising byte order, so that none stands twice
 abbrev pub FitsContent : GivenContent → Type 0
 FitsContent (file bytes) = IsBytes bytes
-FitsContent (directory entries) = IsStrictlySortedBy (slice_cmp nat_cmp) (map (λ e. e.0) entries) × AllByRecursion (λ e. e.1 < 2 ^ 64) entries
+FitsContent (directory entries) =
+    IsStrictlySortedBy (slice_cmp nat_cmp) (map (λ e. e.0) entries) × All FitsEntry entries
 FitsContent (link text) = ⊤
 
 -- the seconds fit 64 bits with a sign
 pub record FitsTime (time : SystemTime) : Type 0 where
   pub seconds : mag time.seconds < 2 ^ 63
-  pub nanoseconds : time.nanoseconds < 2 ^ 64
+  pub nanoseconds : FitsNumber time.nanoseconds
 
-pub record FitsNode (node : Given) : Type 0 where
-  pub content : FitsContent node.content
+pub record FitsTimes (node : Given) : Type 0 where
   pub atime : FitsTime node.atime
   pub mtime : FitsTime node.mtime
   pub btime : FitsTime node.btime
 
+pub record FitsNode (node : Given) : Type 0 where
+  pub content : FitsContent node.content
+  pub times : FitsTimes node
+
 -- numbers fit 64 bits and bytes are bytes, as in each run's report, and names stand in byte order
-pub record IsOrdered (r : Report) : Type 0 where
-  pub answers : AllByRecursion FitsAnswer r.answers
-  pub memory : AllByRecursion IsBytes r.memory
-  pub stderr : IsBytes r.stderr
-  pub stdout : IsBytes r.stdout
-  pub touched : AllByRecursion (λ n. n < 2 ^ 64) r.touched
-  pub tree : AllByRecursion FitsNode r.tree
+unfoldable pub IsOrdered : Report → Type 0
+IsOrdered r =
+    All FitsAnswer r.answers × All IsBytes r.memory × IsBytes r.stderr × IsBytes r.stdout
+    × All FitsNumber r.touched × All FitsNode r.tree
 
 -- two such reports with the same text are the same
 abbrev pub ReportsAreTold : Type 0

@@ -1,7 +1,7 @@
 -- The value and the text of a report.
 use Rattle.std.specs.Prelude.{ℕ, Bool, List, [], ◌∷◌, ◌++◌, codes, map, if◌then◌else◌}
 use Rattle.hex.specs.Hex.{encode_lower}
-use Rattle.serde_json.specs.Data.{unsigned, Data, number, string, array, object, no_items, item, Members, member, no_members, put}
+use Rattle.serde_json.specs.Data.{unsigned, Data, null, number, string, array, object, no_items, item, Members, member, no_members, put}
 use Rattle.serde_json.specs.Find.{of_integer}
 use Rattle.serde_json.specs.View.{items_of}
 use Rattle.serde_json.specs.Written.{compact_text}
@@ -15,7 +15,7 @@ use Rattle.wasi_guest.specs.declared.answer.Answer.TheVariants as answers
 use Rattle.wasi_guest.specs.declared.answer.TrapKind.{TrapKind}
 use Rattle.wasi_guest.specs.declared.answer.TrapKind.TheVariants.{Pointer}
 use Rattle.wasi_guest.specs.declared.answer.Value.{Value}
-use Rattle.wasi_guest.specs.declared.answer.Value.TheVariants.{Number}
+use Rattle.wasi_guest.specs.declared.answer.Value.TheVariants as values
 use Rattle.wasi_form.specs.declared.outcome.Outcome.{Outcome}
 
 pub record Report : Type 0 where
@@ -43,16 +43,18 @@ reported o nodes = record {
 abbrev pub only : List ℕ → Data → Data
 only key value = object (member key value no_members)
 
+-- what stands under `ok`
 abbrev pub success_value : Value → Data
-success_value (Number n) = only (codes "ok") (number (unsigned n))
+success_value values.Unit = null
+success_value (values.Number n) = number (unsigned n)
 
-abbrev pub trap_value : TrapKind → Data
-trap_value Pointer = only (codes "trap") (string (codes "pointer"))
+abbrev pub trap_name : TrapKind → List ℕ
+trap_name Pointer = codes "pointer"
 
 abbrev pub answer_value : Answer → Data
-answer_value (answers.Ok value) = success_value value
+answer_value (answers.Ok value) = only (codes "ok") (success_value value)
 answer_value (answers.Errno errno) = only (codes "errno") (string (errno_name errno))
-answer_value (answers.Trap kind) = trap_value kind
+answer_value (answers.Trap kind) = only (codes "trap") (string (trap_name kind))
 
 abbrev pub hex_value : List ℕ → Data
 hex_value bytes = string (encode_lower bytes)

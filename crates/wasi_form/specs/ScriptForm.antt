@@ -1,23 +1,67 @@
--- The form of a whole script.
-use Rattle.std.specs.Prelude.{[], codes, Option, Some}
-use Rattle.serde_json.specs.Data.{Data}
+-- The form of a whole script: an object with a key for each part, and no others.
+use Rattle.std.specs.Prelude.{ℕ, List, [], ◌∷◌, ◌++◌, map, Bool, true, ◌&&◌, codes, if◌then◌else◌, Option, Some, None, is_some, unwrap_or}
+use Rattle.std.specs.List.{list_any, list_all}
+use Rattle.serde_json.specs.Data.{Data, Members}
 use Rattle.serde_json.specs.Find as find
-use Rattle.wasi_form.specs.declared.shapes.Form.TheVariants as forms
-use Rattle.wasi_form.specs.Lists.{◌>>=◌, only_if, needed, optional, list_of}
-use Rattle.wasi_form.specs.Shapes.{is_object}
-use Rattle.wasi_form.specs.Plan.{Plan}
+use Rattle.serde_json.specs.Find.{get_member}
+use Rattle.wasi_guest.specs.declared.call.Call.{Call}
+use Rattle.wasi_tree.specs.Given.{Given}
+use Rattle.wasi_form.specs.declared.script.Shown.{Shown}
+use Rattle.wasi_form.specs.Lists.{◌>>=◌, only_if, needed, optional, always, forms_of}
+use Rattle.wasi_form.specs.Shapes.{all_keys}
+use Rattle.wasi_form.specs.Plan.{PlannedPreopen, PlannedMemory, Plan}
 use Rattle.wasi_form.specs.NodeForm.{script_node}
 use Rattle.wasi_form.specs.PreopenForm.{preopen_of}
 use Rattle.wasi_form.specs.MemoryForm.{no_memory, memory_of, shown_of}
 use Rattle.wasi_form.specs.CallForm.{call_of}
+use Rattle.wasi_form.specs.WaitingForm.{waiting_keys, waiting_in}
 
--- the script that a value is, whether or not it can be run today
-unfoldable pub script_of : Data → Option Plan
-script_of d = do
-  _ ← only_if (is_object forms.Script d)
-  nodes ← needed (list_of script_node) (find.get (codes "nodes") d)
-  preopens ← needed (list_of preopen_of) (find.get (codes "preopens") d)
-  memory ← optional memory_of no_memory (find.get (codes "memory") d)
-  show ← optional (list_of shown_of) [] (find.get (codes "show") d)
-  calls ← needed (list_of call_of) (find.get (codes "calls") d)
-  Some (record { nodes = nodes; preopens = preopens; size = memory.size; pieces = memory.pieces; show = show; calls = calls })
+unfoldable pub script_keys : List (List ℕ)
+script_keys = codes "nodes" ∷ codes "preopens" ∷ codes "calls" ∷ codes "memory" ∷ codes "show" ∷ map (λ row. row.0) waiting_keys
+
+-- Whether all keys are those of a script, and what stands at them. A part is `None` where it is of another shape, or is
+-- missing and has to be there, and `Some None` where a form in it waits. At a key that waits: nothing, or whether what
+-- stands there is of its kind.
+pub record Found : Type 0 where
+  pub known : Bool
+  pub nodes : Option (Option (List Given))
+  pub preopens : Option (Option (List PlannedPreopen))
+  pub calls : Option (Option (List Call))
+  pub memory : Option PlannedMemory
+  pub show : Option (Option (List Shown))
+  pub waiting : List (Option Bool)
+
+-- of all members
+abbrev pub found_in : Members → Found
+found_in ms = record {
+  known = all_keys script_keys ms;
+  nodes = needed (forms_of script_node) (get_member (codes "nodes") ms);
+  preopens = needed (forms_of (always preopen_of)) (get_member (codes "preopens") ms);
+  calls = needed (forms_of call_of) (get_member (codes "calls") ms);
+  memory = optional memory_of no_memory (get_member (codes "memory") ms);
+  show = optional (forms_of (always shown_of)) (Some []) (get_member (codes "show") ms);
+  waiting = waiting_in ms;
+}
+
+-- the plan of these parts, where none of them waits
+abbrev pub planned : Option (List Given) → Option (List PlannedPreopen) → Option (List Call) → PlannedMemory → Option (List Shown) → Option Plan
+planned nodes preopens calls memory show = do
+  ns ← nodes
+  ps ← preopens
+  cs ← calls
+  ss ← show
+  Some (record { nodes = ns; preopens = ps; size = memory.size; pieces = memory.pieces; show = ss; calls = cs })
+
+-- the plan of what was found, where it is of the shape of a script; `Some None` where a form in it waits
+unfoldable pub script_found : Found → Option (Option Plan)
+script_found found = do
+  _ ← only_if (found.known && list_all (λ is. unwrap_or is true) found.waiting)
+  nodes ← found.nodes
+  preopens ← found.preopens
+  calls ← found.calls
+  memory ← found.memory
+  show ← found.show
+  Some (if list_any is_some found.waiting then None else planned nodes preopens calls memory show)
+
+abbrev pub script_of : Data → Option (Option Plan)
+script_of d = find.as_object d >>= (λ ms. script_found (found_in ms))

@@ -1,8 +1,8 @@
--- The shapes of numbers and texts, and of an object's keys.
-use Rattle.std.specs.Prelude.{ℕ, ◌^◌, List, [], ◌∷◌, Bool, true, false, ◌&&◌, codes, slice_index, Option, Some, None, Result, Ok, Err, nat_lt, if◌then◌else◌}
+-- The shapes of numbers and texts, of short lists, and of an object's keys.
+use Rattle.std.specs.Prelude.{ℕ, ℤ, ◌^◌, List, [], ◌∷◌, Bool, true, false, ◌&&◌, codes, Option, Some, None, Result, Ok, Err, nat_lt, if◌then◌else◌}
 use Rattle.std.specs.List.{list_any}
 use Rattle.std.specs.Str.{bytes_eq}
-use Rattle.serde_json.specs.Data.{Data, null, boolean, number, string, array, object, Members, no_members, member}
+use Rattle.serde_json.specs.Data.{Data, null, boolean, number, string, array, object, Items, no_items, item, Members, no_members, member}
 use Rattle.serde_json.specs.Find as find
 use Rattle.hex.specs.Hex.{decode_of}
 use Rattle.wasi_form.specs.declared.shapes.Form.{Form}
@@ -13,6 +13,10 @@ use Rattle.wasi_form.specs.Lists.{◌>>=◌}
 abbrev pub u64_of : Data → Option ℕ
 u64_of d = find.as_number d >>= find.as_u64
 
+-- a whole number of 64 bits with a sign
+abbrev pub i64_of : Data → Option ℤ
+i64_of d = find.as_number d >>= find.as_i64
+
 -- a number below a limit
 abbrev pub below : ℕ → ℕ → Option ℕ
 below limit n = if nat_lt n limit then Some n else None
@@ -20,10 +24,6 @@ below limit n = if nat_lt n limit then Some n else None
 -- a whole number of 32 bits
 abbrev pub u32_of : Data → Option ℕ
 u32_of d = u64_of d >>= below (2 ^ 32)
-
--- a number of a list, of 32 bits
-abbrev pub u32_at : List ℕ → ℕ → Option ℕ
-u32_at ns i = below (2 ^ 32) (slice_index ns i)
 
 -- the value, and nothing of an error
 abbrev pub ok_of : {A E : Type 0} → Result A E → Option A
@@ -43,19 +43,40 @@ is_text text (string s) = bytes_eq s text
 is_text text (array ds) = false
 is_text text (object ms) = false
 
+-- the items of a list of two
+abbrev pub two_in : Items → Option (Data × Data)
+two_in no_items = None
+two_in (item d no_items) = None
+two_in (item d (item e no_items)) = Some (d, e)
+two_in (item d (item e (item more ds))) = None
+
+abbrev pub two_of : Data → Option (Data × Data)
+two_of d = find.as_array d >>= two_in
+
+-- the items of a list of three
+abbrev pub three_in : Items → Option (Data × Data × Data)
+three_in no_items = None
+three_in (item d no_items) = None
+three_in (item d (item e no_items)) = None
+three_in (item d (item e (item f no_items))) = Some (d, e, f)
+three_in (item d (item e (item f (item more ds)))) = None
+
+abbrev pub three_of : Data → Option (Data × Data × Data)
+three_of d = find.as_array d >>= three_in
+
 -- the keys that an object of a form may have
 abbrev pub keys_of : Form → List (List ℕ)
-keys_of forms.Script = codes "nodes" ∷ codes "preopens" ∷ codes "memory" ∷ codes "calls" ∷ codes "show" ∷ []
-keys_of forms.Node = codes "dir" ∷ codes "file" ∷ []
+keys_of forms.Node = codes "dir" ∷ codes "file" ∷ codes "link" ∷ codes "bits" ∷ codes "times" ∷ []
 keys_of forms.Preopen = codes "node" ∷ codes "name" ∷ codes "perms" ∷ []
 keys_of forms.Memory = codes "size" ∷ codes "pieces" ∷ []
+keys_of forms.Limits = codes "nodes" ∷ codes "links" ∷ []
 
-abbrev pub has_key : Form → List ℕ → Bool
-has_key form key = list_any (bytes_eq key) (keys_of form)
+abbrev pub has_key : List (List ℕ) → List ℕ → Bool
+has_key keys key = list_any (bytes_eq key) keys
 
-abbrev pub all_keys : Form → Members → Bool
-all_keys form no_members = true
-all_keys form (member k d ms) = has_key form k && all_keys form ms
+abbrev pub all_keys : List (List ℕ) → Members → Bool
+all_keys keys no_members = true
+all_keys keys (member k d ms) = has_key keys k && all_keys keys ms
 
 -- it is an object with these keys and no others
 abbrev pub is_object : Form → Data → Bool
@@ -64,4 +85,4 @@ is_object form (boolean b) = false
 is_object form (number n) = false
 is_object form (string s) = false
 is_object form (array ds) = false
-is_object form (object ms) = all_keys form ms
+is_object form (object ms) = all_keys (keys_of form) ms

@@ -1,10 +1,10 @@
-//! Which scripts can be run today.
-ghost use Rattle.std.specs.Prelude.{◌≡◌, IfOk, map, slice_get, sum_by, nat_le};
+//! Which forms are built, and which scripts are within the limits.
+ghost use Rattle.std.specs.Prelude.{◌≡◌, ◌+◌, IfOk, length, map, slice_get, sum_by, nat_le};
 ghost use Rattle.std.specs.List.{list_all};
 ghost use Rattle.wasi_tree.specs.Given.{given};
 ghost use Rattle.wasi_form.specs.Built as specs;
 ghost use Rattle.wasi_form.specs.Plan.{plan, planned_preopen, planned_piece};
-ghost use Rattle.wasi_form.specs.Built.{most_memory};
+ghost use Rattle.wasi_form.specs.Built.{default_table, most_memory};
 
 use crate::script::{Piece, Script, ScriptPreopen, Shown};
 use std::alloc::{AllocError, Global};
@@ -18,6 +18,9 @@ pub const DEFAULT_LIMITS: Limits = Limits {
     links: 65_000,
 };
 
+/// How many descriptors there are at most in a script that doesn't say it.
+pub const DEFAULT_TABLE: u32 = 1_024;
+
 /// How many bytes a guest's memory has at most, and how many of them are shown at most.
 const MOST_MEMORY: u32 = 16_777_216;
 
@@ -30,13 +33,26 @@ fn is_directory(nodes: &Vec<NewNode>, node: u64) -> bool
     }
 }
 
-fn has_one_preopen(nodes: &Vec<NewNode>, preopens: &[ScriptPreopen]) -> bool
-    ensures { result ≡ specs.has_one_preopen (map given nodes.now.items) (map planned_preopen preopens.now) }
+fn each_preopen_is_directory(nodes: &Vec<NewNode>, preopens: &[ScriptPreopen]) -> bool
+    ensures { result ≡ list_all (λ preopen. specs.is_directory_given
+        (slice_get (map given nodes.now.items) (planned_preopen preopen).node)) preopens.now }
 {
-    match preopens {
-        [preopen] => is_directory(nodes, preopen.node),
-        _ => false,
-    }
+    preopens
+        .iter()
+        .all(|preopen| is_directory(nodes, preopen.node))
+}
+
+fn are_preopens_directories(nodes: &Vec<NewNode>, preopens: &[ScriptPreopen]) -> bool
+    ensures { result ≡ specs.are_preopens_directories (map given nodes.now.items) (map planned_preopen preopens.now) }
+{
+    each_preopen_is_directory(nodes, preopens)
+}
+
+// Whether the table has room for the preopens beside the three streams.
+fn has_room(preopens: &[ScriptPreopen]) -> bool
+    ensures { result ≡ nat_le (3 + length (map planned_preopen preopens.now)) default_table }
+{
+    preopens.len() <= DEFAULT_TABLE as usize - 3
 }
 
 fn is_piece_within(size: u32, piece: &Piece) -> bool
@@ -88,26 +104,10 @@ fn is_built_call(call: Call) -> bool
     ensures { result ≡ specs.is_built_call call }
 {
     match call {
-        Call::PathOpen {
-            fd,
-            dirflags,
-            path: _,
-            path_len: _,
-            oflags,
-            base,
-            inheriting,
-            fdflags,
-        } => fd == 3
-            && dirflags == 0
-            && oflags == 0
-            && base == 2
-            && inheriting == 0
-            && fdflags == 0,
-        Call::FdRead {
-            fd,
-            iovs: _,
-            iovs_len,
-        } => 4 <= fd && iovs_len == 1,
+        Call::PathOpen { fdflags, .. } => fdflags == 0,
+        Call::FdRead { fd, .. } => fd >= 3,
+        Call::FdWrite { fd, .. } => fd >= 3,
+        Call::FdClose { fd } => fd >= 3,
     }
 }
 
@@ -117,19 +117,24 @@ fn are_built_calls(calls: &[Call]) -> bool
     calls.iter().all(|call| is_built_call(*call))
 }
 
-/// Whether a script can be run today.
-#[tactic(auto, unfolding(crate::specs::Built::is_built_script))]
-pub fn is_built_script(alloc: Global, script: &Script) -> Result<bool, AllocError>
-    ensures { IfOk result (λ is. is ≡ specs.is_built_script (plan script.now)) }
+/// Whether all forms of a script are built.
+#[tactic(auto, unfolding(crate::specs::Built::is_built))]
+pub fn is_built(alloc: Global, script: &Script) -> Result<bool, AllocError>
+    ensures { IfOk result (λ is. is ≡ specs.is_built (plan script.now)) }
 {
     let is_tree = is_first_tree(alloc, &script.nodes, DEFAULT_LIMITS)?;
-    Ok(
-        is_tree
-            && has_one_preopen(&script.nodes, script.preopens.as_slice())
-            && script.size <= MOST_MEMORY
-            && are_pieces_within(script.size, script.pieces.as_slice())
-            && are_shown_within(script.size, script.show.as_slice())
-            && is_shown_little(script.show.as_slice())
-            && are_built_calls(script.calls.as_slice()),
-    )
+    Ok(is_tree && are_built_calls(script.calls.as_slice()))
+}
+
+/// Whether a script is within the limits.
+#[tactic(auto, unfolding(crate::specs::Built::is_within_limits))]
+pub fn is_within_limits(script: &Script) -> bool
+    ensures { result ≡ specs.is_within_limits (plan script.now) }
+{
+    are_preopens_directories(&script.nodes, script.preopens.as_slice())
+        && has_room(script.preopens.as_slice())
+        && script.size <= MOST_MEMORY
+        && are_pieces_within(script.size, script.pieces.as_slice())
+        && are_shown_within(script.size, script.show.as_slice())
+        && is_shown_little(script.show.as_slice())
 }

@@ -1,82 +1,229 @@
 //! The calls of a script.
-ghost use Rattle.std.specs.Prelude.{◌≡◌};
+ghost use Rattle.std.specs.Prelude.{◌≡◌, option_map, map};
+ghost use Rattle.serde_json.specs.Find as find;
 ghost use Rattle.serde_json.specs.View.{view, items_view};
 ghost use Rattle.wasi_form.specs.CallForm as specs;
 ghost use Rattle.wasi_form.specs.IsRead.{IsRead};
-ghost use Rattle.wasi_form.specs.Lists as lists;
 ghost use Rattle.wasi_form.specs.Lists.{same};
-ghost use Rattle.wasi_form.specs.Shapes as shapes;
 
-use crate::shapes::{Shaped, Unread, is_text, items, number32};
+use crate::calls::Argument::{I64, U32, U64};
+use crate::shapes::{Item, Unread, as_u32, require};
 use serde_json::Value;
 use std::alloc::Global;
 use wasi_guest::Call;
 
-#[tactic(auto, unfolding(crate::specs::CallForm::path_open_of))]
-fn path_open(arguments: &[u64]) -> Result<Call, Unread>
-    ensures { IsRead same result (specs.path_open_of arguments.now) }
+/// The type of an argument of a call.
+#[derive(Clone, Copy, Debug, PartialEq, Eq)]
+pub enum Argument {
+    U32,
+    U64,
+    I64,
+}
+
+// The calls of `wasi_snapshot_preview1`, each with the types of its arguments.
+const CALLS: [(&str, &[Argument]); 46] = [
+    ("args_get", &[U32, U32]),
+    ("args_sizes_get", &[]),
+    ("environ_get", &[U32, U32]),
+    ("environ_sizes_get", &[]),
+    ("clock_res_get", &[U32]),
+    ("clock_time_get", &[U32, U64]),
+    ("fd_advise", &[U32, U64, U64, U32]),
+    ("fd_allocate", &[U32, U64, U64]),
+    ("fd_close", &[U32]),
+    ("fd_datasync", &[U32]),
+    ("fd_sync", &[U32]),
+    ("fd_fdstat_get", &[U32]),
+    ("fd_fdstat_set_flags", &[U32, U32]),
+    ("fd_fdstat_set_rights", &[U32, U64, U64]),
+    ("fd_filestat_get", &[U32]),
+    ("fd_filestat_set_size", &[U32, U64]),
+    ("fd_filestat_set_times", &[U32, U64, U64, U32]),
+    ("fd_pread", &[U32, U32, U32, U64]),
+    ("fd_prestat_get", &[U32]),
+    ("fd_prestat_dir_name", &[U32, U32, U32]),
+    ("fd_pwrite", &[U32, U32, U32, U64]),
+    ("fd_read", &[U32, U32, U32]),
+    ("fd_readdir", &[U32, U32, U32, U64]),
+    ("fd_renumber", &[U32, U32]),
+    ("fd_seek", &[U32, I64, U32]),
+    ("fd_tell", &[U32]),
+    ("fd_write", &[U32, U32, U32]),
+    ("path_create_directory", &[U32, U32, U32]),
+    ("path_filestat_get", &[U32, U32, U32, U32]),
+    (
+        "path_filestat_set_times",
+        &[U32, U32, U32, U32, U64, U64, U32],
+    ),
+    ("path_link", &[U32, U32, U32, U32, U32, U32, U32]),
+    ("path_open", &[U32, U32, U32, U32, U32, U64, U64, U32]),
+    ("path_readlink", &[U32, U32, U32, U32, U32]),
+    ("path_remove_directory", &[U32, U32, U32]),
+    ("path_unlink_file", &[U32, U32, U32]),
+    ("path_rename", &[U32, U32, U32, U32, U32, U32]),
+    ("path_symlink", &[U32, U32, U32, U32, U32]),
+    ("poll_oneoff", &[U32, U32, U32]),
+    ("proc_exit", &[U32]),
+    ("proc_raise", &[U32]),
+    ("random_get", &[U32, U32]),
+    ("sched_yield", &[]),
+    ("sock_accept", &[U32, U32]),
+    ("sock_recv", &[U32, U32, U32, U32]),
+    ("sock_send", &[U32, U32, U32, U32]),
+    ("sock_shutdown", &[U32, U32]),
+];
+
+fn at_name(rows: &[(&'static str, &'static [Argument])], name: &str) -> Option<&'static [Argument]>
+    ensures { option_map (λ types. types.now) result
+        ≡ specs.at_name (map (λ row. (row.0.now, row.1.now)) rows.now) name.now }
 {
-    if arguments.len() != 8 {
-        return Err(Unread::Shape);
+    for row in rows {
+        if name == row.0 {
+            return Some(row.1);
+        }
     }
-    Ok(Call::PathOpen {
-        fd: number32(arguments[0])?,
-        dirflags: number32(arguments[1])?,
-        path: number32(arguments[2])?,
-        path_len: number32(arguments[3])?,
-        oflags: number32(arguments[4])?,
-        base: arguments[5],
-        inheriting: arguments[6],
-        fdflags: number32(arguments[7])?,
+    None
+}
+
+// The types of the arguments of the call of a name.
+#[tactic(auto, unfolding(crate::specs::CallForm::arguments_of))]
+fn arguments_of(name: &str) -> Option<&'static [Argument]>
+    ensures { option_map (λ types. types.now) result ≡ specs.arguments_of name.now }
+{
+    at_name(&CALLS, name)
+}
+
+impl Argument {
+    fn is(self, value: &Value) -> bool
+        ensures { result ≡ specs.is_argument self (view value.now) }
+    {
+        match self {
+            Argument::U32 => as_u32(value).is_some(),
+            Argument::U64 => value.as_u64().is_some(),
+            Argument::I64 => value.as_i64().is_some(),
+        }
+    }
+}
+
+fn are_arguments(mut types: &[Argument], mut values: &[Value]) -> bool
+    ensures { result ≡ specs.are_arguments types.entry.now (items_view values.entry.now) }
+{
+    while let [argument, types_left @ ..] = types {
+        let [value, values_left @ ..] = values else {
+            return false;
+        };
+        if !argument.is(value) {
+            return false;
+        }
+        types = types_left;
+        values = values_left;
+    }
+    values.is_empty()
+}
+
+fn value_at(values: &[Value], i: usize) -> Option<&Value>
+    ensures { option_map (λ v. view v.now) result ≡ find.get_item i (items_view values.now) }
+{
+    if i < values.len() {
+        Some(&values[i])
+    } else {
+        None
+    }
+}
+
+fn u64_at(values: &[Value], i: usize) -> Option<u64>
+    ensures { result ≡ specs.u64_at i (items_view values.now) }
+{
+    value_at(values, i)?.as_u64()
+}
+
+fn u32_at(values: &[Value], i: usize) -> Option<u32>
+    ensures { result ≡ specs.u32_at i (items_view values.now) }
+{
+    as_u32(value_at(values, i)?)
+}
+
+#[tactic(auto, unfolding(crate::specs::CallForm::path_open_of))]
+fn path_open(arguments: &[Value]) -> Option<Call>
+    ensures { result ≡ specs.path_open_of (items_view arguments.now) }
+{
+    Some(Call::PathOpen {
+        fd: u32_at(arguments, 0)?,
+        dirflags: u32_at(arguments, 1)?,
+        path: u32_at(arguments, 2)?,
+        path_len: u32_at(arguments, 3)?,
+        oflags: u32_at(arguments, 4)?,
+        base: u64_at(arguments, 5)?,
+        inheriting: u64_at(arguments, 6)?,
+        fdflags: u32_at(arguments, 7)?,
     })
 }
 
 #[tactic(auto, unfolding(crate::specs::CallForm::fd_read_of))]
-fn fd_read(arguments: &[u64]) -> Result<Call, Unread>
-    ensures { IsRead same result (specs.fd_read_of arguments.now) }
+fn fd_read(arguments: &[Value]) -> Option<Call>
+    ensures { result ≡ specs.fd_read_of (items_view arguments.now) }
 {
-    if arguments.len() != 3 {
-        return Err(Unread::Shape);
-    }
-    Ok(Call::FdRead {
-        fd: number32(arguments[0])?,
-        iovs: number32(arguments[1])?,
-        iovs_len: number32(arguments[2])?,
+    Some(Call::FdRead {
+        fd: u32_at(arguments, 0)?,
+        iovs: u32_at(arguments, 1)?,
+        iovs_len: u32_at(arguments, 2)?,
     })
 }
 
-fn call_named(name: &Value, arguments: &[u64]) -> Result<Call, Unread>
-    ensures { IsRead same result (specs.call_named (view name.now) arguments.now) }
+#[tactic(auto, unfolding(crate::specs::CallForm::fd_write_of))]
+fn fd_write(arguments: &[Value]) -> Option<Call>
+    ensures { result ≡ specs.fd_write_of (items_view arguments.now) }
 {
-    if is_text(name, "path_open") {
+    Some(Call::FdWrite {
+        fd: u32_at(arguments, 0)?,
+        iovs: u32_at(arguments, 1)?,
+        iovs_len: u32_at(arguments, 2)?,
+    })
+}
+
+#[tactic(auto, unfolding(crate::specs::CallForm::fd_close_of))]
+fn fd_close(arguments: &[Value]) -> Option<Call>
+    ensures { result ≡ specs.fd_close_of (items_view arguments.now) }
+{
+    Some(Call::FdClose {
+        fd: u32_at(arguments, 0)?,
+    })
+}
+
+// The call of a name, `None` where it waits.
+fn call_named(name: &str, arguments: &[Value]) -> Option<Call>
+    ensures { result ≡ specs.call_named name.now (items_view arguments.now) }
+{
+    if name == "path_open" {
         path_open(arguments)
-    } else if is_text(name, "fd_read") {
+    } else if name == "fd_read" {
         fd_read(arguments)
+    } else if name == "fd_write" {
+        fd_write(arguments)
+    } else if name == "fd_close" {
+        fd_close(arguments)
     } else {
-        Err(Unread::Shape)
+        None
     }
 }
 
-#[tactic(auto, using(crate::proofs::Items::map_same))]
-fn numbers(alloc: Global, values: &[Value]) -> Result<Vec<u64>, Unread>
-    ensures { IsRead (λ v. v.items) result (lists.items_all shapes.u64_of (items_view values.now)) }
-{
-    items(alloc, values)
-}
-
-fn call_in(alloc: Global, values: &[Value]) -> Result<Call, Unread>
+fn call_in(values: &[Value]) -> Result<Option<Call>, Unread>
     ensures { IsRead same result (specs.call_in (items_view values.now)) }
 {
-    match values {
-        [name, rest @ ..] => {
-            let arguments = numbers(alloc, rest)?;
-            call_named(name, arguments.as_slice())
-        }
-        [] => Err(Unread::Shape),
-    }
+    let [name, arguments @ ..] = values else {
+        return Err(Unread::Shape);
+    };
+    let Some(name) = name.as_str() else {
+        return Err(Unread::Shape);
+    };
+    let Some(types) = arguments_of(name) else {
+        return Err(Unread::Shape);
+    };
+    require(are_arguments(types, arguments))?;
+    Ok(call_named(name, arguments))
 }
 
-impl Shaped for Call {
+impl Item for Call {
     ghost use Rattle.wasi_guest.specs.declared.call.Call.{Call};
 
     ghost Seen = { Call };
@@ -85,9 +232,9 @@ impl Shaped for Call {
 
     ghost of = { specs.call_of };
 
-    fn read(alloc: Global, value: &Value) -> Result<Call, Unread> {
+    fn read(_alloc: Global, value: &Value) -> Result<Option<Call>, Unread> {
         match value.as_array() {
-            Some(values) => call_in(alloc, values.as_slice()),
+            Some(values) => call_in(values.as_slice()),
             None => Err(Unread::Shape),
         }
     }

@@ -21,9 +21,10 @@ mod told;
 mod told_answers;
 mod told_nodes;
 mod verdict;
+mod waiting;
 mod writing;
 
-pub use built::DEFAULT_LIMITS;
+pub use built::{DEFAULT_LIMITS, DEFAULT_TABLE};
 pub use bytes_ends::{BytesSink, BytesSource};
 pub use ends::{Failed, Sink, Source};
 pub use laws::reports_are_told;

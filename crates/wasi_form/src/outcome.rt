@@ -1,6 +1,8 @@
 //! What a run came to, and its report as a text.
-ghost use Rattle.std.specs.Prelude.{◌≡◌, ◌++◌, IfOk, OnOk, map};
+ghost use Rattle.std.specs.Prelude.{◌≡◌, ◌++◌, IfOk, OnOk, All, map};
+ghost use Rattle.hex.specs.Hex.{IsBytes};
 ghost use Rattle.wasi_tree.specs.Given.{given_of};
+ghost use Rattle.wasi_form.specs.ReadBack.{FitsNode, IsOrdered};
 ghost use Rattle.wasi_form.specs.Report.{reported, report_value, report_text, list_value, hex_value, node_value};
 ghost use Rattle.wasi_form.specs.Told.{told, told_at};
 
@@ -25,9 +27,10 @@ pub struct Outcome {
 }
 
 /// The report's text: one object of JSON with no space and with keys in byte order, and a newline. The nodes of the tree
-/// are listed by their numbers.
+/// are listed by their numbers. It is a text that tells the report, as `reports_are_told` says.
 pub fn report(alloc: Global, outcome: &Outcome, tree: &MemTree) -> Result<Vec<u8>, AllocError>
     ensures text { IfOk result (λ text. text.items ≡ report_text (reported outcome.now tree.now.tree.nodes)) }
+    ensures ordered { OnOk result (IsOrdered (reported outcome.now tree.now.tree.nodes)) }
 {
     let mut out = Writer::new(Vec::new(alloc));
     tell_outcome(alloc, outcome, tree, &mut out)?;
@@ -36,6 +39,7 @@ pub fn report(alloc: Global, outcome: &Outcome, tree: &MemTree) -> Result<Vec<u8
     Ok(text)
 }
 
+#[tactic(auto, unfolding(crate::specs::ReadBack::IsOrdered))]
 fn tell_outcome(
     alloc: Global,
     outcome: &Outcome,
@@ -45,6 +49,7 @@ fn tell_outcome(
     ensures before { out.new.before ≡ out.old.before }
     ensures tokens { OnOk result (out.new.tokens
         ≡ out.old.tokens ++ told (report_value (reported outcome.now tree.now.tree.nodes))) }
+    ensures ordered { OnOk result (IsOrdered (reported outcome.now tree.now.tree.nodes)) }
 {
     out.begin_object()?;
     tell_list_at(alloc, "answers", outcome.answers.as_slice(), out)?;
@@ -65,6 +70,7 @@ fn tell_list_at<T: Told>(
 ) -> Result<(), AllocError>
     ensures before { out.new.before ≡ out.old.before }
     ensures tokens { OnOk result (out.new.tokens ≡ out.old.tokens ++ told_at name.now (list_value T.value items.now)) }
+    ensures fits { OnOk result (All T.fits items.now) }
 {
     out.key(name)?;
     tell_list(alloc, items, out)
@@ -78,6 +84,7 @@ fn tell_bytes_at(
 ) -> Result<(), AllocError>
     ensures before { out.new.before ≡ out.old.before }
     ensures tokens { OnOk result (out.new.tokens ≡ out.old.tokens ++ told_at name.now (hex_value bytes.now)) }
+    ensures fits { OnOk result (IsBytes bytes.now) }
 {
     out.key(name)?;
     tell_bytes(alloc, bytes, out)
@@ -91,6 +98,7 @@ fn tell_texts_at(
 ) -> Result<(), AllocError>
     ensures before { out.new.before ≡ out.old.before }
     ensures tokens { OnOk result (out.new.tokens ≡ out.old.tokens ++ told_at name.now (list_value hex_value (map (λ text. text.items) texts.now))) }
+    ensures fits { OnOk result (All IsBytes (map (λ text. text.items) texts.now)) }
 {
     tell_list_at(alloc, name, texts, out)
 }
@@ -100,6 +108,7 @@ fn tell_tree(alloc: Global, tree: &MemTree, out: &mut Writer) -> Result<(), Allo
     ensures before { out.new.before ≡ out.old.before }
     ensures tokens { OnOk result (out.new.tokens
         ≡ out.old.tokens ++ told (list_value node_value (map given_of tree.now.tree.nodes))) }
+    ensures fits { OnOk result (All FitsNode (map given_of tree.now.tree.nodes)) }
 {
     out.begin_array()?;
     for n in 0..tree.count() {
@@ -112,7 +121,7 @@ fn tell_tree(alloc: Global, tree: &MemTree, out: &mut Writer) -> Result<(), Allo
 mod tests {
     use super::*;
     use std::test::Fail;
-    use wasi_guest::{Answer, Errno, TrapKind};
+    use wasi_guest::{Answer, Errno, TrapKind, Value};
     use wasi_host::Limits;
     use wasi_tree::{NewContent, NewEntry, NewNode, TreeError, is_first_tree};
 
@@ -146,8 +155,9 @@ mod tests {
     #[test]
     fn every_part(rt: HostRuntime) -> Result<(), Fail> {
         let alloc = rt.alloc();
-        let mut answers = Answers::with_room(alloc, 3)?;
-        answers.push(Answer::Ok(wasi_guest::Value::Number(4)));
+        let mut answers = Answers::with_room(alloc, 4)?;
+        answers.push(Answer::Ok(Value::Number(4)));
+        answers.push(Answer::Ok(Value::Unit));
         answers.push(Answer::Errno(Errno::Noent));
         answers.push(Answer::Trap(TrapKind::Pointer));
         let mut entries = Vec::new(alloc);
@@ -172,7 +182,7 @@ mod tests {
         };
         let tree = tree_of(alloc, nodes)?;
         let want =
-            "{\"answers\":[{\"ok\":4},{\"errno\":\"noent\"},{\"trap\":\"pointer\"}],\"memory\":[\"ab01\"],\"stderr\":\"69\",\"stdout\":\"68\",\"touched\":[0,2],\"tree\":[{\"bits\":\"rwx\",\"dir\":{\"a\\\"\":2,\"f\":1},\"times\":[[0,0],[0,0],[0,0]]},{\"bits\":\"rw-\",\"file\":\"00ff\",\"times\":[[0,0],[0,0],[0,0]]},{\"bits\":\"rwx\",\"dir\":{},\"times\":[[0,0],[0,0],[0,0]]}]}\n";
+            "{\"answers\":[{\"ok\":4},{\"ok\":null},{\"errno\":\"noent\"},{\"trap\":\"pointer\"}],\"memory\":[\"ab01\"],\"stderr\":\"69\",\"stdout\":\"68\",\"touched\":[0,2],\"tree\":[{\"bits\":\"rwx\",\"dir\":{\"a\\\"\":2,\"f\":1},\"times\":[[0,0],[0,0],[0,0]]},{\"bits\":\"rw-\",\"file\":\"00ff\",\"times\":[[0,0],[0,0],[0,0]]},{\"bits\":\"rwx\",\"dir\":{},\"times\":[[0,0],[0,0],[0,0]]}]}\n";
         assert_eq!(rt; report(alloc, &outcome, &tree)?.as_slice(), want.as_bytes());
         Ok(())
     }

@@ -1,40 +1,51 @@
 //! The directories of a script that the guest is given.
-ghost use Rattle.std.specs.Prelude.{◌≡◌, option_map};
+ghost use Rattle.std.specs.Prelude.{◌≡◌};
 ghost use Rattle.serde_json.specs.View.{view};
 ghost use Rattle.wasi_form.specs.IsRead.{IsRead};
-ghost use Rattle.wasi_form.specs.Lists as lists;
-ghost use Rattle.wasi_form.specs.Lists.{same};
+ghost use Rattle.wasi_form.specs.Lists.{same, always};
 ghost use Rattle.wasi_form.specs.Plan as plans;
 ghost use Rattle.wasi_form.specs.PreopenForm as specs;
 
 use crate::script::ScriptPreopen;
-use crate::shapes::{Form, Shaped, Unread, is_text, needed, require};
+use crate::shapes::{Form, Item, Shaped, Unread, is_text, needed, require};
 use serde_json::Value;
 use std::alloc::Global;
+use wasi_fs::FsPerms;
 
-impl Shaped for ScriptPreopen {
+impl Shaped for FsPerms {
+    ghost use Rattle.wasi_fs.specs.declared.perms.FsPerms.{FsPerms};
+
+    ghost Seen = { FsPerms };
+
+    ghost see = { same };
+
+    ghost of = { specs.perms_of };
+
+    fn read(_alloc: Global, value: &Value) -> Result<FsPerms, Unread> {
+        if is_text(value, "ro") {
+            Ok(FsPerms::ReadOnly)
+        } else if is_text(value, "rw") {
+            Ok(FsPerms::ReadWrite)
+        } else {
+            Err(Unread::Shape)
+        }
+    }
+}
+
+impl Item for ScriptPreopen {
     ghost use Rattle.wasi_form.specs.Plan.{PlannedPreopen};
 
     ghost Seen = { PlannedPreopen };
 
     ghost see = { plans.planned_preopen };
 
-    ghost of = { specs.preopen_of };
+    ghost of = { always specs.preopen_of };
 
-    fn read(alloc: Global, value: &Value) -> Result<ScriptPreopen, Unread> {
+    fn read(alloc: Global, value: &Value) -> Result<Option<ScriptPreopen>, Unread> {
         require(Form::Preopen.is_of(value))?;
         let node = needed(alloc, value.get("node"))?;
         let name = needed(alloc, value.get("name"))?;
-        read_only(value.get("perms"))?;
-        Ok(ScriptPreopen { node, name })
-    }
-}
-
-fn read_only(value: Option<&Value>) -> Result<(), Unread>
-    ensures { IsRead same result (lists.needed specs.is_read_only (option_map (λ v. view v.now) value.entry)) }
-{
-    match value {
-        Some(value) => require(is_text(value, "ro")),
-        None => Err(Unread::Shape),
+        let perms = needed(alloc, value.get("perms"))?;
+        Ok(Some(ScriptPreopen { node, name, perms }))
     }
 }

@@ -1,14 +1,16 @@
 //! A script: a tree of files, what the guest is given of it, its memory, and its calls.
 
+use wasi_fs::FsPerms;
 use wasi_guest::Call;
 use wasi_tree::NewNode;
 
-/// A directory that the guest is given, to be read alone: its node's number, and the name under which the guest knows
-/// it.
+/// A directory that the guest is given: its node's number, the name under which the guest knows it, and what may be
+/// done below it.
 #[derive(Debug, Drop)]
 pub struct ScriptPreopen {
     pub node: u64,
     pub name: String,
+    pub perms: FsPerms,
 }
 
 /// Bytes that stand in the guest's memory from an offset on.

@@ -52,35 +52,37 @@ impl From<Invalid> for Unread {
     }
 }
 
-/// The objects of a script, each with keys of its own.
+/// The objects within a script, each with keys of its own.
 #[derive(Clone, Copy, Debug, PartialEq, Eq)]
 pub enum Form {
-    Script,
     Node,
     Preopen,
     Memory,
+    Limits,
 }
 
 impl Form {
     fn has_key(self, key: &str) -> bool
-        ensures { result ≡ shapes.has_key self key.now }
+        ensures { result ≡ shapes.has_key (shapes.keys_of self) key.now }
     {
         match self {
-            Form::Script => is_script_key(key),
-            Form::Node => key == "dir" || key == "file",
+            Form::Node => {
+                key == "dir" || key == "file" || key == "link" || key == "bits" || key == "times"
+            }
             Form::Preopen => key == "node" || key == "name" || key == "perms",
             Form::Memory => key == "size" || key == "pieces",
+            Form::Limits => key == "nodes" || key == "links",
         }
     }
 
     fn has_each(self, members: &Map<String, Value>) -> bool
-        ensures { result ≡ list_all (λ k. shapes.has_key self (string_bytes k)) (keys members.now) }
+        ensures { result ≡ list_all (λ k. shapes.has_key (shapes.keys_of self) (string_bytes k)) (keys members.now) }
     {
         members.keys().all(|key| self.has_key(key.as_str()))
     }
 
     fn has_keys(self, members: &Map<String, Value>) -> bool
-        ensures { result ≡ shapes.all_keys self (members_view members.now.entries) }
+        ensures { result ≡ shapes.all_keys (shapes.keys_of self) (members_view members.now.entries) }
     {
         self.has_each(members)
     }
@@ -96,12 +98,6 @@ impl Form {
     }
 }
 
-fn is_script_key(key: &str) -> bool
-    ensures { result ≡ shapes.has_key Form.Script key.now }
-{
-    key == "nodes" || key == "preopens" || key == "memory" || key == "calls" || key == "show"
-}
-
 /// A type that is read of a value.
 pub trait Shaped: Drop + Sized {
     /// What is seen of what is read.
@@ -113,6 +109,20 @@ pub trait Shaped: Drop + Sized {
 
     fn read(alloc: Global, value: &Value) -> Result<Self, Unread>
         ensures { IsRead Self.see result (Self.of (view value.now)) };
+}
+
+/// An item of a list of a script, whose form may wait until it is built.
+pub trait Item: Drop + Sized {
+    /// What is seen of what is read.
+    ghost Seen: { Type 0 };
+
+    ghost see: { Self → Self.Seen };
+
+    ghost of: { Data → Option (Option Self.Seen) };
+
+    /// `None` where the item waits.
+    fn read(alloc: Global, value: &Value) -> Result<Option<Self>, Unread>
+        ensures { IsRead (λ item. option_map Self.see item) result (Self.of (view value.now)) };
 }
 
 impl Shaped for u64 {
@@ -138,8 +148,8 @@ impl Shaped for u32 {
 
     ghost of = { shapes.u32_of };
 
-    fn read(alloc: Global, value: &Value) -> Result<u32, Unread> {
-        number32(u64::read(alloc, value)?)
+    fn read(_alloc: Global, value: &Value) -> Result<u32, Unread> {
+        as_u32(value).ok_or(Unread::Shape)
     }
 }
 
@@ -175,15 +185,11 @@ impl<T: Shaped> Shaped for Vec<T> {
     }
 }
 
-/// A number of 32 bits.
-pub fn number32(n: u64) -> Result<u32, Unread>
-    ensures { IsRead same result (shapes.below (2 ^ 32) n) }
+/// A whole number of 32 bits.
+pub fn as_u32(value: &Value) -> Option<u32>
+    ensures { result ≡ shapes.u32_of (view value.now) }
 {
-    if n < 0x1_0000_0000 {
-        Ok(n as u32)
-    } else {
-        Err(Unread::Shape)
-    }
+    u32::try_from(value.as_u64()?).ok()
 }
 
 /// Goes on where a test holds.
@@ -201,6 +207,47 @@ pub fn needed<T: Shaped>(alloc: Global, value: Option<&Value>) -> Result<T, Unre
         Some(value) => T::read(alloc, value),
         None => Err(Unread::Shape),
     }
+}
+
+/// The two items of a list of two.
+pub fn two(value: &Value) -> Option<(&Value, &Value)>
+    ensures { option_map (λ p. (view p.0.now, view p.1.now)) result ≡ shapes.two_of (view value.now) }
+{
+    match value.as_array() {
+        Some(values) => two_in(values.as_slice()),
+        None => None,
+    }
+}
+
+#[tactic(auto, using(crate::proofs::Lengths::short_is_no_two, crate::proofs::Lengths::long_is_no_two))]
+fn two_in(values: &[Value]) -> Option<(&Value, &Value)>
+    ensures { option_map (λ p. (view p.0.now, view p.1.now)) result ≡ shapes.two_in (items_view values.now) }
+{
+    let [first, second] = values else {
+        return None;
+    };
+    Some((first, second))
+}
+
+/// The three items of a list of three.
+pub fn three(value: &Value) -> Option<(&Value, &Value, &Value)>
+    ensures { option_map (λ p. (view p.0.now, view p.1.now, view p.2.now)) result ≡ shapes.three_of (view value.now) }
+{
+    match value.as_array() {
+        Some(values) => three_in(values.as_slice()),
+        None => None,
+    }
+}
+
+#[tactic(auto, using(crate::proofs::Lengths::short_is_no_three, crate::proofs::Lengths::long_is_no_three))]
+fn three_in(values: &[Value]) -> Option<(&Value, &Value, &Value)>
+    ensures { option_map (λ p. (view p.0.now, view p.1.now, view p.2.now)) result
+        ≡ shapes.three_in (items_view values.now) }
+{
+    let [first, second, third] = values else {
+        return None;
+    };
+    Some((first, second, third))
 }
 
 /// The items of a list, each of its shape.

@@ -1,7 +1,8 @@
 //! How answers are reported.
-ghost use Rattle.std.specs.Prelude.{◌≡◌, ◌++◌, OnOk};
+ghost use Rattle.std.specs.Prelude.{◌≡◌, ◌++◌, OnOk, codes};
 ghost use Rattle.serde_json.specs.Data.{string};
-ghost use Rattle.wasi_form.specs.Report.{only, success_value, trap_value, answer_value, number_value};
+ghost use Rattle.wasi_form.specs.ReadBack.{FitsAnswer, FitsValue};
+ghost use Rattle.wasi_form.specs.Report.{only, success_value, trap_name, answer_value};
 ghost use Rattle.wasi_form.specs.Told.{told};
 
 use crate::told::Told;
@@ -12,31 +13,47 @@ use wasi_guest::{Answer, TrapKind, Value};
 impl Told for Answer {
     ghost value = { answer_value };
 
-    fn tell(&self, _alloc: Global, out: &mut Writer) -> Result<(), AllocError> {
+    ghost fits = { FitsAnswer };
+
+    fn tell(&self, alloc: Global, out: &mut Writer) -> Result<(), AllocError> {
         match *self {
-            Answer::Ok(value) => tell_success(value, out),
+            Answer::Ok(value) => tell_success(alloc, value, out),
             Answer::Errno(errno) => tell_text("errno", errno.name(), out),
-            Answer::Trap(kind) => tell_trap(kind, out),
+            Answer::Trap(kind) => tell_text("trap", trap_name(kind), out),
         }
     }
 }
 
-fn tell_success(value: Value, out: &mut Writer) -> Result<(), AllocError>
-    ensures before { out.new.before ≡ out.old.before }
-    ensures tokens { OnOk result (out.new.tokens ≡ out.old.tokens ++ told (success_value value)) }
-{
-    match value {
-        Value::Number(n) => tell_number("ok", n, out),
+impl Told for Value {
+    ghost value = { success_value };
+
+    ghost fits = { FitsValue };
+
+    fn tell(&self, _alloc: Global, out: &mut Writer) -> Result<(), AllocError> {
+        match *self {
+            Value::Unit => out.null(),
+            Value::Number(n) => out.u64(n),
+        }
     }
 }
 
-fn tell_trap(kind: TrapKind, out: &mut Writer) -> Result<(), AllocError>
-    ensures before { out.new.before ≡ out.old.before }
-    ensures tokens { OnOk result (out.new.tokens ≡ out.old.tokens ++ told (trap_value kind)) }
+fn trap_name(kind: TrapKind) -> &'static str
+    ensures { result.now ≡ trap_name kind }
 {
     match kind {
-        TrapKind::Pointer => tell_text("trap", "pointer", out),
+        TrapKind::Pointer => "pointer",
     }
+}
+
+fn tell_success(alloc: Global, value: Value, out: &mut Writer) -> Result<(), AllocError>
+    ensures before { out.new.before ≡ out.old.before }
+    ensures tokens { OnOk result (out.new.tokens ≡ out.old.tokens ++ told (only (codes "ok") (success_value value))) }
+    ensures fits { OnOk result (FitsValue value) }
+{
+    out.begin_object()?;
+    out.key("ok")?;
+    value.tell(alloc, out)?;
+    out.end_object()
 }
 
 // An object with one text.
@@ -47,16 +64,5 @@ fn tell_text(name: &str, text: &str, out: &mut Writer) -> Result<(), AllocError>
     out.begin_object()?;
     out.key(name)?;
     out.string(text)?;
-    out.end_object()
-}
-
-// An object with one number.
-fn tell_number(name: &str, number: u64, out: &mut Writer) -> Result<(), AllocError>
-    ensures before { out.new.before ≡ out.old.before }
-    ensures tokens { OnOk result (out.new.tokens ≡ out.old.tokens ++ told (only name.now (number_value number))) }
-{
-    out.begin_object()?;
-    out.key(name)?;
-    out.u64(number)?;
     out.end_object()
 }

@@ -2,8 +2,10 @@
 ghost use Rattle.std.specs.FinMap as maps;
 ghost use Rattle.std.specs.Prelude.{◌≡◌, ◌++◌, OnOk};
 ghost use Rattle.serde_json.specs.Data.{object, string, no_members};
+ghost use Rattle.wasi_tree.specs.Given.{directory};
 ghost use Rattle.wasi_tree.specs.Lent.{lent, lent_content};
 ghost use Rattle.wasi_tree.specs.StoredTree.{names_in};
+ghost use Rattle.wasi_form.specs.ReadBack.{FitsTimes, FitsContent, FitsNode};
 ghost use Rattle.wasi_form.specs.Report.{bits_text, times_value, put_all, node_value, bit_letter};
 ghost use Rattle.wasi_form.specs.Told.{told, content_told};
 
@@ -18,6 +20,7 @@ use wasi_tree::{LentContent, LentNode};
 pub fn tell_node(alloc: Global, node: &LentNode<'_>, out: &mut Writer) -> Result<(), AllocError>
     ensures before { out.new.before ≡ out.old.before }
     ensures tokens { OnOk result (out.new.tokens ≡ out.old.tokens ++ told (node_value (lent node.now))) }
+    ensures fits { OnOk result (FitsNode (lent node.now)) }
 {
     out.begin_object()?;
     out.key("bits")?;
@@ -35,6 +38,7 @@ fn tell_content(
 ) -> Result<(), AllocError>
     ensures before { out.new.before ≡ out.old.before }
     ensures tokens { OnOk result (out.new.tokens ≡ out.old.tokens ++ content_told (lent_content content.now)) }
+    ensures fits { OnOk result (FitsContent (lent_content content.now)) }
 {
     match content {
         LentContent::File(bytes) => {
@@ -72,6 +76,7 @@ fn tell_bits(alloc: Global, bits: Bits, out: &mut Writer) -> Result<(), AllocErr
 fn tell_times(alloc: Global, node: &LentNode<'_>, out: &mut Writer) -> Result<(), AllocError>
     ensures before { out.new.before ≡ out.old.before }
     ensures tokens { OnOk result (out.new.tokens ≡ out.old.tokens ++ told (times_value (lent node.now))) }
+    ensures fits { OnOk result (FitsTimes (lent node.now)) }
 {
     out.begin_array()?;
     node.atime.tell(alloc, out)?;
@@ -84,6 +89,7 @@ fn tell_times(alloc: Global, node: &LentNode<'_>, out: &mut Writer) -> Result<()
 fn tell_numbers(numbers: &BTreeMap<String, u64>, out: &mut Writer) -> Result<(), AllocError>
     ensures before { out.new.before ≡ out.old.before }
     ensures tokens { OnOk result (out.new.tokens ≡ out.old.tokens ++ told (object (put_all (maps.entries (names_in numbers.now.entries)) no_members))) }
+    ensures fits { OnOk result (FitsContent (directory (maps.entries (names_in numbers.now.entries)))) }
 {
     out.begin_object()?;
     for (name, number) in numbers.iter() {

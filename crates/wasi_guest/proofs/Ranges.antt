@@ -1,12 +1,13 @@
 -- What a write through a range of a vector leaves, as `with_bytes` says it.
-use Rattle.std.proofs.Common.{ℕ, List, ◌+◌, ◌≤◌, ◌≡◌, ◌++◌, ◌-◌, length, take, drop, slice_range, refl, ◌∙◌, [], add-zero, arith, append_assoc, length-append, length-take, length-drop}
+use Rattle.std.proofs.Common.{ℕ, List, ◌+◌, ◌≤◌, ◌≡◌, ◌++◌, ◌-◌, length, take, drop, slice_range, refl, ◌∙◌, [], ◌∷◌, add-zero, arith, append_assoc, length-append, length-take, length-drop}
 use Rattle.std.proofs.lemmas.List.{take-append-drop, drop-drop, drop-take}
 use Rattle.std.proofs.Math.Seq.{take-length}
 use Rattle.std.proofs.lemmas.Grind.{common_steps}
 use Rattle.wasi_guest.specs.Range.{with_bytes}
 
 pub refilled : (n at : ℕ) (xs ws : List ℕ) → n ≡ length xs
-    → take n ((take at xs ++ (ws ++ drop (length ws) (drop at xs))) ++ drop (length (take at xs ++ (ws ++ drop (length ws) (drop at xs)))) xs) ≡ with_bytes xs at ws
+    → take n ((take at xs ++ (ws ++ drop (length ws) (drop at xs)))
+    ++ drop (length (take at xs ++ (ws ++ drop (length ws) (drop at xs)))) xs) ≡ with_bytes xs at ws
 unfolding with_bytes
 refilled n at xs ws e = grind (arith, common_steps)
 
@@ -16,10 +17,12 @@ with_bytes_length xs at ws = simp (length-take, length-append, length-drop) (ome
 
 -- writing the front of a range and leaving its rest is writing that front
 front_again : (ys ws : List ℕ) (k : ℕ) → k ≤ length (drop (length ws) ys)
-    → (ws ++ drop (length ws) (take (length ws + k) ys)) ++ drop (length (ws ++ drop (length ws) (take (length ws + k) ys))) ys ≡ ws ++ drop (length ws) ys
+    → (ws ++ drop (length ws) (take (length ws + k) ys))
+    ++ drop (length (ws ++ drop (length ws) (take (length ws + k) ys))) ys ≡ ws ++ drop (length ws) ys
 front_again ys ws k fits =
     let here = drop-take (length ws) k ys in
-    let size : length (ws ++ take k (drop (length ws) ys)) ≡ length ws + k = simp (length-append, length-take) (omega arith) in
+    let size : length (ws ++ take k (drop (length ws) ys)) ≡ length ws + k =
+    simp (length-append, length-take) (omega arith) in
     rw (here, size, ← drop-drop k (length ws) ys, append_assoc, take-append-drop) refl
 
 pub with_front : (xs : List ℕ) (at n : ℕ) (ws : List ℕ) → at + n ≤ length xs → length ws ≤ n
@@ -30,11 +33,16 @@ with_front xs at n ws inside fits =
     let n-is : n ≡ length ws + k = omega arith in
     let short : k ≤ length (drop (length ws) (drop at xs)) = simp (length-drop) (omega arith) in
     let again = front_again (drop at xs) ws k short in
-    rw n-is (rw (← drop-drop (length (ws ++ drop (length ws) (take (length ws + k) (drop at xs)))) at xs, again, drop-drop) refl)
+    rw n-is (rw (
+      ← drop-drop (length (ws ++ drop (length ws) (take (length ws + k) (drop at xs)))) at xs,
+      again,
+      drop-drop,
+    ) refl)
 
 -- a buffer that was filled in its front: the memory has the front
-pub with_filled : (memory : List ℕ) (ptr len n : ℕ) (buf : List ℕ) → ptr + len ≤ length memory → n ≤ len → length buf ≡ len
-    → drop n buf ≡ drop n (slice_range memory ptr (ptr + len)) → with_bytes memory ptr buf ≡ with_bytes memory ptr (take n buf)
+pub with_filled : (memory : List ℕ) (ptr len n : ℕ) (buf : List ℕ) → ptr + len ≤ length memory → n ≤ len
+    → length buf ≡ len → drop n buf ≡ drop n (slice_range memory ptr (ptr + len))
+    → with_bytes memory ptr buf ≡ with_bytes memory ptr (take n buf)
 with_filled memory ptr len n buf inside fits size rest =
     let front : length (take n buf) ≡ n = simp length-take (omega arith) in
     let range : slice_range memory ptr (ptr + len) ≡ take len (drop ptr memory) = grind (arith, common_steps) in
@@ -47,7 +55,15 @@ unfolding with_bytes
 with_none memory ptr = rw (add-zero, take-append-drop) (take-length memory)
 
 -- a buffer that was left as it was leaves the memory
-pub with_same : (memory : List ℕ) (ptr len : ℕ) → ptr + len ≤ length memory → with_bytes memory ptr (slice_range memory ptr (ptr + len)) ≡ memory
+pub with_same : (memory : List ℕ) (ptr len : ℕ) → ptr + len ≤ length memory
+    → with_bytes memory ptr (slice_range memory ptr (ptr + len)) ≡ memory
 with_same memory ptr len inside =
     let size : length (slice_range memory ptr (ptr + len)) ≡ len = grind (arith, common_steps) in
-    with_filled memory ptr len 0 (slice_range memory ptr (ptr + len)) inside (omega arith) size refl ∙ with_none memory ptr
+    with_filled memory ptr len 0 (slice_range memory ptr (ptr + len)) inside (omega arith) size refl
+    ∙ with_none memory ptr
+
+-- no bytes are no write
+pub with_no_bytes : (memory : List ℕ) (ptr : ℕ) (bytes : List ℕ) → length bytes ≡ 0
+    → with_bytes memory ptr bytes ≡ memory
+with_no_bytes memory ptr [] e = with_none memory ptr
+with_no_bytes memory ptr (x ∷ xs) e = absurd (omega (arith, e))

@@ -1,4 +1,6 @@
 pub mod Steps
+pub mod Flags
+pub mod FlagSets
 pub mod Range
 pub mod Lending
 pub mod Iovec

@@ -12,6 +12,8 @@ pub enum TrapKind {
 /// What a call answers beside its success.
 #[derive(Clone, Copy, Debug, PartialEq, Eq)]
 pub enum Value {
+    /// Nothing but its success.
+    Unit,
     Number(u64),
 }
 

@@ -18,4 +18,12 @@ pub enum Call {
         iovs: u32,
         iovs_len: u32,
     },
+    FdWrite {
+        fd: u32,
+        iovs: u32,
+        iovs_len: u32,
+    },
+    FdClose {
+        fd: u32,
+    },
 }

@@ -5,12 +5,15 @@ mod answer;
 mod answers;
 mod call;
 mod errno;
+mod flags;
 mod iovec;
 mod memory;
 
 pub use answer::{Answer, TrapKind, Value};
 pub use answers::Answers;
+pub use bitflags::Flags;
 pub use call::Call;
 pub use errno::Errno;
+pub use flags::{FdFlags, LookupFlags, OFlags, Rights};
 pub use iovec::Iovec;
 pub use memory::GuestMemory;

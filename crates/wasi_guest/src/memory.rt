@@ -1,8 +1,9 @@
 //! A guest's memory: bytes at addresses below its length.
-ghost use Rattle.std.specs.Prelude.{◌≡◌, ◌↔◌, ◌+◌, ◌^◌, ◌<◌, ◌≤◌, ◌++◌, length, take, drop, slice_range, IsTrue, IsSome, IfSome, IfOk, replicate};
+ghost use Rattle.std.specs.Prelude.{◌≡◌, ◌↔◌, ◌+◌, ◌^◌, ◌<◌, ◌≤◌, ◌++◌, length, take, drop, slice_range, IsTrue, IsSome, IfSome, OnSome, IfOk, replicate, if◌then◌else◌};
 ghost use Rattle.std.specs.Borrow.{sem};
-ghost use Rattle.wasi_guest.specs.Range.{IsInMemory, in_memory, with_bytes};
-ghost use Rattle.wasi_guest.specs.Iovec.{word_of, iovec_of};
+ghost use Rattle.std.specs.Bool.{OnTrue, OnFalse};
+ghost use Rattle.wasi_guest.specs.Range.{IsInMemory, in_memory, place, with_bytes};
+ghost use Rattle.wasi_guest.specs.Iovec.{word_of, iovec_of, first_buffer};
 
 use crate::iovec::Iovec;
 use std::alloc::{AllocError, Global};
@@ -25,7 +26,7 @@ impl Model for GuestMemory {
 }
 
 impl GuestMemory {
-    ghost use Rattle.wasi_guest.specs.Lending.{LendsFrom};
+    ghost use Rattle.wasi_guest.specs.Lending.{LendsFrom, LendsFromIf, LendsFound};
 
     /// A memory of zeros.
     pub fn new(alloc: Global, size: u32) -> Result<GuestMemory, AllocError>
@@ -65,6 +66,32 @@ impl GuestMemory {
         self.bytes.slice_mut(at..at + n as usize)
     }
 
+    /// Whether a range is in memory, and its bytes, to be written; no bytes where it isn't.
+    #[tactic(auto, using(crate::proofs::Ranges::with_no_bytes))]
+    fn part_mut(&mut self, ptr: u32, n: u32) -> (bool, &mut [u8])
+        ensures found { result.0 ≡ in_memory self.old ptr n }
+        ensures value { OnTrue result.0 (result.1.now ≡ slice_range self.old ptr (ptr + n)) }
+        ensures len { length result.1.now ≡ (if result.0 then n else 0) }
+        ensures same { OnFalse result.0 (with_bytes self.old (place self.old ptr n) result.1.now ≡ self.old) }
+        ensures* lends { sem 𝓛 (LendsFound self.entry ptr n result) }
+    {
+        let found = self.holds(ptr, n);
+        let at = if found { ptr } else { 0 };
+        let len = if found { n } else { 0 };
+        (found, self.range_mut(at, len))
+    }
+
+    /// The bytes of a range, to be written, `None` exactly where it leaves the memory. The memory then differs in that
+    /// range alone, and stays as it was where there is none.
+    pub fn slice_mut(&mut self, ptr: u32, n: u32) -> Option<&mut [u8]>
+        ensures* lends { sem 𝓛 (LendsFromIf self.entry ptr result) }
+        ensures found { IsSome result ↔ IsInMemory self.old ptr n }
+        ensures value { IfSome result (λ part. part.now ≡ slice_range self.old ptr (ptr + n)) }
+    {
+        let (found, part) = self.part_mut(ptr, n);
+        if found { Some(part) } else { None }
+    }
+
     /// How many bytes there are.
     pub fn len(&self) -> u32
         ensures count { result ≡ length self.now }
@@ -99,6 +126,7 @@ impl GuestMemory {
     /// record leaves the memory.
     pub fn read_iovec(&self, ptr: u32) -> Option<Iovec>
         ensures record_at { result ≡ iovec_of self.now ptr }
+        ensures next { OnSome result (ptr + 8 < 2 ^ 32) }
     {
         if ptr % 4 != 0 {
             return None;
@@ -114,4 +142,23 @@ impl GuestMemory {
         };
         Some(Iovec { buf, buf_len })
     }
+
+    /// The buffer of `n` records that stand from `iovs` on. They are read in order up to the first whose length isn't
+    /// 0; where each has length 0 it is the empty buffer at 0. `None` exactly where an address that is read isn't a
+    /// multiple of 4 or its record leaves the memory. It stands for the crate's `first_non_empty_iovec`, without fuel.
+    #[tactic(auto, using(crate::proofs::Buffers::passed_over))]
+    pub fn first_buffer(&self, iovs: u32, n: u32) -> Option<Iovec>
+        ensures first { result ≡ first_buffer self.now iovs n }
+    {
+        for i in 0..n {
+            let item = self.read_iovec(iovs + 8 * i)?;
+            if item.buf_len != 0 {
+                return Some(item);
+            }
+        }
+        Some(Iovec { buf: 0, buf_len: 0 })
+    }
 }
+
+#[cfg(test)]
+mod tests;

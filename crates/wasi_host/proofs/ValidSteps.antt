@@ -1,24 +1,29 @@
 -- The step of a call that isn't refused keeps a valid tree valid.
 use Rattle.std.proofs.Common.{◌≡◌, ◌≢◌, ◌⊎◌, ℕ, suc, ◌+◌, ◌<◌, ◌≤◌, Bool, true, false, cond, nat_eq, nat_le, List, [], ◌∷◌, length, Option, Some, None, inl, inr, refl, sym, ap, ◌∙◌, subst, arith, zero-add, sum_by, slice_index_or, slice_set, get_or}
+use Rattle.std.specs.Prelude.{IsTrue}
 use Rattle.std.specs.List.{All}
 use Rattle.std.specs.Ordering.{nat_cmp, eq_by_cmp}
 use Rattle.std.specs.Cmp.Lexicographic.{slice_cmp, nat_list_cmp_total}
 use Rattle.std.specs.FinMap as maps
 use Rattle.std.specs.Str.{IsUtf8, bytes_eq}
-use Rattle.std.proofs.Math.Seq.{get_or-append_seam}
 use Rattle.std.proofs.lemmas.Bool.{true≢false, cases_eq, cases_lt, ne_eqb}
-use Rattle.std.proofs.lemmas.List.{length-set, length-append, get_or-set_same, get_or-set_other, get_or_append_left, get_or_past}
+use Rattle.std.proofs.lemmas.List.{set_past}
 use Rattle.std.proofs.lemmas.Map.Text.{is_eq-slice_cmp}
 use Rattle.std.proofs.lemmas.Slice.Eq.{bytes_eq-Decides}
 use Rattle.std.proofs.lemmas.List.Sums.{sum_by-cons, sum_by-set, sum_by-append}
 use Rattle.wasi_paths.specs.Text.{is_dot_text, is_long, IsName}
-use Rattle.wasi_host.specs.Tree.{Tree, Node, Content, File, Directory, Link, Names, node_at, next_of, names_of, is_directory, is_gone, stray, child}
-use Rattle.wasi_host.specs.ValidTree.{has_nul, is_entry_name, names_for, name_count, Reached, root, held, IsEntry, IsPlaced, IsValidContent, IsValidTree}
+use Rattle.wasi_host.specs.Tree.{Tree, Node, Nodes, Content, File, Directory, Link, Names, node_at, next_of, names_of, is_file, is_directory, is_gone, stray, child}
+use Rattle.wasi_host.specs.ValidTree.{are_bytes, has_nul, is_entry_name, names_for, name_count, Reached, root, held, IsEntry, IsPlaced, IsValidContent, IsValidTree}
 use Rattle.wasi_host.specs.Options.{Options}
-use Rattle.wasi_host.specs.HostCall.{HostCall, OpenAt, Stat, Pread, Dup, Close, CanBeAsked}
+use Rattle.wasi_host.specs.HostCall.{HostCall, OpenAt, Stat, Pread, Pwrite, Dup, Close, CanBeAsked}
 use Rattle.wasi_host.specs.Refusal.{refusal}
-use Rattle.wasi_host.specs.Step.{with_name, new_file, node_made, file_made, no_bytes, is_cut, file_cut, opened_step, open_step, step}
+use Rattle.wasi_host.specs.Step.{with_nodes, with_name, new_file, node_made, file_made, no_bytes, is_cut, file_cut, opened_step, open_step, piece_in, bytes_put, write_step, step, with_piece}
+use Rattle.wasi_host.specs.declared.held.Held.{Held}
 use Rattle.wasi_host.specs.declared.limits.Limits.{Limits}
+use Rattle.wasi_host.specs.declared.limits.TheConstants.{FILE_MAX}
+use Rattle.wasi_host.proofs.Changes as changes
+use Rattle.wasi_host.proofs.Changes.{changed, next_of-changed, directory_within}
+use Rattle.wasi_host.proofs.Pieces.{length-with_piece, are_bytes-with_piece}
 use Rattle.wasi_host.proofs.EntryLemmas.{times, once, times-cons, numbers, find_in, times-put, All-put_in, entries-no_names, entries-inserted}
 
 -- ---- from one tree to another
@@ -55,17 +60,6 @@ module _ (t u : Tree) (carries : Carries t u) where
   content_still n (Directory names gone) within v = (entries_still (maps.entries names) v.0, λ positive. placed_still n within (v.1 positive))
   content_still n (Link text links) within v = (v.0, v.1, v.2, v.3, v.4 ∙ sym (carries.count n within), links_still links v.5)
 
-node_at-past : (t : Tree) (n : ℕ) → next_of t ≤ n → node_at t n ≡ stray
-unfolding node_at
-node_at-past t n past = get_or_past t.nodes n stray past
-
--- a directory's number is in the tree
-pub directory_within : (t : Tree) (n : ℕ) → is_directory (node_at t n).content ≡ true → n < next_of t
-directory_within t n directory = elim (cases_lt n (next_of t)) [
-  | inl within ↦ within
-  | inr past ↦ absurd (true≢false (sym directory ∙ ap (λ k. is_directory k.content) (node_at-past t n past)))
-]
-
 valid_still : (t u : Tree) → Carries t u → IsValidTree t → next_of u ≤ t.limits.nodes
     → ((n : ℕ) → n < next_of u → IsValidContent u n (node_at u n).content) → IsValidTree u
 valid_still t u carries valid numbers nodes =
@@ -87,22 +81,24 @@ reached_still : (t u : Tree)
 reached_still t u still _ (root n has) = root n has
 reached_still t u still _ (held d n name from is) = held d n name (reached_still t u still d from) (still d n name is)
 
--- ---- a file that is cut
+-- ---- a file with other bytes
 
-names_of-no_bytes : (content : Content) → names_of (no_bytes content) ≡ names_of content
-names_of-no_bytes (File bytes links) = refl
-names_of-no_bytes (Directory names gone) = refl
-names_of-no_bytes (Link text links) = refl
+-- other bytes of a file, and all else as it was
+pub record HasBytes (old new : Content) : Type 0 where
+  pub names : names_of new ≡ names_of old
+  pub file : is_file new ≡ is_file old
+  pub directory : is_directory new ≡ is_directory old
+  pub gone : is_gone new ≡ is_gone old
 
-is_directory-no_bytes : (content : Content) → is_directory (no_bytes content) ≡ is_directory content
-is_directory-no_bytes (File bytes links) = refl
-is_directory-no_bytes (Directory names gone) = refl
-is_directory-no_bytes (Link text links) = refl
+pub has_no_bytes : (content : Content) → HasBytes content (no_bytes content)
+has_no_bytes (File bytes links) = record { names = refl; file = refl; directory = refl; gone = refl }
+has_no_bytes (Directory names gone) = record { names = refl; file = refl; directory = refl; gone = refl }
+has_no_bytes (Link text links) = record { names = refl; file = refl; directory = refl; gone = refl }
 
-is_gone-no_bytes : (content : Content) → is_gone (no_bytes content) ≡ is_gone content
-is_gone-no_bytes (File bytes links) = refl
-is_gone-no_bytes (Directory names gone) = refl
-is_gone-no_bytes (Link text links) = refl
+pub has_piece : (content : Content) (offset : ℕ) (piece : List ℕ) → HasBytes content (piece_in content offset piece)
+has_piece (File bytes links) offset piece = record { names = refl; file = refl; directory = refl; gone = refl }
+has_piece (Directory names gone) offset piece = record { names = refl; file = refl; directory = refl; gone = refl }
+has_piece (Link text links) offset piece = record { names = refl; file = refl; directory = refl; gone = refl }
 
 valid-no_bytes : (t : Tree) (n : ℕ) (content : Content) → IsValidContent t n content
     → IsValidContent t n (no_bytes content)
@@ -110,75 +106,99 @@ valid-no_bytes t n (File bytes links) v = (refl, omega arith, v.2, v.3)
 valid-no_bytes t n (Directory names gone) v = v
 valid-no_bytes t n (Link text links) v = v
 
--- the node of a number is another one
-abbrev with_node : Tree → ℕ → Node → Tree
-with_node t n node = record t { nodes = slice_set t.nodes n node }
+valid-piece_in : (t : Tree) (n : ℕ) (content : Content) (offset : ℕ) (piece : List ℕ) → IsTrue (are_bytes piece)
+    → offset + length piece ≤ FILE_MAX → IsValidContent t n content → IsValidContent t n (piece_in content offset piece)
+valid-piece_in t n (File bytes links) offset piece are fits v =
+    let short : length (with_piece bytes offset piece) ≤ FILE_MAX =
+    omega (arith, length-with_piece bytes offset piece, v.1, fits) in
+    (are_bytes-with_piece bytes offset piece v.0 are, short, v.2, v.3)
+valid-piece_in t n (Directory names gone) offset piece are fits v = v
+valid-piece_in t n (Link text links) offset piece are fits v = v
 
-module _ (t : Tree) (n : ℕ) (node : Node) (within : n < next_of t) where
-  node_at-changed : node_at (with_node t n node) n ≡ node
+module _ (t : Tree) (n : ℕ) (content : Content) (worked : Nodes) (bytes : HasBytes (node_at t n).content content)
+    (within : n < next_of t) where
+  abbrev other : Node
+  other = record (node_at t n) { content = content }
+
+  abbrev written : Tree
+  written = changed t n other worked
+
+  same_at : {B : Type 0} (f : Node → B) → f other ≡ f (node_at t n) → (k : ℕ) → f (node_at written k) ≡ f (node_at t k)
+  same_at f same k = changes.node_at-same t n other worked within f same k
+
+  names_of-written : (k : ℕ) → names_of (node_at written k).content ≡ names_of (node_at t k).content
+  names_of-written k = same_at (λ node. names_of node.content) bytes.names k
+
+  name_count-written : (k : ℕ) → name_count written k ≡ name_count t k
   unfolding node_at
-  node_at-changed = get_or-set_same t.nodes n node stray within
+  name_count-written k =
+      let same : names_for k other ≡ names_for k (node_at t n) =
+      ap (λ names. times k (maps.values names)) bytes.names in
+      omega (arith, sum_by-set (names_for k) t.nodes n other stray within, same)
 
-  node_at-other : (k : ℕ) → k ≢ n → node_at (with_node t n node) k ≡ node_at t k
-  unfolding node_at
-  node_at-other k other = get_or-set_other t.nodes n k node stray other
-
-  -- what the new node has of the old one stays everywhere
-  node_at-same : {B : Type 0} (f : Node → B) → f node ≡ f (node_at t n) → (k : ℕ)
-      → f (node_at (with_node t n node) k) ≡ f (node_at t k)
-  node_at-same f same k = elim (cases_eq k n) [
-    | inl here ↦ ap (λ j. f (node_at (with_node t n node) j)) here ∙ ap f node_at-changed ∙ same ∙ ap (λ j. f (node_at t j)) (sym here)
-    | inr other ↦ ap f (node_at-other k other)
-  ]
-
-  name_count-changed : (k : ℕ)
-      → name_count (with_node t n node) k + names_for k (node_at t n) ≡ name_count t k + names_for k node
-  unfolding node_at
-  name_count-changed k = sum_by-set (names_for k) t.nodes n node stray within
-
-module _ (t : Tree) (n : ℕ) (within : n < next_of t) where
-  abbrev content : Content
-  content = (node_at t n).content
-
-  abbrev cut : Node
-  cut = record (node_at t n) { content = no_bytes content }
-
-  names_of-cut : (k : ℕ) → names_of (node_at (file_cut t n) k).content ≡ names_of (node_at t k).content
-  unfolding node_at
-  names_of-cut k = node_at-same t n cut within (λ node. names_of node.content) (names_of-no_bytes content) k
-
-  name_count-cut : (k : ℕ) → name_count (file_cut t n) k ≡ name_count t k
-  name_count-cut k =
-      let same : names_for k cut ≡ names_for k (node_at t n) = ap (λ names. times k (maps.values names)) (names_of-no_bytes content) in
-      omega (arith, name_count-changed t n cut within k, same)
-
-  carries-cut : Carries t (file_cut t n)
-  unfolding node_at
-  carries-cut = record {
+  carries-written : Carries t written
+  carries-written = record {
     limits = refl;
-    next = omega (arith, length-set t.nodes n cut);
-    count = λ k h. name_count-cut k;
-    reached = reached_still t (file_cut t n) (λ d k name is. ap (λ names. maps.get names name) (names_of-cut d) ∙ is);
-    directory = λ k h. node_at-same t n cut within (λ node. is_directory node.content) (is_directory-no_bytes content) k;
-    gone = λ k h. node_at-same t n cut within (λ node. is_gone node.content) (is_gone-no_bytes content) k;
-    emptied = λ k h gone. names_of-cut k;
+    next = omega (arith, next_of-changed t n other worked);
+    count = λ k h. name_count-written k;
+    reached = reached_still t written (λ d k name is. ap (λ names. maps.get names name) (names_of-written d) ∙ is);
+    directory = λ k h. same_at (λ node. is_directory node.content) bytes.directory k;
+    gone = λ k h. same_at (λ node. is_gone node.content) bytes.gone k;
+    emptied = λ k h gone. names_of-written k;
   }
 
-  valid-content_cut : IsValidTree t → (k : ℕ) → k < next_of t → IsValidContent (file_cut t n) k (node_at (file_cut t n) k).content
-  unfolding node_at
-  valid-content_cut valid k h =
-      let still = content_still t (file_cut t n) carries-cut in
+  valid-written : IsValidTree t → IsValidContent t n content → IsValidTree written
+  valid-written valid fits =
+      let next : next_of written ≡ next_of t = next_of-changed t n other worked in
+      let still = content_still t written carries-written in
+      valid_still t written carries-written valid (omega (arith, next, valid.numbers)) (λ k h.
+      let before : k < next_of t = omega (arith, next, h) in
       elim (cases_eq k n) [
         | inl here ↦
-            subst (λ j. IsValidContent (file_cut t n) j (node_at (file_cut t n) j).content) (sym here)
-            (rw (node_at-changed t n cut within) (still n (no_bytes content) within (valid-no_bytes t n content (valid.nodes n within))))
-        | inr other ↦ rw (node_at-other t n cut within k other) (still k (node_at t k).content h (valid.nodes k h))
-      ]
+            subst (λ j. IsValidContent written j (node_at written j).content) (sym here)
+            (rw (changes.node_at-changed t n other worked within) (still n content within fits))
+        | inr apart ↦
+            rw (changes.node_at-other t n other worked within k apart)
+            (still k (node_at t k).content before (valid.nodes k before))
+      ])
 
-  valid-cut : IsValidTree t → IsValidTree (file_cut t n)
-  valid-cut valid =
-      let next : next_of (file_cut t n) ≡ next_of t = length-set t.nodes n cut in
-      valid_still t (file_cut t n) carries-cut valid (omega (arith, next, valid.numbers)) (λ k h. valid-content_cut valid k (omega (arith, next, h)))
+valid-cut : (t : Tree) (n : ℕ) → n < next_of t → IsValidTree t → IsValidTree (file_cut t n)
+valid-cut t n within valid =
+    let content : Content = (node_at t n).content in
+    valid-written t n (no_bytes content) (with_nodes t.worked (n ∷ [])) (has_no_bytes content) within valid
+    (valid-no_bytes t n content (valid.nodes n within))
+
+-- validity doesn't look at what was worked on
+valid-worked : (t : Tree) (worked : Nodes) → IsValidTree t → IsValidTree (record t { worked = worked })
+unfolding node_at
+valid-worked t worked valid =
+    let u : Tree = record t { worked = worked } in
+    let carries : Carries t u = record {
+      limits = refl;
+      next = omega arith;
+      count = λ k h. refl;
+      reached = reached_still t u (λ d k name is. is);
+      directory = λ k h. refl;
+      gone = λ k h. refl;
+      emptied = λ k h gone. refl;
+    } in
+    valid_still t u carries valid valid.numbers
+    (λ k h. content_still t u carries k (node_at t k).content h (valid.nodes k h))
+
+valid-put : (t : Tree) (n offset : ℕ) (piece : List ℕ) → IsTrue (are_bytes piece) → offset + length piece ≤ FILE_MAX
+    → IsValidTree t → IsValidTree (bytes_put t n offset piece)
+valid-put t n offset piece are fits valid =
+    let content : Content = (node_at t n).content in
+    elim (cases_lt n (next_of t)) [
+      | inl within ↦
+          valid-written t n (piece_in content offset piece) (with_nodes t.worked (n ∷ []))
+          (has_piece content offset piece) within valid (valid-piece_in t n content offset piece are fits (valid.nodes n within))
+      | inr past ↦
+          let worked : Nodes = with_nodes t.worked (n ∷ []) in
+          let same = set_past t.nodes n (record (node_at t n) { content = piece_in content offset piece }) past in
+          subst (λ nodes. IsValidTree (record t { nodes = nodes; worked = worked })) (sym same)
+          (valid-worked t worked valid)
+    ]
 
 -- ---- a node that is made
 
@@ -267,33 +287,20 @@ module _ (t : Tree) (d : ℕ) (name : List ℕ) (lacks : Lacks t d name) where
     made = node_made t d name node
 
     next_of-made : next_of made ≡ next_of t + 1
-    next_of-made = omega (arith, length-append (slice_set t.nodes d parent) (node ∷ []), length-set t.nodes d parent)
-
-    node_at-kept : (k : ℕ) → k < next_of t → node_at made k ≡ node_at (with_node t d parent) k
-    unfolding node_at
-    node_at-kept k h = get_or_append_left (slice_set t.nodes d parent) (node ∷ []) stray k (omega (arith, h, length-set t.nodes d parent))
+    next_of-made = changes.next_of-made t d name node within_tree
 
     node_at-parent : node_at made d ≡ parent
-    node_at-parent = node_at-kept d within_tree ∙ node_at-changed t d parent within_tree
+    node_at-parent = changes.node_at-parent t d name node within_tree
 
     node_at-apart : (k : ℕ) → k < next_of t → k ≢ d → node_at made k ≡ node_at t k
-    node_at-apart k h other = node_at-kept k h ∙ node_at-other t d parent within_tree k other
-
-    node_at-made : node_at made (next_of t) ≡ node
-    unfolding node_at
-    node_at-made =
-        ap (λ k. slice_index_or made.nodes k stray) (sym (length-set t.nodes d parent))
-        ∙ get_or-append_seam (slice_set t.nodes d parent) node [] stray
-
-    same_there : {B : Type 0} (f : Node → B) → f parent ≡ f (node_at t d) → (k : ℕ) → k < next_of t
-        → f (node_at made k) ≡ f (node_at t k)
-    same_there f same k h = ap f (node_at-kept k h) ∙ node_at-same t d parent within_tree f same k
+    node_at-apart k h other = changes.node_at-apart t d name node within_tree k h other
 
     name_count-made : names_of node.content ≡ maps.empty → (k : ℕ)
         → name_count made k ≡ once (nat_eq (next_of t) k) + name_count t k
+    unfolding node_at
     name_count-made bare k =
         let none : names_for k node ≡ 0 = ap (λ (held : Names). times k (maps.values held)) bare ∙ ap (λ es. times k (numbers es)) entries-no_names in
-        omega (arith, none, names_for-parent k, name_count-changed t d parent within_tree k, sum_by-append (names_for k) (slice_set t.nodes d parent) (node ∷ []), sum_by-cons (names_for k) node [])
+        omega (arith, none, names_for-parent k, sum_by-set (names_for k) t.nodes d parent stray within_tree, sum_by-append (names_for k) (slice_set t.nodes d parent) (node ∷ []), sum_by-cons (names_for k) node [])
 
     still_held : (e n : ℕ) (q : List ℕ) → maps.get (names_of (node_at t e).content) q ≡ Some n
         → maps.get (names_of (node_at made e).content) q ≡ Some n
@@ -305,7 +312,7 @@ module _ (t : Tree) (d : ℕ) (name : List ℕ) (lacks : Lacks t d name) where
         | inr other ↦ rw (node_at-apart e within other) is
       ]
       | inr past ↦
-          let none : maps.get (maps.empty {X = ℕ} {R = slice_cmp nat_cmp}) q ≡ Some n = rw (node_at-past t e past) at is in
+          let none : maps.get (maps.empty {X = ℕ} {R = slice_cmp nat_cmp}) q ≡ Some n = rw (changes.node_at-past t e past) at is in
           let empty = maps.get-empty {X = ℕ} (slice_cmp nat_cmp) q in
           absurd (cc)
     ]
@@ -318,8 +325,8 @@ module _ (t : Tree) (d : ℕ) (name : List ℕ) (lacks : Lacks t d name) where
           λ k h. name_count-made bare k ∙ ap (λ b. once b + name_count t k) (ne_eqb (next_of t) k (λ same. omega (arith, h, same)))
           ∙ zero-add (name_count t k);
       reached = reached_still t made still_held;
-      directory = λ k h. same_there (λ n. is_directory n.content) (sym lacks.directory) k h;
-      gone = λ k h. same_there (λ n. is_gone n.content) refl k h;
+      directory = λ k h. changes.node_at-kept t d name node within_tree (λ n. is_directory n.content) (sym lacks.directory) k h;
+      gone = λ k h. changes.node_at-kept t d name node within_tree (λ n. is_gone n.content) refl k h;
       emptied = λ k h gone.
           let other : k ≢ d = λ here. true≢false (sym gone ∙ ap (λ j. is_gone (node_at t j).content) here ∙ lacks.stays) in
           ap (λ (n : Node). names_of n.content) (node_at-apart k h other);
@@ -352,7 +359,7 @@ module _ (t : Tree) (d : ℕ) (name : List ℕ) (lacks : Lacks t d name) where
             | inl before ↦ valid-kept good utf8 k before
             | inr after ↦
                 let last : k ≡ next_of t = omega (arith, next_of-made, h, after) in
-                subst (λ j. IsValidContent made j (node_at made j).content) (sym last) (rw node_at-made fits)
+                subst (λ j. IsValidContent made j (node_at made j).content) (sym last) (rw (changes.node_at-made t d name node within_tree) fits)
           ])
 
   valid-file : IsValidTree t → next_of t < t.limits.nodes → is_entry_name name ≡ true → IsUtf8 name
@@ -369,7 +376,7 @@ is_named : (name : List ℕ) → is_dot_text name ≡ false → IsName name → 
     → is_entry_name name ≡ true
 is_named name not_dot is no_nul short = let text = is.name in grind arith
 
-open_directory : (t : Tree) (d : ℕ) (name : List ℕ) (o : Options) → refusal t (OpenAt d name o) ≡ None
+pub open_directory : (t : Tree) (d : ℕ) (name : List ℕ) (o : Options) → refusal t (OpenAt d name o) ≡ None
     → (is_directory (node_at t d).content ≡ true) × (has_nul name ≡ false) × (is_long name ≡ false)
 unfolding refusal
 open_directory t d name o none = (grind arith, grind arith, grind arith)
@@ -424,11 +431,25 @@ valid-opened t d name o valid is none (Some n) found =
       | false ↦ valid
     ]
 
+-- a write that isn't refused, of some bytes, ends within the largest file
+write_fits : (t : Tree) (file : Held) (offset byte : ℕ) (bytes : List ℕ)
+    → refusal t (Pwrite file offset (byte ∷ bytes)) ≡ None → offset + length (byte ∷ bytes) ≤ FILE_MAX
+unfolding refusal
+write_fits t file offset byte bytes none = grind arith
+
+valid-write : (t : Tree) (file : Held) (offset : ℕ) (piece : List ℕ) → IsValidTree t → IsTrue (are_bytes piece)
+    → refusal t (Pwrite file offset piece) ≡ None → IsValidTree (write_step t file.node offset piece)
+unfolding write_step
+valid-write t file offset [] valid are none = valid
+valid-write t file offset (byte ∷ bytes) valid are none =
+    valid-put t file.node offset (byte ∷ bytes) are (write_fits t file offset byte bytes none) valid
+
 pub valid-step : (t : Tree) (call : HostCall) → IsValidTree t → CanBeAsked call → refusal t call ≡ None
     → IsValidTree (step t call)
 unfolding open_step
 valid-step t (OpenAt d name o) valid asked none = valid-opened t d name o valid asked none (child t d name) refl
 valid-step t (Stat n) valid asked none = valid
 valid-step t (Pread file offset n) valid asked none = valid
+valid-step t (Pwrite file offset piece) valid asked none = valid-write t file offset piece valid asked none
 valid-step t (Dup handle) valid asked none = valid
 valid-step t Close valid asked none = valid

@@ -1,4 +1,4 @@
--- What the calls of a host do to its meanings: the laws that every host keeps, and those of a host that tells its world.
+-- What the calls of a host do to its meanings: the laws that every host keeps, and those of one that tells its world.
 use Rattle.std.specs.Prelude.{◌≡◌, ◌⊎◌, ℕ, ◌+◌, ◌-◌, ◌^◌, ◌<◌, ◌≤◌, min, true, false, List, [], ◌∷◌, ◌++◌, Option, None, Result, Ok, Err}
 use Rattle.std.specs.Ordering.{nat_cmp}
 use Rattle.std.specs.FinSet.{FinSet, contains, insert}
@@ -41,7 +41,8 @@ LiveGot old (Err e) new = new ≡ old
 
 -- after `Io` or want of memory: no entry, or one, whatever the call had got before it failed
 abbrev pub MaybeLogged : List Lookup → LookKind → ℕ → List Lookup → Type 0
-MaybeLogged old kind from new = (new ≡ old) ⊎ ((got : Option ℕ) × (new ≡ old ++ record { kind = kind; from = from; got = got } ∷ []))
+MaybeLogged old kind from new =
+    (new ≡ old) ⊎ ((got : Option ℕ) × (new ≡ old ++ record { kind = kind; from = from; got = got } ∷ []))
 
 abbrev pub LoggedErr : List Lookup → LookKind → ℕ → HostError → List Lookup → Type 0
 LoggedErr old kind from Memory new = MaybeLogged old kind from new
@@ -104,7 +105,8 @@ pub record AllHeld (live : Handles) (w : World) : Type 0 where
   pub each : (h : ℕ) → contains live h ≡ true → IsHeld w.tree (w.held h)
 
 -- what a call of a told host does: it answers by the table, and makes its one step where it answers Ok
-pub record Told {A : Type 0} (old new : Handles) (w v : World) (call : HostCall) (shown : A → HostAnswer call) (result : Result A HostError) : Type 0 where
+pub record Told {A : Type 0} (old new : Handles) (w v : World) (call : HostCall) (shown : A → HostAnswer call)
+    (result : Result A HostError) : Type 0 where
   pub meaning : Means shown (host_answer w.tree call) result
   pub after : After w call result v
   pub keeps : Keeps old new w v

@@ -3,9 +3,8 @@ ghost use Rattle.std.specs.Prelude.{◌≡◌, ◌≤◌, ◌<◌, ◌^◌, ◌-
 ghost use Rattle.std.specs.Ordering.{nat_cmp};
 ghost use Rattle.std.specs.FinSet.{FinSet, contains, remove};
 ghost use Rattle.wasi_paths.specs.Name.{name_bytes};
-ghost use Rattle.wasi_host.specs.Options.{OnlyRead};
-ghost use Rattle.wasi_host.specs.HostCall.{OpenAt, Stat, Pread, Dup, Close};
-ghost use Rattle.wasi_host.specs.Meaning.{World, AllHeld, HasCause, LiveGot, Told, Logged, hosted, answered};
+ghost use Rattle.wasi_host.specs.HostCall.{OpenAt, Stat, Pread, Pwrite, Dup, Close};
+ghost use Rattle.wasi_host.specs.Meaning.{World, AllHeld, HasCause, Rose, LiveGot, Told, Logged, hosted, answered};
 ghost use Rattle.wasi_host.specs.declared.lookup.Lookup.{Lookup};
 ghost use Rattle.wasi_host.specs.Time.{HasTimes};
 
@@ -37,16 +36,15 @@ pub trait Host {
     ghost world: { Self → World };
 
     /// Opens a name in a directory. A link is never followed. The handle has the read and write of the options, or is
-    /// for the path alone. Refusals: the rows of `open_at` in the host's table. Today's condition is that the options
-    /// ask for read alone.
+    /// for the path alone. A missing name is made where the options ask to create, and a file is cut to no bytes where
+    /// they ask to truncate it. Refusals: the rows of `open_at` in the host's table.
     fn open_at(
         &mut self,
         start: Handle,
         name: Name<'_>,
         options: &OpenOptions,
     ) -> Result<Handle, HostError>
-        requires start { contains (live self.old) start ≡ true }
-        requires options { OnlyRead options.now }
+        requires { contains (live self.old) start ≡ true }
         ensures cause { HasCause (faults self.old) (faults self.new) result }
         ensures live { LiveGot (live self.old) result (live self.new) }
         ensures logged { Logged (lookups self.old) LookKind.Open start (λ h. Some h) result (lookups self.new) }
@@ -90,6 +88,22 @@ pub trait Host {
             (Pread ((world self.old).held file) offset (length buf.old))
             (λ n. take n buf.new) (hosted result) };
 
+    /// Puts a piece of bytes into a file from an offset on, with zeros in a gap before it, and answers how many it
+    /// took, which is all where the host tells its world. No bytes change nothing. A call that takes nothing of a piece
+    /// that isn't empty has failed, and the count of faults rose. Refusals: BadDescriptor without write access; Invalid
+    /// for an offset of 2^63 or more; FileTooLarge where the file would have more than 2^30 bytes.
+    fn pwrite(&mut self, file: Handle, piece: &[u8], offset: u64) -> Result<usize, HostError>
+        requires { contains (live self.old) file ≡ true }
+        ensures cause { HasCause (faults self.old) (faults self.new) result }
+        ensures live { live self.new ≡ live self.old }
+        ensures logged { lookups self.new ≡ lookups self.old }
+        ensures fits { IfOk result (λ n. n ≤ length piece.now) }
+        ensures takes { result ≡ Ok 0 → 0 < length piece.now → Rose (faults self.old) (faults self.new) }
+        ensures offset { OnOk result (offset < 2 ^ 63) }
+        ensures told { IsTrue told → Told (live self.old) (live self.new) (world self.old) (world self.new)
+            (Pwrite ((world self.old).held file) offset piece.now)
+            (λ n. n) result };
+
     /// The handle isn't live any more. It can't fail, and takes no memory.
     fn close(&mut self, handle: Handle)
         requires { contains (live self.old) handle ≡ true }
@@ -99,9 +113,9 @@ pub trait Host {
         ensures told { IsTrue told → Told (live self.old) (live self.new) (world self.old) (world self.new)
             Close (λ unit. unit) answered };
 
-    /// What holds of every host at any time, told or not: its count of faults is a number of 64 bits, and where it tells
-    /// its world, each live handle's node is a node of the tree, and a file where the handle was opened for writing. It
-    /// does nothing: its clauses are laws, for a caller that needs one of them.
+    /// What holds of every host at any time, told or not: its count of faults is a number of 64 bits, and where it
+    /// tells its world, each live handle's node is a node of the tree, and a file where the handle was opened for
+    /// writing. It does nothing: its clauses are laws, for a caller that needs one of them.
     fn laws(&self)
         ensures faults { faults self.now ≤ 2 ^ 64 - 1 }
         ensures held { IsTrue told → AllHeld (live self.now) (world self.now) };

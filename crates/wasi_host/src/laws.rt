@@ -8,5 +8,6 @@ ghost use Rattle.wasi_host.specs.ValidTree.{IsValidTree};
 
 /// The step of a call that isn't refused keeps a valid tree valid. It does nothing: its clause is the law.
 pub fn steps_keep_trees_valid()
-    ensures valid { (t : Tree) (call : HostCall) → IsValidTree t → CanBeAsked call → refusal t call ≡ None → IsValidTree (step t call) }
+    ensures valid { (t : Tree) (call : HostCall) → IsValidTree t → CanBeAsked call → refusal t call ≡ None
+        → IsValidTree (step t call) }
 {}

@@ -5,18 +5,18 @@ use Rattle.std.proofs.lemmas.List.{length-set, get_or_push}
 use Rattle.std.proofs.lemmas.List.Elements.{Contains-push, Contains-push_cases}
 use Rattle.wasi_paths.specs.Text.{is_dot_text}
 use Rattle.wasi_host.specs.Options.{Options}
-use Rattle.wasi_host.specs.Tree.{Tree, Node, node_at, next_of, child, stray}
+use Rattle.wasi_host.specs.Tree.{Tree, Node, Nodes, node_at, next_of, child, stray}
 use Rattle.wasi_host.specs.ValidTree.{Reached, root, held}
 use Rattle.wasi_host.specs.HostCall.{OpenAt}
 use Rattle.wasi_host.specs.Refusal.{refusal}
-use Rattle.wasi_host.specs.Step.{open_step, opened_step, file_made, file_cut, is_cut, with_name, new_file}
+use Rattle.wasi_host.specs.Step.{open_step, opened_step, file_made, file_cut, is_cut, with_name, with_nodes, new_file, write_step}
 use Rattle.wasi_host.specs.Answer.{reached, or_next, unless, metadata_of}
 use Rattle.wasi_host.specs.declared.errors.ErrorCode.{ErrorCode}
-use Rattle.wasi_p1.specs.Request.{Request, Reply, Open, Read, Opened, opened_at, reply_of, after, starts_at}
+use Rattle.wasi_p1.specs.Request.{Request, Reply, Open, Read, Write, Opened, opened_at, reply_of, after, starts_at}
 use Rattle.wasi_p1.specs.Turn.{IsMade}
 use Rattle.wasi_p1.proofs.Near.{given_by}
 use Rattle.wasi_p1.specs.Agree.{IsClosed, AgreeOn, OrMade}
-use Rattle.wasi_p1.proofs.Leaving.{named_in, no_name, made_next, next_is_made, emptied, request_leaves}
+use Rattle.wasi_p1.proofs.Leaving.{named_in, no_name, made_next, next_is_made, emptied, put_into, node_put, request_leaves}
 
 -- ---- lists of nodes that are equal at a number
 
@@ -60,7 +60,7 @@ pub none_made : (Seen : ℕ → Type 0) {t : Tree} {n : ℕ} → OrMade Seen t t
 none_made Seen (inl old) = old
 none_made Seen (inr made) = absurd (unmade refl made)
 
-below_or : (m n : ℕ) → (m < n) ⊎ (n ≤ m)
+pub below_or : (m n : ℕ) → (m < n) ⊎ (n ≤ m)
 below_or m n = grind arith
 
 -- what was made from a tree to a later one, over a tree between
@@ -146,6 +146,7 @@ module _ {Seen : ℕ → Type 0} {t : Tree} (closed : IsClosed Seen t) where
       ap (λ (x : Opened). x.held.node) (unless_value (refusal t (OpenAt d name o)) is) ∙ one has in
       subst (OrMade Seen t (open_step t d name o)) node (reached_seen d name o (from d (Contains-push [] d)))
   given_seen (Read f offset k) reply from is n has = absurd (omega (arith, has.1))
+  given_seen (Write f offset piece) reply from is n has = absurd (omega (arith, has.1))
 
 pub itself : {Seen : ℕ → Type 0} {t : Tree} → AgreeOn Seen t t
 itself = record { nodes = λ n has. refl; next = refl; limits = refl }
@@ -203,18 +204,32 @@ module _ {Seen : ℕ → Type 0} {t u : Tree} (closed : IsClosed Seen t) (agree 
     limits = agree.limits;
   }
 
-  cut_agree : (m : ℕ) → Seen m → AgreeOn (OrMade Seen t (file_cut t m)) (file_cut t m) (file_cut u m)
+  -- a node is changed alike
+  put_agree : (m : ℕ) (change : Node → Node) (worked worked' : Nodes) → Seen m
+      → AgreeOn (OrMade Seen t (node_put t m (change (node_at t m)) worked))
+      (node_put t m (change (node_at t m)) worked) (node_put u m (change (node_at u m)) worked')
   unfolding node_at
-  cut_agree m seen =
-      let cut : Node = emptied (node_at t m) in record {
+  put_agree m change worked worked' seen =
+      let put : Node = change (node_at t m) in record {
         nodes = λ n has. elim has [
-          | inl old ↦ set_same t.nodes u.nodes m n cut stray agree.next (agree.nodes n old)
-              ∙ ap (λ x. slice_index_or (slice_set u.nodes m (emptied x)) n stray) (agree.nodes m seen)
-          | inr made ↦ absurd (unmade (length-set t.nodes m cut) made)
+          | inl old ↦ set_same t.nodes u.nodes m n put stray agree.next (agree.nodes n old)
+              ∙ ap (λ x. slice_index_or (slice_set u.nodes m (change x)) n stray) (agree.nodes m seen)
+          | inr made ↦ absurd (unmade (length-set t.nodes m put) made)
         ];
-        next = length-set t.nodes m cut ∙ agree.next ∙ sym (length-set u.nodes m (emptied (node_at u m)));
+        next = length-set t.nodes m put ∙ agree.next ∙ sym (length-set u.nodes m (change (node_at u m)));
         limits = agree.limits;
       }
+
+  cut_agree : (m : ℕ) → Seen m → AgreeOn (OrMade Seen t (file_cut t m)) (file_cut t m) (file_cut u m)
+  cut_agree m seen = put_agree m emptied (with_nodes t.worked (m ∷ [])) (with_nodes u.worked (m ∷ [])) seen
+
+  write_agree : (m offset : ℕ) (piece : List ℕ) → Seen m
+      → AgreeOn (OrMade Seen t (write_step t m offset piece)) (write_step t m offset piece)
+      (write_step u m offset piece)
+  unfolding write_step
+  write_agree m offset [] seen = same_agree
+  write_agree m offset (byte ∷ bytes) seen =
+      put_agree m (put_into offset (byte ∷ bytes)) (with_nodes t.worked (m ∷ [])) (with_nodes u.worked (m ∷ [])) seen
 
   opened_agree : (d : ℕ) (name : List ℕ) (o : Options) → Seen d
       → AgreeOn (OrMade Seen t (open_step t d name o)) (open_step t d name o) (open_step u d name o)
@@ -243,6 +258,7 @@ module _ {Seen : ℕ → Type 0} {t u : Tree} (closed : IsClosed Seen t) (agree 
       → AgreeOn (OrMade Seen t (after t r)) (after t r) (after u r)
   after_agree (Open d name o) from = opened_agree d name o (from d (Contains-push [] d))
   after_agree (Read f offset n) from = same_agree
+  after_agree (Write f offset piece) from = write_agree f.node offset piece (from f.node (Contains-push [] f.node))
 
   -- equal answers
   pub reply_same : (r : Request) → ((n : ℕ) → Contains (starts_at r) n → Seen n) → reply_of t r ≡ reply_of u r
@@ -255,3 +271,4 @@ module _ {Seen : ℕ → Type 0} {t u : Tree} (closed : IsClosed Seen t) (agree 
       let refused : refusal t (OpenAt d name o) ≡ refusal u (OpenAt d name o) = refused_same d name o seen in
       ap (λ c. unless c (opened_at t d name o)) refused ∙ ap (unless (refusal u (OpenAt d name o))) same
   reply_same (Read f offset n) from = rw (agree.nodes f.node (from f.node (Contains-push [] f.node))) refl
+  reply_same (Write f offset piece) from = refl

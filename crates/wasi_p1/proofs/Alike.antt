@@ -1,5 +1,5 @@
 -- What a call answers rests on the guest and on what is in its reach.
-use Rattle.std.proofs.Common.{ℕ, ◌≡◌, inl, inr, [], refl, subst, arith, Result, Ok, Err}
+use Rattle.std.proofs.Common.{ℕ, ◌≡◌, inl, inr, [], refl, subst, arith, Option, Result, Ok, Err}
 use Rattle.std.specs.Prelude.{Contains}
 use Rattle.wasi_host.specs.Tree.{Tree}
 use Rattle.wasi_host.specs.declared.errors.ErrorCode.{ErrorCode}
@@ -8,8 +8,9 @@ use Rattle.wasi_p1.specs.Request.{Request, Reply, reply_of, after, starts_at}
 use Rattle.wasi_guest.specs.Steps.{◌>>=◌}
 use Rattle.wasi_p1.specs.Row.{Row, give, Program, done, asking, run_on, beside, from_host}
 use Rattle.wasi_p1.specs.Rows.{row, turn, with_tree}
-use Rattle.wasi_p1.proofs.Near.{given_by, KeepsNodes, IsNear, AsksNear}
+use Rattle.wasi_p1.proofs.Near.{given_by, KeepsPlaces, StaysNear, IsNear, AsksNear}
 use Rattle.wasi_p1.specs.Agree.{Alike, AnswerAlike}
+use Rattle.wasi_p1.specs.Stems.{opened_through}
 use Rattle.wasi_guest.specs.declared.call.Call.{Call}
 use Rattle.wasi_guest.specs.declared.answer.Value.{Value}
 use Rattle.wasi_p1.proofs.Agreeing.{after_agree, reply_same, after_closed, given_seen, same_agree, still_closed}
@@ -29,25 +30,26 @@ abbrev pub ended : Tree → Row (Program (Value × Guest)) → Row (Value × Sta
 ended t m = m >>= run_on t >>= (λ p. give (with_tree p))
 
 module _ {Seen : ℕ → Type 0} {s s' : State} (alike : Alike Seen s s') where
-  done_alike : (p : Value × Guest) → KeepsNodes s.guest [] (Ok p)
+  done_alike : (through : Option ℕ) (p : Value × Guest) → StaysNear s.guest through [] p
       → AnswerAlike Seen s (ended s.tree (Ok (done p))) (ended s'.tree (Ok (done p)))
-  done_alike p keeps = (
+  done_alike through p stays = (
     refl,
     record {
       guest = refl;
       trees = same_agree alike.closed alike.trees;
       closed = still_closed alike.closed;
       places = λ n has.
-          elim (keeps n has) [ inl was ↦ inl (alike.places n was) | inr none ↦ absurd (omega (arith, none.1)) ];
+          elim (stays.nodes n has) [ inl was ↦ inl (alike.places n was) | inr none ↦ absurd (omega (arith, none.1)) ];
     },
   )
 
-  module _ {r : Request} {next : Reply r → Row (Value × Guest)} (near : AsksNear s.guest r next) where
+  module _ {call : Call} {r : Request} {next : Reply r → Row (Value × Guest)}
+      (near : AsksNear s.guest call r next) where
     starts_seen : (n : ℕ) → Contains (starts_at r) n → Seen n
     starts_seen n has = alike.places n (near.starts n has)
 
     next_alike : (reply : Reply r) → reply_of s.tree r ≡ Ok reply → (m : Row (Value × Guest))
-        → KeepsNodes s.guest (given_by r reply) m
+        → KeepsPlaces s.guest (opened_through call) (given_by r reply) m
         → AnswerAlike Seen s (over (after s.tree r) m) (over (after s'.tree r) m)
     next_alike reply is (Err e) keep = refl
     next_alike reply is (Ok p) keep = (
@@ -56,7 +58,7 @@ module _ {Seen : ℕ → Type 0} {s s' : State} (alike : Alike Seen s s') where
         guest = refl;
         trees = after_agree alike.closed alike.trees r starts_seen;
         closed = after_closed alike.closed r starts_seen;
-        places = λ n has. elim (keep n has) [
+        places = λ n has. elim (keep.nodes n has) [
           | inl was ↦ inl (alike.places n was)
           | inr given ↦ given_seen alike.closed r reply starts_seen is n given
         ];
@@ -65,20 +67,20 @@ module _ {Seen : ℕ → Type 0} {s s' : State} (alike : Alike Seen s s') where
 
     reply_alike : (a : Result (Reply r) ErrorCode) → reply_of s.tree r ≡ a
         → AnswerAlike Seen s (replied s.tree r next a) (replied s'.tree r next a)
-    reply_alike (Ok reply) is = next_alike reply is (next reply) (near.keeps reply)
+    reply_alike (Ok reply) is = next_alike reply is (next reply) (near.places reply)
     reply_alike (Err code) is = refl
 
     asking_alike : AnswerAlike Seen s (ended s.tree (Ok (asking r next))) (ended s'.tree (Ok (asking r next)))
     asking_alike = subst (λ a. AnswerAlike Seen s (ended s.tree (Ok (asking r next))) (replied s'.tree r next a))
         (reply_same alike.closed alike.trees r starts_seen) (reply_alike (reply_of s.tree r) refl)
 
-  row_alike : (m : Row (Program (Value × Guest))) → IsNear s.guest m
+  row_alike : (call : Call) (m : Row (Program (Value × Guest))) → IsNear s.guest call m
       → AnswerAlike Seen s (ended s.tree m) (ended s'.tree m)
-  row_alike (Ok (done p)) near = done_alike p near
-  row_alike (Ok (asking r next)) near = asking_alike near
-  row_alike (Err e) never = refl
+  row_alike call (Ok (done p)) near = done_alike (opened_through call) p near.places
+  row_alike call (Ok (asking r next)) near = asking_alike near
+  row_alike call (Err e) never = refl
 
   -- two states that are alike answer a call alike, and are alike after it
   pub turn_alike : (call : Call) → AnswerAlike Seen s (turn s call) (turn s' call)
   turn_alike call = subst (λ (g : Guest). AnswerAlike Seen s (turn s call) (ended s'.tree (row g call))) alike.guest
-      (row_alike (row s.guest call) (row_near s.guest call))
+      (row_alike call (row s.guest call) (row_near s.guest call))

@@ -1,5 +1,5 @@
 -- One answer for each call of a run.
-use Rattle.std.proofs.Common.{ℕ, ◌+◌, ◌<◌, ◌≡◌, true, false, List, [], ◌∷◌, ◌++◌, length, refl, arith}
+use Rattle.std.proofs.Common.{◌<◌, ◌≡◌, true, false, List, [], ◌∷◌, ◌++◌, length, refl, arith}
 use Rattle.wasi_p1.specs.Run.{AnswersEach, ends}
 use Rattle.wasi_guest.specs.declared.answer.Answer.{Answer}
 use Rattle.wasi_guest.specs.declared.call.Call.{Call}

@@ -1,15 +1,16 @@
 -- What a call adds to the look-ups, and the descriptors after it.
-use Rattle.std.proofs.Common.{ℕ, ◌≡◌, ◌⊎◌, inl, inr, List, ◌∷◌, Some, Ok, Err, slice_get, sym, ap, ◌∙◌, subst}
+use Rattle.std.proofs.Common.{ℕ, ◌≡◌, inl, inr, List, ◌∷◌, Some, Ok, Err, arith, slice_get, slice_set, sym, ap, ◌∙◌, subst}
 use Rattle.wasi_host.specs.Lineage.{Traced, Only, Nothing}
-use Rattle.wasi_host.proofs.Tracing.{traced_then, traced_given, traced_kept}
+use Rattle.wasi_host.proofs.Tracing.{traced_none, traced_then, traced_given, traced_kept}
 use Rattle.wasi_host.specs.declared.lookup.Lookup.{Lookup}
 use Rattle.wasi_p1.specs.Numbering.{with_new}
 use Rattle.wasi_p1.specs.Slots.{is_closed_slot}
 use Rattle.wasi_p1.specs.Owners.{handle_in, handles, uses, uses_in, IsHandle, under, MadeBy}
 use Rattle.wasi_p1.specs.declared.context.Slot.{Slot}
+use Rattle.wasi_p1.specs.declared.context.Slot.TheVariants.{Closed}
 use Rattle.wasi_p1.specs.declared.error.P1Error.{P1Error}
 use Rattle.wasi_p1.proofs.Counting.{one_of, item_is, handle_at, named_is, is_named}
-use Rattle.wasi_p1.proofs.Owning.{uses-new}
+use Rattle.wasi_p1.proofs.Owning.{uses-new, uses-closed}
 
 -- a part of a call that gave a descriptor, which stands under its number
 pub traced_new : {Given : ℕ → Type 0} {old new : List Lookup} (table : List Slot) (slot : Slot)
@@ -35,6 +36,18 @@ pub traced_at : {Kept Kept' : ℕ → Type 0} {old new : List Lookup} {slot : Sl
 traced_at {h = h} table fd fds is has traced =
     let named = is_named (handles table) fd h fds (handle_at table fd is ∙ ap Some has) in
     traced_given _ (λ q same. subst (IsHandle (under (handles table) (fd ∷ fds))) (sym same) named) traced
+
+-- one that closes a number
+pub traced_closed : {slot : Slot} {old new : List Lookup} (table : List Slot) (i : ℕ) → slice_get table i ≡ Some slot
+    → new ≡ old
+    → Traced Nothing (IsHandle (handles table)) (IsHandle (handles (slice_set table i Closed))) old new
+traced_closed table i is same =
+    traced_none _ _ _ _ _ same (λ q some. let fewer = uses-closed table i q is in omega (arith, some, fewer))
+
+-- one that adds none
+pub traced_free : {Kept Kept' : ℕ → Type 0} {old new : List Lookup} (Given : ℕ → Type 0)
+    → Traced Nothing Kept Kept' old new → Traced Given Kept Kept' old new
+traced_free Given traced = traced_given Given (λ q none. absurd none) traced
 
 -- the look-ups of one call more, from the descriptors that it names
 pub traced_on : {Given Kept' : ℕ → Type 0} {a b c : List Lookup} (mid : List Slot) (fds : List ℕ)

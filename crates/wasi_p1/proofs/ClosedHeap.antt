@@ -7,7 +7,8 @@ use Rattle.std.specs.List.{AllByRecursion}
 use Rattle.std.proofs.HeapSift.{at_most}
 use Rattle.std.proofs.lemmas.Bool.Decides.{nat_tests}
 use Rattle.std.proofs.lemmas.List.Sorted.{length_permutation, sum_by-IsPermutation}
-use Rattle.std.proofs.lemmas.List.Sums.{sum_by-cons, sum_by-set, sum_by_push}
+use Rattle.std.proofs.lemmas.List.Sums.{sum_by-cons, sum_by-set, sum_by_push, count_by-le-length}
+use Rattle.std.proofs.lemmas.List.{length-set}
 use Rattle.wasi_p1.specs.Numbering.{passes_at, free_number, with_new}
 use Rattle.wasi_p1.specs.Descriptors.{HoldsClosed}
 use Rattle.wasi_p1.specs.Owners.{one_if}
@@ -128,6 +129,46 @@ module _ {heap : List ℕ} {table : List Slot} (holds : HoldsClosed heap table) 
             let same = ap one_if
             (passes_at-set_other is_closed_slot table top n slot (λ e. other_number top n is (sym e))) in
             omega (arith, popped n, holds.each n, none, same)
+
+  -- ---- a number that was in use becomes closed
+
+  module _ (i : ℕ) (within : i < length table) (was : closed_at i ≡ false) where
+    one_more_closed : count_by is_closed_slot (slice_set table i Closed) ≡ count_by is_closed_slot table + 1
+    one_more_closed =
+        let set = sum_by-set one_closed table i Closed Closed within in
+        let before = ap {B = ℕ} (λ b. cond b 1 0) (sym (passes_at-get_or is_closed_slot table i Closed within) ∙ was) in
+        omega (arith, set, before)
+
+    -- there is room for it
+    pub room_left : length heap < length table
+    room_left =
+        let most = count_by-le-length is_closed_slot (slice_set table i Closed) in
+        omega (arith, most, one_more_closed, holds.count, length-set table i Closed)
+
+    pub holds_closed : {now : List ℕ} → IsPermutation (i ∷ heap) now → IsHeap nat_cmp now
+        → HoldsClosed now (slice_set table i Closed)
+    holds_closed {now} moved order = record {
+      order = order;
+      each = λ n. by n (i == n) refl;
+      count = omega (arith, length_permutation (i ∷ heap) now moved, one_more_closed, holds.count);
+    }
+      where
+        pushed : (n : ℕ) → times n now ≡ one_if (i == n) + times n heap
+        pushed n = sum_by-IsPermutation (λ k. cond (k == n) 1 0) (i ∷ heap) now moved ∙ times-cons i n heap
+
+        by : (n : ℕ) (b : Bool) → (i == n) ≡ b → times n now ≡ one_if (closed_then Closed i n)
+        by n true is =
+            let same = same_number i n is in
+            let one = ap one_if is in
+            let none = ap one_if (ap closed_at (sym same) ∙ was) in
+            let set = ap one_if
+            (ap (closed_then Closed i) (sym same) ∙ passes_at-set_same is_closed_slot table i Closed within) in
+            omega (arith, pushed n, holds.each n, one, none, set)
+        by n false is =
+            let none = ap one_if is in
+            let same = ap one_if
+            (passes_at-set_other is_closed_slot table i n Closed (λ e. other_number i n is (sym e))) in
+            omega (arith, pushed n, holds.each n, none, same)
 
   -- ---- another descriptor under a number that is in use
 

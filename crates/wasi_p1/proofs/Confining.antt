@@ -1,5 +1,5 @@
 -- No turn comes to a node out of reach.
-use Rattle.std.proofs.Common.{ℕ, ◌<◌, ◌≤◌, ◌≡◌, ◌⊎◌, inl, inr, refl, sym, subst, arith, Result, Ok, Err}
+use Rattle.std.proofs.Common.{ℕ, ◌≤◌, ◌≡◌, inl, inr, refl, sym, subst, arith, Result, Ok, Err}
 use Rattle.std.specs.Prelude.{Contains}
 use Rattle.wasi_host.specs.Tree.{Tree, next_of}
 use Rattle.wasi_host.specs.Meaning.{World}
@@ -100,10 +100,11 @@ module _ {Seen : ℕ → Type 0} {s : State} (holds : Holds Seen s) where
 
 -- ---- what a run keeps
 
-starts_near : (g : Guest) (m : Row (Program (Value × Guest))) → IsNear g m → (n : ℕ) → Contains (starts m) n → Has g n
-starts_near g (Ok (done p)) near n has = absurd (omega (arith, has.1))
-starts_near g (Ok (asking r next)) near n has = near.starts n has
-starts_near g (Err e) near n has = absurd (omega (arith, has.1))
+starts_near : (g : Guest) (call : Call) (m : Row (Program (Value × Guest))) → IsNear g call m → (n : ℕ)
+    → Contains (starts m) n → Has g n
+starts_near g call (Ok (done p)) near n has = absurd (omega (arith, has.1))
+starts_near g call (Ok (asking r next)) near n has = near.starts n has
+starts_near g call (Err e) near n has = absurd (omega (arith, has.1))
 
 pub turn_confines : {rose : Type 0} {start : State} {w v : World} {g g' : Guest} {call : Call}
     {r : Result Value P1Error}
@@ -117,7 +118,7 @@ turn_confines {rose} {start} {w} {v} {g} {g'} {call} {r} takes is = record {
     | inl was ↦ inl (is.touched_in n was)
     | inr (inl near) ↦ inl
         (reach_closed holds.closed
-        (λ m from. holds.places m (starts_near g (row g call) (row_near g call) m from)) n near)
+        (λ m from. holds.places m (starts_near g call (row g call) (row_near g call) m from)) n near)
     | inr (inr made) ↦ inr made
   ]);
 }

@@ -1,15 +1,15 @@
 -- What a request leaves of any tree: which nodes the names hold after it.
-use Rattle.std.proofs.Common.{ℕ, zero, suc, ◌+◌, ◌≤◌, ◌≡◌, ◌⊎◌, inl, inr, true, false, cond, Bool, List, [], ◌∷◌, ◌++◌, length, refl, ap, sym, ◌∙◌, subst, arith, Option, Some, None, slice_set, slice_index_or, length-append}
+use Rattle.std.proofs.Common.{ℕ, zero, suc, ◌+◌, ◌≤◌, ◌≡◌, ◌⊎◌, inl, inr, true, false, cond, Bool, List, [], ◌∷◌, ◌++◌, refl, ap, sym, ◌∙◌, subst, arith, Option, Some, None, slice_set, slice_index_or, length-append}
 use Rattle.std.specs.Cmp.Lexicographic.{slice_cmp}
 use Rattle.std.specs.Ordering.{nat_cmp, eq_by_cmp}
 use Rattle.std.proofs.lemmas.Cmp.{nat_list_cmp_total}
 use Rattle.std.proofs.lemmas.List.{length-set}
 use Rattle.std.specs.FinMap as maps
 use Rattle.wasi_host.specs.Options.{Options}
-use Rattle.wasi_host.specs.Tree.{Tree, Node, Content, File, Directory, Link, node_at, next_of, names_of, child, stray}
+use Rattle.wasi_host.specs.Tree.{Tree, Node, Nodes, Content, File, Directory, Link, node_at, next_of, names_of, child, stray}
 use Rattle.wasi_host.specs.ValidTree.{Reached}
-use Rattle.wasi_host.specs.Step.{open_step, opened_step, file_made, file_cut, is_cut, with_name, new_file, no_bytes}
-use Rattle.wasi_p1.specs.Request.{Request, Open, Read, after, starts_at}
+use Rattle.wasi_host.specs.Step.{open_step, opened_step, file_made, file_cut, is_cut, with_name, with_nodes, new_file, no_bytes, piece_in, write_step}
+use Rattle.wasi_p1.specs.Request.{Request, Open, Read, Write, after, starts_at}
 use Rattle.wasi_p1.specs.Turn.{IsMade}
 
 -- the node that a name of a directory holds
@@ -110,17 +110,44 @@ uncut_names (File bytes links) = refl
 uncut_names (Directory names gone) = refl
 uncut_names (Link text links) = refl
 
-cut_leaves : (t : Tree) (n : ℕ) → Leaves t (file_cut t n)
+-- a node with a piece of bytes put into it, which has them too
+abbrev pub put_into : ℕ → List ℕ → Node → Node
+put_into offset piece node = record node { content = piece_in node.content offset piece }
+
+put_names : (offset : ℕ) (piece : List ℕ) (content : Content)
+    → names_of (piece_in content offset piece) ≡ names_of content
+put_names offset piece (File bytes links) = refl
+put_names offset piece (Directory names gone) = refl
+put_names offset piece (Link text links) = refl
+
+-- a node in the place of another
+abbrev pub node_put : Tree → ℕ → Node → Nodes → Tree
+node_put t n node worked = record t { nodes = slice_set t.nodes n node; worked = worked }
+
+-- which has the names that it had
+put_leaves : (t : Tree) (n : ℕ) (node : Node) (worked : Nodes) → names_of node.content ≡ names_of (node_at t n).content
+    → Leaves t (node_put t n node worked)
 unfolding node_at
-cut_leaves t n = record {
-  names = λ e m q has. inl (elim (set_cases t.nodes n e (emptied (node_at t n)) stray) [
-    | inl same ↦ ap (λ x. named_in x q) (sym same) ∙ has
+put_leaves t n node worked same = record {
+  names = λ e m q has. inl (elim (set_cases t.nodes n e node stray) [
+    | inl old ↦ ap (λ x. named_in x q) (sym old) ∙ has
     | inr (at, set) ↦
-        let uncut = ap (λ names. maps.get names q) (sym (uncut_names (node_at t n).content)) in
-        ap (λ k. named_in (node_at t k) q) at ∙ uncut ∙ ap (λ x. named_in x q) (sym set) ∙ has
+        let kept = ap (λ names. maps.get names q) (sym same) in
+        ap (λ k. named_in (node_at t k) q) at ∙ kept ∙ ap (λ x. named_in x q) (sym set) ∙ has
   ]);
-  grows = omega (arith, length-set t.nodes n (emptied (node_at t n)));
+  grows = omega (arith, length-set t.nodes n node);
 }
+
+cut_leaves : (t : Tree) (n : ℕ) → Leaves t (file_cut t n)
+cut_leaves t n =
+    put_leaves t n (emptied (node_at t n)) (with_nodes t.worked (n ∷ [])) (uncut_names (node_at t n).content)
+
+write_leaves : (t : Tree) (n offset : ℕ) (piece : List ℕ) → Leaves t (write_step t n offset piece)
+unfolding write_step
+write_leaves t n offset [] = same_leaves t
+write_leaves t n offset (byte ∷ bytes) =
+    put_leaves t n (put_into offset (byte ∷ bytes) (node_at t n)) (with_nodes t.worked (n ∷ []))
+    (put_names offset (byte ∷ bytes) (node_at t n).content)
 
 opened_leaves : (t : Tree) (d : ℕ) (name : List ℕ) (o : Options) (c : Option ℕ) → Leaves t (opened_step t d name o c)
 opened_leaves t d name o None = file_made_leaves t d name
@@ -147,3 +174,4 @@ pub request_leaves : (t : Tree) (r : Request) → LeavesNear t (starts_at r) (af
 unfolding open_step
 request_leaves t (Open d name o) = leaves_near _ (opened_leaves t d name o (child t d name))
 request_leaves t (Read f offset n) = leaves_near _ (same_leaves t)
+request_leaves t (Write f offset piece) = leaves_near _ (write_leaves t f.node offset piece)

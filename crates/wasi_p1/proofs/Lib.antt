@@ -3,8 +3,14 @@ mod Numbers
 mod ClosedHeap
 mod Leaving
 mod Agreeing
+mod Changing
+mod Wanting
+mod Bytes
+mod Keeping
 mod Nearness
 mod Alike
+mod Moving
+mod Permitting
 mod Touching
 mod Turns
 mod Taking
@@ -21,5 +27,8 @@ mod Utf8
 mod Runs
 mod Answering
 mod RunLaws
+mod Writing
+mod Stemming
+mod Validity
 mod RunsAlike
 mod Confining

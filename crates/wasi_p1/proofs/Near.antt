@@ -1,33 +1,82 @@
--- What holds of each row: its request starts at a descriptor, no node comes to a descriptor but from the reply, and it
--- isn't refused after a step, nor before it asks because memory was wanted.
-use Rattle.std.specs.Prelude.{ℕ, ◌≡◌, ◌⊎◌, List, [], ◌∷◌, Contains, Ok, Err, OnErr}
-use Rattle.wasi_p1.specs.Guest.{Guest, nodes_of}
+-- What holds of each row: its request starts at a descriptor, and may be asked of a host; no node comes to a descriptor
+-- but from the reply, and no permissions but from the descriptor that it stems from; it makes no step where a
+-- descriptor that its call names is under read-only permissions; it isn't refused after a step, nor before it asks
+-- because memory was wanted; and it leaves bytes in memory.
+use Rattle.std.specs.Prelude.{ℕ, ◌≡◌, ◌⊎◌, List, [], ◌∷◌, Contains, IsTrue, Option, Ok, Err, OnErr}
+use Rattle.wasi_fs.specs.declared.perms.FsPerms.{FsPerms}
+use Rattle.wasi_host.specs.HostCall.{HostCall, CanBeAsked, OpenAt, Pread, Pwrite}
 use Rattle.wasi_host.specs.Tree.{Tree}
-use Rattle.wasi_p1.specs.CallParts.{NotMemory}
-use Rattle.wasi_p1.specs.Request.{Request, Reply, Open, Read, reply_of, after, starts_at}
-use Rattle.wasi_p1.specs.Row.{Row, Program, done, asking}
+use Rattle.wasi_host.specs.ValidTree.{are_bytes}
+use Rattle.wasi_guest.specs.declared.answer.Answer.TheVariants as answers
 use Rattle.wasi_guest.specs.declared.answer.Value.{Value}
+use Rattle.wasi_guest.specs.declared.call.Call.{Call}
+use Rattle.wasi_p1.specs.CallParts.{NotMemory}
+use Rattle.wasi_p1.specs.CallTurn.{NamesReadOnly}
+use Rattle.wasi_p1.specs.Guest.{Guest, nodes_of}
+use Rattle.wasi_p1.specs.Request.{Request, Reply, Open, Read, Write, reply_of, after, starts_at}
+use Rattle.wasi_p1.specs.Row.{Row, Program, done, asking}
+use Rattle.wasi_p1.specs.Stems.{opened_through, stems_through, HasPerms}
 
--- a node is a descriptor's
-abbrev pub Has : Guest → ℕ → Type 0
-Has g n = Contains (nodes_of g.places) n
+-- ---- of each kind of request
+
+-- the host call that stands for it
+abbrev pub asked_as : Request → HostCall
+asked_as (Open d name o) = OpenAt d name o
+asked_as (Read f offset n) = Pread f offset n
+asked_as (Write f offset piece) = Pwrite f offset piece
 
 -- the nodes that an answer gives
 abbrev pub given_by : (r : Request) → Reply r → List ℕ
 given_by (Open d name o) found = found.held.node ∷ []
 given_by (Read f offset n) bytes = []
+given_by (Write f offset piece) count = []
 
--- each descriptor's node was one before, or is given
-abbrev pub KeepsNodes : Guest → List ℕ → Row (Value × Guest) → Type 0
-KeepsNodes g given (Ok p) = (n : ℕ) → Has p.1 n → Has g n ⊎ Contains given n
-KeepsNodes g given (Err e) = Unit {0}
+abbrev pub AreBytes : List ℕ → Type 0
+AreBytes bytes = IsTrue (are_bytes bytes)
 
-pub record AsksNear (g : Guest) (r : Request) (next : Reply r → Row (Value × Guest)) : Type 0 where
+-- what is read are bytes
+abbrev pub GivesBytes : (r : Request) → Reply r → Type 0
+GivesBytes (Open d name o) found = Unit {0}
+GivesBytes (Read f offset n) bytes = AreBytes bytes
+GivesBytes (Write f offset piece) count = Unit {0}
+
+-- ---- of an answer
+
+-- a node is a descriptor's
+abbrev pub Has : Guest → ℕ → Type 0
+Has g n = Contains (nodes_of g.places) n
+
+-- each descriptor's node was one before, or is given; and each has the permissions of the one from which it stems,
+-- where what was opened was opened through this one
+pub record StaysNear (g : Guest) (through : Option ℕ) (given : List ℕ) (p : Value × Guest) : Type 0 where
+  pub nodes : (n : ℕ) → Has p.1 n → Has g n ⊎ Contains given n
+  pub perms : (n : ℕ) (perms : FsPerms) → HasPerms p.1 n perms
+      → HasPerms g (stems_through through (answers.Ok p.0) n) perms
+
+abbrev pub KeepsPlaces : Guest → Option ℕ → List ℕ → Row (Value × Guest) → Type 0
+KeepsPlaces g through given (Ok p) = StaysNear g through given p
+KeepsPlaces g through given (Err e) = Unit {0}
+
+-- the memory after it are bytes
+abbrev pub KeepsBytes : Row (Value × Guest) → Type 0
+KeepsBytes (Ok p) = AreBytes p.1.memory
+KeepsBytes (Err e) = Unit {0}
+
+-- ---- of a row
+
+pub record AsksNear (g : Guest) (call : Call) (r : Request) (next : Reply r → Row (Value × Guest)) : Type 0 where
   pub starts : (n : ℕ) → Contains (starts_at r) n → Has g n
-  pub keeps : (reply : Reply r) → KeepsNodes g (given_by r reply) (next reply)
+  pub places : (reply : Reply r) → KeepsPlaces g (opened_through call) (given_by r reply) (next reply)
   pub ends : (t : Tree) (reply : Reply r) → reply_of t r ≡ Ok reply → OnErr (next reply) (after t r ≡ t)
+  pub permits : NamesReadOnly g call → (t : Tree) (reply : Reply r) → reply_of t r ≡ Ok reply → after t r ≡ t
+  pub asked : AreBytes g.memory → CanBeAsked (asked_as r)
+  pub bytes : AreBytes g.memory → (reply : Reply r) → GivesBytes r reply → KeepsBytes (next reply)
 
-abbrev pub IsNear : Guest → Row (Program (Value × Guest)) → Type 0
-IsNear g (Ok (done p)) = KeepsNodes g [] (Ok p)
-IsNear g (Ok (asking r next)) = AsksNear g r next
-IsNear g (Err e) = NotMemory e
+pub record AnswersNear (g : Guest) (call : Call) (p : Value × Guest) : Type 0 where
+  pub places : StaysNear g (opened_through call) [] p
+  pub bytes : AreBytes g.memory → AreBytes p.1.memory
+
+abbrev pub IsNear : Guest → Call → Row (Program (Value × Guest)) → Type 0
+IsNear g call (Ok (done p)) = AnswersNear g call p
+IsNear g call (Ok (asking r next)) = AsksNear g call r next
+IsNear g call (Err e) = NotMemory e

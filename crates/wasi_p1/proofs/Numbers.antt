@@ -1,6 +1,8 @@
 -- Which numbers of a table pass a test, as the table changes.
 use Rattle.std.proofs.Common.{ℕ, zero, suc, ◌<◌, ◌≤◌, ◌≡◌, ◌≢◌, Bool, true, false, List, [], ◌∷◌, ◌++◌, length, map, get_or, slice_set, Option, Some, None, refl, ap, ◌∙◌, subst, arith}
 use Rattle.std.proofs.lemmas.List.{map-append, map-set, length-map}
+use Rattle.wasi_p1.specs.Slots.{first_slots, given_slot, is_closed_slot}
+use Rattle.wasi_p1.specs.declared.context.P1Preopen.{P1Preopen}
 use Rattle.wasi_p1.specs.Numbering.{passes_at, later_or_here, last_where, put_at, free_number, with_new}
 
 pub not_true : (b : Bool) → (b ≡ true → ⊥) → b ≡ false
@@ -96,3 +98,17 @@ module _ {A B : Type 0} (f : A → B) (p : A → Bool) (q : B → Bool) (same : 
       by : (o : Option ℕ) → map f (put_at o y xs) ≡ put_at o (f y) (map f xs)
       by (Some n) = map-set f xs n y
       by None = map-append f xs (y ∷ [])
+
+-- ---- the first descriptors, of which none is closed
+
+none_given : (preopens : List P1Preopen) → last_where is_closed_slot (map given_slot preopens) ≡ None
+none_given [] = refl
+none_given (p ∷ ps) = ap (later_or_here false) (none_given ps)
+
+-- so that one more stands behind them
+pub given_more : (preopens : List P1Preopen) (p : P1Preopen)
+    → with_new is_closed_slot (first_slots preopens) (given_slot p) ≡ first_slots (preopens ++ p ∷ [])
+unfolding with_new
+given_more preopens p =
+    let none = ap (λ o. later_or_here false (later_or_here false (later_or_here false o))) (none_given preopens) in
+    rw (none, map-append given_slot preopens (p ∷ [])) refl

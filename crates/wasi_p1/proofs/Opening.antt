@@ -1,6 +1,9 @@
 -- Opening a name over a told host.
-use Rattle.std.proofs.Common.{◌≡◌, ◌⊎◌, inl, inr, ℕ, true, false, List, [], ◌∷◌, None, Result, Ok, Err, refl, sym, ap, subst, ◌∙◌, arith, ◌≤◌}
+use Rattle.std.proofs.Common.{◌≡◌, inl, inr, ℕ, Bool, true, false, List, [], ◌∷◌, None, Result, Ok, Err, refl, sym, ap, subst, ◌∙◌, arith, ◌≤◌}
 use Rattle.std.specs.Prelude.{Contains}
+use Rattle.std.specs.FinMap as map
+use Rattle.std.specs.Result.{result_map_both}
+use Rattle.wasi_fs.specs.declared.perms.FsPerms.{FsPerms}
 use Rattle.std.specs.FinSet.{contains, insert, members}
 use Rattle.std.proofs.lemmas.List.Elements.{All-contains, Contains-push}
 use Rattle.std.proofs.lemmas.Bool.Decides.{nat_tests}
@@ -8,8 +11,8 @@ use Rattle.wasi_host.specs.Tree.{Tree, node_at, is_directory, Content, File, Dir
 use Rattle.wasi_host.specs.HostCall.{OpenAt, Stat, Close}
 use Rattle.wasi_host.specs.Refusal.{refusal}
 use Rattle.wasi_host.specs.Step.{open_step, with_nodes}
-use Rattle.wasi_host.specs.Answer.{kind_of, reached, access_of, stat_answer, metadata_of, unless}
-use Rattle.wasi_host.specs.Meaning.{Rose, World, Handles, Told, Looked, Stayed, Stepped, AfterErr, hosted, answered}
+use Rattle.wasi_host.specs.Answer.{kind_of, reached, stat_answer, metadata_of, unless}
+use Rattle.wasi_host.specs.Meaning.{Rose, World, Handles, Told, AfterErr, hosted, answered}
 use Rattle.wasi_host.proofs.Chain.{free}
 use Rattle.wasi_host.specs.declared.errors.ErrorCode.{ErrorCode}
 use Rattle.wasi_host.specs.declared.errors.ErrorCode.TheVariants.{Io}
@@ -20,13 +23,18 @@ use Rattle.wasi_host.specs.declared.file_type.FileType.TheVariants as types
 use Rattle.wasi_host.specs.declared.metadata.Metadata.{Metadata}
 use Rattle.wasi_host.specs.declared.held.Held.{Held}
 use Rattle.wasi_p1.specs.Errnos.{errno_of, error_of}
-use Rattle.wasi_p1.specs.Request.{Open, Opened, opened_at}
-use Rattle.wasi_p1.specs.Rows.{reading, place_for}
-use Rattle.wasi_p1.specs.Guest.{directory, file, place_of}
-use Rattle.wasi_p1.specs.CallParts.{OpensSlot, Begins, slot_for}
+use Rattle.wasi_p1.specs.Request.{Request, Reply, Open, Opened, opened_at, starts_at, ends_at}
+use Rattle.wasi_p1.specs.Rows.{place_for}
+use Rattle.wasi_p1.specs.Row.{Row}
+use Rattle.wasi_p1.specs.OpenHow.{options_of}
+use Rattle.wasi_p1.specs.Guest.{Place, OpenDirectory, directory, file, place_of}
+use Rattle.wasi_p1.specs.CallParts.{OpensSlot, slot_for}
 use Rattle.wasi_p1.specs.Turn.{Touches}
 use Rattle.wasi_p1.specs.Asked.{Asked}
+use Rattle.wasi_p1.specs.declared.context.Slot.{Slot}
+use Rattle.wasi_p1.specs.declared.error.P1Error.{P1Error}
 use Rattle.wasi_p1.specs.declared.error.P1Error.TheVariants.{Errno}
+use Rattle.wasi_p1.specs.declared.open_how.OpenHow.{OpenHow}
 use Rattle.wasi_p1.proofs.Agreeing.{unless_value, one}
 use Rattle.wasi_p1.proofs.Touching.{NearOrMade, touches_then, no_ends}
 use Rattle.wasi_p1.proofs.Telling.{comes_to, open_stands, open_ends, asked_of_ok, asked_of_err, both_near}
@@ -37,23 +45,50 @@ rose_within a b c d first rose last = omega arith
 
 -- ---- the descriptor of a new handle
 
--- it is at its start
-pub begins_of : (held : ℕ → Held) (kind : FileType) (h : ℕ) → Begins held (slot_for kind h)
-begins_of held types.Directory h = (record { held = held h; is_dir = true }, refl)
-begins_of held kind h = (record { held = held h; is_dir = false }, refl)
+-- its place, or why it has none
+abbrev shown : (ℕ → Held) → Row Slot → Row Place
+shown held m = result_map_both (place_of held) (λ e. e) m
 
--- its place is that of what the handle stands for
-slot_content : (content : Content) (held : ℕ → Held) (h : ℕ)
-    → place_of held (slot_for (kind_of content) h) ≡ place_for (record { held = held h; is_dir = is_directory content })
-slot_content (File bytes links) held h = refl
-slot_content (Directory names gone) held h = refl
-slot_content (Link text links) held h = refl
+-- it is that of what the handle stands for
+slot_content : (perms : FsPerms) (required : Bool) (content : Content) (held : ℕ → Held) (h : ℕ)
+    → place_for perms required (record { held = held h; is_dir = is_directory content })
+    ≡ shown held (slot_for perms required (kind_of content) h)
+unfolding place_for
+slot_content perms true (File bytes links) held h = refl
+slot_content perms false (File bytes links) held h = refl
+slot_content perms true (Directory names gone) held h = refl
+slot_content perms false (Directory names gone) held h = refl
+slot_content perms true (Link text links) held h = refl
+slot_content perms false (Link text links) held h = refl
+
+-- over every host it is that of some reply
+some_found : (perms : FsPerms) (required : Bool) (kind : FileType) (held : ℕ → Held) (h : ℕ)
+    → (found : Opened) × (place_for perms required found ≡ shown held (slot_for perms required kind h))
+some_found perms required types.Directory held h =
+    (record { held = held h; is_dir = true }, slot_content perms required (Directory map.empty false) held h)
+some_found perms required kind held h =
+    (record { held = held h; is_dir = false }, slot_content perms required (File [] 0) held h)
+
+pub found_ok : {slot : Slot} (perms : FsPerms) (required : Bool) (kind : FileType) (held : ℕ → Held) (h : ℕ)
+    → slot_for perms required kind h ≡ Ok slot
+    → (found : Opened) × Unit {0} × (place_for perms required found ≡ Ok (place_of held slot))
+found_ok perms required kind held h is =
+    let found = some_found perms required kind held h in (found.0, tt, found.1 ∙ ap (shown held) is)
+
+pub found_err : {e : P1Error} (perms : FsPerms) (required : Bool) (kind : FileType) (held : ℕ → Held) (h : ℕ)
+    → slot_for perms required kind h ≡ Err e
+    → (found : Opened) × Unit {0} × (place_for perms required found ≡ Err e)
+found_err perms required kind held h is =
+    let found = some_found perms required kind held h in (found.0, tt, found.1 ∙ ap (shown held) is)
 
 -- and rests on that alone
-place_again : (kind : FileType) (a b : ℕ → Held) (h : ℕ) → a h ≡ b h
-    → place_of a (slot_for kind h) ≡ place_of b (slot_for kind h)
-place_again types.Directory a b h e = ap (λ x. directory (record { node = x.node })) e
-place_again kind a b h e = ap (λ x. file (record { node = x.node; mode = x.mode; position = 0 })) e
+place_again : (perms : FsPerms) (required : Bool) (kind : FileType) (a b : ℕ → Held) (h : ℕ) → a h ≡ b h
+    → shown a (slot_for perms required kind h) ≡ shown b (slot_for perms required kind h)
+place_again perms required types.Directory a b h e =
+    ap (λ x. Ok (directory (record { node = x.node; perms = perms }))) e
+place_again perms true kind a b h e = refl
+place_again perms false kind a b h e =
+    ap (λ x. Ok (file (record { node = x.node; mode = x.mode; perms = perms; position = 0 }))) e
 
 -- ---- the metadata of a node
 
@@ -69,27 +104,43 @@ stat_given t n refused = (cc)
 -- ---- the open
 
 -- it didn't answer
-pub opening_err : {rose : Type 0} {old new : Handles} {w v : World} {d : ℕ} {name : List ℕ} (e : HostError) → new ≡ old
+pub opening_err : {rose : Type 0} {old new : Handles} {w v : World} {name : List ℕ} (d : OpenDirectory) (how : OpenHow)
+    (e : HostError) → new ≡ old
     → ((let r : Result ℕ HostError = Err e in r) ≡ Err (Code Io) → rose)
-    → Told {A = ℕ} old new w v (OpenAt d name reading) v.held (Err e)
-    → OpensSlot rose old w v d name (Err (error_of e))
-opening_err {w = w} {d = d} {name = name} e same io told = record {
+    → Told {A = ℕ} old new w v (OpenAt d.node name (options_of how)) v.held (Err e)
+    → OpensSlot rose old w v d name how (Err (error_of e))
+opening_err {w = w} {name = name} d how e same io told = record {
   keeps = λ q is. told.keeps q is (subst (λ s. contains s q ≡ true) (sym same) is);
-  does = asked_of_err (open_stands w.tree d name reading) e (λ x. io (ap Err x)) told;
+  does = inl (asked_of_err (open_stands w.tree d.node name (options_of how)) e (λ x. io (ap Err x)) told);
 }
 
 -- it answered: h is the new handle, u the world after it
-pub record Opening (old mid : Handles) (w u : World) (d : ℕ) (name : List ℕ) (h : ℕ) : Type 0 where
+pub record Opening (old mid : Handles) (w u : World) (d : OpenDirectory) (name : List ℕ) (how : OpenHow)
+    (h : ℕ) : Type 0 where
   pub fresh : contains old h ≡ false
   pub live : mid ≡ insert old h
-  pub told : Told {A = ℕ} old mid w u (OpenAt d name reading) u.held (Ok h)
+  pub told : Told {A = ℕ} old mid w u (OpenAt d.node name (options_of how)) u.held (Ok h)
 
-module _ {old mid : Handles} {w u : World} {d : ℕ} {name : List ℕ} {h : ℕ} (is : Opening old mid w u d name h) where
+-- a request over a world in which nothing was done since
+asked_still : {rose : Type 0} {w u v : World} {r : Request} {reply : Reply r} → v.tree ≡ u.tree
+    → v.touched ≡ u.touched → Asked rose w u r (Ok reply) → Asked rose w v r (Ok reply)
+asked_still {w = w} {u = u} {v = v} {r = r} tree touched asked = record {
+  reply = asked.reply;
+  tree = tree ∙ asked.tree;
+  touched = subst (λ t. Touches w.tree t (starts_at r) (ends_at w.tree r) w.touched v.touched) (sym tree)
+      (subst (Touches w.tree u.tree (starts_at r) (ends_at w.tree r) w.touched) (sym touched) asked.touched);
+}
+
+module _ (d : OpenDirectory) (how : OpenHow) {old mid : Handles} {w u : World} {name : List ℕ} {h : ℕ}
+    (is : Opening old mid w u d name how h) where
   -- what was opened
   abbrev found : Opened
-  found = opened_at w.tree d name reading
+  found = opened_at w.tree d.node name (options_of how)
 
-  none : refusal w.tree (OpenAt d name reading) ≡ None
+  abbrev stepped : Tree
+  stepped = open_step w.tree d.node name (options_of how)
+
+  none : refusal w.tree (OpenAt d.node name (options_of how)) ≡ None
   none = free _ _ _ is.told.meaning
 
   mid_live : (q : ℕ) → contains old q ≡ true → contains mid q ≡ true
@@ -101,20 +152,20 @@ module _ {old mid : Handles} {w u : World} {d : ℕ} {name : List ℕ} {h : ℕ}
   held_is : found.held ≡ u.held h
   held_is = unless_value _ is.told.meaning
 
-  asked : (rose : Type 0) → Asked rose w u (Open d name reading) (Ok found)
+  asked : (rose : Type 0) → Asked rose w u (Open d.node name (options_of how)) (Ok found)
   asked rose =
-      asked_of_ok (open_stands w.tree d name reading) (ap (λ c. unless c found) none) is.told.after
-      (open_ends w.tree d name reading)
+      asked_of_ok (open_stands w.tree d.node name (options_of how)) (ap (λ c. unless c found) none) is.told.after
+      (open_ends w.tree d.node name (options_of how))
 
   -- the new handle's node is near, or was made
-  met : (n : ℕ) → Contains ((u.held h).node ∷ []) n → NearOrMade w.tree (open_step w.tree d name reading) (d ∷ []) n
+  met : (n : ℕ) → Contains ((u.held h).node ∷ []) n → NearOrMade w.tree stepped (d.node ∷ []) n
   met n has =
-      let same : reached w.tree d name ≡ n = ap (λ (x : Held). x.node) held_is ∙ one has in
-      let comes = All-contains (Contains (comes_to w.tree (OpenAt d name reading))) (reached w.tree d name ∷ [])
-      (reached w.tree d name)
-      (open_ends w.tree d name reading) (Contains-push [] (reached w.tree d name)) in
-      both_near (open_stands w.tree d name reading) n
-      (subst (Contains (comes_to w.tree (OpenAt d name reading))) same comes)
+      let same : reached w.tree d.node name ≡ n = ap (λ (x : Held). x.node) held_is ∙ one has in
+      let comes = All-contains (Contains (comes_to w.tree (OpenAt d.node name (options_of how))))
+      (reached w.tree d.node name ∷ []) (reached w.tree d.node name)
+      (open_ends w.tree d.node name (options_of how)) (Contains-push [] (reached w.tree d.node name)) in
+      both_near (open_stands w.tree d.node name (options_of how)) n
+      (subst (Contains (comes_to w.tree (OpenAt d.node name (options_of how)))) same comes)
 
   -- a call after it keeps what the handles before it stand for
   keeps_through : (new : Handles) (v : World) → new ≡ mid
@@ -124,54 +175,85 @@ module _ {old mid : Handles} {w u : World} {d : ℕ} {name : List ℕ} {h : ℕ}
       keeps q (mid_live q live) (subst (λ s. contains s q ≡ true) (sym same) (mid_live q live))
       ∙ is.told.keeps q live (mid_live q live)
 
+  -- and closing the new handle again does too
+  keeps_closed : {new last : Handles} (v z : World) → new ≡ mid → last ≡ old
+      → ((q : ℕ) → contains mid q ≡ true → contains new q ≡ true → v.held q ≡ u.held q)
+      → ((q : ℕ) → contains new q ≡ true → contains last q ≡ true → z.held q ≡ v.held q)
+      → (q : ℕ) → contains old q ≡ true → z.held q ≡ w.held q
+  keeps_closed {new} {last} v z same ended keeps closed q live =
+      closed q (subst (λ s. contains s q ≡ true) (sym same) (mid_live q live))
+      (subst (λ s. contains s q ≡ true) (sym ended) live)
+      ∙ keeps_through new v same keeps q live
+
   -- a look at the new handle's metadata comes to nothing more
   looked_too : (v : World) (ends : List ℕ) → v.tree ≡ u.tree → v.touched ≡ with_nodes u.touched ((u.held h).node ∷ [])
-      → Touches w.tree u.tree (d ∷ []) ends w.touched u.touched
-      → Touches w.tree v.tree (d ∷ []) ends w.touched v.touched
+      → Touches w.tree u.tree (d.node ∷ []) ends w.touched u.touched
+      → Touches w.tree v.tree (d.node ∷ []) ends w.touched v.touched
   looked_too v ends tree with first =
       touches_then ((u.held h).node ∷ [])
-      (subst (λ t. Touches w.tree t (d ∷ []) ends w.touched u.touched) (sym tree) first) with
-      (λ n has. subst (λ t. NearOrMade w.tree t (d ∷ []) n) (sym (tree ∙ is.told.after.tree)) (met n has))
+      (subst (λ t. Touches w.tree t (d.node ∷ []) ends w.touched u.touched) (sym tree) first) with
+      (λ n has. subst (λ t. NearOrMade w.tree t (d.node ∷ []) n) (sym (tree ∙ is.told.after.tree)) (met n has))
 
   -- the metadata of the new handle was given
-  pub opening_ok : {rose : Type 0} {new : Handles} {v : World} {metadata : Metadata} → new ≡ mid
-      → Told {A = Metadata} mid new u v (Stat (u.held h).node) (λ m. m) (Ok metadata)
-      → OpensSlot rose old w v d name (Ok (slot_for metadata.kind h))
-  opening_ok {rose} {new} {v} {metadata} same told = record {
-    keeps = keeps_through new v same told.keeps;
-    does = (
-      found,
-      record {
-        reply = (asked rose).reply;
-        tree = told.after.tree ∙ (asked rose).tree;
-        touched = looked_too v _ told.after.tree told.after.touched (asked rose).touched;
-      },
-      place,
-    );
-  }
-    where
-      content_is : is_directory (node_at u.tree (u.held h).node).content ≡ found.is_dir
-      content_is = ap (λ t. is_directory (node_at t (u.held h).node).content) is.told.after.tree
-          ∙ ap (λ (x : Held). is_directory (node_at (open_step w.tree d name reading) x.node).content) (sym held_is)
+  module _ {new : Handles} {v : World} {metadata : Metadata} (same : new ≡ mid)
+      (told : Told {A = Metadata} mid new u v (Stat (u.held h).node) (λ m. m) (Ok metadata)) where
+    asked_then : (rose : Type 0) → Asked rose w v (Open d.node name (options_of how)) (Ok found)
+    asked_then rose = record {
+      reply = (asked rose).reply;
+      tree = told.after.tree ∙ (asked rose).tree;
+      touched = looked_too v _ told.after.tree told.after.touched (asked rose).touched;
+    }
 
-      place : place_of v.held (slot_for metadata.kind h) ≡ place_for found
-      place =
-          place_again metadata.kind v.held u.held h (told.keeps h got (subst (λ s. contains s h ≡ true) (sym same) got))
-          ∙ ap (λ k. place_of u.held (slot_for k h)) (kind_known u.tree (u.held h).node told.meaning)
-          ∙ slot_content (node_at u.tree (u.held h).node).content u.held h
-          ∙ (λ i. place_for (let o : Opened = record { held = sym held_is i; is_dir = content_is i } in o))
+    content_is : is_directory (node_at u.tree (u.held h).node).content ≡ found.is_dir
+    content_is = ap (λ t. is_directory (node_at t (u.held h).node).content) is.told.after.tree
+        ∙ ap (λ (x : Held). is_directory (node_at stepped x.node).content) (sym held_is)
+
+    placed : place_for d.perms how.directory found ≡ shown u.held (slot_for d.perms how.directory metadata.kind h)
+    placed =
+        (λ i. place_for d.perms how.directory
+        (let o : Opened = record { held = held_is i; is_dir = sym content_is i } in o))
+        ∙ slot_content d.perms how.directory (node_at u.tree (u.held h).node).content u.held h
+        ∙ ap (λ k. shown u.held (slot_for d.perms how.directory k h))
+        (sym (kind_known u.tree (u.held h).node told.meaning))
+
+    pub opening_ok : {rose : Type 0} {slot : Slot} → slot_for d.perms how.directory metadata.kind h ≡ Ok slot
+        → OpensSlot rose old w v d name how (Ok slot)
+    opening_ok {rose} {slot} at = record {
+      keeps = keeps_through new v same told.keeps;
+      does = (
+        found,
+        asked_then rose,
+        placed
+            ∙ place_again d.perms how.directory metadata.kind u.held v.held h
+            (sym (told.keeps h got (subst (λ s. contains s h ≡ true) (sym same) got)))
+            ∙ ap (shown v.held) at,
+      );
+    }
+
+    -- a directory was required, and the new handle was closed again
+    pub opening_refused : {rose : Type 0} {last : Handles} {z : World} {e : P1Error} → last ≡ old
+        → slot_for d.perms how.directory metadata.kind h ≡ Err e
+        → Told {A = Unit {0}} new last v z Close (λ x. x) answered
+        → OpensSlot rose old w z d name how (Err e)
+    opening_refused {rose} {z = z} ended at closed = record {
+      keeps = keeps_closed v z same ended told.keeps closed.keeps;
+      does = inr (
+        found,
+        asked_still closed.after.tree closed.after.touched (asked_then rose),
+        placed ∙ ap (shown u.held) at,
+      );
+    }
 
   -- the host failed at the metadata, and the new handle was closed again
   pub opening_undone : {rose : Type 0} {new last : Handles} {v z : World} (code : ErrorCode) → new ≡ mid → last ≡ old
       → (hosted {A = Metadata} (Err code) ≡ Err (Code Io) → rose)
       → Told {A = Metadata} mid new u v (Stat (u.held h).node) (λ m. m) (hosted (Err code))
       → Told {A = Unit {0}} new last v z Close (λ x. x) answered
-      → OpensSlot rose old w z d name (Err (Errno (errno_of code)))
+      → OpensSlot rose old w z d name how (Err (Errno (errno_of code)))
   opening_undone {rose} {new} {last} {v} {z} Io same ended io told closed =
       let seen = looked told.after in record {
-        keeps = λ q live. closed.keeps q (subst (λ s. contains s q ≡ true) (sym same) (mid_live q live))
-            (subst (λ s. contains s q ≡ true) (sym ended) live) ∙ keeps_through new v same told.keeps q live;
-        does = record {
+        keeps = keeps_closed v z same ended told.keeps closed.keeps;
+        does = inl (record {
           reply = inr (inr (refl, io refl));
           tree = inr (
             refl,
@@ -181,20 +263,20 @@ module _ {old mid : Handles} {w u : World} {d : ℕ} {name : List ℕ} {h : ℕ}
               stepped = closed.after.tree ∙ seen.0 ∙ (asked rose).tree;
             },
           );
-          touched = subst (λ t. Touches w.tree t (d ∷ []) [] w.touched z.touched) (sym closed.after.tree)
-              (subst (Touches w.tree v.tree (d ∷ []) [] w.touched) (sym closed.after.touched) seen.1);
-        };
+          touched = subst (λ t. Touches w.tree t (d.node ∷ []) [] w.touched z.touched) (sym closed.after.tree)
+              (subst (Touches w.tree v.tree (d.node ∷ []) [] w.touched) (sym closed.after.touched) seen.1);
+        });
       }
     where
-      first : Touches w.tree u.tree (d ∷ []) [] w.touched u.touched
+      first : Touches w.tree u.tree (d.node ∷ []) [] w.touched u.touched
       first = no_ends (asked rose).touched
 
       looked : AfterErr u (Stat (u.held h).node) (Code Io) v
-          → (v.tree ≡ u.tree) × Touches w.tree v.tree (d ∷ []) [] w.touched v.touched
+          → (v.tree ≡ u.tree) × Touches w.tree v.tree (d.node ∷ []) [] w.touched v.touched
       looked (inl stayed) = (
         stayed.tree,
-        subst (λ t. Touches w.tree t (d ∷ []) [] w.touched v.touched) (sym stayed.tree)
-            (subst (Touches w.tree u.tree (d ∷ []) [] w.touched) (sym stayed.touched) first),
+        subst (λ t. Touches w.tree t (d.node ∷ []) [] w.touched v.touched) (sym stayed.tree)
+            (subst (Touches w.tree u.tree (d.node ∷ []) [] w.touched) (sym stayed.touched) first),
       )
       looked (inr (inl looks)) = (looks.tree, looked_too v [] looks.tree looks.touched first)
       looked (inr (inr stepped)) = (stepped.1.tree, looked_too v [] stepped.1.tree stepped.1.touched first)

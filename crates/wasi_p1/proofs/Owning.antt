@@ -1,21 +1,27 @@
 -- How live handles and descriptors go on together.
-use Rattle.std.proofs.Common.{ℕ, zero, suc, ◌+◌, ◌<◌, ◌≤◌, ◌==◌, Bool, true, false, ◌&&◌, ◌||◌, Option, Some, None, slice_get, slice_set, List, [], ◌∷◌, ◌++◌, ◌≡◌, ◌≢◌, ◌⊎◌, inl, inr, refl, ap, sym, ◌∙◌, subst, arith, Equal, length, get_or}
+use Rattle.std.specs.Prelude.{All, AllPairs}
+use Rattle.std.proofs.Common.{ℕ, suc, ◌+◌, ◌<◌, ◌≤◌, ◌==◌, Bool, true, false, not, map, ◌&&◌, ◌||◌, Option, Some, None, slice_get, slice_set, List, [], ◌∷◌, ◌≡◌, ◌≢◌, ◌⊎◌, inl, inr, refl, ap, sym, ◌∙◌, subst, arith, Equal, length}
 use Rattle.std.proofs.lemmas.Bool.Decides.{nat_tests}
 use Rattle.std.proofs.lemmas.List.{length-set, get_or-set_other}
 use Rattle.std.proofs.lemmas.Option.{get_or_from_slice_get, slice_get_within, slice_get-get_or}
 use Rattle.std.proofs.Math.Seq.{map-set_same}
 use Rattle.std.specs.Option.{option_map_or}
-use Rattle.std.specs.FinSet.{contains, insert, contains-retain, members, same_set, nat_cmp-IsAntisymmetric}
+use Rattle.std.proofs.lemmas.List.Elements.{All-head, All-tail, All-from_get_or}
+use Rattle.std.specs.FinSet.{contains, insert, remove, contains-retain, members, same_set, nat_cmp-IsAntisymmetric}
 use Rattle.std.specs.Cmp.{nat_cmp_total}
 use Rattle.std.specs.Ordering.{nat_cmp}
 use Rattle.wasi_host.specs.Meaning.{Handles}
 use Rattle.wasi_p1.specs.Numbering.{last_where, put_at, with_new}
-use Rattle.wasi_p1.specs.Slots.{first_slots, is_closed_slot}
-use Rattle.wasi_p1.specs.Owners.{handle_in, handles, one_if, uses_in, uses, Owned, Owns, unowned, Got, OwnedApart, LiveStays}
+use Rattle.wasi_p1.specs.Slots.{first_slots, given_slot, is_closed_slot}
+use Rattle.wasi_p1.specs.CallParts.{IsLive}
+use Rattle.wasi_p1.specs.declared.context.P1Preopen.{P1Preopen}
+use Rattle.wasi_p1.specs.declared.context.Stream.{Stream as StandardStream}
+use Rattle.wasi_p1.specs.declared.context.Stream.TheVariants.{Input, Output, Error}
+use Rattle.wasi_p1.specs.Owners.{handle_in, handles, one_if, uses_in, uses, Owned, Owns, unowned, Got, without, OwnedApart, LiveStays}
 use Rattle.wasi_p1.specs.declared.context.Slot.{Slot}
 use Rattle.wasi_p1.specs.declared.context.Slot.TheVariants as slots
 use Rattle.wasi_p1.proofs.Numbers.{last_passes}
-use Rattle.wasi_p1.proofs.Counting.{uses-cons, uses-push, uses-set, uses-at, uses_here, uses_itself, handle_at, handle_put, handle_pushed}
+use Rattle.wasi_p1.proofs.Counting.{uses-cons, uses-push, uses-set, uses_here, uses_itself, handle_at, handle_put, handle_pushed, handles-cons}
 
 -- ---- what is owned is live
 
@@ -97,8 +103,8 @@ owns_more {live} {live'} {os} {os'} (Some h) (fresh, got) count owned = record {
 closed_slot : (slot : Slot) → is_closed_slot slot ≡ true → slot ≡ slots.Closed
 closed_slot slots.Closed is = refl
 closed_slot (slots.Stream s) is = absurd (cc)
-closed_slot (slots.Directory h) is = absurd (cc)
-closed_slot (slots.File h position) is = absurd (cc)
+closed_slot (slots.Directory h perms) is = absurd (cc)
+closed_slot (slots.File h perms position) is = absurd (cc)
 
 pub closed_at : (table : List Slot) (i : ℕ) → last_where is_closed_slot table ≡ Some i
     → slice_get table i ≡ Some slots.Closed
@@ -132,21 +138,152 @@ owns_new table slot got owned = owns_more (handle_in slot) got (uses-new table s
 pub got_in_use : (old new : Handles) (slot : Slot) → Got old (handle_in slot) new → is_closed_slot slot ≡ false
 got_in_use old new slots.Closed got = absurd got
 got_in_use old new (slots.Stream s) got = absurd got
-got_in_use old new (slots.Directory h) got = refl
-got_in_use old new (slots.File h position) got = refl
+got_in_use old new (slots.Directory h perms) got = refl
+got_in_use old new (slots.File h perms position) got = refl
 
--- the first descriptors
-pub first_owned : {live : Handles} (h : ℕ) → contains live h ≡ true → Owned live (handles (first_slots h))
-unfolding handles uses
-first_owned {live} h is = record {
-  once = λ q.
-      by q (q == h) (contains live q) (λ same. let at : q ≡ h = grind (arith, nat_tests) in ap (contains live) at ∙ is);
+-- ---- one handle less
+
+-- which is closed
+less_once : {n n' : ℕ} (b c : Bool) → n ≤ one_if b → n' + one_if c ≡ n → n' ≤ one_if (not c && b)
+less_once true true once less = omega arith
+less_once false true once less = omega arith
+less_once true false once less = omega arith
+less_once false false once less = omega arith
+
+less_others : (n n' : ℕ) (b c : Bool) → n ≤ one_if b → n' + one_if c ≡ n
+    → ((not c && b) && (n' == 0)) ≡ (b && (n == 0))
+less_others n n' true true once less = grind (arith, nat_tests)
+less_others n n' false true once less = refl
+less_others n n' true false once less = let same : n' ≡ n = omega arith in ap (λ k. k == 0) same
+less_others n n' false false once less = refl
+
+owns_less : {live live' : Handles} {os os' : List (Option ℕ)} (o : Option ℕ) → live' ≡ without live o
+    → ((q : ℕ) → uses os' q + uses_in o q ≡ uses os q) → Owned live os → Owns live live' os os'
+owns_less {live} {live'} {os} {os'} None gone count owned = record {
+  owned = record {
+    once = λ q. subst (λ s. uses os' q ≤ one_if (contains s q)) (sym gone)
+        (omega (arith, owned.once q, count q));
+  };
+  others = others_same live live' os os' (λ q. ap (λ s. contains s q && (uses os' q == 0)) gone
+      ∙ ap (λ n. contains live q && (n == 0)) (let same : uses os' q ≡ uses os q = omega (arith, count q) in same));
+}
+owns_less {live} {live'} {os} {os'} (Some h) gone count owned = record {
+  owned = record {
+    once = λ q. subst (λ b. uses os' q ≤ one_if b) (sym (now q))
+        (less_once (contains live q) (q == h) (owned.once q) (count q));
+  };
+  others = others_same live live' os os' (λ q. ap (λ b. b && (uses os' q == 0)) (now q)
+      ∙ less_others (uses os q) (uses os' q) (contains live q) (q == h) (owned.once q) (count q));
 }
   where
-    by : (q : ℕ) (c b : Bool) → (c ≡ true → b ≡ true) → 0 + one_if c ≤ one_if b
-    by q true true has = omega arith
-    by q true false has = absurd (let wrong = has refl in cc)
-    by q false b has = omega arith
+    now : (q : ℕ) → contains live' q ≡ (not (q == h) && contains live q)
+    now q =
+        let is : contains (remove live h) q ≡ (not (q == h) && contains live q) = grind (arith, members, nat_tests) in
+        ap (λ s. contains s q) gone ∙ is
+
+-- what is still live was
+pub without_live : (live : Handles) (o : Option ℕ) (q : ℕ) → contains (without live o) q ≡ true
+    → contains live q ≡ true
+without_live live None q is = is
+without_live live (Some h) q is =
+    let now : contains (remove live h) q ≡ (not (q == h) && contains live q) = grind (arith, members, nat_tests) in
+    and_right (not (q == h)) (contains live q) (sym now ∙ is)
+  where
+    and_right : (a b : Bool) → (a && b) ≡ true → b ≡ true
+    and_right true b both = both
+    and_right false b both = absurd (cc)
+
+-- the handle of a number that becomes closed is used once less
+pub uses-closed : {slot : Slot} (table : List Slot) (i : ℕ) (q : ℕ) → slice_get table i ≡ Some slot
+    → uses (handles (slice_set table i slots.Closed)) q + uses_in (handle_in slot) q ≡ uses (handles table) q
+uses-closed {slot} table i q is =
+    let set = uses-set (handles table) i None (handle_in slot) q (handle_at table i is) in
+    let put = ap (λ os. uses os q) (handle_put table i slots.Closed) in
+    omega (arith, set, put)
+
+pub owns_closed : {live live' : Handles} {slot : Slot} (table : List Slot) (i : ℕ) → slice_get table i ≡ Some slot
+    → live' ≡ without live (handle_in slot) → Owned live (handles table)
+    → Owns live live' (handles table) (handles (slice_set table i slots.Closed))
+owns_closed {slot = slot} table i is gone owned =
+    owns_less (handle_in slot) gone (λ q. uses-closed table i q is) owned
+
+pub live_slot : {live : Handles} {slot : Slot} (table : List Slot) (i : ℕ) → Owned live (handles table)
+    → slice_get table i ≡ Some slot → IsLive live slot
+live_slot {slot = slots.Directory h perms} table i owned is = owned_live table i owned is refl
+live_slot {slot = slots.File h perms position} table i owned is = owned_live table i owned is refl
+live_slot {slot = slots.Stream s} table i owned is = tt
+live_slot {slot = slots.Closed} table i owned is = tt
+
+-- ---- the first descriptors
+
+abbrev IsLiveIn : Handles → P1Preopen → Type 0
+IsLiveIn live preopen = contains live preopen.handle ≡ true
+
+abbrev Apart : P1Preopen → P1Preopen → Type 0
+Apart one other = one.handle ≢ other.handle
+
+-- one more
+uses-given : (p : P1Preopen) (ps : List P1Preopen) (q : ℕ)
+    → uses (handles (map given_slot (p ∷ ps))) q ≡ one_if (q == p.handle) + uses (handles (map given_slot ps)) q
+uses-given p ps q =
+    ap (λ os. uses os q) (handles-cons (given_slot p) (map given_slot ps))
+    ∙ uses-cons (Some p.handle) (handles (map given_slot ps)) q
+
+no_given : (q : ℕ) → uses (handles (map given_slot [])) q ≡ 0
+unfolding handles uses
+no_given q = refl
+
+-- a handle that none of them has
+unused : (h : ℕ) (preopens : List P1Preopen) → All (λ other. h ≢ other.handle) preopens
+    → uses (handles (map given_slot preopens)) h ≡ 0
+unused h [] others = no_given h
+unused h (p ∷ ps) others =
+    let no : (h == p.handle) ≡ false = differ (All-head (λ other. h ≢ other.handle) p ps others) in
+    let rest = unused h ps (All-tail (λ other. h ≢ other.handle) p ps others) in
+    omega (arith, rest, ap one_if no, uses-given p ps h)
+  where
+    differ : {a b : ℕ} → a ≢ b → (a == b) ≡ false
+    differ other = grind (arith, nat_tests)
+
+given_once : (live : Handles) (preopens : List P1Preopen) (q : ℕ) → All (IsLiveIn live) preopens
+    → AllPairs Apart preopens → uses (handles (map given_slot preopens)) q ≤ one_if (contains live q)
+given_once live [] q lives apart = omega (arith, no_given q)
+given_once live (p ∷ ps) q lives apart =
+    let rest = by (q == p.handle) refl (given_once live ps q (All-tail (IsLiveIn live) p ps lives) later) in
+    omega (arith, rest, uses-given p ps q)
+  where
+    others : All (Apart p) ps
+    others = All-from_get_or (Apart p) ps p (λ i within. apart 0 (suc i) p (omega arith) (omega arith))
+
+    later : AllPairs Apart ps
+    later i j d less within = apart (suc i) (suc j) d (omega arith) (omega arith)
+
+    by : (b : Bool) → (q == p.handle) ≡ b → uses (handles (map given_slot ps)) q ≤ one_if (contains live q)
+        → one_if b + uses (handles (map given_slot ps)) q ≤ one_if (contains live q)
+    by true is once =
+        let same : q ≡ p.handle = grind (arith, nat_tests) in
+        let none = ap (uses (handles (map given_slot ps))) same ∙ unused p.handle ps others in
+        let one = ap one_if (ap (contains live) same ∙ All-head (IsLiveIn live) p ps lives) in
+        omega (arith, none, one)
+    by false is once = omega (arith, once)
+
+-- a stream has none
+uses-stream : (s : StandardStream) (table : List Slot) (q : ℕ)
+    → uses (handles (slots.Stream s ∷ table)) q ≡ uses (handles table) q
+uses-stream s table q =
+    let cons = ap (λ os. uses os q) (handles-cons (slots.Stream s) table) in
+    omega (arith, cons, uses-cons None (handles table) q)
+
+first_uses : (preopens : List P1Preopen) (q : ℕ)
+    → uses (handles (first_slots preopens)) q ≡ uses (handles (map given_slot preopens)) q
+first_uses preopens q = uses-stream Input _ q ∙ uses-stream Output _ q ∙ uses-stream Error _ q
+
+-- each has another live handle
+pub first_owned : {live : Handles} (preopens : List P1Preopen) → All (IsLiveIn live) preopens
+    → AllPairs Apart preopens → Owned live (handles (first_slots preopens))
+first_owned {live} preopens lives apart = record {
+  once = λ q. let given = given_once live preopens q lives apart in omega (arith, given, first_uses preopens q);
+}
 
 -- ---- what owning says
 

@@ -1,21 +1,22 @@
--- Reading into memory over a told host.
-use Rattle.std.proofs.Common.{sym, ◌∙◌, ap, subst, ℕ, List, ◌+◌, ◌≤◌, ◌≡◌, true, Result, Ok, Err, refl, arith, length, take, drop, slice_range}
+-- Reading into memory, and writing from it.
+use Rattle.std.proofs.Common.{inl, sym, ◌∙◌, ap, subst, ℕ, List, ◌+◌, ◌≤◌, ◌≡◌, true, Result, Ok, Err, refl, arith, length, take, drop, slice_range}
 use Rattle.std.proofs.lemmas.List.{length-take-le}
 use Rattle.std.proofs.lemmas.List.Elements.{All-nil}
 use Rattle.std.specs.FinSet.{contains}
-use Rattle.wasi_host.specs.HostCall.{Pread}
+use Rattle.wasi_host.specs.HostCall.{Pread, Pwrite}
 use Rattle.wasi_host.specs.Meaning.{World, Handles, Keeps, Told, hosted}
 use Rattle.wasi_host.specs.declared.errors.ErrorCode.{ErrorCode}
 use Rattle.wasi_host.specs.declared.errors.ErrorCode.TheVariants.{Io}
 use Rattle.wasi_host.specs.declared.errors.HostError.{HostError}
 use Rattle.wasi_host.specs.declared.errors.HostError.TheVariants.{Code}
 use Rattle.wasi_host.specs.declared.held.Held.{Held}
-use Rattle.wasi_p1.specs.Errnos.{errno_of}
+use Rattle.wasi_p1.specs.Errnos.{errno_of, error_of}
 use Rattle.wasi_guest.specs.Range.{with_bytes}
-use Rattle.wasi_p1.specs.CallParts.{ReadsInto, Puts}
+use Rattle.wasi_p1.specs.CallParts.{ReadsInto, WritesPiece, filled_at}
 use Rattle.wasi_p1.specs.declared.error.P1Error.TheVariants.{Errno}
 use Rattle.wasi_guest.proofs.Ranges.{with_filled}
-use Rattle.wasi_p1.proofs.Telling.{read_stands, asked_of_ok, asked_of_err}
+use Rattle.wasi_p1.proofs.Agreeing.{unless_value}
+use Rattle.wasi_p1.proofs.Telling.{read_stands, write_stands, asked_of_ok, asked_of_err}
 
 -- a read over a told host of so many bytes, into the front of a buffer
 abbrev pub ReadTold : Handles → Handles → World → World → Held → ℕ → List ℕ → Result ℕ ErrorCode → ℕ → Type 0
@@ -32,7 +33,7 @@ pub record Filled (memory : List ℕ) (at size : ℕ) (buf : List ℕ) (n len : 
 
 -- it has written its front
 filled_front : {memory buf : List ℕ} {at size n len : ℕ} → Filled memory at size buf n len
-    → ◌≡◌ {A = ℕ × List ℕ} (n, with_bytes memory at buf) (length (take n buf), with_bytes memory at (take n buf))
+    → filled_at memory at (take n buf) ≡ Ok (n, with_bytes memory at buf)
 filled_front {memory} {buf} {at} {size} {n} {len} filled =
     let fits = filled.fits in
     let sized = filled.sized in
@@ -48,9 +49,9 @@ filled_fits {buf = buf} {n = n} filled =
     omega arith
 
 -- bytes that were read stand in memory
-pub puts_read : {memory buf : List ℕ} {at size n len : ℕ} → Filled memory at size buf n len
-    → Puts memory at size (with_bytes memory at buf) n
-puts_read {buf = buf} {n = n} filled = (take n buf, filled_fits filled, filled_front filled)
+pub read_front : {memory buf : List ℕ} {at size n len : ℕ} → Filled memory at size buf n len
+    → (bytes : List ℕ) × (length bytes ≤ size) × (filled_at memory at bytes ≡ Ok (n, with_bytes memory at buf))
+read_front {buf = buf} {n = n} filled = (take n buf, filled_fits filled, filled_front filled)
 
 keeps_all : {old new : Handles} (w v : World) → new ≡ old → Keeps old new w v → (q : ℕ) → contains old q ≡ true
     → v.held q ≡ w.held q
@@ -82,5 +83,34 @@ read_err {old = old} {new = new} {w = w} {v = v} {f = f} {position = position} {
     {code = code} at before after same sized io told =
     let told' = subst (ReadTold old new w v f position buf (Err code)) sized told in record {
       keeps = keeps_all w v same told'.keeps;
-      does = asked_of_err (read_stands w.tree f position size) (Code code) (λ e. io (ap Err e)) told';
+      does = inl (asked_of_err (read_stands w.tree f position size) (Code code) (λ e. io (ap Err e)) told');
     }
+
+-- ---- a write
+
+-- of a told host, of so many bytes
+abbrev pub WriteTold : Handles → Handles → World → World → Held → ℕ → List ℕ → Result ℕ HostError → Type 0
+WriteTold old new w v f position piece result =
+    Told {A = ℕ} old new w v (Pwrite f position piece) (λ n. n) result
+
+pub write_ok : {rose : Type 0} {old new : Handles} {w v : World} {f : Held} {position : ℕ} {piece : List ℕ} {n : ℕ}
+    → new ≡ old → WriteTold old new w v f position piece (Ok n)
+    → WritesPiece rose old w v f position piece (Ok n)
+write_ok {w = w} {v = v} {f = f} {position = position} {piece = piece} {n = n} same told = record {
+  keeps = keeps_all w v same told.keeps;
+  does = (n, asked_of_ok (write_stands w.tree f position piece) told.meaning told.after (All-nil _), refl);
+}
+
+pub write_err : {rose : Type 0} {old new : Handles} {w v : World} {f : Held} {position : ℕ} {piece : List ℕ}
+    (e : HostError) → new ≡ old → ((let r : Result ℕ HostError = Err e in r) ≡ Err (Code Io) → rose)
+    → WriteTold old new w v f position piece (Err e)
+    → WritesPiece rose old w v f position piece (Err (error_of e))
+write_err {w = w} {v = v} {f = f} {position = position} {piece = piece} e same io told = record {
+  keeps = keeps_all w v same told.keeps;
+  does = inl (asked_of_err (write_stands w.tree f position piece) e (λ x. io (ap Err x)) told);
+}
+
+-- it takes the whole piece
+pub taken_whole : {old new : Handles} {w v : World} {f : Held} {position : ℕ} {piece : List ℕ} {n : ℕ}
+    → WriteTold old new w v f position piece (Ok n) → n ≡ length piece
+taken_whole told = sym (unless_value _ told.meaning)

@@ -1,5 +1,5 @@
 -- A run in which no turn is faulted is a function of its start and its calls.
-use Rattle.std.proofs.Common.{ℕ, ◌≡◌, inl, inr, true, false, Bool, List, [], ◌∷◌, refl, ap, sym, ◌∙◌, subst, arith, Option, Some, Ok, Err}
+use Rattle.std.proofs.Common.{◌≡◌, inl, inr, true, false, Bool, List, [], ◌∷◌, refl, sym, ◌∙◌, subst, arith, Option, Some, Ok, Err}
 use Rattle.std.specs.Prelude.{MatchBool}
 use Rattle.wasi_p1.specs.Guest.{State}
 use Rattle.wasi_p1.specs.Row.{Row}

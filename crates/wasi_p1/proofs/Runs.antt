@@ -1,5 +1,5 @@
 -- Runs, one turn after another.
-use Rattle.std.proofs.Common.{ℕ, suc, ◌+◌, ◌<◌, ◌≤◌, ◌≡◌, ◌⊎◌, inl, inr, Bool, true, false, List, [], ◌∷◌, ◌++◌, length, take, drop, refl, ap, sym, ◌∙◌, subst, arith, Some, None, Result, Ok, Err, append_assoc, append-nil, add_assoc, zero-add, add-zero, get_or}
+use Rattle.std.proofs.Common.{ℕ, ◌+◌, ◌<◌, ◌≤◌, ◌≡◌, ◌⊎◌, inl, inr, Bool, true, false, List, [], ◌∷◌, ◌++◌, length, take, drop, refl, ap, sym, ◌∙◌, subst, arith, Some, None, Result, Ok, Err, append_assoc, append-nil, add_assoc, zero-add, add-zero, get_or}
 use Rattle.std.specs.Prelude.{All, is_ok, if◌then◌else◌}
 use Rattle.std.specs.FinSet.{contains}
 use Rattle.std.proofs.lemmas.List.{map-append, take-append-drop, take_more}
@@ -7,7 +7,6 @@ use Rattle.std.proofs.lemmas.List.Elements.{All-nil, All-append, All-weaker}
 use Rattle.wasi_host.specs.Tree.{Nodes}
 use Rattle.wasi_host.specs.Meaning.{World, Rose}
 use Rattle.wasi_p1.specs.Guest.{State, Guest}
-use Rattle.wasi_p1.specs.Row.{Row}
 use Rattle.wasi_p1.specs.Rows.{turn}
 use Rattle.wasi_p1.specs.Turn.{IsTurn, ReachesHost, named_by}
 use Rattle.wasi_p1.specs.CallTurn.{Turns, Causes, in_world}
@@ -101,7 +100,8 @@ pub record Takes (before after faults : ℕ) (t : Turned) : Type 0 where
   pub allowed : Allows before after (faults + spent)
   pub spends : (j : ℕ) → Spends (spent + j) j t
 
-takes_of : {before now after faults : ℕ} {t : Turned} → now ≤ after → Allows before now faults → TurnOf (Rose now after) t
+takes_of : {before now after faults : ℕ} {t : Turned} → now ≤ after → Allows before now faults
+    → TurnOf (Rose now after) t
     → Takes before after faults t
 takes_of {before} {now} {after} {faults} le allowed (inl played) = record {
   spent = 0;

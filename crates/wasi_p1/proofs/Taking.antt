@@ -1,21 +1,31 @@
 -- From what the parts of a call give to what the call does.
-use Rattle.std.proofs.Common.{Result, ℕ, List, ◌≡◌, inl, inr, refl, ap, sym, ◌∙◌, subst, Bool, Ok, Err, length, map}
+use Rattle.std.proofs.Common.{Result, ℕ, true, ◌+◌, slice_set, List, ◌≡◌, inl, inr, refl, ap, sym, ◌∙◌, subst, Bool, Ok, Err, length}
 use Rattle.std.specs.Prelude.{IsTrue}
-use Rattle.wasi_host.specs.Meaning.{World, Rose}
+use Rattle.wasi_guest.specs.Steps.{◌>>=◌}
+use Rattle.std.specs.FinSet.{contains}
+use Rattle.wasi_host.specs.Meaning.{World, Handles, Rose}
+use Rattle.wasi_host.specs.declared.held.Held.{Held}
+use Rattle.wasi_host.specs.declared.lookup.Lookup.{Lookup}
 use Rattle.wasi_p1.specs.Slots.{View}
-use Rattle.wasi_p1.specs.Guest.{Guest, place_of, places_of, guest_of, guest_by}
-use Rattle.wasi_p1.specs.Request.{Request, Reply, MayReply}
+use Rattle.wasi_p1.specs.Guest.{Guest, places_of, guest_of, guest_by}
+use Rattle.wasi_p1.specs.Request.{Request, Reply}
 use Rattle.wasi_p1.specs.Row.{Row, Program, give, done, asking}
-use Rattle.wasi_p1.specs.Rows.{row}
-use Rattle.wasi_p1.specs.CallParts.{IsFromHost, NotMemory}
-use Rattle.wasi_p1.specs.Asked.{Asked, Does}
-use Rattle.wasi_p1.specs.CallTurn.{FollowsRow, Kept, Same, AtFront, may_want}
+use Rattle.wasi_p1.specs.Rows.{row, moved}
+use Rattle.wasi_p1.specs.Owners.{handles, Owned}
+use Rattle.wasi_p1.specs.CallParts.{Follows, IsReplied, Makes, NotMemory, Stays, open_file_of}
+use Rattle.wasi_p1.specs.Asked.{Does}
+use Rattle.wasi_p1.specs.CallTurn.{FollowsRow, Kept, Same, Quiet, AtFront, TakesTurn, may_want}
 use Rattle.wasi_guest.specs.declared.call.Call.{Call}
 use Rattle.wasi_p1.specs.declared.error.P1Error.{P1Error}
 use Rattle.wasi_guest.specs.declared.answer.Value.{Value}
+use Rattle.wasi_guest.specs.declared.answer.Value.TheVariants.{Number}
+use Rattle.wasi_p1.specs.declared.call_parts.FilePlace.{FilePlace}
+use Rattle.wasi_p1.specs.declared.context.Slot.TheVariants.{File}
 use Rattle.wasi_p1.specs.declared.error.P1Error.TheVariants.{Memory}
 use Rattle.wasi_p1.proofs.Near.{IsNear}
 use Rattle.wasi_p1.proofs.Nearness.{row_near}
+use Rattle.wasi_p1.proofs.Permitting.{turn_permits}
+use Rattle.wasi_p1.proofs.Placing.{places_stay, put_file_at}
 use Rattle.wasi_p1.proofs.Turns as turns
 
 -- why a call isn't answered Ok
@@ -26,20 +36,23 @@ never_ok : {x : Value} → (let r : Result Value P1Error = Ok x in r) ≡ Err Me
 never_ok is = absurd (cc)
 
 -- a refusal before the host
-pub refused : {H : Type 0} {told : Bool} {world : H → World} {faults : H → ℕ} {inside view : View H} {memory : List ℕ}
-    {call : Call} {e : P1Error}
+pub refused : {H : Type 0} {told : Bool} {world : H → World} {faults : H → ℕ} {lookups : H → List Lookup}
+    {inside view : View H} {memory : List ℕ} {call : Call} {e : P1Error}
     → inside ≡ view → Err e ≡ row (guest_of world inside memory) call
-    → FollowsRow told world faults view view memory memory call (Err e)
-refused {world = world} {view = view} {memory = memory} {call = call} {e = e} same at =
+    → FollowsRow told world faults lookups view view memory memory call (Err e)
+refused {world = world} {faults = faults} {lookups = lookups} {view = view} {memory = memory} {call = call} {e = e}
+    same at =
     let g = guest_of world view memory in
     let is : Err e ≡ row g call = subst (λ v. Err e ≡ row (guest_of world v memory) call) same at in
-    let never : NotMemory e = subst (IsNear g) (sym is) (row_near g call) in
+    let never : NotMemory e = subst (IsNear g call) (sym is) (row_near g call) in
     record {
       size = refl;
       kept = record { slots = refl; stdout = refl; stderr = refl; memory = refl };
       wants = λ want. absurd (never (reason want));
-      front = subst (AtFront (Same view view memory memory) g (Err e)) is (inl refl, (refl, refl));
+      front = subst (AtFront (Same view view memory memory) (Quiet faults lookups view view) g (Err e)) is
+          (inl refl, (refl, refl));
       turn = λ told. turns.refused is;
+      permits = λ told names. refl;
     }
 
 -- the places stay: for a host that is told, where the handles stand for the same afterwards
@@ -56,55 +69,147 @@ same_guest : {H : Type 0} {old new : View H} {before after : List ℕ} (world : 
     → guest_of world new after ≡ guest_of world old before
 same_guest world kept places = rw (places, kept.stdout, kept.stderr, kept.memory) refl
 
--- a request over the host of a context
-abbrev pub AskedHost : {H : Type 0} → (H → World) → (H → ℕ) → View H → View H → (r : Request) → Row (Reply r) → Type 0
-AskedHost world faults old new r result =
-    Asked (Rose (faults old.host) (faults new.host)) (world old.host) (world new.host) r result
+-- the row without the tree, and the turn over a host that tells
+abbrev Front : {H : Type 0} → (H → World) → (H → ℕ) → (H → List Lookup) → View H → View H → List ℕ → List ℕ
+    → Result Value P1Error → Row (Program (Value × Guest)) → Type 0
+Front world faults lookups old new before after result m =
+    AtFront (Same old new before after) (Quiet faults lookups old new) (guest_then world old new after) result m
 
-module _ {H : Type 0} {told : Bool} {world : H → World} {faults : H → ℕ} {old new : View H} {before after : List ℕ}
-    {call : Call}
-    {r : Request} {next : Reply r → Row (Value × Guest)}
-    (front : Ok (asking r next) ≡ row (guest_of world old before) call) where
-  -- the host refused, or failed, or wanted memory
-  pub asked_err : {e : P1Error} → IsFromHost e → (e ≡ Memory → IsTrue (may_want call)) → Kept old new before after
-      → PlacesStay told world old new → (IsTrue told → AskedHost world faults old new r (Err e))
-      → FollowsRow told world faults old new before after call (Err e)
-  asked_err {e} from wants kept places asked = record {
-    size = ap length kept.memory;
-    kept = kept;
-    wants = λ want. wants (reason want);
-    front = subst (AtFront (Same old new before after) (guest_then world old new after) (Err e)) front (inl from);
-    turn = λ is. turns.asked_err front (same_guest world kept (places is)) (asked is);
-  }
+abbrev Turn : {H : Type 0} → (H → World) → (H → ℕ) → View H → View H → List ℕ → List ℕ → Call → Result Value P1Error
+    → Type 0
+Turn world faults old new before after call result =
+    TakesTurn world (Rose (faults old.host) (faults new.host)) old new before after call result
 
-  -- an answer to a reply
-  pub asked_ok : {x : Value} → length after ≡ length before
-      → (reply : Reply r) × MayReply r reply × (next reply ≡ Ok (x, guest_then world old new after))
-      → (IsTrue told → (reply : Reply r) × AskedHost world faults old new r (Ok reply)
-      × (next reply ≡ Ok (x, guest_of world new after)))
-      → FollowsRow told world faults old new before after call (Ok x)
-  asked_ok {x} size replied asked = record {
+-- what came of a request
+abbrev Did : {H A : Type 0} → (H → World) → (H → ℕ) → View H → View H → (r : Request) → (Reply r → Row A) → Row A
+    → Type 0
+Did world faults old new r next result =
+    Does (Rose (faults old.host) (faults new.host)) (world old.host) (world new.host) r next result
+
+-- the same, of one that leaves what these handles stand for
+abbrev Made : {H A : Type 0} → (H → World) → (H → ℕ) → View H → View H → Handles → (r : Request) → (Reply r → Row A)
+    → Row A → Type 0
+Made world faults old new live r next result =
+    Makes (Rose (faults old.host) (faults new.host)) live (world old.host) (world new.host) r next result
+
+-- a file's descriptor is put back further on
+pub record Moved {H : Type 0} (old new : View H) (fd : ℕ) (file : FilePlace) (n : ℕ) : Type 0 where
+  pub slots : new.slots ≡ slice_set old.slots fd (File file.handle file.perms (file.position + n))
+  pub stdout : new.stdout ≡ old.stdout
+  pub stderr : new.stderr ≡ old.stderr
+
+abbrev guest_moved : {H : Type 0} → (ℕ → Held) → View H → ℕ → FilePlace → ℕ → List ℕ → Guest
+guest_moved held old fd file n after = record (guest_by held old after) {
+  places = slice_set (places_of held old.slots) fd (moved (open_file_of held file) n);
+}
+
+module _ {H : Type 0} {told : Bool} {world : H → World} {faults : H → ℕ} {lookups : H → List Lookup}
+    {old new : View H} {before after : List ℕ} {call : Call} where
+  answer_follows : {x : Value} → length after ≡ length before
+      → Front world faults lookups old new before after (Ok x) (row (guest_of world old before) call)
+      → (IsTrue told → Turn world faults old new before after call (Ok x))
+      → FollowsRow told world faults lookups old new before after call (Ok x)
+  answer_follows size front turn = record {
     size = size;
     kept = tt;
     wants = λ want. absurd (never_ok want);
-    front = subst (AtFront (Same old new before after) (guest_then world old new after) (Ok x)) front replied;
-    turn = λ is. let was = asked is in turns.asked_ok front was.1 was.2;
+    front = front;
+    turn = turn;
+    permits = λ is names. turn_permits (turn is) names;
   }
 
--- what came of a reply, in the row's answer
-pub does_ok : {H : Type 0} {told : Bool} {world : H → World} {faults : H → ℕ} {old new : View H}
-    {before after : List ℕ} {call : Call}
-    {r : Request} {A : Type 0} {next : Reply r → A} {y : Value} {x x' : A} (shown : Guest → A → Value × Guest)
-    → Ok (asking r (λ reply. give (shown (guest_of world old before) (next reply))))
-    ≡ row (guest_of world old before) call
-    → length after ≡ length before
-    → (reply : Reply r) × MayReply r reply × (x ≡ next reply)
-    → shown (guest_of world old before) x ≡ (y, guest_by (world old.host).held new after)
-    → (IsTrue told → Does (Rose (faults old.host) (faults new.host)) (world old.host) (world new.host) r next (Ok x')
-    × (shown (guest_of world old before) x' ≡ (y, guest_of world new after)))
-    → FollowsRow told world faults old new before after call (Ok y)
-does_ok {world = world} {old = old} {before = before} {r = r} {next = next} shown front size (reply, may, is) at does =
-    asked_ok front size
-    (reply, may, ap (λ p. give (shown (guest_of world old before) p)) (sym is) ∙ ap give at)
-    (λ told. let (did, shows) = does told in
-    (did.0, did.1, ap (λ p. give (shown (guest_of world old before) p)) (sym did.2) ∙ ap give shows))
+  -- an answer without a request
+  pub answered : {x : Value} → Ok (done (x, guest_then world old new after)) ≡ row (guest_of world old before) call
+      → length after ≡ length before
+      → Quiet faults lookups old new → (IsTrue told → Stays (world old.host) (world new.host) new.slots)
+      → FollowsRow told world faults lookups old new before after call (Ok x)
+  answered {x} is size quiet stays =
+      answer_follows size (subst (Front world faults lookups old new before after (Ok x)) is (refl, quiet)) (λ told.
+      let still = stays told in
+      let placed = ap (λ places. Ok (done (x, record (guest_of world new after) { places = places }))) still.places in
+      turns.answered (placed ∙ is) still.tree still.touched)
+
+  -- what follows of a request's reply, as a row's answer
+  module _ {r : Request} {A : Type 0} (next : Reply r → Row A) (shown : Guest → A → Value × Guest)
+      (front : Ok (asking r (λ reply. next reply >>= (λ x. give (shown (guest_of world old before) x))))
+      ≡ row (guest_of world old before) call) where
+    -- the host refused, or failed, or wanted memory; or the row refused the reply
+    pub does_err : {e : P1Error} → IsReplied r next (Err e) → (e ≡ Memory → IsTrue (may_want call))
+        → Kept old new before after → PlacesStay told world old new
+        → (IsTrue told → Did world faults old new r next (Err e))
+        → FollowsRow told world faults lookups old new before after call (Err e)
+    does_err {e} replied wants kept places does = record {
+      size = ap length kept.memory;
+      kept = kept;
+      wants = λ want. wants (reason want);
+      front = subst (Front world faults lookups old new before after (Err e)) front (elim replied [
+        | inl from ↦ inl from
+        | inr (reply, may, is) ↦ inr (reply, may, ap then is)
+      ]);
+      turn = turn;
+      permits = λ is names. turn_permits (turn is) names;
+    }
+      where
+        then : Row A → Row (Value × Guest)
+        then m = m >>= (λ x. give (shown (guest_of world old before) x))
+
+        turn : IsTrue told → Turn world faults old new before after call (Err e)
+        turn is = elim (does is) [
+          | inl asked ↦ turns.asked_err front (same_guest world kept (places is)) asked
+          | inr (reply, asked, refused) ↦
+              turns.asked_then_err front (same_guest world kept (places is)) asked (ap then refused)
+        ]
+
+    -- the row answered the reply
+    pub does_ok : {y : Value} {x x' : A} → length after ≡ length before → Follows r next (Ok x)
+        → shown (guest_of world old before) x ≡ (y, guest_then world old new after)
+        → (IsTrue told → Did world faults old new r next (Ok x')
+        × (shown (guest_of world old before) x' ≡ (y, guest_of world new after)))
+        → FollowsRow told world faults lookups old new before after call (Ok y)
+    does_ok {y} size (reply, may, is) at does =
+        answer_follows size
+        (subst (Front world faults lookups old new before after (Ok y)) front (reply, may, ap then is ∙ ap give at))
+        (λ told. let (did, shows) = does told in turns.asked_ok front did.1 (ap then did.2 ∙ ap give shows))
+      where
+        then : Row A → Row (Value × Guest)
+        then m = m >>= (λ x. give (shown (guest_of world old before) x))
+
+    -- ---- of a request that leaves what live handles stand for
+
+    module _ {live : Handles} (owned : Owned live (handles old.slots)) where
+      pub makes_err : {e : P1Error} → IsReplied r next (Err e) → (e ≡ Memory → IsTrue (may_want call))
+          → Kept old new before after → (IsTrue told → Made world faults old new live r next (Err e))
+          → FollowsRow told world faults lookups old new before after call (Err e)
+      makes_err replied wants kept makes = does_err replied wants kept
+          (λ told. ap (places_of (world new.host).held) kept.slots ∙ places_stay old.slots owned (makes told).keeps)
+          (λ told. (makes told).does)
+
+      -- a file's descriptor was put back further on
+      pub moved_ok : {fd n : ℕ} {file : FilePlace} {x : A} → length after ≡ length before → Follows r next (Ok x)
+          → shown (guest_of world old before) x ≡ (Number n, guest_moved (world old.host).held old fd file n after)
+          → Moved old new fd file n → contains live file.handle ≡ true
+          → (IsTrue told → Made world faults old new live r next (Ok x))
+          → FollowsRow told world faults lookups old new before after call (Ok (Number n))
+      moved_ok {fd} {n} {file} size follows shows moved held makes =
+          does_ok size follows (shows ∙ again (world old.host).held refl refl) (λ told.
+          let made = makes told in (
+            made.does,
+            shows ∙ again (world new.host).held (made.keeps file.handle held) (places_stay old.slots owned made.keeps),
+          ))
+        where
+          again : (stands : ℕ → Held) → stands file.handle ≡ (world old.host).held file.handle
+              → places_of stands old.slots ≡ places_of (world old.host).held old.slots
+              → ◌≡◌ {A = Value × Guest} (Number n, guest_moved (world old.host).held old fd file n after)
+              (Number n, guest_by stands new after)
+          again stands same kept =
+              let placed = put_file_at (world old.host).held stands old.slots new.slots fd file.handle file.perms _
+              moved.slots same kept in
+              λ i. (
+                Number n,
+                record {
+                  places = sym placed i;
+                  memory = after;
+                  stdout = sym moved.stdout i;
+                  stderr = sym moved.stderr i;
+                },
+              )

@@ -1,13 +1,12 @@
 -- What a told host's call does, as the request that it stands for.
-use Rattle.std.proofs.Common.{◌≡◌, ◌⊎◌, inl, inr, ℕ, Bool, true, false, cond, List, [], ◌∷◌, ◌++◌, Option, Some, None, Ok, Err, refl, sym, ap, subst, ◌∙◌, arith}
+use Rattle.std.proofs.Common.{◌≡◌, inl, inr, ℕ, Bool, true, false, cond, List, [], ◌∷◌, ◌++◌, Option, Some, None, Ok, Err, refl, sym, ap, subst, ◌∙◌, arith}
 use Rattle.std.specs.Prelude.{All, Contains, option_to_list, is_none}
-use Rattle.std.specs.FinMap as maps
 use Rattle.std.proofs.lemmas.List.Elements.{All-nil, All-cons, Contains-append_cases, Contains-append_right, Contains-push}
 use Rattle.wasi_paths.specs.Text.{is_dot_text}
-use Rattle.wasi_host.specs.Tree.{Tree, child, node_at, next_of, names_of}
+use Rattle.wasi_host.specs.Tree.{Tree, child, node_at, next_of}
 use Rattle.wasi_host.specs.ValidTree.{Reached, root, held}
 use Rattle.wasi_host.specs.Options.{Options}
-use Rattle.wasi_host.specs.HostCall.{HostCall, OpenAt, Stat, Pread, Dup, Close}
+use Rattle.wasi_host.specs.HostCall.{HostCall, OpenAt, Stat, Pread, Pwrite, Dup, Close}
 use Rattle.wasi_host.specs.Refusal.{refusal}
 use Rattle.wasi_host.specs.Step.{step, open_step, opened_step, found_by, made_by}
 use Rattle.wasi_host.specs.Answer.{HostAnswer, host_answer, reached, or_next, unless}
@@ -18,12 +17,13 @@ use Rattle.wasi_host.specs.declared.errors.HostError.{HostError}
 use Rattle.wasi_host.specs.declared.errors.HostError.TheVariants.{Code, Memory}
 use Rattle.wasi_host.specs.declared.held.Held.{Held}
 use Rattle.wasi_p1.specs.Errnos.{error_of}
-use Rattle.wasi_p1.specs.Request.{Request, Reply, Open, Read, reply_of, after, starts_at, ends_at}
+use Rattle.wasi_p1.specs.Request.{Request, Reply, Open, Read, Write, reply_of, after, starts_at, ends_at}
 use Rattle.wasi_p1.specs.Row.{from_host}
 use Rattle.wasi_p1.specs.Turn.{IsMade, Touches}
 use Rattle.wasi_p1.specs.Asked.{Asked, Hidden}
 use Rattle.wasi_p1.proofs.Leaving.{named_in, next_is_made}
 use Rattle.wasi_p1.proofs.Agreeing.{one}
+use Rattle.wasi_p1.proofs.Near.{asked_as}
 use Rattle.wasi_p1.proofs.Touching.{NearOrMade, touches_with, touches_same}
 
 -- ---- the host call that stands for a request
@@ -50,6 +50,7 @@ refusal_of : (t : Tree) (call : HostCall) {code : ErrorCode} → host_answer t c
 refusal_of t (OpenAt d name o) is = unless-err (refusal t (OpenAt d name o)) _ is
 refusal_of t (Stat n) is = unless-err (refusal t (Stat n)) _ is
 refusal_of t (Pread file offset n) is = unless-err (refusal t (Pread file offset n)) _ is
+refusal_of t (Pwrite file offset piece) is = unless-err (refusal t (Pwrite file offset piece)) _ is
 refusal_of t (Dup stands) is = absurd (cc)
 refusal_of t Close is = absurd (cc)
 
@@ -142,6 +143,16 @@ read_stands t f offset n = record {
   free = λ is. free_by _ is;
 }
 
+pub write_stands : (t : Tree) (f : Held) (offset : ℕ) (piece : List ℕ)
+    → Stands t (Write f offset piece) (Pwrite f offset piece)
+write_stands t f offset piece = record {
+  steps = refl;
+  near = λ m has. root m has;
+  made = λ m none. none_in none;
+  refused = λ code is. refused_by _ code is;
+  free = λ is. free_by _ is;
+}
+
 -- the node under a name is reached from its directory
 child_reached : (t : Tree) (d n : ℕ) (name : List ℕ) → child t d name ≡ Some n → Reached t (d ∷ []) n
 unfolding child
@@ -193,3 +204,18 @@ open_ends t d name o = by (child t d name)
         → All (Contains ((d ∷ option_to_list c) ++ cond (is_none c) (next_of t ∷ []) [])) (or_next c (next_of t) ∷ [])
     by None = here (next_of t)
     by (Some n) = here n
+
+-- any
+pub stands_for : (t : Tree) (r : Request) → Stands t r (asked_as r)
+stands_for t (Open d name o) = open_stands t d name o
+stands_for t (Read f offset n) = read_stands t f offset n
+stands_for t (Write f offset piece) = write_stands t f offset piece
+
+-- one that is answered isn't refused
+pub unrefused : {t : Tree} {r : Request} {call : HostCall} {reply : Reply r} → Stands t r call → reply_of t r ≡ Ok reply
+    → refusal t call ≡ None
+unrefused {t} {r} {call} stands is = by (refusal t call) refl
+  where
+    by : (o : Option ErrorCode) → refusal t call ≡ o → o ≡ None
+    by None at = refl
+    by (Some code) at = absurd (let wrong = stands.refused code at in cc)

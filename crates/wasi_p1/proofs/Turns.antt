@@ -39,6 +39,15 @@ pub refused : {rose : Type 0} {w : World} {g : Guest} {call : Call} {e : P1Error
     → Turns rose w w g g call (Err e)
 refused {e = e} is = turns (Err e) is (inl (record { stays = refl; row_is = refl }), touches_same refl)
 
+-- an answer without a request
+pub answered : {rose : Type 0} {w v : World} {g g' : Guest} {call : Call} {x : Value} → Ok (done (x, g')) ≡ row g call
+    → v.tree ≡ w.tree → v.touched ≡ w.touched
+    → Turns rose w v g g' call (Ok x)
+answered {g' = g'} {x = x} is tree touched = turns (Ok (done (x, g'))) is (
+  ap (λ t. Ok (x, let s : State = record { tree = t; guest = g' } in s)) (sym tree),
+  touches_same touched,
+)
+
 -- ---- a reply
 
 -- an answer that was given is the row's
@@ -47,11 +56,16 @@ given (inl is) = sym is
 given (inr (inl wrong)) = absurd (cc)
 given (inr (inr wrong)) = let io = wrong.0 in absurd (cc)
 
+host_answered : {A : Type 0} {x : A} (a : Result A ErrorCode) → from_host a ≡ Ok x → a ≡ Ok x
+host_answered (Ok y) is = cc
+host_answered (Err code) is = absurd (cc)
+
 same_state : {s s' : State} → s'.guest ≡ s.guest → s'.tree ≡ s.tree → s' ≡ s
 same_state guest tree = λ i. record { tree = tree i; guest = guest i }
 
 -- what came of a request that wasn't answered Ok, where the guest stays
-module _ (s s' : State) {r : Request} {next : Reply r → Row (Value × Guest)} (near : AsksNear s.guest r next)
+module _ (s s' : State) {call : Call} {r : Request} {next : Reply r → Row (Value × Guest)}
+    (near : AsksNear s.guest call r next)
     (same : s'.guest ≡ s.guest) where
   abbrev is_replied : Row (Value × State)
   is_replied = replied s.tree r next (reply_of s.tree r)
@@ -108,6 +122,21 @@ module _ {rose : Type 0} {w v : World} {g g' : Guest} {call : Call} {r : Request
   -- the host refused, or failed, or wanted memory
   pub asked_err : {e : P1Error} → g' ≡ g → Asked rose w v r (Err e) → Turns rose w v g g' call (Err e)
   asked_err {e} same asked =
-      let near = subst (IsNear g) (sym front) (row_near g call) in
+      let near = subst (IsNear g call) (sym front) (row_near g call) in
       turns (Ok (asking r next)) front
       (err_turns (in_world w g) (in_world v g') near same e asked.tree asked.reply, asked.touched)
+
+  -- the host answered, and the row refused the reply
+  pub asked_then_err : {reply : Reply r} {e : P1Error} → g' ≡ g → Asked rose w v r (Ok reply) → next reply ≡ Err e
+      → Turns rose w v g g' call (Err e)
+  asked_then_err {reply} {e} same asked is =
+      let near = subst (IsNear g call) (sym front) (row_near g call) in
+      let answered = given asked.reply in
+      let kept = near.ends w.tree reply (host_answered (reply_of w.tree r) answered) in
+      turns (Ok (asking r next)) front (
+        inl (record {
+          stays = same_state same (asked.tree ∙ subst (λ m. OnErr m (after w.tree r ≡ w.tree)) is kept);
+          row_is = ap (λ m. over (after w.tree r) (m >>= next)) answered ∙ ap (over (after w.tree r)) is;
+        }),
+        no_ends asked.touched,
+      )

@@ -28,7 +28,11 @@ pub record Asked (rose : Type 0) (w v : World) (r : Request) (result : Row (Repl
   pub tree : TreeAfter w.tree v.tree r result
   pub touched : Touches w.tree v.tree (starts_at r) (if is_ok result then ends_at w.tree r else []) w.touched v.touched
 
--- a request was made, and this came of its reply
-abbrev pub Does : {A : Type 0} → Type 0 → World → World → (r : Request) → (Reply r → A) → Row A → Type 0
-Does rose w v r next (Ok x) = (reply : Reply r) × Asked rose w v r (Ok reply) × (x ≡ next reply)
-Does rose w v r next (Err e) = Asked rose w v r (Err e)
+-- a request was answered, and this came of its reply
+abbrev pub Answered : {A : Type 0} → Type 0 → World → World → (r : Request) → (Reply r → Row A) → Row A → Type 0
+Answered rose w v r next result = (reply : Reply r) × Asked rose w v r (Ok reply) × (next reply ≡ result)
+
+-- a request was made, and this came of it
+abbrev pub Does : {A : Type 0} → Type 0 → World → World → (r : Request) → (Reply r → Row A) → Row A → Type 0
+Does rose w v r next (Ok x) = Answered rose w v r next (Ok x)
+Does rose w v r next (Err e) = Asked rose w v r (Err e) ⊎ Answered rose w v r next (Err e)

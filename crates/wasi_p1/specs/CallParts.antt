@@ -1,35 +1,47 @@
 -- What the parts of a call give, in the words of its row.
-use Rattle.std.specs.Prelude.{◌≡◌, ℕ, ◌≤◌, true, List, length, Result, Ok, Err}
+use Rattle.std.specs.Prelude.{◌≡◌, ◌⊎◌, ℕ, Bool, true, false, if◌then◌else◌, List, length, Result, Ok, Err}
 use Rattle.std.specs.Result.{result_map_both}
 use Rattle.std.specs.FinSet.{contains}
-use Rattle.wasi_host.specs.Meaning.{World, Handles}
+use Rattle.wasi_fs.specs.declared.perms.FsPerms.{FsPerms}
+use Rattle.wasi_host.specs.Meaning.{World, Handles, Keeps}
 use Rattle.wasi_host.specs.declared.errors.HostError.{HostError}
 use Rattle.wasi_host.specs.declared.file_type.FileType.{FileType}
 use Rattle.wasi_host.specs.declared.file_type.FileType.TheVariants as types
 use Rattle.wasi_host.specs.declared.held.Held.{Held}
 use Rattle.wasi_p1.specs.Asked.{Does}
 use Rattle.wasi_p1.specs.Errnos.{error_of}
-use Rattle.wasi_p1.specs.Request.{Request, Reply, Open, Read, Opened}
+use Rattle.wasi_p1.specs.OpenHow.{options_of}
+use Rattle.wasi_p1.specs.Request.{Request, Reply, MayReply, Open, Read, Write}
 use Rattle.wasi_p1.specs.Owners.{handle_in, Got}
-use Rattle.wasi_p1.specs.Row.{Row}
-use Rattle.wasi_p1.specs.Rows.{reading, place_for}
+use Rattle.wasi_p1.specs.Row.{Row, give}
+use Rattle.wasi_p1.specs.Rows.{place_for, opened_among}
 use Rattle.wasi_guest.specs.Range.{with_bytes}
-use Rattle.wasi_p1.specs.Guest.{OpenFile, Place, place_of, new_number, with_place}
+use Rattle.wasi_guest.specs.declared.errno.Errno.TheVariants as errnos
+use Rattle.wasi_p1.specs.Guest.{OpenDirectory, OpenFile, Place, place_of, places_of}
 use Rattle.wasi_p1.specs.declared.error.P1Error.{P1Error}
-use Rattle.wasi_p1.specs.declared.error.P1Error.TheVariants.{Memory}
+use Rattle.wasi_p1.specs.declared.error.P1Error.TheVariants.{Errno, Memory}
 use Rattle.wasi_p1.specs.declared.context.Slot.{Slot}
 use Rattle.wasi_p1.specs.declared.context.Slot.TheVariants as slots
+use Rattle.wasi_p1.specs.declared.open_how.OpenHow.{OpenHow}
 use Rattle.wasi_p1.specs.declared.call_parts.FilePlace.{FilePlace}
+use Rattle.wasi_p1.specs.declared.call_parts.DirectoryPlace.{DirectoryPlace}
 
--- a file's descriptor, with what its handle stands for in place of the handle
+-- a directory's, or a file's descriptor, with what its handle stands for in place of the handle
+abbrev pub open_directory_of : (ℕ → Held) → DirectoryPlace → OpenDirectory
+open_directory_of held dir = record { node = (held dir.handle).node; perms = dir.perms }
+
 abbrev pub open_file_of : (ℕ → Held) → FilePlace → OpenFile
-open_file_of held file =
-    record { node = (held file.handle).node; mode = (held file.handle).mode; position = file.position }
+open_file_of held file = record {
+  node = (held file.handle).node;
+  mode = (held file.handle).mode;
+  perms = file.perms;
+  position = file.position;
+}
 
--- the descriptor of a node of this kind, at its start
-abbrev pub slot_for : FileType → ℕ → Slot
-slot_for types.Directory h = slots.Directory h
-slot_for kind h = slots.File h 0
+-- the descriptor of a node of this kind, at its start, where a directory may be required
+abbrev pub slot_for : FsPerms → Bool → FileType → ℕ → Row Slot
+slot_for perms required types.Directory h = Ok (slots.Directory h perms)
+slot_for perms required kind h = if required then Err (Errno errnos.Notdir) else Ok (slots.File h perms 0)
 
 -- a new descriptor has a new handle; a refusal leaves what is live
 abbrev pub SlotGot : Handles → Result Slot P1Error → Handles → Type 0
@@ -37,7 +49,7 @@ SlotGot old (Ok slot) new = Got old (handle_in slot) new
 SlotGot old (Err e) new = new ≡ old
 
 -- a request made by a call that leaves what the live handles stand for
-pub record Makes {A : Type 0} (rose : Type 0) (old : Handles) (w v : World) (r : Request) (next : Reply r → A)
+pub record Makes {A : Type 0} (rose : Type 0) (old : Handles) (w v : World) (r : Request) (next : Reply r → Row A)
     (result : Row A) : Type 0 where
   pub keeps : (h : ℕ) → contains old h ≡ true → v.held h ≡ w.held h
   pub does : Does rose w v r next result
@@ -47,42 +59,70 @@ abbrev pub with_after : {A B : Type 0} → Row A → B → Row (A × B)
 with_after (Ok x) after = Ok (x, after)
 with_after (Err e) after = Err e
 
--- an open for reading into a descriptor
-abbrev pub OpensSlot : Type 0 → Handles → World → World → ℕ → List ℕ → Result Slot P1Error → Type 0
-OpensSlot rose old w v d name result =
-    Makes rose old w v (Open d name reading) place_for (result_map_both (place_of v.held) (λ e. e) result)
+-- an open into a descriptor
+abbrev pub OpensSlot : Type 0 → Handles → World → World → OpenDirectory → List ℕ → OpenHow → Result Slot P1Error
+    → Type 0
+OpensSlot rose old w v d name how result =
+    Makes rose old w v (Open d.node name (options_of how)) (place_for d.perms how.directory)
+    (result_map_both (place_of v.held) (λ e. e) result)
+
+-- an open into the descriptors
+abbrev pub OpensInto : Type 0 → World → World → OpenDirectory → List ℕ → OpenHow → List Place → List Place → Row ℕ
+    → Type 0
+OpensInto rose w v d name how before after result =
+    Does rose w v (Open d.node name (options_of how)) (opened_among before d.perms how.directory)
+    (with_after result after)
+
+-- a number beside the memory after it: bytes were read into a buffer
+abbrev pub filled_at : List ℕ → ℕ → List ℕ → Row (ℕ × List ℕ)
+filled_at memory buf bytes = give (length bytes, with_bytes memory buf bytes)
 
 -- a read into memory
 abbrev pub ReadsInto : Type 0 → Handles → World → World → Held → ℕ → ℕ → ℕ → List ℕ → List ℕ → Row ℕ → Type 0
 ReadsInto rose old w v f position buf size before after result =
-    Makes rose old w v (Read f position size) (λ bytes. (length bytes, with_bytes before buf bytes))
-    (with_after result after)
+    Makes rose old w v (Read f position size) (filled_at before buf) (with_after result after)
 
--- an open for reading into the descriptors
-abbrev pub OpensInto : Type 0 → World → World → ℕ → List ℕ → List Place → List Place → Row ℕ → Type 0
-OpensInto rose w v d name before after result =
-    Does rose w v (Open d name reading) (λ found. (new_number before, with_place before (place_for found)))
-    (with_after result after)
+-- a write of a piece
+abbrev pub WritesPiece : Type 0 → Handles → World → World → Held → ℕ → List ℕ → Row ℕ → Type 0
+WritesPiece rose old w v f position piece result = Makes rose old w v (Write f position piece) give result
 
--- a new descriptor, at its start
-abbrev pub Begins : (ℕ → Held) → Slot → Type 0
-Begins held slot = (found : Opened) × (place_of held slot ≡ place_for found)
+-- some reply of a request leads to this, whatever the tree
+abbrev pub Follows : {A : Type 0} → (r : Request) → (Reply r → Row A) → Row A → Type 0
+Follows r next result = (reply : Reply r) × MayReply r reply × (next reply ≡ result)
 
--- a new descriptor under its number
-abbrev pub Opens : List Place → List Place → ℕ → Type 0
-Opens before after n =
-    (found : Opened) × ◌≡◌ {A = ℕ × List Place} (n, after) (new_number before, with_place before (place_for found))
+-- a host's refusal, or want of memory
+abbrev pub IsFromHost : P1Error → Type 0
+IsFromHost e = (error : HostError) × (e ≡ error_of error)
 
--- bytes that were read, so many at most, stand in memory
-abbrev pub Puts : List ℕ → ℕ → ℕ → List ℕ → ℕ → Type 0
-Puts before buf size after n =
-    (bytes : List ℕ) × (length bytes ≤ size)
-    × ◌≡◌ {A = ℕ × List ℕ} (n, after) (length bytes, with_bytes before buf bytes)
+-- what comes of a request over every host: what some reply leads to, or a host's refusal
+abbrev pub IsReplied : {A : Type 0} → (r : Request) → (Reply r → Row A) → Row A → Type 0
+IsReplied r next (Ok x) = Follows r next (Ok x)
+IsReplied r next (Err e) = IsFromHost e ⊎ Follows r next (Err e)
 
 -- another refusal than want of memory
 abbrev pub NotMemory : P1Error → Type 0
 NotMemory e = e ≡ Memory → ⊥
 
--- a host's refusal, or want of memory
-abbrev pub IsFromHost : P1Error → Type 0
-IsFromHost e = (error : HostError) × (e ≡ error_of error)
+-- whether a refusal is the failure of a host
+abbrev pub is_failure : P1Error → Bool
+is_failure (Errno errnos.Io) = true
+is_failure e = false
+
+-- the handle of a descriptor, if it has one, is live
+abbrev pub IsLive : Handles → Slot → Type 0
+IsLive live (slots.Directory h perms) = contains live h ≡ true
+IsLive live (slots.File h perms position) = contains live h ≡ true
+IsLive live (slots.Stream s) = Unit {0}
+IsLive live slots.Closed = Unit {0}
+
+-- no node was come to, and what is live stands for the same
+pub record Rests (live live' : Handles) (w v : World) : Type 0 where
+  pub tree : v.tree ≡ w.tree
+  pub touched : v.touched ≡ w.touched
+  pub keeps : Keeps live live' w v
+
+-- no node was come to, and the descriptors stand for the same
+pub record Stays (w v : World) (table : List Slot) : Type 0 where
+  pub tree : v.tree ≡ w.tree
+  pub touched : v.touched ≡ w.touched
+  pub places : places_of v.held table ≡ places_of w.held table

@@ -1,17 +1,17 @@
 -- What a call of the context does.
-use Rattle.std.specs.Prelude.{ℕ, ◌≡◌, ◌≤◌, ◌⊎◌, Bool, true, false, IsTrue, List, [], length, Result, Ok, Err, OnErr, is_ok, if◌then◌else◌}
+use Rattle.std.specs.Prelude.{ℕ, ◌≡◌, ◌≤◌, ◌⊎◌, Bool, true, false, IsTrue, List, [], length, slice_get, Contains, Some, Result, Ok, Err, OnErr, is_ok, if◌then◌else◌}
+use Rattle.wasi_fs.specs.declared.perms.FsPerms.TheVariants.{ReadOnly}
 use Rattle.wasi_host.specs.Meaning.{World, Handles, Rose}
 use Rattle.wasi_host.specs.declared.lookup.Lookup.{Lookup}
 use Rattle.wasi_p1.specs.Slots.{View}
-use Rattle.wasi_p1.specs.Owners.{handles, unowned, CallTraced}
-use Rattle.wasi_p1.specs.CallParts.{IsFromHost}
-use Rattle.wasi_p1.specs.Guest.{Guest, State, guest_of, guest_by}
-use Rattle.wasi_p1.specs.Request.{Request, Reply, MayReply}
+use Rattle.wasi_p1.specs.Owners.{handles, unowned, descriptors_named, CallTraced}
+use Rattle.wasi_p1.specs.CallParts.{IsReplied, with_after}
+use Rattle.wasi_p1.specs.Guest.{Guest, State, perms_in, guest_of, guest_by}
 use Rattle.wasi_p1.specs.Row.{Row, Program, done, asking}
 use Rattle.wasi_p1.specs.Rows.{row, turn}
 use Rattle.wasi_p1.specs.Turn.{IsTurn, Touches, ReachesHost, named_by, roots_of}
 use Rattle.wasi_guest.specs.declared.call.Call.{Call}
-use Rattle.wasi_guest.specs.declared.call.Call.TheVariants.{PathOpen, FdRead}
+use Rattle.wasi_guest.specs.declared.call.Call.TheVariants.{PathOpen, FdRead, FdWrite, FdClose}
 use Rattle.wasi_guest.specs.declared.errno.Errno.TheVariants.{Io}
 use Rattle.wasi_p1.specs.declared.error.P1Error.{P1Error}
 use Rattle.wasi_p1.specs.declared.error.P1Error.TheVariants.{Errno, Memory}
@@ -60,35 +60,47 @@ pub record Kept {H : Type 0} (old new : View H) (before after : List ℕ) : Type
   pub stderr : new.stderr ≡ old.stderr
   pub memory : after ≡ before
 
--- a row that needs no tree: its answer and its guest, or want of memory
-abbrev pub IsDone : Type 0 → Guest → Result Value P1Error → Value × Guest → Type 0
-IsDone same g' (Ok x) p = p ≡ (x, g')
-IsDone same g' (Err e) p = (e ≡ Memory) × same
+-- the host was asked nothing that it could fail at, and no look-up was made
+pub record Quiet {H : Type 0} (faults : H → ℕ) (lookups : H → List Lookup) (old new : View H) : Type 0 where
+  pub failed : faults new.host ≡ faults old.host
+  pub looked : lookups new.host ≡ lookups old.host
 
--- a row that asks: an answer and a guest, or a refusal, that some reply leads to; or a host's refusal
-abbrev pub IsReplied : (r : Request) → (Reply r → Row (Value × Guest)) → Guest → Result Value P1Error → Type 0
-IsReplied r next g' (Ok x) = (reply : Reply r) × MayReply r reply × (next reply ≡ Ok (x, g'))
-IsReplied r next g' (Err e) = IsFromHost e ⊎ ((reply : Reply r) × MayReply r reply × (next reply ≡ Err e))
+-- a row that needs no tree: its answer and its guest, of a quiet host; or want of memory
+abbrev pub IsDone : Type 0 → Type 0 → Guest → Result Value P1Error → Value × Guest → Type 0
+IsDone same quiet g' (Ok x) p = (p ≡ (x, g')) × quiet
+IsDone same quiet g' (Err e) p = (e ≡ Memory) × same
 
--- What a row says without the tree. A refusal before it asks is the answer, or memory was wanted, and nothing changed
-abbrev pub AtFront : Type 0 → Guest → Result Value P1Error → Row (Program (Value × Guest)) → Type 0
-AtFront same g' result (Err e) = ((result ≡ Err e) ⊎ (result ≡ Err Memory)) × same
-AtFront same g' result (Ok (done p)) = IsDone same g' result p
-AtFront same g' result (Ok (asking r next)) = IsReplied r next g' result
+-- What a row says without the tree. A refusal before it asks is the answer, or memory was wanted, and nothing changed.
+-- Where it asks, an answer and a guest, or a refusal, are those that some reply leads to, or the host refused
+abbrev pub AtFront : Type 0 → Type 0 → Guest → Result Value P1Error → Row (Program (Value × Guest)) → Type 0
+AtFront same quiet g' result (Err e) = ((result ≡ Err e) ⊎ (result ≡ Err Memory)) × same
+AtFront same quiet g' result (Ok (done p)) = IsDone same quiet g' result p
+AtFront same quiet g' result (Ok (asking r next)) = IsReplied r next (with_after result g')
+
+-- a descriptor that a call names is under read-only permissions
+pub record NamesReadOnly (g : Guest) (call : Call) : Type 0 where
+  pub fd : ℕ
+  pub named : Contains (descriptors_named g.memory call) fd
+  pub perms : perms_in (slice_get g.places fd) ≡ Some ReadOnly
 
 -- the calls that take memory; the others are never answered that it was wanted
 abbrev pub may_want : Call → Bool
 may_want (PathOpen fd dirflags path path_len oflags base inheriting fdflags) = true
 may_want (FdRead fd iovs iovs_len) = false
+may_want (FdWrite fd iovs iovs_len) = true
+may_want (FdClose fd) = false
 
 -- What a call does to its guest, by its row. Over every host: what the row says without the tree, where each handle
 -- stands for what it stood for before the call; and only an answered call changes what is the guest's own. Over a host
--- that tells its world: the turn
-pub record FollowsRow {H : Type 0} (told : Bool) (world : H → World) (faults : H → ℕ) (old new : View H)
-    (before after : List ℕ) (call : Call) (result : Result Value P1Error) : Type 0 where
+-- that tells its world: the turn, which leaves the tree, whatever it answers, where a descriptor that the call names is
+-- under read-only permissions
+pub record FollowsRow {H : Type 0} (told : Bool) (world : H → World) (faults : H → ℕ) (lookups : H → List Lookup)
+    (old new : View H) (before after : List ℕ) (call : Call) (result : Result Value P1Error) : Type 0 where
   pub size : length after ≡ length before
   pub kept : OnErr result (Kept old new before after)
   pub wants : result ≡ Err Memory → IsTrue (may_want call)
-  pub front : AtFront (Same old new before after) (guest_by (world old.host).held new after) result
-      (row (guest_of world old before) call)
+  pub front : AtFront (Same old new before after) (Quiet faults lookups old new)
+      (guest_by (world old.host).held new after) result (row (guest_of world old before) call)
   pub turn : IsTrue told → TakesTurn world (Rose (faults old.host) (faults new.host)) old new before after call result
+  pub permits : IsTrue told → NamesReadOnly (guest_of world old before) call
+      → (world new.host).tree ≡ (world old.host).tree

@@ -2,6 +2,7 @@
 use Rattle.std.specs.Prelude.{ℕ, Bool, true, false, List, [], ◌∷◌, map, Option, Some, None}
 use Rattle.std.specs.List.{flat_map}
 use Rattle.wasi_host.specs.Tree.{Tree}
+use Rattle.wasi_fs.specs.declared.perms.FsPerms.{FsPerms}
 use Rattle.wasi_host.specs.Meaning.{World}
 use Rattle.wasi_host.specs.declared.held.AccessMode.{AccessMode}
 use Rattle.wasi_host.specs.declared.held.Held.{Held}
@@ -13,10 +14,12 @@ use Rattle.wasi_p1.specs.Slots.{View}
 
 pub record OpenDirectory : Type 0 where
   pub node : ℕ
+  pub perms : FsPerms
 
 pub record OpenFile : Type 0 where
   pub node : ℕ
   pub mode : AccessMode
+  pub perms : FsPerms
   pub position : ℕ
 
 -- what a descriptor number stands for
@@ -41,9 +44,9 @@ pub record State : Type 0 where
 abbrev pub place_of : (ℕ → Held) → Slot → Place
 place_of held slots.Closed = closed
 place_of held (slots.Stream s) = stream s
-place_of held (slots.Directory h) = directory (record { node = (held h).node })
-place_of held (slots.File h position) =
-    file (record { node = (held h).node; mode = (held h).mode; position = position })
+place_of held (slots.Directory h perms) = directory (record { node = (held h).node; perms = perms })
+place_of held (slots.File h perms position) =
+    file (record { node = (held h).node; mode = (held h).mode; perms = perms; position = position })
 
 -- the descriptors without their handles
 abbrev pub places_of : (ℕ → Held) → List Slot → List Place
@@ -78,6 +81,14 @@ new_number places = free_number is_closed places
 -- the new descriptor stands under its number
 abbrev pub with_place : List Place → Place → List Place
 with_place places place = with_new is_closed places place
+
+-- the permissions of a descriptor; a stream has none
+abbrev pub perms_in : Option Place → Option FsPerms
+perms_in (Some (directory d)) = Some d.perms
+perms_in (Some (file f)) = Some f.perms
+perms_in (Some (stream s)) = None
+perms_in (Some closed) = None
+perms_in None = None
 
 abbrev pub node_in : Option Place → List ℕ
 node_in (Some (directory d)) = d.node ∷ []

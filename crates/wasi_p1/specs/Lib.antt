@@ -6,6 +6,7 @@ pub mod Guest
 pub mod Errnos
 pub mod Request
 pub mod Row
+pub mod OpenHow
 pub mod Rows
 pub mod Turn
 pub mod CallTurn
@@ -13,5 +14,8 @@ pub mod Run
 pub mod Reach
 pub mod Agree
 pub mod RunLaws
+pub mod Stems
+pub mod Writing
+pub mod Validity
 pub mod Asked
 pub mod CallParts

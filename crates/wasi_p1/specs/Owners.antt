@@ -1,22 +1,22 @@
 -- Which handles are the descriptors' own.
 use Rattle.std.specs.Prelude.{ℕ, ◌≤◌, ◌==◌, ◌≡◌, Bool, true, false, List, [], ◌∷◌, map, slice_get, sum_by, Option, Some, None, option_to_list, Result, Ok, Err}
 use Rattle.std.specs.List.{flat_map}
-use Rattle.std.specs.FinSet.{contains, insert, retain}
+use Rattle.std.specs.FinSet.{contains, insert, remove, retain}
 use Rattle.wasi_host.specs.Meaning.{Handles}
 use Rattle.wasi_host.specs.Lineage.{Traced}
 use Rattle.wasi_host.specs.declared.lookup.Lookup.{Lookup}
 use Rattle.wasi_p1.specs.declared.context.Slot.{Slot}
 use Rattle.wasi_p1.specs.declared.context.Slot.TheVariants as slots
 use Rattle.wasi_guest.specs.declared.call.Call.{Call}
-use Rattle.wasi_guest.specs.declared.call.Call.TheVariants.{PathOpen, FdRead}
+use Rattle.wasi_guest.specs.declared.call.Call.TheVariants.{PathOpen, FdRead, FdWrite, FdClose}
 use Rattle.wasi_p1.specs.declared.error.P1Error.{P1Error}
 
 -- the handle of a descriptor
 abbrev pub handle_in : Slot → Option ℕ
 handle_in slots.Closed = None
 handle_in (slots.Stream s) = None
-handle_in (slots.Directory h) = Some h
-handle_in (slots.File h position) = Some h
+handle_in (slots.Directory h perms) = Some h
+handle_in (slots.File h perms position) = Some h
 
 -- the handles of the descriptors, each under its number
 unfoldable pub handles : List Slot → List (Option ℕ)
@@ -51,8 +51,13 @@ abbrev pub Got : Handles → Option ℕ → Handles → Type 0
 Got old None new = ⊥
 Got old (Some h) new = (contains old h ≡ false) × (new ≡ insert old h)
 
--- what the calls keep of live handles and descriptors: each descriptor goes on to have a handle of its own, and those of
--- no descriptor stay
+-- a handle isn't live any more
+abbrev pub without : Handles → Option ℕ → Handles
+without live None = live
+without live (Some h) = remove live h
+
+-- what the calls keep of live handles and descriptors: each descriptor goes on to have a handle of its own, and those
+-- of no descriptor stay
 pub record Owns (live live' : Handles) (os os' : List (Option ℕ)) : Type 0 where
   pub owned : Owned live' os'
   pub others : unowned live' os' ≡ unowned live os
@@ -61,13 +66,15 @@ pub record Owns (live live' : Handles) (os os' : List (Option ℕ)) : Type 0 whe
 abbrev pub descriptors_named : List ℕ → Call → List ℕ
 descriptors_named memory (PathOpen fd dirflags path path_len oflags base inheriting fdflags) = fd ∷ []
 descriptors_named memory (FdRead fd iovs iovs_len) = fd ∷ []
+descriptors_named memory (FdWrite fd iovs iovs_len) = fd ∷ []
+descriptors_named memory (FdClose fd) = fd ∷ []
 
 -- the handles of the descriptors of these numbers
 abbrev pub under : List (Option ℕ) → List ℕ → List (Option ℕ)
 under os fds = flat_map (λ fd. option_to_list (slice_get os fd)) fds
 
--- The look-ups that are added begin from these handles, or from what an earlier one got; and a descriptor's handle was a
--- descriptor's before, or one of them got it
+-- The look-ups that are added begin from these handles, or from what an earlier one got; and a descriptor's handle was
+-- a descriptor's before, or one of them got it
 abbrev pub SlotsTraced : (ℕ → Type 0) → List Slot → List Slot → List Lookup → List Lookup → Type 0
 SlotsTraced Given table table' old new = Traced Given (IsHandle (handles table)) (IsHandle (handles table')) old new
 

@@ -15,7 +15,8 @@ Inside start n = Reached start.tree (nodes_of start.guest.places) n
 abbrev pub InReach : State → State → ℕ → Type 0
 InReach start now n = Inside start n ⊎ IsMade start.tree now.tree n
 
--- Each descriptor's node, each node that a directory in reach holds, and each touched node is in reach. Every turn keeps it.
+-- Each descriptor's node, each node that a directory in reach holds, and each touched node is in reach. Every turn
+-- keeps it.
 pub record Confined (start now : State) (touched : Nodes) : Type 0 where
   pub later : next_of start.tree ≤ next_of now.tree
   pub descriptors : (n : ℕ) → Contains (nodes_of now.guest.places) n → InReach start now n

@@ -20,6 +20,10 @@ pub data Program (A : Type 0) : Type 0 where
   done : A → Program A
   asking : (r : Request) → (Reply r → Row A) → Program A
 
+-- the end of a row that needs no tree
+abbrev pub answer : {A : Type 0} → A → Row (Program A)
+answer x = Ok (done x)
+
 -- the end of a row that asks the tree
 abbrev pub ask : {A : Type 0} → (r : Request) → (Reply r → Row A) → Row (Program A)
 ask r next = Ok (asking r next)

@@ -48,7 +48,8 @@ Gives (Err e) old answer new = (answer_of (Err e) ≡ Some answer) × (new ≡ o
 abbrev pub Played : Turned → Type 0
 Played t = Gives (turn t.before t.call) t.before t.answer t.after
 
--- the host failed in a call that came to it: the answer is `io`, and the state is the one before, or that with the row's one step
+-- the host failed in a call that came to it: the answer is `io`, and the state is the one before, or that with the
+-- row's one step
 pub record Faulted (t : Turned) : Type 0 where
   pub came : ReachesHost t.before t.call
   pub io : t.answer ≡ answers.Errno Io
@@ -104,7 +105,8 @@ is_success (answers.Trap kind) = false
 abbrev pub named : List Turned → List ℕ
 named turns = flat_map (λ t. if is_success t.answer then named_by t.before t.call else []) turns
 
--- a run of these calls with these answers, from a count of faults to another, that touched each node at which a path ended
+-- a run of these calls with these answers, from a count of faults to another, that touched each node at which a path
+-- ended
 pub record DidRun (before now : ℕ) (old : State) (calls : List Call) (answers : List Answer) (new : State)
     (touched : Nodes) : Type 0 where
   pub turns : List Turned

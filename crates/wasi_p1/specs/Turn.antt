@@ -46,7 +46,8 @@ pub record IsMade (t t' : Tree) (n : ℕ) : Type 0 where
   pub fresh : next_of t ≤ n
   pub there : n < next_of t'
 
--- what a call touches: nothing is given up; it comes to nodes reached from the roots, or made, and to all that its paths ended at
+-- what a call touches: nothing is given up; it comes to nodes reached from the roots, or made, and to all that its
+-- paths ended at
 pub record Touches (t t' : Tree) (roots paths : List ℕ) (old new : Nodes) : Type 0 where
   pub stays : (n : ℕ) → contains old n ≡ true → contains new n ≡ true
   pub near : (n : ℕ) → contains new n ≡ true → (contains old n ≡ true) ⊎ (Reached t roots n ⊎ IsMade t t' n)

@@ -1,80 +1,117 @@
 //! What the calls of preview1 do with a host and a guest's memory, a part at a time.
-ghost use Rattle.std.specs.Prelude.{◌≡◌, ◌≤◌, ◌<◌, ◌+◌, ◌^◌, ℕ, true, false, IsTrue, All, map, length, slice_get, slice_set, slice_range, Ok, Err, IfOk, IfErr, OnOk, OnErr, Some, None};
+ghost use Rattle.std.specs.Prelude.{◌≡◌, ◌≤◌, ◌<◌, ◌+◌, ◌^◌, ℕ, true, false, IsTrue, length, slice_get, slice_set, Ok, Err, IfOk, IfErr, OnOk, OnErr, Some, None};
 ghost use Rattle.std.specs.Result.{result_map_both};
 ghost use Rattle.std.specs.FinSet.{contains};
 ghost use Rattle.wasi_paths.specs.Name.{name_bytes};
 ghost use Rattle.wasi_host.specs.Meaning.{Rose};
 ghost use Rattle.wasi_host.specs.Lineage.{Traced, Only, Nothing};
 ghost use Rattle.wasi_p1.specs.CallTurn.{Causes};
-ghost use Rattle.wasi_p1.specs.Owners.{handles, Owned, Owns, SlotsTraced, MadeBy};
+ghost use Rattle.wasi_p1.specs.Owners.{handle_in, handles, without, Owned, Owns, SlotsTraced, MadeBy};
 ghost use Rattle.wasi_p1.specs.Guest.{place_of, places_of};
-ghost use Rattle.wasi_p1.specs.Rows.{range, text_in, one_name, buffer_in, directory_in, file_in, reading};
+ghost use Rattle.wasi_p1.specs.Request.{Open, Read, Write};
+ghost use Rattle.wasi_p1.specs.OpenHow.{options_of};
+ghost use Rattle.wasi_p1.specs.Rows.{range, text_in, one_name, buffer_in, live_in, directory_in, file_in, may_write, place_for, opened_among};
+ghost use Rattle.wasi_p1.specs.Slots.{is_closed_slot};
 ghost use Rattle.wasi_guest.specs.Range.{IsInMemory};
-ghost use Rattle.wasi_p1.specs.CallParts.{open_file_of, slot_for, SlotGot, OpensSlot, ReadsInto, OpensInto, Begins, Opens, Puts, NotMemory, IsFromHost};
+ghost use Rattle.wasi_p1.specs.CallParts.{open_directory_of, open_file_of, slot_for, SlotGot, OpensSlot, ReadsInto, WritesPiece, OpensInto, filled_at, with_after, Rests, Stays, IsLive, IsReplied, NotMemory, is_failure};
+ghost use Rattle.wasi_p1.specs.Row.{give};
 
 use crate::context::Slot;
 use crate::descriptors::Descriptors;
 use crate::error::P1Error;
+use crate::open_how::OpenHow;
+use wasi_fs::FsPerms;
 use wasi_guest::{Errno, GuestMemory, Iovec, TrapKind};
-use wasi_host::{FileType, FollowSymlinks, Handle, Host, OpenOptions};
+use wasi_host::{FileType, Handle, Host};
 use wasi_paths::Name;
+
+/// The bytes of a range of memory, or the trap.
+pub fn bytes_at(memory: &GuestMemory, ptr: u32, n: u32) -> Result<&[u8], P1Error>
+    ensures row { result_map_both (λ bytes. bytes.now) (λ e. e) result ≡ range memory.now ptr n }
+    ensures inside { OnOk result (IsInMemory memory.now ptr n) }
+{
+    let Some(bytes) = memory.slice(ptr, n) else {
+        return Err(P1Error::Trap(TrapKind::Pointer));
+    };
+    Ok(bytes)
+}
 
 /// The text in a range of memory.
 pub fn text_at(memory: &GuestMemory, ptr: u32, n: u32) -> Result<&str, P1Error>
     ensures { result_map_both (λ text. text.now) (λ e. e) result ≡ text_in memory.now ptr n }
 {
-    let Some(bytes) = memory.slice(ptr, n) else {
-        return Err(P1Error::Trap(TrapKind::Pointer));
-    };
+    let bytes = bytes_at(memory, ptr, n)?;
     match str::from_utf8(bytes) {
         Ok(text) => Ok(text),
-        Err(_) => Err(P1Error::Errno(Errno::Notsup)),
+        Err(_) => Err(P1Error::Errno(Errno::Ilseq)),
     }
 }
 
-/// A text as a name that a directory may hold.
+/// A path of one plain name, as that name.
 #[tactic(auto, unfolding(crate::specs::Rows::one_name))]
 pub fn name_of(text: &str) -> Result<Name<'_>, P1Error>
     ensures row { result_map_both name_bytes (λ e. e) result ≡ one_name text.now }
-    ensures refusal { IfErr result (λ e. e ≡ P1Error.Errno Errno.Notsup) }
+    ensures refusal { IfErr result (λ e. is_failure e ≡ false) }
 {
     let Some(name) = Name::plain(text) else {
         return Err(P1Error::Errno(Errno::Notsup));
     };
-    if !name.is_entry() {
-        return Err(P1Error::Errno(Errno::Notsup));
-    }
     Ok(name)
 }
 
-/// The handle of a directory's descriptor.
+/// What a live number stands for.
+#[tactic(auto, using(crate::proofs::Places::places))]
+pub fn live_at<H: Host>(host: &H, descriptors: &Descriptors, fd: u32) -> Result<Slot, P1Error>
+    ensures is { IfOk result (λ slot. slice_get descriptors.now.slots fd ≡ Some slot) }
+    ensures in_use { IfOk result (λ slot. is_closed_slot slot ≡ false) }
+    ensures row { result_map_both (place_of (H.world host.now).held) (λ e. e) result
+        ≡ live_in (slice_get (places_of (H.world host.now).held descriptors.now.slots) fd) }
+{
+    let Some(slot) = descriptors.get(fd) else {
+        return Err(P1Error::Errno(Errno::Badf));
+    };
+    match slot {
+        Slot::Closed => Err(P1Error::Errno(Errno::Badf)),
+        live => Ok(live),
+    }
+}
+
+/// A directory's descriptor: its handle, and what may be done below it.
+#[derive(Clone, Copy, Debug, PartialEq, Eq)]
+pub struct DirectoryPlace {
+    pub handle: Handle,
+    pub perms: FsPerms,
+}
+
+/// The directory of a directory's descriptor.
 #[tactic(auto, using(crate::proofs::Places::places))]
 pub fn directory_at<H: Host>(
     host: &H,
     descriptors: &Descriptors,
     fd: u32,
-) -> Result<Handle, P1Error>
+) -> Result<DirectoryPlace, P1Error>
     requires owned { Owned (H.live host.now) (handles descriptors.now.slots) }
-    ensures live { IfOk result (λ h. contains (H.live host.now) h ≡ true) }
-    ensures is { IfOk result (λ h. slice_get descriptors.now.slots fd ≡ Some (Slot.Directory h)) }
-    ensures row { result_map_both (λ h. ((H.world host.now).held h).node) (λ e. e) result
+    ensures live { IfOk result (λ dir. contains (H.live host.now) dir.handle ≡ true) }
+    ensures is { IfOk result (λ dir. slice_get descriptors.now.slots fd ≡ Some (Slot.Directory dir.handle dir.perms)) }
+    ensures row { result_map_both (open_directory_of (H.world host.now).held) (λ e. e) result
         ≡ directory_in (slice_get (places_of (H.world host.now).held descriptors.now.slots) fd) }
 {
     let Some(slot) = descriptors.get(fd) else {
         return Err(P1Error::Errno(Errno::Badf));
     };
     match slot {
-        Slot::Directory { handle } => Ok(handle),
+        Slot::Directory { handle, perms } => Ok(DirectoryPlace { handle, perms }),
         Slot::File { .. } => Err(P1Error::Errno(Errno::Notdir)),
         Slot::Stream(_) => Err(P1Error::Errno(Errno::Badf)),
         Slot::Closed => Err(P1Error::Errno(Errno::Badf)),
     }
 }
 
-/// A file's descriptor: its handle, and where its next read begins.
+/// A file's descriptor: its handle, what may be done with it, and where its next read or write begins.
 #[derive(Clone, Copy, Debug, PartialEq, Eq)]
 pub struct FilePlace {
     pub handle: Handle,
+    pub perms: FsPerms,
     pub position: u64,
 }
 
@@ -84,7 +121,7 @@ pub fn file_at<H: Host>(host: &H, descriptors: &Descriptors, fd: u32) -> Result<
     requires owned { Owned (H.live host.now) (handles descriptors.now.slots) }
     ensures live { IfOk result (λ file. contains (H.live host.now) file.handle ≡ true) }
     ensures is { IfOk result (λ file. slice_get descriptors.now.slots fd
-        ≡ Some (Slot.File file.handle file.position)) }
+        ≡ Some (Slot.File file.handle file.perms file.position)) }
     ensures row { result_map_both (open_file_of (H.world host.now).held) (λ e. e) result
         ≡ file_in (slice_get (places_of (H.world host.now).held descriptors.now.slots) fd) }
 {
@@ -92,79 +129,98 @@ pub fn file_at<H: Host>(host: &H, descriptors: &Descriptors, fd: u32) -> Result<
         return Err(P1Error::Errno(Errno::Badf));
     };
     match slot {
-        Slot::File { handle, position } => Ok(FilePlace { handle, position }),
+        Slot::File {
+            handle,
+            perms,
+            position,
+        } => Ok(FilePlace {
+            handle,
+            perms,
+            position,
+        }),
         Slot::Directory { .. } => Err(P1Error::Errno(Errno::Badf)),
         Slot::Stream(_) => Err(P1Error::Errno(Errno::Badf)),
         Slot::Closed => Err(P1Error::Errno(Errno::Badf)),
     }
 }
 
-/// The buffer that the record at an address names; one with no bytes stands at 0.
-pub fn buffer_at(memory: &GuestMemory, iovs: u32) -> Result<Iovec, P1Error>
-    ensures { result ≡ buffer_in memory.now iovs }
+/// The first buffer that has bytes, of so many records at an address. Where none has any it is an empty one at 0.
+pub fn buffer_at(memory: &GuestMemory, iovs: u32, iovs_len: u32) -> Result<Iovec, P1Error>
+    ensures { result ≡ buffer_in memory.now iovs iovs_len }
 {
-    let Some(item) = memory.read_iovec(iovs) else {
+    let Some(buffer) = memory.first_buffer(iovs, iovs_len) else {
         return Err(P1Error::Trap(TrapKind::Pointer));
     };
-    if item.buf_len == 0 {
-        return Ok(Iovec { buf: 0, buf_len: 0 });
-    }
-    Ok(item)
+    Ok(buffer)
 }
 
-fn reading() -> OpenOptions
-    ensures { result ≡ reading }
+/// Whether a file may be written that was opened under these permissions.
+#[tactic(auto, unfolding(crate::specs::Rows::may_write))]
+pub fn check_write(perms: FsPerms) -> Result<(), P1Error>
+    ensures row { result ≡ may_write perms }
+    ensures refusal { IfErr result (λ e. is_failure e ≡ false) }
 {
-    let mut options = OpenOptions::new();
-    options.read(true).follow(FollowSymlinks::No);
-    options
+    if perms.write_not_permitted() {
+        return Err(P1Error::Errno(Errno::Badf));
+    }
+    Ok(())
 }
 
-fn slot_for(kind: FileType, handle: Handle) -> Slot
-    ensures { result ≡ slot_for kind handle }
+/// The descriptor of what was opened, at its start; Notdir where a directory is required and it is none.
+fn slot_for(perms: FsPerms, required: bool, kind: FileType, handle: Handle) -> Result<Slot, P1Error>
+    ensures { result ≡ slot_for perms required kind handle }
 {
     match kind {
-        FileType::Directory => Slot::Directory { handle },
-        _ => Slot::File {
-            handle,
-            position: 0,
-        },
-    }
-}
-
-/// Opens a name for reading, and gives its descriptor. Where the host fails at the new handle's metadata, the handle is
-/// closed again.
-#[tactic(auto, using(wasi_host::proofs::Chain::live_rules))]
-pub fn open_slot<H: Host>(host: &mut H, directory: Handle, name: Name<'_>) -> Result<Slot, P1Error>
-    requires { contains (H.live host.old) directory ≡ true }
-    ensures cause { Causes (H.faults host.old) (H.faults host.new) result }
-    ensures live { SlotGot (H.live host.old) result (H.live host.new) }
-    ensures lineage { Traced (Only directory) Nothing (MadeBy result) (H.lookups host.old) (H.lookups host.new) }
-    ensures from_host { IfErr result IsFromHost }
-    ensures begins { IfOk result (Begins (H.world host.old).held) }
-    ensures told { IsTrue H.told → OpensSlot (Rose (H.faults host.old) (H.faults host.new)) (H.live host.old)
-        (H.world host.old) (H.world host.new) ((H.world host.old).held directory).node (name_bytes name.entry) result }
-{
-    let handle = host.open_at(directory, name, &reading())?;
-    match host.stat(handle) {
-        Ok(metadata) => Ok(slot_for(metadata.kind, handle)),
-        Err(code) => {
-            host.close(handle);
-            Err(P1Error::from(code))
+        FileType::Directory => Ok(Slot::Directory { handle, perms }),
+        _ => {
+            if required {
+                return Err(P1Error::Errno(Errno::Notdir));
+            }
+            Ok(Slot::File {
+                handle,
+                perms,
+                position: 0,
+            })
         }
     }
 }
 
-/// A range of memory, or the trap.
-pub fn range_at(memory: &GuestMemory, buffer: Iovec) -> Result<(), P1Error>
-    ensures row { result_map_both (λ _. slice_range memory.now buffer.buf (buffer.buf + buffer.buf_len)) (λ e. e) result
-        ≡ range memory.now buffer.buf buffer.buf_len }
-    ensures inside { OnOk result (IsInMemory memory.now buffer.buf buffer.buf_len) }
+/// Opens a name in a directory, and gives its descriptor, which has the directory's permissions. Where the host fails
+/// at the new handle's metadata, or it is no directory and should be, the handle is closed again.
+#[tactic(auto, using(wasi_host::proofs::Chain::live_rules))]
+pub fn open_slot<H: Host>(
+    host: &mut H,
+    directory: DirectoryPlace,
+    name: Name<'_>,
+    how: OpenHow,
+) -> Result<Slot, P1Error>
+    requires { contains (H.live host.old) directory.handle ≡ true }
+    ensures cause { Causes (H.faults host.old) (H.faults host.new) result }
+    ensures live { SlotGot (H.live host.old) result (H.live host.new) }
+    ensures lineage { Traced (Only directory.handle) Nothing (MadeBy result)
+        (H.lookups host.old) (H.lookups host.new) }
+    ensures front { IsReplied
+        (Open (open_directory_of (H.world host.old).held directory).node (name_bytes name.entry) (options_of how))
+        (place_for directory.perms how.directory)
+        (result_map_both (place_of (H.world host.old).held) (λ e. e) result) }
+    ensures told { IsTrue H.told → OpensSlot (Rose (H.faults host.old) (H.faults host.new)) (H.live host.old)
+        (H.world host.old) (H.world host.new) (open_directory_of (H.world host.old).held directory)
+        (name_bytes name.entry) how result }
 {
-    if memory.holds(buffer.buf, buffer.buf_len) {
-        Ok(())
-    } else {
-        Err(P1Error::Trap(TrapKind::Pointer))
+    let handle = host.open_at(directory.handle, name, &how.options())?;
+    let metadata = match host.stat(handle) {
+        Ok(metadata) => metadata,
+        Err(code) => {
+            host.close(handle);
+            return Err(P1Error::from(code));
+        }
+    };
+    match slot_for(directory.perms, how.directory, metadata.kind, handle) {
+        Ok(slot) => Ok(slot),
+        Err(error) => {
+            host.close(handle);
+            Err(error)
+        }
     }
 }
 
@@ -184,10 +240,12 @@ pub fn read_into<H: Host>(
     ensures live { H.live host.new ≡ H.live host.old }
     ensures logged { H.lookups host.new ≡ H.lookups host.old }
     ensures never_wants { IfErr result NotMemory }
-    ensures from_host { IfErr result IsFromHost }
-    ensures puts { IfOk result (Puts memory.old buffer.buf buffer.buf_len memory.new) }
     ensures fits { IfOk result (λ n. position + n < 2 ^ 64) }
     ensures same { OnErr result (memory.new ≡ memory.old) }
+
+    // The row, over every host and over one that tells its world.
+    ensures front { IsReplied (Read ((H.world host.old).held file) position buffer.buf_len)
+        (filled_at memory.old buffer.buf) (with_after result memory.new) }
     ensures told { IsTrue H.told → ReadsInto (Rose (H.faults host.old) (H.faults host.new)) (H.live host.old)
         (H.world host.old) (H.world host.new) ((H.world host.old).held file) position buffer.buf buffer.buf_len
         memory.old memory.new result }
@@ -197,17 +255,45 @@ pub fn read_into<H: Host>(
     Ok(count as u32)
 }
 
+/// Writes a piece into a file from a position on, and gives how many bytes the file took. A host that takes nothing of
+/// a piece that isn't empty has failed.
+#[tactic(auto, using(wasi_host::proofs::Chain::live_rules))]
+pub fn write_piece<H: Host>(
+    host: &mut H,
+    file: Handle,
+    position: u64,
+    piece: &[u8],
+) -> Result<u64, P1Error>
+    requires live { contains (H.live host.old) file ≡ true }
+    ensures cause { Causes (H.faults host.old) (H.faults host.new) result }
+    ensures live { H.live host.new ≡ H.live host.old }
+    ensures logged { H.lookups host.new ≡ H.lookups host.old }
+    ensures fits { IfOk result (λ n. position + n < 2 ^ 64) }
+
+    // The row, over every host and over one that tells its world.
+    ensures front { IsReplied (Write ((H.world host.old).held file) position piece.now) give result }
+    ensures told { IsTrue H.told → WritesPiece (Rose (H.faults host.old) (H.faults host.new)) (H.live host.old)
+        (H.world host.old) (H.world host.new) ((H.world host.old).held file) position piece.now result }
+{
+    let count = host.pwrite(file, piece, position)?;
+    if count == 0 && !piece.is_empty() {
+        return Err(P1Error::Errno(Errno::Io));
+    }
+    Ok(count as u64)
+}
+
 /// Puts a file's descriptor back with another position.
 pub fn put_file(descriptors: &mut Descriptors, fd: u32, file: FilePlace, position: u64)
-    requires { slice_get descriptors.old.slots fd ≡ Some (Slot.File file.handle file.position) }
+    requires { slice_get descriptors.old.slots fd ≡ Some (Slot.File file.handle file.perms file.position) }
     ensures handles { handles descriptors.new.slots ≡ handles descriptors.old.slots }
     ensures slots { descriptors.new.slots
-        ≡ slice_set descriptors.old.slots fd (Slot.File file.handle position) }
+        ≡ slice_set descriptors.old.slots fd (Slot.File file.handle file.perms position) }
 {
     descriptors.set(
         fd,
         Slot::File {
             handle: file.handle,
+            perms: file.perms,
             position,
         },
     );
@@ -217,10 +303,11 @@ pub fn put_file(descriptors: &mut Descriptors, fd: u32, file: FilePlace, positio
 pub fn open_into<H: Host>(
     host: &mut H,
     descriptors: &mut Descriptors,
-    directory: Handle,
+    directory: DirectoryPlace,
     name: Name<'_>,
+    how: OpenHow,
 ) -> Result<u64, P1Error>
-    requires live { contains (H.live host.old) directory ≡ true }
+    requires live { contains (H.live host.old) directory.handle ≡ true }
     requires owned { Owned (H.live host.old) (handles descriptors.old.slots) }
     ensures cause { Causes (H.faults host.old) (H.faults host.new) result }
 
@@ -228,23 +315,58 @@ pub fn open_into<H: Host>(
     ensures kept { OnErr result (descriptors.new.slots ≡ descriptors.old.slots) }
     ensures owns { Owns (H.live host.old) (H.live host.new)
         (handles descriptors.old.slots) (handles descriptors.new.slots) }
-    ensures lineage { SlotsTraced (Only directory) descriptors.old.slots descriptors.new.slots
+    ensures lineage { SlotsTraced (Only directory.handle) descriptors.old.slots descriptors.new.slots
         (H.lookups host.old) (H.lookups host.new) }
 
     // The row, over every host and over one that tells its world.
-    ensures from_host { IfErr result IsFromHost }
-    ensures opens { IfOk result (Opens (places_of (H.world host.old).held descriptors.old.slots)
-        (places_of (H.world host.old).held descriptors.new.slots)) }
+    ensures front { IsReplied
+        (Open (open_directory_of (H.world host.old).held directory).node (name_bytes name.entry) (options_of how))
+        (opened_among (places_of (H.world host.old).held descriptors.old.slots) directory.perms how.directory)
+        (with_after result (places_of (H.world host.old).held descriptors.new.slots)) }
     ensures stays { IsTrue H.told → OnErr result
         (places_of (H.world host.new).held descriptors.new.slots
         ≡ places_of (H.world host.old).held descriptors.old.slots) }
     ensures told { IsTrue H.told → OpensInto (Rose (H.faults host.old) (H.faults host.new))
         (H.world host.old) (H.world host.new)
-        ((H.world host.old).held directory).node (name_bytes name.entry)
+        (open_directory_of (H.world host.old).held directory) (name_bytes name.entry) how
         (places_of (H.world host.old).held descriptors.old.slots)
         (places_of (H.world host.new).held descriptors.new.slots) result }
 {
     descriptors.reserve()?;
-    let slot = open_slot(host, directory, name)?;
+    let slot = open_slot(host, directory, name, how)?;
     Ok(descriptors.put(slot))
+}
+
+/// Closes a descriptor's handle, if it has one.
+pub fn release<H: Host>(host: &mut H, slot: Slot)
+    requires live { IsLive (H.live host.old) slot }
+    ensures faults { H.faults host.new ≡ H.faults host.old }
+    ensures logged { H.lookups host.new ≡ H.lookups host.old }
+    ensures live { H.live host.new ≡ without (H.live host.old) (handle_in slot) }
+    ensures told { IsTrue H.told → Rests (H.live host.old) (H.live host.new) (H.world host.old) (H.world host.new) }
+{
+    match slot {
+        Slot::Directory { handle, .. } => host.close(handle),
+        Slot::File { handle, .. } => host.close(handle),
+        Slot::Stream(_) => {}
+        Slot::Closed => {}
+    }
+}
+
+/// Closes a number, and its handle. It can't fail, and takes no memory.
+pub fn close_slot<H: Host>(host: &mut H, descriptors: &mut Descriptors, fd: u32, slot: Slot)
+    requires is { slice_get descriptors.old.slots fd ≡ Some slot }
+    requires in_use { is_closed_slot slot ≡ false }
+    requires owned { Owned (H.live host.old) (handles descriptors.old.slots) }
+    ensures faults { H.faults host.new ≡ H.faults host.old }
+    ensures logged { H.lookups host.new ≡ H.lookups host.old }
+    ensures slots { descriptors.new.slots ≡ slice_set descriptors.old.slots fd Slot.Closed }
+    ensures owns { Owns (H.live host.old) (H.live host.new)
+        (handles descriptors.old.slots) (handles descriptors.new.slots) }
+    ensures lineage { SlotsTraced Nothing descriptors.old.slots descriptors.new.slots
+        (H.lookups host.old) (H.lookups host.new) }
+    ensures stays { IsTrue H.told → Stays (H.world host.old) (H.world host.new) descriptors.new.slots }
+{
+    descriptors.close(fd);
+    release(host, slot);
 }

@@ -1,13 +1,12 @@
 //! The descriptors of a guest by number.
-ghost use Rattle.std.specs.Prelude.{◌≡◌, ◌≤◌, ◌<◌, ◌+◌, false, length, slice_get, slice_set, IsOk, IfOk, OnOk};
+ghost use Rattle.std.specs.Prelude.{◌≡◌, ◌≤◌, ◌<◌, ◌+◌, false, [], length, slice_get, slice_set, IsOk, IfOk, OnOk};
 ghost use Rattle.wasi_p1.specs.Numbering.{passes_at, free_number, with_new};
 ghost use Rattle.wasi_p1.specs.Slots.{first_slots, is_closed_slot};
 
-use crate::context::{Slot, Stream};
+use crate::context::{P1Preopen, Slot, Stream};
 use std::alloc::{AllocError, Global};
 use std::collections::BinaryHeap;
 use std::marker::Model;
-use wasi_host::Handle;
 
 /// What stands under each number. The closed numbers stand in a heap beside, so that the largest is found without a
 /// look at all descriptors; its room is taken as numbers are first given, so that closing one takes no memory.
@@ -34,18 +33,32 @@ impl Model for Descriptors {
 }
 
 impl Descriptors {
-    /// The three standard streams as descriptors 0 to 2, and the directory of a handle as descriptor 3.
-    pub fn first(alloc: Global, preopen: Handle) -> Result<Descriptors, AllocError>
-        ensures { IfOk result (λ descriptors. descriptors.slots ≡ first_slots preopen) }
+    /// The three standard streams as descriptors 0 to 2.
+    fn streams(alloc: Global) -> Result<Descriptors, AllocError>
+        ensures { IfOk result (λ descriptors. descriptors.slots ≡ first_slots []) }
     {
         let slots = vec![in alloc;
             Slot::Stream(Stream::Input),
             Slot::Stream(Stream::Output),
             Slot::Stream(Stream::Error),
-            Slot::Directory { handle: preopen },
         ]?;
         let closed = BinaryHeap::with_capacity(alloc, slots.len())?;
         Ok(Descriptors { slots, closed })
+    }
+
+    /// The three standard streams as descriptors 0 to 2, and then the directories that the guest is given, in order.
+    pub fn first(alloc: Global, preopens: &[P1Preopen]) -> Result<Descriptors, AllocError>
+        ensures { IfOk result (λ descriptors. descriptors.slots ≡ first_slots preopens.now) }
+    {
+        let mut descriptors = Descriptors::streams(alloc)?;
+        for preopen in preopens {
+            descriptors.reserve()?;
+            descriptors.put(Slot::Directory {
+                handle: preopen.handle,
+                perms: preopen.perms,
+            });
+        }
+        Ok(descriptors)
     }
 
     /// What stands under a number, if it was ever given.
@@ -100,20 +113,42 @@ impl Descriptors {
     {
         self.slots[fd as usize] = slot;
     }
+
+    /// A number that is in use becomes closed. It takes no memory.
+    pub fn close(&mut self, fd: u32)
+        requires within { fd < length self.old.slots }
+        requires was_in_use { passes_at is_closed_slot self.old.slots fd ≡ false }
+        ensures slots { self.new.slots ≡ slice_set self.old.slots fd Slot.Closed }
+        ensures room { self.old.room < self.new.room }
+    {
+        self.slots[fd as usize] = Slot::Closed;
+        let Ok(()) = self.closed.push(fd) else {
+            unreachable!()
+        };
+    }
 }
 
 #[cfg(test)]
 mod tests {
     use super::*;
+    use wasi_fs::FsPerms;
+    use wasi_host::Handle;
 
     #[test]
     fn numbers(rt: HostRuntime) -> Result<(), AllocError> {
-        let mut descriptors = Descriptors::first(rt.alloc(), Handle::from_number(7))?;
+        let preopen = P1Preopen {
+            handle: Handle::from_number(7),
+            perms: FsPerms::ReadWrite,
+            name: String::from_str(rt.alloc(), "/")?,
+        };
+        let preopens = vec![in rt.alloc(); preopen]?;
+        let mut descriptors = Descriptors::first(rt.alloc(), &preopens)?;
         for number in 4..40 {
             assert!(rt; descriptors.get(number).is_none());
             descriptors.reserve()?;
             let file = Slot::File {
                 handle: Handle::from_number(8),
+                perms: FsPerms::ReadOnly,
                 position: 0,
             };
             assert_eq!(rt; descriptors.put(file), number as u64);

@@ -2,6 +2,9 @@
 ghost use Rattle.wasi_p1.specs.Owners.{LiveStays};
 ghost use Rattle.wasi_p1.specs.Agree.{TurnsAgree, RunsAgree};
 ghost use Rattle.wasi_p1.specs.RunLaws.{RunsAreFunctions, TurnsAreConfined};
+ghost use Rattle.wasi_p1.specs.Stems.{PermissionsStem};
+ghost use Rattle.wasi_p1.specs.Validity.{RunsStayValid};
+ghost use Rattle.wasi_p1.specs.Writing.{WritesAreWhole};
 
 use wasi_host::Host;
 
@@ -29,4 +32,21 @@ pub fn runs_agree()
 /// A call that leaves the descriptors, and the handles of no descriptor, leaves all live handles.
 pub fn live_handles_stay()
     ensures stay { LiveStays }
+{}
+
+/// Each descriptor has the permissions of the one before the run from which it stems: what was opened stems from the
+/// directory through which it was opened, and every other from itself.
+pub fn permissions_stem()
+    ensures stem { PermissionsStem }
+{}
+
+/// A write that is answered put its first buffer that has bytes whole into the file, from its position on.
+pub fn writes_are_whole()
+    ensures whole { WritesAreWhole }
+{}
+
+/// A run from a state whose tree is valid and whose memory are bytes leads to such a state, however often the host
+/// fails.
+pub fn runs_stay_valid()
+    ensures valid { RunsStayValid }
 {}

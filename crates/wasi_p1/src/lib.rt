@@ -1,4 +1,5 @@
-//! The calls of `wasi_snapshot_preview1` over any host: the context of a guest, a method for each call, and runs of them.
+//! The calls of `wasi_snapshot_preview1` over any host: the context of a guest, a method for each call, and runs of
+//! them.
 #![tactic(auto)]
 
 mod call_parts;
@@ -6,12 +7,15 @@ mod context;
 mod descriptors;
 mod error;
 mod laws;
+mod open_how;
 mod run;
 
-pub use context::{CtxRefused, Ended, Slot, Stream, WasiP1Ctx};
+pub use context::{CtxRefused, Ended, P1Preopen, Slot, Stream, WasiP1Ctx};
 pub use error::P1Error;
 pub use laws::{
-    live_handles_stay, runs_agree, runs_are_functions, turns_agree, turns_are_confined,
+    live_handles_stay, permissions_stem, runs_agree, runs_are_functions, runs_stay_valid,
+    turns_agree, turns_are_confined, writes_are_whole,
 };
 pub use run::{RunError, call, run_calls};
+pub use wasi_fs::FsPerms;
 pub use wasi_guest::{Answer, Answers, Call, Errno, TrapKind, Value};

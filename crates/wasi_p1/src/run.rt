@@ -5,6 +5,7 @@ ghost use Rattle.wasi_p1.specs.Guest.{state_of};
 ghost use Rattle.wasi_p1.specs.Run.{AnswersEach, answer_of, ends, ios, Allows, answered_in, DidRun, StoodAt};
 ghost use Rattle.wasi_p1.specs.Owners.{RunTraced};
 ghost use Rattle.wasi_p1.specs.Reach.{Confined};
+ghost use Rattle.wasi_p1.specs.Validity.{IsValidState};
 
 use crate::context::WasiP1Ctx;
 use crate::error::P1Error;
@@ -45,16 +46,25 @@ pub fn call<H: Host>(
     ensures cause { Causes (H.faults context.old.host) (H.faults context.new.host) result }
     ensures handles { OthersStay H.live context.old context.new }
     ensures lineage { Looks H.lookups context.old context.new memory.old call }
-    ensures turn { FollowsRow H.told H.world H.faults context.old context.new memory.old memory.new call result }
+    ensures turn { FollowsRow H.told H.world H.faults H.lookups context.old context.new memory.old memory.new call
+        result }
 {
     match call {
         Call::PathOpen {
             fd,
+            dirflags,
             path,
             path_len,
-            ..
-        } => context.path_open(memory, fd, path, path_len),
-        Call::FdRead { fd, iovs, .. } => context.fd_read(memory, fd, iovs),
+            oflags,
+            base,
+            inheriting,
+            fdflags,
+        } => context.path_open(
+            memory, fd, dirflags, path, path_len, oflags, base, inheriting, fdflags,
+        ),
+        Call::FdRead { fd, iovs, iovs_len } => context.fd_read(memory, fd, iovs, iovs_len),
+        Call::FdWrite { fd, iovs, iovs_len } => context.fd_write(memory, fd, iovs, iovs_len),
+        Call::FdClose { fd } => context.fd_close(memory, fd),
     }
 }
 
@@ -84,6 +94,8 @@ pub fn run_calls<H: Host>(
         (H.world context.old.host).touched
         → Confined (state_of H.world context.old memory.old) (state_of H.world context.new memory.new)
         (H.world context.new.host).touched }
+    ensures valid { IsTrue H.told → IsValidState (state_of H.world context.old memory.old)
+        → IsValidState (state_of H.world context.new memory.new) }
 {
     let Ok(mut answers) = Answers::with_room(alloc, calls.len()) else {
         return Err(RunError::Memory { answered: 0 });

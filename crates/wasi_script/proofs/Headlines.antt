@@ -1,6 +1,8 @@
 -- The report of a run over a tree in memory.
-use Rattle.std.proofs.Common.{ℕ, ◌≡◌, inl, inr, true, List, [], map, replicate, refl, sym, ◌∙◌, subst, arith, nat_eq}
-use Rattle.std.specs.Prelude.{Contains}
+use Rattle.std.proofs.Common.{ℕ, ◌≡◌, inl, inr, true, List, [], replicate, refl, sym, ap, ◌∙◌, subst, arith, nat_eq, Result, Ok, Err}
+use Rattle.std.specs.Prelude.{Contains, IfOk, OnOk, Vec}
+use Rattle.std.specs.Global.{Global}
+use Rattle.std.specs.declared.alloc.AllocError.{AllocError}
 use Rattle.std.specs.List.Sorted.{IsStrictlySortedBy}
 use Rattle.std.specs.Ordering.{nat_cmp}
 use Rattle.std.specs.FinSet.{contains, from_list, contains-from_list_nat}
@@ -9,16 +11,17 @@ use Rattle.std.proofs.lemmas.List.Elements.{All-weaker}
 use Rattle.std.proofs.lemmas.List.Folds.{list_any_at}
 use Rattle.std.proofs.lemmas.Map.Views.{Contains-from_any}
 use Rattle.wasi_host.specs.Tree.{Nodes}
-use Rattle.wasi_tree.specs.Given.{Given, given_of, tree_of}
+use Rattle.wasi_tree.specs.Given.{tree_of}
 use Rattle.wasi_tree.specs.MemState.{MemState, world_of}
 use Rattle.wasi_script.specs.Headline.{told_of, Reports}
 use Rattle.wasi_p1.specs.Reach.{Confined}
 use Rattle.wasi_form.specs.Report.{report_text}
+use Rattle.wasi_form.specs.ReadBack.{IsOrdered}
 use Rattle.wasi_p1.specs.Run.{Run, Allows, DidRun, named}
 use Rattle.wasi_form.specs.Plan.{Plan}
 use Rattle.wasi_form.specs.Built.{default_limits}
 use Rattle.wasi_p1.specs.Slots.{View}
-use Rattle.wasi_script.specs.Start.{start, nodes_given, with_pieces, IsBegun}
+use Rattle.wasi_script.specs.Start.{start, with_pieces, IsBegun}
 use Rattle.wasi_p1.specs.Guest.{State, state_of}
 use Rattle.wasi_guest.specs.declared.answer.Answer.{Answer}
 
@@ -34,10 +37,10 @@ no_fault : (k : ℕ) → Allows 0 0 k → k ≡ 0
 no_fault k (inl fits) = omega arith
 no_fault k (inr full) = absurd (omega arith)
 
-pub begun_at : {context : View MemState} {nodes memory : List ℕ} (plan : Plan)
-    → IsBegun world_of context (tree_of plan.nodes default_limits) nodes → nodes_given plan.preopens ≡ nodes
+pub begun_at : {context : View MemState} {memory : List ℕ} (plan : Plan)
+    → IsBegun world_of context (tree_of plan.nodes default_limits) plan.preopens
     → memory ≡ with_pieces (replicate plan.size 0) plan.pieces → state_of world_of context memory ≡ start plan
-begun_at {memory} plan is alone memory-is = is.state memory ∙ (rw (memory-is, alone) refl)
+begun_at {memory} plan is memory-is = is.state memory ∙ (rw memory-is refl)
 
 -- a run of a plan's calls from its start, over a host that counts no fault
 pub record RanPlan (plan : Plan) (last : State) (answers : List Answer) (touched : Nodes) : Type 0 where
@@ -47,13 +50,18 @@ pub record RanPlan (plan : Plan) (last : State) (answers : List Answer) (touched
   pub confined : Confined first last touched
 
 -- the report of what a run came to, with its nodes listed rising
-pub reports : {plan : Plan} {last : State} {answers : List Answer} {touched : Nodes} {text : List ℕ} (listed : List ℕ)
-    → RanPlan plan last answers touched → from_list listed ≡ touched → IsStrictlySortedBy nat_cmp listed
-    → text ≡ report_text (record (told_of plan.show [] last listed) { answers = answers }) → Reports plan text
-reports {plan} {last} {answers} {touched} listed run nodes-are rising text-is =
+pub reports : {plan : Plan} {last : State} {answers : List Answer} {touched : Nodes} (listed : List ℕ)
+    (result : Result (Vec ℕ Global) AllocError) → RanPlan plan last answers touched → from_list listed ≡ touched
+    → IsStrictlySortedBy nat_cmp listed
+    → OnOk result (IsOrdered (record (told_of plan.show [] last listed) { answers = answers }))
+    → IfOk result (λ text. text.items ≡ report_text (record (told_of plan.show [] last listed) { answers = answers }))
+    → IfOk result (λ text. Reports plan text.items)
+reports {plan} {last} {answers} {touched} listed (Err error) run nodes-are rising ordered text-is = tt
+reports {plan} {last} {answers} {touched} listed (Ok text) run nodes-are rising ordered text-is =
     let from_start : DidRun 0 0 (start plan) plan.calls answers last touched =
     subst (λ s. DidRun 0 0 s plan.calls answers last touched) run.begins run.ran in
     let near : Confined (start plan) last touched = subst (λ s. Confined s last touched) run.begins run.confined in
+    let told_is = ap (λ all. record (told_of plan.show [] last listed) { answers = all }) from_start.answers_are in
     record {
       turns = from_start.turns;
       last = last;
@@ -64,5 +72,6 @@ reports {plan} {last} {answers} {touched} listed run nodes-are rising text-is =
       ends = All-weaker (λ n. contains touched n ≡ true) (Contains listed) (λ n has. in_listed listed n (rw nodes-are has))
           (named from_start.turns) from_start.ends_touched;
       in_reach = λ n has. near.touched_in n (subst (λ t. contains t n ≡ true) nodes-are (in_list listed n has));
-      text_is = text-is ∙ (rw from_start.answers_are refl);
+      ordered = subst IsOrdered told_is ordered;
+      text_is = text-is ∙ ap report_text told_is;
     }

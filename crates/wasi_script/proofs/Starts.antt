@@ -1,5 +1,5 @@
 -- How the calls of a script begin.
-use Rattle.std.proofs.Common.{ℕ, zero, suc, ◌+◌, ◌<◌, ◌≤◌, ◌≡◌, inl, inr, Bool, true, List, [], ◌∷◌, ◌++◌, length, map, take, refl, sym, ◌∙◌, arith, get_or, slice_get, slice_index_or}
+use Rattle.std.proofs.Common.{ℕ, zero, suc, ◌+◌, ◌<◌, ◌≤◌, ◌≡◌, ◌≢◌, inl, inr, Bool, true, false, subst, ap, List, [], ◌∷◌, ◌++◌, length, map, take, refl, sym, ◌∙◌, arith, get_or, slice_get, slice_index_or}
 use Rattle.std.specs.List.{list_all}
 use Rattle.std.specs.Ordering.{nat_cmp}
 use Rattle.std.specs.FinSet.{empty, contains, insert, contains-empty, members}
@@ -7,33 +7,39 @@ use Rattle.std.proofs.lemmas.Bool.Decides.{nat_tests}
 use Rattle.wasi_host.specs.Meaning.{Handles}
 use Rattle.std.proofs.lemmas.Bool.{cases_Bool, leb-true}
 use Rattle.std.proofs.lemmas.List.{map-append, take_more}
+use Rattle.std.specs.Prelude.{All}
+use Rattle.std.proofs.lemmas.List.Elements.{All-head, All-tail, All-push, All-weaker}
+use Rattle.std.proofs.lemmas.List.Quantifiers.{all_pairs_push}
 use Rattle.std.proofs.lemmas.List.Folds.{list_all_at, list_all-map}
 use Rattle.wasi_host.specs.Tree.{Tree, node_at, is_directory, stray}
 use Rattle.wasi_host.specs.ValidTree.{root, held}
 use Rattle.wasi_host.specs.declared.held.AccessMode.TheVariants.{PathOnly}
+use Rattle.wasi_host.specs.declared.held.Held.{Held}
 use Rattle.wasi_host.specs.declared.limits.Limits.{Limits}
 use Rattle.wasi_tree.specs.Given.{Given, GivenContent, file, directory, link, content_from, nodes_from, tree_of}
 use Rattle.wasi_tree.specs.FirstTree.{is_dir_content}
-use Rattle.wasi_tree.specs.MemState.{MemState, held_in, world_of}
+use Rattle.wasi_tree.specs.MemState.{HeldMap, MemState, live_of, held_in, world_of}
 use Rattle.wasi_guest.specs.Range.{with_bytes}
 use Rattle.wasi_p1.specs.Reach.{Confined}
-use Rattle.wasi_form.specs.Plan.{PlannedPiece, planned_preopen, planned_piece}
-use Rattle.wasi_form.specs.Built.{has_one_preopen, is_directory_given, is_piece_within}
-use Rattle.wasi_p1.specs.Slots.{first_slots}
-use Rattle.wasi_script.specs.Start.{IsGiven, IsBegun, with_pieces}
-use Rattle.wasi_p1.specs.Guest.{State}
+use Rattle.wasi_form.specs.Plan.{PlannedPreopen, PlannedPiece, planned_preopen, planned_piece}
+use Rattle.wasi_form.specs.Built.{are_preopens_directories, is_directory_given, is_piece_within}
+use Rattle.wasi_p1.specs.Slots.{first_slots, given_slot}
+use Rattle.wasi_p1.specs.declared.context.P1Preopen.{P1Preopen}
+use Rattle.wasi_script.specs.Start.{given_place, AreGiven, IsBegun, with_pieces}
+use Rattle.wasi_p1.specs.Guest.{State, directory as directory_place, place_of}
 use Rattle.wasi_form.specs.declared.script.Piece.{Piece}
 use Rattle.wasi_form.specs.declared.script.ScriptPreopen.{ScriptPreopen}
 
-pub one_given : (nodes : List Given) (preopens : List ScriptPreopen) (d : ScriptPreopen) → has_one_preopen nodes (map planned_preopen preopens) ≡ true
-    → IsGiven nodes (map planned_preopen preopens) (get_or preopens 0 d).node
-one_given nodes [] d e = absurd (cc)
-one_given nodes (p ∷ []) d e = record { is_directory = e; alone = refl }
-one_given nodes (p ∷ q ∷ ps) d e = absurd (cc)
+-- each element passes
+pub passes_at : {X : Type 0} (p : X → Bool) (xs : List X) (i : ℕ) (d : X) → i < length xs → list_all p xs ≡ true → p (get_or xs i d) ≡ true
+passes_at p xs i d within all = elim (cases_Bool (p (get_or xs i d))) [
+  | inl passes ↦ passes
+  | inr fails ↦ let none = list_all_at p xs i d within fails in absurd (cc)
+]
 
-pub some_given : (nodes : List Given) (preopens : List ScriptPreopen) → has_one_preopen nodes (map planned_preopen preopens) ≡ true → 0 < length preopens
-some_given nodes [] e = absurd (cc)
-some_given nodes (p ∷ ps) e = omega arith
+-- a handle that was just given is live
+pub given_is_live : (before now : Handles) (h : ℕ) → now ≡ insert before h → contains now h ≡ true
+given_is_live before now h is = rw is (grind (arith, members, nat_tests))
 
 directory_from : (all : List Given) (k : ℕ) (content : GivenContent) → is_dir_content content ≡ true → is_directory (content_from all k content) ≡ true
 directory_from all k (file bytes) is = absurd (cc)
@@ -50,11 +56,75 @@ pub directory_given : (nodes : List Given) (limits : Limits) (n : ℕ) → is_di
 unfolding node_at tree_of
 directory_given nodes limits n is = given_from nodes nodes 0 n is
 
--- a context over a tree in memory that has given one handle
-pub begun_by : (made given : MemState) (tree : Tree) (h node : ℕ) → made.tree ≡ tree → made.touched ≡ empty → given.tree ≡ made.tree → given.touched ≡ made.touched
-    → held_in given.handles h ≡ record { node = node; mode = PathOnly } → IsBegun world_of (record { host = given; slots = first_slots h; stdout = []; stderr = [] }) tree (node ∷ [])
-begun_by made given tree h node made-is none tree-is touched-is held-is = record {
-  state = λ memory. rw (tree-is, held-is, made-is) refl;
+-- the directories that the guest is given are
+pub directories_given : (nodes : List Given) (limits : Limits) (preopens : List ScriptPreopen)
+    → are_preopens_directories nodes (map planned_preopen preopens) ≡ true
+    → All (λ preopen. is_directory (node_at (tree_of nodes limits) preopen.node).content ≡ true) preopens
+directories_given nodes limits preopens are k d within =
+    directory_given nodes limits (get_or preopens k d).node
+    (passes_at (λ preopen. is_directory_given (slice_get nodes (planned_preopen preopen).node)) preopens k d within
+    (sym (list_all-map (λ (preopen : PlannedPreopen). is_directory_given (slice_get nodes preopen.node)) planned_preopen preopens) ∙ are))
+
+-- ---- handles that are given one after another
+
+abbrev IsLiveIn : HeldMap → P1Preopen → Type 0
+IsLiveIn handles preopen = contains (live_of handles) preopen.handle ≡ true
+
+-- those that were given stand for what they stood for
+places_again : (old new : HeldMap) (given : List P1Preopen) → All (IsLiveIn old) given
+    → ((h : ℕ) → contains (live_of old) h ≡ true → held_in new h ≡ held_in old h)
+    → map (place_of (held_in new)) (map given_slot given) ≡ map (place_of (held_in old)) (map given_slot given)
+places_again old new [] lives same = refl
+places_again old new (p ∷ ps) lives same =
+    let here : place_of (held_in new) (given_slot p) ≡ place_of (held_in old) (given_slot p) =
+    ap (λ (held : Held). directory_place (record { node = held.node; perms = p.perms }))
+    (same p.handle (All-head (IsLiveIn old) p ps lives)) in
+    λ i. here i ∷ places_again old new ps (All-tail (IsLiveIn old) p ps lives) same i
+
+pub none_given : {handles : HeldMap} → AreGiven handles [] []
+none_given = record { live = λ k d within. absurd (omega arith); once = λ i j d less within. absurd (omega arith); places = refl }
+
+-- a new handle, of one directory more
+pub record IsGivenTo (old new : HeldMap) (planned : PlannedPreopen) (preopen : P1Preopen) : Type 0 where
+  pub fresh : contains (live_of old) preopen.handle ≡ false
+  pub live : live_of new ≡ insert (live_of old) preopen.handle
+  pub held : held_in new preopen.handle ≡ record { node = planned.node; mode = PathOnly }
+  pub others : (h : ℕ) → contains (live_of old) h ≡ true → held_in new h ≡ held_in old h
+  pub perms : preopen.perms ≡ planned.perms
+
+pub given_more : {old new : HeldMap} {planned : PlannedPreopen} {p : P1Preopen} (preopens : List PlannedPreopen)
+    (given : List P1Preopen)
+    → AreGiven old preopens given → IsGivenTo old new planned p
+    → AreGiven new (preopens ++ planned ∷ []) (given ++ p ∷ [])
+given_more {old} {new} {planned} {p} preopens given are is = record {
+  live = All-push (IsLiveIn new) given p (All-weaker (IsLiveIn old) (IsLiveIn new) still given are.live) got;
+  once = all_pairs_push (λ one other. one.handle ≢ other.handle) given p are.once (λ k d within same.
+      absurd (let wrong = sym (are.live k d within) ∙ ap (contains (live_of old)) same ∙ is.fresh in cc));
+  places =
+      let here : place_of (held_in new) (given_slot p) ≡ given_place planned =
+      (λ i. directory_place (record { node = (is.held i).node; perms = is.perms i })) in
+      let old_ones = places_again old new given are.live is.others ∙ are.places in
+      rw (
+        map-append given_slot given (p ∷ []),
+        map-append (place_of (held_in new)) (map given_slot given) (given_slot p ∷ []),
+        map-append given_place preopens (planned ∷ []),
+      ) (λ i. old_ones i ++ here i ∷ []);
+}
+  where
+    still : (q : P1Preopen) → IsLiveIn old q → IsLiveIn new q
+    still q lives = subst (λ s. contains s q.handle ≡ true) (sym is.live)
+        (let more : contains (insert (live_of old) p.handle) q.handle ≡ true = grind (arith, members, nat_tests) in more)
+
+    got : IsLiveIn new p
+    got = given_is_live (live_of old) (live_of new) p.handle is.live
+
+-- a context over a tree in memory that has given handles
+pub begun_by : (made given : MemState) (tree : Tree) (preopens : List PlannedPreopen) (list : List P1Preopen)
+    → made.tree ≡ tree → made.touched ≡ empty → given.tree ≡ made.tree → given.touched ≡ made.touched
+    → AreGiven given.handles preopens list
+    → IsBegun world_of (record { host = given; slots = first_slots list; stdout = []; stderr = [] }) tree preopens
+begun_by made given tree preopens list made-is none tree-is touched-is are = record {
+  state = λ memory. rw (tree-is, made-is, are.places) refl;
   untouched = touched-is ∙ none;
 }
 
@@ -66,13 +136,6 @@ confined_at_start s = record {
   names = λ d n name near is. elim near [ inl reached ↦ inl (held d n name reached is) | inr made ↦ let low = made.fresh in let high = made.there in absurd (omega arith) ];
   touched_in = λ n has. let none = contains-empty nat_cmp n in absurd (cc);
 }
-
--- each element passes
-pub passes_at : {X : Type 0} (p : X → Bool) (xs : List X) (i : ℕ) (d : X) → i < length xs → list_all p xs ≡ true → p (get_or xs i d) ≡ true
-passes_at p xs i d within all = elim (cases_Bool (p (get_or xs i d))) [
-  | inl passes ↦ passes
-  | inr fails ↦ let none = list_all_at p xs i d within fails in absurd (cc)
-]
 
 with_one_more : (memory : List ℕ) (pieces : List PlannedPiece) (piece : PlannedPiece) → with_pieces memory (pieces ++ piece ∷ []) ≡ with_bytes (with_pieces memory pieces) piece.offset piece.bytes
 with_one_more memory [] piece = refl
@@ -87,7 +150,3 @@ with_next memory pieces i d within = rw (take_more pieces i d within, map-append
 pub piece_within : (size : ℕ) (pieces : List Piece) (i : ℕ) (d : Piece) → i < length pieces → list_all (is_piece_within size) (map planned_piece pieces) ≡ true
     → (get_or pieces i d).offset + length (get_or pieces i d).bytes.items ≤ size
 piece_within size pieces i d within all = leb-true _ _ (passes_at (λ piece. is_piece_within size (planned_piece piece)) pieces i d within (sym (list_all-map (is_piece_within size) planned_piece pieces) ∙ all))
-
--- a handle that was just given is live
-pub given_is_live : (before now : Handles) (h : ℕ) → now ≡ insert before h → contains now h ≡ true
-given_is_live before now h is = rw is (grind (arith, members, nat_tests))

@@ -6,7 +6,7 @@ use Rattle.wasi_script.specs.Headline.{Reports}
 use Rattle.wasi_form.specs.Plan.{Plan, plan}
 use Rattle.wasi_form.specs.Verdict.{most_script, verdict_of}
 use Rattle.wasi_form.specs.declared.verdict.Refusal.{Refusal}
-use Rattle.wasi_form.specs.declared.verdict.Refusal.TheVariants.{Json, Later}
+use Rattle.wasi_form.specs.declared.verdict.Refusal.TheVariants.{Long, Json, Shape, Later, Limit}
 use Rattle.wasi_form.specs.declared.script.Script.{Script}
 use Rattle.wasi_script.specs.declared.status.Status.{Status}
 use Rattle.wasi_script.specs.declared.status.Status.TheVariants as statuses
@@ -25,8 +25,11 @@ abbrev pub usage_line : List ℕ
 usage_line = codes "usage: wasirun run | wasirun gen N" ++ 10 ∷ []
 
 abbrev pub refusal_line : Refusal → List ℕ
+refusal_line Long = codes "refused: long" ++ 10 ∷ []
 refusal_line Json = codes "refused: json" ++ 10 ∷ []
+refusal_line Shape = codes "refused: shape" ++ 10 ∷ []
 refusal_line Later = codes "refused: later" ++ 10 ∷ []
+refusal_line Limit = codes "refused: limit" ++ 10 ∷ []
 
 -- what has to be written
 pub data Due : Type 0 where

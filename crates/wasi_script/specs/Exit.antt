@@ -1,8 +1,9 @@
 -- The statuses of the program.
 use Rattle.std.specs.Prelude.{ℕ}
 use Rattle.wasi_form.specs.declared.reading.Unfinished.{Unfinished}
-use Rattle.wasi_form.specs.declared.reading.Unfinished.TheVariants.{Long, Fault, Memory}
-use Rattle.wasi_form.specs.declared.verdict.Refusal.TheVariants.{Later}
+use Rattle.wasi_form.specs.declared.reading.Unfinished.TheVariants.{Fault, Memory}
+use Rattle.wasi_form.specs.declared.reading.Unfinished.TheVariants as unfinished
+use Rattle.wasi_form.specs.declared.verdict.Refusal.TheVariants.{Long}
 use Rattle.wasi_form.specs.declared.verdict.ScriptError.{ScriptError}
 use Rattle.wasi_form.specs.declared.verdict.ScriptError.TheVariants as scripts
 use Rattle.wasi_script.specs.declared.status.Status.{Status}
@@ -19,7 +20,7 @@ exit_code NoMemory = 6
 
 -- where a source wasn't read to its end
 abbrev pub unfinished_status : Unfinished → Status
-unfinished_status Long = Refused Later
+unfinished_status unfinished.Long = Refused Long
 unfinished_status Fault = ReadFault
 unfinished_status Memory = NoMemory
 

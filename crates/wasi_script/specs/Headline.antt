@@ -5,6 +5,7 @@ use Rattle.std.specs.Ordering.{nat_cmp}
 use Rattle.wasi_tree.specs.Given.{given_of}
 use Rattle.wasi_p1.specs.Reach.{InReach}
 use Rattle.wasi_form.specs.Report.{Report, report_text}
+use Rattle.wasi_form.specs.ReadBack.{IsOrdered}
 use Rattle.wasi_p1.specs.Run.{Turned, Run, answers_of, named}
 use Rattle.wasi_form.specs.Plan.{Plan}
 use Rattle.wasi_script.specs.Start.{start}
@@ -28,7 +29,7 @@ told_of show turns last touched = record {
 
 -- The text is the report of the run of the plan's calls from its start, in which no turn is faulted. The touched nodes are
 -- listed rising; each at which a path of a call answered Ok ended is among them, and each is reached from a directory
--- that the guest was given, or was made by the run.
+-- that the guest was given, or was made by the run. It is in range and order, so that its text tells it.
 pub record Reports (plan : Plan) (text : List ℕ) : Type 0 where
   pub turns : List Turned
   pub last : State
@@ -37,4 +38,5 @@ pub record Reports (plan : Plan) (text : List ℕ) : Type 0 where
   pub rising : IsStrictlySortedBy nat_cmp touched
   pub ends : All (Contains touched) (named turns)
   pub in_reach : (n : ℕ) → Contains touched n → InReach (start plan) last n
+  pub ordered : IsOrdered (told_of plan.show turns last touched)
   pub text_is : text ≡ report_text (told_of plan.show turns last touched)

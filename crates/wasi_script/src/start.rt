@@ -1,50 +1,68 @@
 //! The context and the memory in which the calls of a script begin, and the memory that is shown after them.
-ghost use Rattle.std.specs.Prelude.{◌≡◌, ℕ, true, length, map, [], ◌∷◌, replicate, slice_get, IfOk};
+ghost use Rattle.std.specs.Prelude.{◌≡◌, ℕ, true, length, map, replicate, All, IfOk};
 ghost use Rattle.std.specs.List.{list_all};
+ghost use Rattle.wasi_host.specs.Tree.{node_at, is_directory};
 ghost use Rattle.wasi_tree.specs.Given.{given, tree_of};
 ghost use Rattle.wasi_tree.specs.FirstTree.{is_first_tree};
 ghost use Rattle.wasi_tree.specs.MemState.{world_of};
 ghost use Rattle.wasi_form.specs.Plan.{planned_piece, planned_preopen};
-ghost use Rattle.wasi_form.specs.Built.{default_limits, is_directory_given, has_one_preopen, is_piece_within, is_shown_within};
-ghost use Rattle.wasi_script.specs.Start.{with_pieces, IsBegun, IsGiven};
+ghost use Rattle.wasi_form.specs.Built.{default_limits, are_preopens_directories, is_piece_within, is_shown_within};
+ghost use Rattle.wasi_script.specs.Start.{with_pieces, IsBegun, AreGiven};
 ghost use Rattle.wasi_script.specs.Headline.{shown_in};
 
 use std::alloc::{AllocError, Global};
 use wasi_form::{DEFAULT_LIMITS, Piece, ScriptPreopen, Shown};
 use wasi_guest::GuestMemory;
-use wasi_p1::WasiP1Ctx;
+use wasi_p1::{P1Preopen, WasiP1Ctx};
 use wasi_tree::{HandleError, MemTree, NewNode, TreeError};
 
-/// The node of the one directory that the guest is given.
-#[tactic(auto, using(crate::proofs::Starts::some_given, crate::proofs::Starts::one_given))]
-pub fn given_node(nodes: &Vec<NewNode>, preopens: &[ScriptPreopen]) -> u64
-    requires { has_one_preopen (map given nodes.now.items) (map planned_preopen preopens.now) ≡ true }
-    ensures given { IsGiven (map given nodes.now.items) (map planned_preopen preopens.now) result }
+/// A handle of each directory that the guest is given, in order.
+fn given_handles(
+    alloc: Global,
+    tree: &mut MemTree,
+    preopens: &[ScriptPreopen],
+) -> Result<Vec<P1Preopen>, AllocError>
+    requires directories { All (λ preopen. is_directory (node_at tree.old.tree preopen.node).content ≡ true)
+        preopens.now }
+    ensures tree { tree.new.tree ≡ tree.old.tree }
+    ensures touched { tree.new.touched ≡ tree.old.touched }
+    ensures given { IfOk result (λ given. AreGiven tree.new.handles (map planned_preopen preopens.now) given.items) }
 {
-    preopens[0].node
+    let mut given = Vec::new(alloc);
+    for preopen in preopens {
+        let handle = match tree.handle(preopen.node) {
+            Ok(handle) => handle,
+            Err(HandleError::Memory) => return Err(AllocError),
+            Err(HandleError::NotDirectory) => unreachable!(),
+        };
+        let name = preopen.name.clone()?;
+        given.push(P1Preopen {
+            handle,
+            perms: preopen.perms,
+            name,
+        })?;
+    }
+    Ok(given)
 }
 
-/// A context over a tree of these nodes, in which the directory of a number is given to the guest.
+/// A context over a tree of these nodes, in which the guest is given these directories.
 pub fn first_context(
     alloc: Global,
     nodes: Vec<NewNode>,
-    node: u64,
+    preopens: &[ScriptPreopen],
 ) -> Result<WasiP1Ctx<MemTree>, AllocError>
     requires first { is_first_tree default_limits (map given nodes.items) ≡ true }
-    requires directory { is_directory_given (slice_get (map given nodes.items) node) ≡ true }
-    ensures begun { IfOk result (λ c. IsBegun world_of c (tree_of (map given nodes.items) default_limits) (node ∷ [])) }
+    requires directories { are_preopens_directories (map given nodes.items) (map planned_preopen preopens.now) ≡ true }
+    ensures begun { IfOk result (λ c. IsBegun world_of c (tree_of (map given nodes.items) default_limits)
+        (map planned_preopen preopens.now)) }
 {
     let mut tree = match MemTree::new(alloc, nodes, DEFAULT_LIMITS) {
         Ok(tree) => tree,
         Err(TreeError::Memory) => return Err(AllocError),
         Err(TreeError::Invalid(_)) => unreachable!(),
     };
-    let preopen = match tree.handle(node) {
-        Ok(preopen) => preopen,
-        Err(HandleError::Memory) => return Err(AllocError),
-        Err(HandleError::NotDirectory) => unreachable!(),
-    };
-    match WasiP1Ctx::new(alloc, tree, preopen) {
+    let given = given_handles(alloc, &mut tree, preopens)?;
+    match WasiP1Ctx::new(alloc, tree, given) {
         Ok(context) => Ok(context),
         Err(_) => Err(AllocError),
     }

@@ -44,12 +44,7 @@ impl Status {
         match self {
             Status::Done => None,
             Status::Usage => None,
-            Status::Refused(Refusal::Json) => Some(
-                "wasirun: the script isn't JSON; docs/SCRIPT.md says what a script is",
-            ),
-            Status::Refused(Refusal::Later) => Some(
-                "wasirun: the script has a form that isn't built, or more than 16,777,216 bytes; docs/SCRIPT.md says what is built",
-            ),
+            Status::Refused(refusal) => Some(why_refused(refusal)),
             Status::ReadFault => Some(
                 "wasirun: standard input couldn't be read to its end, and nothing was written",
             ),
@@ -61,12 +56,28 @@ impl Status {
     }
 }
 
+fn why_refused(refusal: Refusal) -> &'static str {
+    match refusal {
+        Refusal::Long => {
+            "wasirun: the script has more than 16,777,216 bytes; docs/SCRIPT.md says what a script is"
+        }
+        Refusal::Json => "wasirun: the script isn't JSON; docs/SCRIPT.md says what a script is",
+        Refusal::Shape => {
+            "wasirun: the script is JSON, and isn't of a script's shape; docs/SCRIPT.md says what a script is"
+        }
+        Refusal::Later => {
+            "wasirun: the script has a form that isn't built; docs/SCRIPT.md says what is built"
+        }
+        Refusal::Limit => "wasirun: the script passes a limit; docs/SCRIPT.md says which there are",
+    }
+}
+
 impl From<Unfinished> for Status {
     ghost from_gives = { λ error status. status ≡ unfinished_status error };
 
     fn from(error: Unfinished) -> Self {
         match error {
-            Unfinished::Long => Status::Refused(Refusal::Later),
+            Unfinished::Long => Status::Refused(Refusal::Long),
             Unfinished::Fault => Status::ReadFault,
             Unfinished::Memory => Status::NoMemory,
         }

@@ -7,7 +7,7 @@ ghost use Rattle.wasi_form.specs.Built.{is_built_script};
 ghost use Rattle.wasi_script.specs.Headline.{Reports};
 ghost use Rattle.wasi_script.specs.Due.{is_run, due, the_usage, due_of, refusal_line, IsDue, Writes, LeavesBytes, KeepsSink, EndsReading, ReadsScript, Written};
 
-use crate::start::{first_context, first_memory, given_node, shown};
+use crate::start::{first_context, first_memory, shown};
 use crate::status::Status;
 use std::alloc::{AllocError, Global};
 use wasi_form::{Outcome, Refusal, Script, Sink, Source, read_all, read_script, report, write_all};
@@ -28,8 +28,11 @@ fn refusal_line(refusal: Refusal) -> &'static str
     ensures { result.now ≡ refusal_line refusal }
 {
     match refusal {
+        Refusal::Long => "refused: long\n",
         Refusal::Json => "refused: json\n",
+        Refusal::Shape => "refused: shape\n",
         Refusal::Later => "refused: later\n",
+        Refusal::Limit => "refused: limit\n",
     }
 }
 
@@ -49,9 +52,8 @@ fn report_of(alloc: Global, script: Script) -> Result<Vec<u8>, AllocError>
     requires { is_built_script (plan script) ≡ true }
     ensures { IfOk result (λ text. Reports (plan script) text.items) }
 {
-    let node = given_node(&script.nodes, script.preopens.as_slice());
     let mut memory = first_memory(alloc, script.size, script.pieces.as_slice())?;
-    let mut context = first_context(alloc, script.nodes, node)?;
+    let mut context = first_context(alloc, script.nodes, script.preopens.as_slice())?;
     let Ok(answers) = run_calls(alloc, &mut context, &mut memory, &script.calls) else {
         return Err(AllocError);
     };
@@ -83,8 +85,8 @@ fn written<K: Sink>(sink: &mut K, text: &[u8], status: Status) -> Status
 /// Runs the program. `words` are the words of the command line after the program's name: with the one word `run` the
 /// source is read to its end as a script, which is run, and its report is written to the sink; with any others the usage
 /// line is written. A script has at most 16,777,216 bytes, and at most one more is read. What is written is due by the
-/// words and the bytes that the source has left: the usage line; the line `refused: json` or `refused: later`; or the
-/// report's text. Faults come from the source and the sink alone.
+/// words and the bytes that the source has left: the usage line; the line that names the refusal, as `refused: json`; or
+/// the report's text. Faults come from the source and the sink alone.
 pub fn run_script<S: Source, K: Sink>(
     alloc: Global,
     words: &Vec<String>,

@@ -7,7 +7,7 @@ use Rattle.std.specs.Ordering.{nat_cmp, eq_by_cmp}
 use Rattle.std.specs.Cmp.Lexicographic.{slice_cmp, nat_list_cmp_total}
 use Rattle.std.specs.FinMap as maps
 use Rattle.std.specs.FinSet as set
-use Rattle.wasi_host.specs.Tree.{Tree, Node, File, Directory, node_at, stray, names_of}
+use Rattle.wasi_host.specs.Tree.{Tree, Node, Nodes, File, Directory, node_at, stray, names_of}
 use Rattle.wasi_host.specs.declared.limits.Limits.{Limits}
 use Rattle.wasi_tree.specs.Given.{Given, GivenContent, file, directory, link, entry_count, content_from, nodes_from, tree_of}
 use Rattle.wasi_tree.specs.First.{first_content, first_node}
@@ -82,19 +82,21 @@ nodes_sound count k [] are n = record { below = λ name m is. entries_below coun
 nodes_sound count k (g ∷ gs) are zero = node_sound count k g (and_parts (is_first_node count k g) (are_first_nodes count (k + 1) gs) are).0
 nodes_sound count k (g ∷ gs) are (suc n) = nodes_sound count (k + 1) gs (and_parts (is_first_node count k g) (are_first_nodes count (k + 1) gs) are).1 n
 
-pub rows_sound : (rows : List Row) (limits : Limits) (gs : List Given) → is_first_tree limits gs ≡ true
-    → map stored_node rows ≡ map first_node gs → IsSound (stored_tree rows limits)
+pub rows_sound : (rows : List Row) (limits : Limits) (worked : Nodes) (marks : ℕ) (gs : List Given)
+    → is_first_tree limits gs ≡ true → map stored_node rows ≡ map first_node gs → marks ≡ length rows
+    → IsSound (stored_tree rows limits worked) marks
 unfolding node_at
-rows_sound rows limits gs is same = record {
+rows_sound rows limits worked marks gs is same counted = record {
   nodes = λ n.
       subst (λ (nodes : List Node). IsSoundNode (length nodes) (slice_index_or nodes n stray)) (sym same)
       (subst (λ count. IsSoundNode count (slice_index_or (map first_node gs) n stray)) (sym (length-map gs first_node))
       (nodes_sound (length gs) 0 gs (is_tree limits gs is).each n));
+  counted = counted ∙ sym (length-map rows stored_node);
 }
 
-pub rows_tree : (rows : List Row) (limits : Limits) (gs : List Given) → is_first_tree limits gs ≡ true
-    → map stored_node rows ≡ map first_node gs → stored_tree rows limits ≡ tree_of gs limits
-rows_tree rows limits gs is same =
-    ap (λ nodes. let t : Tree = record { nodes = nodes; limits = limits; worked = set.empty } in t) same ∙ sym (tree_of-first limits gs is)
+pub rows_tree : (rows : List Row) (limits : Limits) (worked : Nodes) (gs : List Given) → is_first_tree limits gs ≡ true
+    → map stored_node rows ≡ map first_node gs → worked ≡ set.empty → stored_tree rows limits worked ≡ tree_of gs limits
+rows_tree rows limits worked gs is same none =
+    (λ i. let t : Tree = record { nodes = same i; limits = limits; worked = none i } in t) ∙ sym (tree_of-first limits gs is)
 
 pub ruleset first_rules = (rows_sound, rows_tree)

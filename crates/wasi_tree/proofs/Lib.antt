@@ -7,6 +7,8 @@ pub mod SlotLemmas
 pub mod MarkLemmas
 pub mod NameLemmas
 pub mod NodeLemmas
+pub mod PutLemmas
 pub mod StoreLemmas
+pub mod TouchedLemmas
 pub mod MemLemmas
 pub mod FirstLemmas

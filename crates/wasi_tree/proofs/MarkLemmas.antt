@@ -1,7 +1,8 @@
 use Rattle.std.proofs.Common.{◌≡◌, ◌<◌, ◌≤◌, ℕ, zero, suc, ◌+◌, Bool, true, false, cond, List, [], ◌∷◌, ◌++◌, length, drop, append_assoc, inl, inr, refl, sym, ap, ◌∙◌, subst, arith, slice_index_or, slice_set, replicate}
 use Rattle.std.proofs.lemmas.Grind.{common_steps}
-use Rattle.std.proofs.lemmas.Bool.{cases_eq}
-use Rattle.std.proofs.lemmas.List.{get_or-set_other, append-nil}
+use Rattle.std.proofs.Math.Seq.{get_or-append_seam}
+use Rattle.std.proofs.lemmas.Bool.{cases_eq, cases_lt}
+use Rattle.std.proofs.lemmas.List.{get_or-set_other, get_or_append_left, get_or_past, length-append, append-nil}
 use Rattle.std.proofs.Math.ListN.{drop_of_length-le}
 use Rattle.std.proofs.lemmas.Bool.Decides.{nat_tests}
 use Rattle.std.specs.Ordering.{nat_cmp}
@@ -36,6 +37,20 @@ marked-set marks i within = same_set nat_cmp_total nat_cmp-IsAntisymmetric _ _ (
   | inl here ↦ grind (arith, members, nat_tests, contains-marked, common_steps)
   | inr other ↦ grind (arith, members, nat_tests, contains-marked, get_or-set_other marks i q true false other)
 ])
+
+-- one node more, which is marked
+pub marked-push : (marks : List Bool) → marked (marks ++ true ∷ []) ≡ insert (marked marks) (length marks)
+marked-push marks = same_set nat_cmp_total nat_cmp-IsAntisymmetric _ _ (λ q.
+    contains-marked (marks ++ true ∷ []) q ∙ elim (cases_eq q (length marks)) [
+      | inl here ↦ ap (λ k. slice_index_or (marks ++ true ∷ []) k false) here ∙ get_or-append_seam marks true [] false
+          ∙ grind (arith, members, nat_tests)
+      | inr other ↦ elim (cases_lt q (length marks)) [
+        | inl before ↦ get_or_append_left marks (true ∷ []) false q before ∙ grind (arith, members, nat_tests, contains-marked)
+        | inr after ↦
+            get_or_past (marks ++ true ∷ []) q false (omega (arith, length-append marks (true ∷ [])))
+            ∙ sym (get_or_past marks q false after) ∙ grind (arith, members, nat_tests, contains-marked)
+      ]
+    ])
 
 -- no mark is set
 pub marked-none : (n : ℕ) → marked (replicate n false) ≡ empty
@@ -117,4 +132,4 @@ listed_set marks ns is = ap from_list is ∙ from_list-marked marks
 pub listed_rising : (marks : List Bool) (ns : List ℕ) → ns ≡ places_from 0 marks → IsStrictlySortedBy nat_cmp ns
 listed_rising marks ns is = subst (IsStrictlySortedBy nat_cmp) (sym is) (rising_places 0 marks)
 
-pub ruleset mark_rules = (marked-set, marked-none, members)
+pub ruleset mark_rules = (marked-set, marked-push, marked-none, members)

@@ -1,4 +1,4 @@
--- Marks of nodes: one for each node, true where the node was touched.
+-- Marks of nodes: one for each node, true where the node is marked.
 use Rattle.std.specs.Prelude.{ℕ, ◌+◌, Bool, true, false, List, [], ◌∷◌, refl}
 use Rattle.std.specs.Coded.{Coded, code_by, coded×, coded_ℕ}
 use Rattle.std.specs.FinSet as set
@@ -14,10 +14,13 @@ marked_from k (true ∷ marks) = set.insert (marked_from (k + 1) marks) k
 unfoldable pub marked : List Bool → Nodes
 marked marks = marked_from 0 marks
 
--- how many nodes there are, and those that are marked
+-- how many nodes there are, those that are marked, and how many more can come before memory is taken
 pub record Marked : Type 0 where
   pub count : ℕ
   pub nodes : Nodes
+  pub room : ℕ
 
 abbrev pub marked_code : Coded Marked
-marked_code = code_by (ℕ × Nodes) (coded× coded_ℕ nodes_code) (λ m. (m.count, m.nodes)) (λ p. record { count = p.0; nodes = p.1 }) (λ _. refl)
+marked_code =
+    code_by (ℕ × (Nodes × ℕ)) (coded× coded_ℕ (coded× nodes_code coded_ℕ))
+    (λ m. (m.count, (m.nodes, m.room))) (λ p. record { count = p.0; nodes = p.1.0; room = p.1.1 }) (λ _. refl)

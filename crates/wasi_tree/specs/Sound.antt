@@ -1,8 +1,8 @@
 -- What holds of every tree in memory.
-use Rattle.std.specs.Prelude.{◌≡◌, ℕ, ◌<◌, true, List, Some}
+use Rattle.std.specs.Prelude.{◌≡◌, ℕ, ◌<◌, ◌≤◌, true, List, Some}
 use Rattle.std.specs.FinMap as maps
 use Rattle.std.specs.FinSet.{contains}
-use Rattle.wasi_host.specs.Tree.{Tree, Node, node_at, next_of, names_of}
+use Rattle.wasi_host.specs.Tree.{Tree, Node, node_at, next_of, names_of, is_file}
 use Rattle.wasi_host.specs.Meaning.{IsHeld}
 use Rattle.wasi_tree.specs.MemState.{HeldMap, live_of, held_in}
 
@@ -10,15 +10,16 @@ use Rattle.wasi_tree.specs.MemState.{HeldMap, live_of, held_in}
 pub record IsSoundNode (count : ℕ) (node : Node) : Type 0 where
   pub below : (name : List ℕ) (n : ℕ) → maps.get (names_of node.content) name ≡ Some n → n < count
 
--- each node is sound
-pub record IsSound (t : Tree) : Type 0 where
+-- each node is sound, and there is a mark for each node
+pub record IsSound (t : Tree) (marks : ℕ) : Type 0 where
   pub nodes : (n : ℕ) → IsSoundNode (next_of t) (node_at t n)
+  pub counted : marks ≡ next_of t
 
 -- each live handle's node is in the tree, and a file where the handle was opened for writing
 pub record HoldsNodes (t : Tree) (handles : HeldMap) : Type 0 where
   pub each : (h : ℕ) → contains (live_of handles) h ≡ true → IsHeld t (held_in handles h)
 
--- the handles hold nodes of the tree, and there is a mark for each node
-pub record IsWhole (t : Tree) (handles : HeldMap) (marks : ℕ) : Type 0 where
-  pub held : HoldsNodes t handles
-  pub counted : marks ≡ next_of t
+-- nodes stay, and those that are files stay files
+pub record Stays (t u : Tree) : Type 0 where
+  pub next : next_of t ≤ next_of u
+  pub files : (n : ℕ) → n < next_of t → is_file (node_at u n).content ≡ is_file (node_at t n).content

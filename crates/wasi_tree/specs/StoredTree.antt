@@ -3,8 +3,7 @@ use Rattle.std.specs.Prelude.{ℕ, List, map}
 use Rattle.std.specs.String.{string_bytes}
 use Rattle.std.specs.declared.string.String.{String}
 use Rattle.std.specs.FinMap as maps
-use Rattle.std.specs.FinSet as set
-use Rattle.wasi_host.specs.Tree.{Tree, Node, Content, File, Directory, Link, Names}
+use Rattle.wasi_host.specs.Tree.{Tree, Node, Content, File, Directory, Link, Names, Nodes}
 use Rattle.wasi_host.specs.declared.limits.Limits.{Limits}
 use Rattle.wasi_tree.specs.declared.row.Row.{Row}
 use Rattle.wasi_tree.specs.declared.row.RowContent.{RowContent}
@@ -25,6 +24,6 @@ stored_content (rows.Link text links) = Link (string_bytes text) links
 abbrev pub stored_node : Row → Node
 stored_node row = record { content = stored_content row.content; bits = row.bits; atime = row.atime; mtime = row.mtime; btime = row.btime }
 
--- the tree of these rows; nothing has been worked on
-abbrev pub stored_tree : List Row → Limits → Tree
-stored_tree rows limits = record { nodes = map stored_node rows; limits = limits; worked = set.empty }
+-- the tree of these rows, where these nodes have been worked on
+abbrev pub stored_tree : List Row → Limits → Nodes → Tree
+stored_tree rows limits worked = record { nodes = map stored_node rows; limits = limits; worked = worked }

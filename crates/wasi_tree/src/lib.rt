@@ -9,6 +9,7 @@ mod node;
 mod row;
 mod slots;
 mod store;
+mod touched_tree;
 
 pub use errors::{HandleError, TreeError};
 pub use first_tree::{first_trees_are_valid, is_first_tree};

@@ -11,10 +11,9 @@ ghost use Rattle.wasi_tree.specs.Lent.{lent};
 ghost use Rattle.wasi_tree.specs.MemState.{live_of, held_in, world_of};
 
 use crate::errors::{HandleError, TreeError};
-use crate::marks::Marks;
 use crate::node::{LentNode, NewNode};
 use crate::slots::Slots;
-use crate::store::Store;
+use crate::touched_tree::TouchedTree;
 use std::alloc::{AllocError, Global};
 use std::marker::Model;
 use wasi_host::{
@@ -26,23 +25,27 @@ use wasi_paths::Name;
 /// A tree of files in memory, with its live handles, the nodes that calls have touched, and the look-ups so far.
 #[derive(Debug, Drop)]
 pub struct MemTree {
-    store: Store,
+    tree: TouchedTree,
     slots: Slots,
-    marks: Marks,
     log: Vec<Lookup>,
 }
 
 impl Model for MemTree {
     ghost use Rattle.wasi_tree.specs.MemState.{MemState, state_code};
-    ghost use Rattle.wasi_tree.specs.Sound.{IsWhole};
+    ghost use Rattle.wasi_tree.specs.Sound.{HoldsNodes};
 
     ghost Value = { MemState };
 
     ghost coded = { state_code };
 
-    ghost view = { λ a. record { tree = a.store; handles = a.slots.handles; touched = a.marks.nodes; lookups = a.log.items } };
+    ghost view = { λ a. record {
+      tree = a.tree.tree;
+      handles = a.slots.handles;
+      touched = a.tree.touched;
+      lookups = a.log.items;
+    } };
 
-    ghost invariant = { λ a. IsWhole a.store a.slots.handles a.marks.count };
+    ghost invariant = { λ a. HoldsNodes a.tree.tree a.slots.handles };
 }
 
 #[tactic(auto, using(crate::proofs::MemLemmas::mem_rules))]
@@ -58,12 +61,9 @@ impl MemTree {
         ensures lookups { IfOk result (λ m. m.lookups ≡ []) }
         ensures err { IfErr result (λ e. e ≡ TreeError.Memory) }
     {
-        let store = Store::new(alloc, nodes, limits)?;
-        let marks = Marks::new(alloc, store.count() as usize)?;
         Ok(MemTree {
-            store,
+            tree: TouchedTree::new(alloc, nodes, limits)?,
             slots: Slots::new(alloc),
-            marks,
             log: Vec::new(alloc),
         })
     }
@@ -72,14 +72,14 @@ impl MemTree {
     pub fn nodes(&self, alloc: Global) -> Result<Vec<NewNode>, AllocError>
         ensures nodes { IfOk result (λ nodes. map given nodes.items ≡ map given_of self.now.tree.nodes) }
     {
-        self.store.to_new(alloc)
+        self.tree.store().to_new(alloc)
     }
 
     /// How many nodes there are, those without a name included. Their numbers are those below.
     pub fn count(&self) -> u64
         ensures count { result ≡ next_of self.now.tree }
     {
-        self.store.count()
+        self.tree.store().count()
     }
 
     /// The node of a number as it is, lent without a copy.
@@ -87,7 +87,7 @@ impl MemTree {
         requires { n < next_of self.now.tree }
         ensures node { lent result ≡ given_of (node_at self.now.tree n) }
     {
-        self.store.lend(n)
+        self.tree.store().lend(n)
     }
 
     /// A handle of a directory, for its path alone.
@@ -103,7 +103,7 @@ impl MemTree {
         ensures lookups { self.new.lookups ≡ self.old.lookups }
         ensures err { OnErr result (self.new ≡ self.old) }
     {
-        if !self.store.is_directory(node) {
+        if !self.tree.store().is_directory(node) {
             return Err(HandleError::NotDirectory);
         }
         self.slots.reserve()?;
@@ -116,7 +116,7 @@ impl MemTree {
         ensures nodes { IfOk result (λ nodes. from_list nodes.items ≡ self.now.touched) }
         ensures rising { IfOk result (λ nodes. IsStrictlySortedBy nat_cmp nodes.items) }
     {
-        self.marks.list(alloc)
+        self.tree.touched().list(alloc)
     }
 
     /// The look-ups of all calls so far, the first one first: each with the handle that it began from, and the handle
@@ -149,9 +149,7 @@ impl Host for MemTree {
         self.slots.reserve()?;
         self.log.reserve(1)?;
         let directory = self.slots.held(start).node;
-        let found = self.store.child(directory, name);
-        self.marks.touch_found(directory, found);
-        match self.store.open_at(directory, name, found, options) {
+        match self.tree.open_at(directory, name, options) {
             Ok(held) => {
                 let handle = self.slots.give(held);
                 self.log.push_reserved(Lookup {
@@ -161,7 +159,7 @@ impl Host for MemTree {
                 });
                 Ok(handle)
             }
-            Err(code) => {
+            Err(HostError::Code(code)) => {
                 self.log.push_reserved(Lookup {
                     kind: LookKind::Open,
                     from: start,
@@ -169,6 +167,7 @@ impl Host for MemTree {
                 });
                 Err(HostError::Code(code))
             }
+            Err(HostError::Memory) => Err(HostError::Memory),
         }
     }
 
@@ -187,14 +186,17 @@ impl Host for MemTree {
 
     fn stat(&mut self, handle: Handle) -> Result<Metadata, ErrorCode> {
         let node = self.slots.held(handle).node;
-        self.marks.touch(node);
-        Ok(self.store.metadata(node))
+        Ok(self.tree.metadata(node))
     }
 
     fn pread(&mut self, file: Handle, buf: &mut [u8], offset: u64) -> Result<usize, ErrorCode> {
         let held = self.slots.held(file);
-        self.marks.touch(held.node);
-        self.store.read_at(held, buf, offset)
+        self.tree.read_at(held, buf, offset)
+    }
+
+    fn pwrite(&mut self, file: Handle, piece: &[u8], offset: u64) -> Result<usize, HostError> {
+        let held = self.slots.held(file);
+        self.tree.write_at(held, piece, offset)
     }
 
     fn close(&mut self, handle: Handle) {
@@ -202,7 +204,7 @@ impl Host for MemTree {
     }
 
     fn laws(&self) {
-        let _store = &self.store;
+        let _tree = &self.tree;
     }
 }
 

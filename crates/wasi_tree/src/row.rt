@@ -1,7 +1,9 @@
 //! One node, as it is stored.
-ghost use Rattle.std.specs.Prelude.{◌≡◌, IfOk, map};
+ghost use Rattle.std.specs.Prelude.{◌≡◌, ◌+◌, ◌≤◌, IfOk, OnOk, OnErr, length, map, true};
 ghost use Rattle.std.specs.FinMap as maps;
-ghost use Rattle.wasi_host.specs.Tree.{is_directory, is_file, is_link, is_gone, names_of, bytes_of};
+ghost use Rattle.wasi_host.specs.Tree.{Directory, is_directory, is_file, is_link, is_gone, names_of, bytes_of};
+ghost use Rattle.wasi_host.specs.Step.{new_file, no_bytes, piece_in, with_piece};
+ghost use Rattle.wasi_host.specs.declared.limits.TheConstants.{FILE_MAX};
 ghost use Rattle.wasi_tree.specs.Given.{pair_of, given, given_content, given_of, content_given};
 ghost use Rattle.wasi_tree.specs.First.{first_node, first_content};
 ghost use Rattle.wasi_tree.specs.Lent.{lent, lent_content};
@@ -175,6 +177,48 @@ impl RowContent {
             RowContent::Link { .. } => None,
         }
     }
+
+    /// Puts a node under a name into a directory. Where memory is wanted, nothing has changed.
+    pub fn add_name(&mut self, alloc: Global, name: &str, node: u64) -> Result<(), AllocError>
+        requires { is_directory (stored_content self.old) ≡ true }
+        ensures added { OnOk result (stored_content self.new
+            ≡ Directory (maps.insert (names_of (stored_content self.old)) name.now node) (is_gone (stored_content self.old))) }
+        ensures kept { OnErr result (stored_content self.new ≡ stored_content self.old) }
+    {
+        match self {
+            RowContent::File { .. } => unreachable!(),
+            RowContent::Dir { names, .. } => add_entry(names, alloc, name, node),
+            RowContent::Link { .. } => unreachable!(),
+        }
+    }
+
+    /// Cuts a file to no bytes, and gives their memory back. What is no file stays.
+    pub fn cut(&mut self)
+        ensures { stored_content self.new ≡ no_bytes (stored_content self.old) }
+    {
+        match self {
+            RowContent::File { bytes, .. } => {
+                bytes.clear();
+                bytes.shrink_to_fit();
+            }
+            RowContent::Dir { .. } => {}
+            RowContent::Link { .. } => {}
+        }
+    }
+
+    /// Puts a piece of bytes into a file from an offset on, with zeros in a gap before it. What is no file stays. Where
+    /// memory is wanted, nothing has changed.
+    pub fn put(&mut self, offset: usize, piece: &[u8]) -> Result<(), AllocError>
+        requires { offset + length piece.now ≤ FILE_MAX }
+        ensures put { OnOk result (stored_content self.new ≡ piece_in (stored_content self.old) offset piece.now) }
+        ensures kept { OnErr result (stored_content self.new ≡ stored_content self.old) }
+    {
+        match self {
+            RowContent::File { bytes, .. } => put_piece(bytes, offset, piece),
+            RowContent::Dir { .. } => Ok(()),
+            RowContent::Link { .. } => Ok(()),
+        }
+    }
 }
 
 impl Row {
@@ -191,6 +235,26 @@ impl Row {
             mtime: node.mtime,
             btime: node.btime,
         })
+    }
+
+    /// The row of a file that is made.
+    pub fn new_file(alloc: Global) -> Row
+        ensures { stored_node result ≡ new_file }
+    {
+        Row {
+            content: RowContent::File {
+                bytes: Vec::new(alloc),
+                links: 1,
+            },
+            bits: Bits {
+                r: true,
+                w: true,
+                x: false,
+            },
+            atime: SystemTime::EPOCH,
+            mtime: SystemTime::EPOCH,
+            btime: SystemTime::EPOCH,
+        }
     }
 
     /// The node as a list of nodes gives it, in memory of its own.
@@ -261,4 +325,36 @@ fn new_entries(alloc: Global, names: &BTreeMap<String, u64>) -> Result<Vec<NewEn
         })?;
     }
     Ok(entries)
+}
+
+/// Puts a number under a name. Where memory is wanted, the names are as they were.
+fn add_entry(
+    names: &mut BTreeMap<String, u64>,
+    alloc: Global,
+    name: &str,
+    node: u64,
+) -> Result<(), AllocError>
+    ensures added { OnOk result (names_in names.new.entries ≡ maps.insert (names_in names.old.entries) name.now node) }
+    ensures kept { OnErr result (names.new.entries ≡ names.old.entries) }
+{
+    let text = String::from_str(alloc, name)?;
+    names.insert(text, node)?;
+    Ok(())
+}
+
+/// Puts a piece into bytes from an offset on, with zeros in a gap before it. A piece that runs past the end is copied once,
+/// into room that grows by doubling. Where memory is wanted, the bytes are as they were.
+fn put_piece(bytes: &mut Vec<u8>, offset: usize, piece: &[u8]) -> Result<(), AllocError>
+    requires { offset + length piece.now ≤ FILE_MAX }
+    ensures put { OnOk result (bytes.new.items ≡ with_piece bytes.old.items offset piece.now) }
+    ensures kept { OnErr result (bytes.new.items ≡ bytes.old.items) }
+{
+    let end = offset + piece.len();
+    if end <= bytes.len() {
+        bytes[offset..end].copy_from_slice(piece);
+        return Ok(());
+    }
+    bytes.reserve(end - bytes.len())?;
+    bytes.resize(offset, 0)?;
+    bytes.extend_from_slice(piece)
 }

@@ -1,12 +1,12 @@
 //! The nodes by number.
-ghost use Rattle.std.specs.Prelude.{◌≡◌, ◌<◌, ◌≤◌, ◌^◌, ℕ, OnOk, Some, None, IfSome, IfOk, OnErr, MatchResult, Ok, Err, take, drop, length, map, true};
+ghost use Rattle.std.specs.Prelude.{◌≡◌, ◌+◌, ◌<◌, ◌≤◌, ◌^◌, ℕ, OnOk, Some, None, IfSome, IfOk, OnErr, MatchResult, Ok, Err, if◌then◌else◌, take, drop, length, map, true};
 ghost use Rattle.wasi_paths.specs.Name.{name_bytes};
-ghost use Rattle.wasi_host.specs.Options.{OnlyRead};
 ghost use Rattle.wasi_host.specs.Tree.{Tree, next_of, node_at, child, is_directory};
-ghost use Rattle.wasi_host.specs.HostCall.{OpenAt, Stat, Pread};
+ghost use Rattle.wasi_host.specs.HostCall.{OpenAt, Stat, Pread, Pwrite};
 ghost use Rattle.wasi_host.specs.Refusal.{refusal, first_row, name_rows};
-ghost use Rattle.wasi_host.specs.Answer.{opened, metadata_of, bytes_read};
-ghost use Rattle.wasi_host.specs.Meaning.{IsHeld};
+ghost use Rattle.wasi_host.specs.Step.{is_cut, file_cut, file_made, bytes_put, write_step};
+ghost use Rattle.wasi_host.specs.Answer.{metadata_of, bytes_read, bytes_taken};
+ghost use Rattle.wasi_host.specs.declared.limits.TheConstants.{FILE_MAX};
 ghost use Rattle.std.specs.Option.{ForSome};
 ghost use Rattle.wasi_tree.specs.Given.{given, given_of, tree_of};
 ghost use Rattle.wasi_tree.specs.First.{first_node};
@@ -14,19 +14,22 @@ ghost use Rattle.wasi_tree.specs.FirstTree.{is_first_tree};
 ghost use Rattle.wasi_tree.specs.Lent.{lent};
 ghost use Rattle.wasi_tree.specs.StoredTree.{stored_node};
 ghost use Rattle.wasi_tree.specs.OpenRows.{missing_rows, found_rows};
+ghost use Rattle.wasi_tree.specs.TouchedTree.{MeansCode};
 
+use crate::marks::Marks;
 use crate::node::{LentNode, NewNode};
 use crate::row::Row;
 use std::alloc::{AllocError, Global};
 use std::marker::Model;
-use wasi_host::{ErrorCode, Held, Limits, Metadata, OpenOptions};
+use wasi_host::{ErrorCode, FILE_MAX, Held, HostError, Limits, Metadata, OpenOptions};
 use wasi_paths::Name;
 
-/// The nodes of a tree, with its limits. Contracts see the tree.
+/// The nodes of a tree, with its limits and the nodes that steps have worked on. Contracts see the tree.
 #[derive(Debug, Drop)]
 pub struct Store {
     rows: Vec<Row>,
     limits: Limits,
+    worked: Marks,
 }
 
 impl Model for Store {
@@ -40,9 +43,9 @@ impl Model for Store {
     ghost use Rattle.wasi_tree.specs.StoredTree.{stored_tree};
     ghost use Rattle.wasi_tree.specs.Sound.{IsSound};
 
-    ghost view = { λ a. stored_tree a.rows.items a.limits };
+    ghost view = { λ a. stored_tree a.rows.items a.limits a.worked.nodes };
 
-    ghost invariant = { λ a. IsSound (stored_tree a.rows.items a.limits) };
+    ghost invariant = { λ a. IsSound (stored_tree a.rows.items a.limits a.worked.nodes) a.worked.count };
 }
 
 #[tactic(auto, using(crate::proofs::StoreLemmas::store_rules))]
@@ -57,7 +60,12 @@ impl Store {
         ensures { IfOk result (λ store. store ≡ tree_of (map given nodes.items) limits) }
     {
         let rows = first_rows(alloc, nodes)?;
-        Ok(Store { rows, limits })
+        let worked = Marks::new(alloc, rows.len())?;
+        Ok(Store {
+            rows,
+            limits,
+            worked,
+        })
     }
 
     /// The nodes as a list gives them, each directory's entries in byte order.
@@ -189,7 +197,7 @@ impl Store {
 
     /// The code of the first row of an open that holds, where the name holds this node.
     #[tactic(auto, unfolding(wasi_host::specs::Refusal::refusal))]
-    fn refuse_open(
+    pub fn refuse_open(
         &self,
         directory: u64,
         name: Name<'_>,
@@ -219,29 +227,37 @@ impl Store {
         self.refuse_found(node, options)
     }
 
-    /// What the handle of an open stands for, where the name holds this node.
-    pub fn open_at(
-        &self,
-        directory: u64,
-        name: Name<'_>,
-        found: Option<u64>,
-        options: &OpenOptions,
-    ) -> Result<Held, ErrorCode>
-        requires within { directory < next_of self.now }
-        requires found { found ≡ child self.now directory (name_bytes name) }
-        requires below { ForSome found (λ n. n < next_of self.now) }
-        requires options { OnlyRead options.now }
-        ensures opened { result ≡ opened self.now directory (name_bytes name.entry) options.now }
-        ensures held { IfOk result (IsHeld self.now) }
+    /// Cuts a file that is opened to no bytes, where the options ask for it.
+    pub fn cut_where_asked(&mut self, node: u64, options: &OpenOptions)
+        requires { node < next_of self.old }
+        ensures { self.new ≡ (if is_cut options.now (node_at self.old node).content then file_cut self.old node else self.old) }
     {
-        if let Some(code) = self.refuse_open(directory, name, found, options) {
-            return Err(code);
+        if !options.is_truncate() || !self.row(node).content.is_file() {
+            return;
         }
-        let Some(node) = found else { unreachable!() };
-        Ok(Held {
-            node,
-            mode: options.access(),
-        })
+        self.rows[node as usize].content.cut();
+        self.worked.mark(node);
+    }
+
+    /// Makes a file under a name of a directory, and gives its number. All room is taken first, so that nothing has
+    /// changed where memory is wanted.
+    pub fn make_file(&mut self, directory: u64, name: Name<'_>) -> Result<u64, AllocError>
+        requires { is_directory (node_at self.old directory).content ≡ true }
+        ensures number { IfOk result (λ n. n ≡ next_of self.old) }
+        ensures made { OnOk result (self.new ≡ file_made self.old directory (name_bytes name.entry)) }
+        ensures kept { OnErr result (self.new ≡ self.old) }
+    {
+        let node = self.count();
+        self.rows.reserve(1)?;
+        self.worked.reserve()?;
+        let alloc = *self.rows.allocator();
+        self.rows[directory as usize]
+            .content
+            .add_name(alloc, name.as_str(), node)?;
+        self.rows.push_reserved(Row::new_file(alloc));
+        self.worked.mark(directory);
+        self.worked.push();
+        Ok(node)
     }
 
     /// The metadata of a node.
@@ -273,6 +289,45 @@ impl Store {
             return Err(ErrorCode::Invalid);
         }
         Ok(copy_front(bytes_from(content.bytes(), offset), buf))
+    }
+    /// Puts a piece of bytes into a file from an offset on, and answers how many: all.
+    #[tactic(auto, unfolding(wasi_host::specs::Refusal::refusal))]
+    pub fn write_at(&mut self, file: Held, piece: &[u8], offset: u64) -> Result<usize, HostError>
+        requires { file.node < next_of self.old }
+        ensures meaning { MatchResult result
+            (λ n. bytes_taken self.old file offset piece.now ≡ Ok n)
+            (MeansCode (bytes_taken self.old file offset piece.now)) }
+        ensures step { OnOk result (self.new ≡ write_step self.old file.node offset piece.now) }
+        ensures kept { OnErr result (self.new ≡ self.old) }
+        ensures all { IfOk result (λ n. n ≡ length piece.now) }
+        ensures offset { OnOk result (offset < 2 ^ 63) }
+    {
+        if !file.mode.can_write() {
+            return Err(HostError::Code(ErrorCode::BadDescriptor));
+        }
+        if offset >= 1 << 63 {
+            return Err(HostError::Code(ErrorCode::Invalid));
+        }
+        if piece.is_empty() {
+            return Ok(0);
+        }
+        if offset + piece.len() as u64 > FILE_MAX as u64 {
+            return Err(HostError::Code(ErrorCode::FileTooLarge));
+        }
+        self.put(file.node, offset as usize, piece)?;
+        Ok(piece.len())
+    }
+
+    /// Puts a piece of bytes into a file from an offset on. Where memory is wanted, nothing has changed.
+    fn put(&mut self, file: u64, offset: usize, piece: &[u8]) -> Result<(), AllocError>
+        requires within { file < next_of self.old }
+        requires fits { offset + length piece.now ≤ FILE_MAX }
+        ensures put { OnOk result (self.new ≡ bytes_put self.old file offset piece.now) }
+        ensures kept { OnErr result (self.new ≡ self.old) }
+    {
+        self.rows[file as usize].content.put(offset, piece)?;
+        self.worked.mark(file);
+        Ok(())
     }
 }
 
@@ -315,4 +370,56 @@ fn copy_front(bytes: &[u8], buf: &mut [u8]) -> usize
     let n = bytes.len().min(buf.len());
     buf[..n].copy_from_slice(&bytes[..n]);
     n
+}
+
+#[cfg(test)]
+mod tests {
+    use super::*;
+    use crate::row::RowContent;
+    use std::collections::BTreeMap;
+    use std::test::Fail;
+    use wasi_host::{Bits, SystemTime};
+
+    const LIMITS: Limits = Limits { nodes: 2, links: 1 };
+
+    /// One directory without names, which may be written or not, and may be gone.
+    fn one_directory(alloc: Global, w: bool, gone: bool) -> Result<Store, AllocError>
+        ensures { IfOk result (λ store. next_of store ≡ 1) }
+    {
+        let row = Row {
+            content: RowContent::Dir {
+                names: BTreeMap::new(alloc),
+                gone,
+            },
+            bits: Bits {
+                r: true,
+                w,
+                x: true,
+            },
+            atime: SystemTime::EPOCH,
+            mtime: SystemTime::EPOCH,
+            btime: SystemTime::EPOCH,
+        };
+        Ok(Store {
+            rows: vec![in alloc; row]?,
+            limits: LIMITS,
+            worked: Marks::new(alloc, 1)?,
+        })
+    }
+
+    #[test]
+    fn refuses_new_files(rt: HostRuntime) -> Result<(), Fail> {
+        let mut options = OpenOptions::new();
+        options.write(true).create(true);
+        for (w, gone, want) in [
+            (true, false, None),
+            (false, false, Some(ErrorCode::Access)),
+            (false, true, Some(ErrorCode::NoEntry)),
+        ] {
+            let store = one_directory(rt.alloc(), w, gone)?;
+            let refused = store.refuse_missing(0, &options);
+            assert_eq!(rt; refused, want, "of {w} {gone}");
+        }
+        Ok(())
+    }
 }

@@ -5,12 +5,14 @@ use wasi_form::{BytesSink, BytesSource};
 // What the scripts of these tests differ in.
 #[derive(Clone, Copy)]
 struct Parts<'a> {
+    nodes: &'a str,
     perms: &'a str,
     path: &'a str,
     calls: &'a str,
 }
 
 const FIRST: Parts<'static> = Parts {
+    nodes: r#"{"dir":{"f":1}},{"file":"746f70"}"#,
     perms: "ro",
     path: "f",
     calls: r#"["path_open",3,0,0,1,0,2,0,0],["fd_read",4,8,1]"#,
@@ -19,12 +21,32 @@ const FIRST: Parts<'static> = Parts {
 const REPORT: &str =
     "{\"answers\":[{\"ok\":4},{\"ok\":3}],\"memory\":[\"746f7000\"],\"stderr\":\"\",\"stdout\":\"\",\"touched\":[0,1],\"tree\":[{\"bits\":\"rwx\",\"dir\":{\"f\":1},\"times\":[[0,0],[0,0],[0,0]]},{\"bits\":\"rw-\",\"file\":\"746f70\",\"times\":[[0,0],[0,0],[0,0]]}]}\n";
 
-// A script over a directory with one file `f`, whose bytes are `top`: the path stands at 0, and at 8 the record of a
-// buffer of 8 bytes at 16.
+// An empty directory that may be changed; the path is `n`.
+const EMPTY: Parts<'static> = Parts {
+    nodes: r#"{"dir":{}}"#,
+    perms: "rw",
+    path: "n",
+    calls: "",
+};
+
+// Two directories, one of them empty, and two files; the path is `f`.
+const TREE: Parts<'static> = Parts {
+    nodes: r#"{"dir":{"d":1,"f":2}},{"dir":{"e":3,"f":4}},{"file":"746f70"},{"dir":{}},{"file":"6c6f77"}"#,
+    perms: "rw",
+    path: "f",
+    calls: "",
+};
+
+// A script: the path stands at 0, at 8 the record of a buffer of 8 bytes at 16, at 24 that of `abc`, which stands at 32.
 fn script(alloc: Global, parts: Parts<'_>) -> Result<String, AllocError> {
-    let Parts { perms, path, calls } = parts;
+    let Parts {
+        nodes,
+        perms,
+        path,
+        calls,
+    } = parts;
     format!(in alloc;
-        r#"{{"nodes":[{{"dir":{{"f":1}}}},{{"file":"746f70"}}],"preopens":[{{"node":0,"name":"/","perms":"{perms}"}}],"memory":{{"size":64,"pieces":[[0,"text","{path}"],[8,"hex","1000000008000000"]]}},"calls":[{calls}],"show":[[16,4]]}}"#
+        r#"{{"nodes":[{nodes}],"preopens":[{{"node":0,"name":"/","perms":"{perms}"}}],"memory":{{"size":64,"pieces":[[0,"text","{path}"],[8,"hex","1000000008000000"],[24,"hex","2000000003000000"],[32,"text","abc"]]}},"calls":[{calls}],"show":[[16,4]]}}"#
     )
 }
 
@@ -44,48 +66,177 @@ fn ended(
     Ok(run_script(alloc, words, &mut source, sink))
 }
 
-#[test]
-fn rows(rt: HostRuntime) -> Result<(), Fail> {
-    let alloc = rt.alloc();
+// Whether a run of the script ends with this status, and the sink takes a line that begins with one text and ends with
+// another.
+fn ends_so(
+    alloc: Global,
+    parts: Parts<'_>,
+    status: Status,
+    front: &str,
+    end: &str,
+) -> Result<bool, AllocError> {
     let run = words(alloc, "run")?;
-    for (parts, status, front) in [
-        (FIRST, Status::Done, REPORT),
+    let mut sink = BytesSink::new(alloc, 4_096, Vec::new(alloc))?;
+    let script = script(alloc, parts)?;
+    let ended = ended(alloc, &run, script.as_bytes(), &mut sink)?;
+    Ok(
+        ended == status
+            && sink.taken().starts_with(front.as_bytes())
+            && sink.taken().ends_with(end.as_bytes()),
+    )
+}
+
+#[test]
+fn refusals(rt: HostRuntime) -> Result<(), Fail> {
+    let alloc = rt.alloc();
+    for (parts, refusal, line) in [
         (
             Parts {
-                perms: "rw",
+                perms: "rx",
                 ..FIRST
             },
-            Status::Refused(Refusal::Later),
+            Refusal::Shape,
+            "refused: shape\n",
+        ),
+        (
+            Parts {
+                calls: r#"["path_open",3,0,0,1,0,2,0,1]"#,
+                ..FIRST
+            },
+            Refusal::Later,
             "refused: later\n",
+        ),
+        (
+            Parts {
+                path: "a text that doesn't fit in a memory of so few bytes as this one has",
+                ..FIRST
+            },
+            Refusal::Limit,
+            "refused: limit\n",
+        ),
+    ] {
+        assert!(rt; ends_so(alloc, parts, Status::Refused(refusal), line, line)?);
+    }
+    Ok(())
+}
+
+#[test]
+fn reads(rt: HostRuntime) -> Result<(), Fail> {
+    let alloc = rt.alloc();
+    for (parts, front, end) in [
+        (FIRST, REPORT, "\n"),
+        (
+            Parts { path: "g", ..FIRST },
+            r#"{"answers":[{"errno":"noent"},{"errno":"badf"}],"#,
+            "\n",
         ),
         (
             Parts {
                 calls: r#"["path_open",3,0,0,0,0,2,0,0],["fd_read",4,8,1]"#,
                 ..FIRST
             },
-            Status::Done,
             r#"{"answers":[{"errno":"notsup"},{"errno":"badf"}],"#,
-        ),
-        (
-            Parts { path: "g", ..FIRST },
-            Status::Done,
-            r#"{"answers":[{"errno":"noent"},{"errno":"badf"}],"#,
+            "\n",
         ),
         (
             Parts {
                 calls: r#"["fd_read",4,9,1],["fd_read",4,8,1]"#,
                 ..FIRST
             },
-            Status::Done,
             r#"{"answers":[{"trap":"pointer"}],"#,
+            "\n",
         ),
     ] {
-        let mut sink = BytesSink::new(alloc, 4_096, Vec::new(alloc))?;
-        let script = script(alloc, parts)?;
-        assert_eq!(rt; ended(alloc, &run, script.as_bytes(), &mut sink)?, status);
-        assert!(rt; sink.taken().starts_with(front.as_bytes()));
-        assert!(rt; sink.taken().ends_with("\n".as_bytes()));
+        assert!(rt; ends_so(alloc, parts, Status::Done, front, end)?);
     }
+    Ok(())
+}
+
+#[test]
+fn changes(rt: HostRuntime) -> Result<(), Fail> {
+    let alloc = rt.alloc();
+    for (parts, front, end) in [
+        (
+            Parts {
+                calls: r#"["path_open",3,0,0,1,1,64,0,0],["fd_write",4,24,1],["fd_close",4],["path_open",3,0,0,1,0,2,0,0],["fd_read",4,8,1]"#,
+                ..EMPTY
+            },
+            r#"{"answers":[{"ok":4},{"ok":3},{"ok":null},{"ok":4},{"ok":3}],"#,
+            "\"touched\":[0,1],\"tree\":[{\"bits\":\"rwx\",\"dir\":{\"n\":1},\"times\":[[0,0],[0,0],[0,0]]},{\"bits\":\"rw-\",\"file\":\"616263\",\"times\":[[0,0],[0,0],[0,0]]}]}\n",
+        ),
+        (
+            Parts {
+                path: "n",
+                calls: r#"["path_open",3,0,0,1,5,2,0,0],["path_open",3,0,0,1,5,2,0,0]"#,
+                ..TREE
+            },
+            r#"{"answers":[{"ok":4},{"errno":"exist"}],"#,
+            "\n",
+        ),
+        (
+            Parts {
+                calls: r#"["path_open",3,0,0,1,0,2,0,0],["fd_write",4,24,1]"#,
+                ..TREE
+            },
+            r#"{"answers":[{"ok":4},{"errno":"badf"}],"#,
+            "\n",
+        ),
+        (
+            Parts {
+                path: "d",
+                calls: r#"["path_open",3,0,0,1,0,64,0,0]"#,
+                ..TREE
+            },
+            r#"{"answers":[{"errno":"isdir"}],"#,
+            "\n",
+        ),
+    ] {
+        assert!(rt; ends_so(alloc, parts, Status::Done, front, end)?);
+    }
+    Ok(())
+}
+
+#[test]
+fn read_only(rt: HostRuntime) -> Result<(), Fail> {
+    let alloc = rt.alloc();
+    let kept = "{\"bits\":\"rw-\",\"file\":\"746f70\",\"times\":[[0,0],[0,0],[0,0]]}]}\n";
+    for (parts, front) in [
+        (
+            Parts {
+                calls: r#"["path_open",3,0,0,1,1,2,0,0],["path_open",3,0,0,1,0,2,0,0],["fd_write",4,24,1]"#,
+                ..FIRST
+            },
+            r#"{"answers":[{"errno":"perm"},{"ok":4},{"errno":"badf"}],"#,
+        ),
+        (
+            Parts {
+                path: "g",
+                calls: r#"["path_open",3,0,0,1,1,2,0,0]"#,
+                ..FIRST
+            },
+            r#"{"answers":[{"errno":"perm"}],"#,
+        ),
+    ] {
+        assert!(rt; ends_so(alloc, parts, Status::Done, front, kept)?);
+    }
+    Ok(())
+}
+
+// The smallest script that changes nothing.
+#[test]
+fn nothing_called(rt: HostRuntime) -> Result<(), Fail> {
+    let alloc = rt.alloc();
+    let script =
+        r#"{"nodes":[{"dir":{}}],"preopens":[{"node":0,"name":"/","perms":"rw"}],"calls":[]}"#;
+    let mut sink = BytesSink::new(alloc, 4_096, Vec::new(alloc))?;
+    assert_eq!(rt;
+        ended(alloc, &words(alloc, "run")?, script.as_bytes(), &mut sink)?,
+        Status::Done
+    );
+    assert_eq!(rt;
+        sink.taken(),
+        "{\"answers\":[],\"memory\":[],\"stderr\":\"\",\"stdout\":\"\",\"touched\":[],\"tree\":[{\"bits\":\"rwx\",\"dir\":{},\"times\":[[0,0],[0,0],[0,0]]}]}\n".as_bytes()
+    );
     Ok(())
 }
 

@@ -3,10 +3,10 @@ use Rattle.serde_json.proofs.Texts.{print-outline}
 use Rattle.wasi_form.specs.Report.{reported, report_value, report_text}
 use Rattle.wasi_form.proofs.outcome.report.Goals as goal
 
-pub returns : goal.returns
+pub returns-clause-text : goal.returns-clause-text
 unfolding report_text
-returns c =
+returns-clause-text c =
     let before = c.tell_outcome.ensures.before ∙ c.new-out.ensures.before ∙ c.new.ensures.items in
     let tokens = rw c.new-out.ensures.tokens at c.in_ok-tell_outcome.ensures.tokens in
     let text = rw (before, tokens, print-outline (report_value (reported c.args.outcome.now c.args.tree.now.tree.nodes))) at c.into_inner-text.ensures.items in
-    record { text = c.in_ok-push.ensures.items ∙ ap (λ (bytes : List ℕ). bytes ++ 10 ∷ []) text }
+    c.in_ok-push.ensures.items ∙ ap (λ (bytes : List ℕ). bytes ++ 10 ∷ []) text

@@ -4,7 +4,8 @@ use Rattle.json.proofs.Grammar.{read_key-shorter}
 use Rattle.serde_json.specs.Data.{put, no_members}
 use Rattle.wasi_form.specs.declared.parts.TheConstants.{DEPTH}
 use Rattle.wasi_form.specs.declared.shapes.Unread.TheVariants.{Shape}
-use Rattle.wasi_form.specs.Parts.{found_of, found_in, with_member}
+use Rattle.wasi_form.specs.Parts.{found_of, with_member}
+use Rattle.wasi_form.specs.ScriptForm.{found_in}
 use Rattle.wasi_form.proofs.FoundParts.{found_in-put}
 use Rattle.wasi_form.proofs.Grammar.{made_of, none_made, next_value-shorter, all_members, member_less, no_members_left, no_key_left, member_unread_left}
 use Rattle.wasi_form.proofs.Unreads.{passed_on, unread_part}

@@ -1,18 +1,18 @@
-use Rattle.std.proofs.Common.{ap, ◌∙◌, drop, arith}
+use Rattle.std.proofs.Common.{ap, ◌∙◌, inl, drop, arith}
 use Rattle.std.proofs.lemmas.Grind.{common_steps}
 use Rattle.std.proofs.lemmas.Result.{err_from_is_err_and}
 use Rattle.wasi_guest.proofs.Ranges.{with_same, with_bytes_length}
 use Rattle.wasi_host.specs.declared.errors.HostError.TheVariants.{Code}
-use Rattle.wasi_p1.proofs.Reading.{read_ok, read_err, puts_read}
+use Rattle.wasi_p1.proofs.Reading.{read_ok, read_err, read_front}
 use Rattle.wasi_p1.proofs.call_parts.read_into.Goals as goal
 
 pub returns-in_err-count-clause-size : goal.returns-in_err-count-clause-size
 returns-in_err-count-clause-size g c = with_bytes_length _ _ _
 
-pub returns-in_err-count-clause-from_host : goal.returns-in_err-count-clause-from_host
-returns-in_err-count-clause-from_host g c =
+pub returns-in_err-count-clause-front : goal.returns-in_err-count-clause-front
+returns-in_err-count-clause-front g c =
     let error = err_from_is_err_and c.from_residual.result c.from_residual.ensures.1 in
-    rw error.1 (Code c.in_err-count.field-0.0, error.2)
+    rw error.1 (inl (Code c.in_err-count.field-0.0, error.2))
 
 pub returns-in_err-count-clause-same : goal.returns-in_err-count-clause-same
 returns-in_err-count-clause-same g c =
@@ -28,8 +28,8 @@ returns-in_err-count-clause-told g c = λ told.
 pub returns-clause-size : goal.returns-clause-size
 returns-clause-size g c = with_bytes_length _ _ _
 
-pub returns-clause-puts : goal.returns-clause-puts
-returns-clause-puts g c = puts_read (record {
+pub returns-clause-front : goal.returns-clause-front
+returns-clause-front g c = read_front (record {
   sized = c.range_mut-part.ensures.len;
   inside = c.requires.inside;
   fits = c.in_ok-count.ensures.fits;

@@ -1,4 +1,4 @@
-use Rattle.std.proofs.Common.{◌∙◌, inl, arith, sym, refl, length, take, drop, length-append, ◌≡◌, ◌+◌, ◌<◌, ◌≤◌}
+use Rattle.std.proofs.Common.{◌∙◌, inl, arith, sym, refl, length, drop, length-append, ◌≡◌, ◌+◌, ◌<◌, ◌≤◌}
 use Rattle.std.proofs.lemmas.List.{take_all}
 use Rattle.wasi_guest.specs.declared.call.Call.TheVariants.{PathOpen}
 use Rattle.wasi_host.proofs.Tracing.{traced_none}
@@ -6,6 +6,7 @@ use Rattle.wasi_p1.proofs.CallTracing.{traced_on}
 use Rattle.wasi_p1.proofs.Runs.{nothing_yet, io_counted, turned_on, stood, stood_first, ended, all_done, call_at, calls_at}
 use Rattle.wasi_p1.proofs.Answering.{goes_on-push, each_answered, last_answered}
 use Rattle.wasi_p1.proofs.Confining.{turn_confines}
+use Rattle.wasi_p1.proofs.Validity.{turn_valid}
 use Rattle.wasi_p1.proofs.run.run_calls.Goals as goal
 
 -- ---- no call yet
@@ -22,6 +23,7 @@ loop-one-init g c = record {
   lineage = traced_none _ _ _ _ _ refl (λ h has. has);
   run = λ told. rw c.in-Ok.ensures.empty nothing_yet;
   confined = λ told start. start;
+  valid = λ told start. start;
   later = omega arith;
   count = rw c.in-Ok.ensures.empty (omega arith);
   room = let fits : c.len.result ≤ c.in-Ok.answers.spare = c.in-Ok.ensures.room in omega (arith, fits, c.len.ensures);
@@ -48,6 +50,7 @@ loop-one-preserved g c = record {
       rw (c.push.ensures.answers, one) (rw c.deref-one-items.ensures.value at on);
   confined = λ told start.
       turn_confines (c.call-outcome.ensures.turn.turn told) (c.loop-one.invariant.confined told start);
+  valid = λ told start. turn_valid (c.call-outcome.ensures.turn.turn told) (c.loop-one.invariant.valid told start);
   later = omega arith;
   count = rw (c.push.ensures.answers, length-append) (omega arith);
   room = omega arith;
@@ -74,6 +77,10 @@ returns-in-None-clause-memory g c = λ told.
 pub returns-in-None-clause-confined : goal.returns-in-None-clause-confined
 returns-in-None-clause-confined g c = λ told start.
     turn_confines (c.call-outcome.ensures.turn.turn told) (c.loop-one.invariant.confined told start)
+
+pub returns-in-None-clause-valid : goal.returns-in-None-clause-valid
+returns-in-None-clause-valid g c = λ told start.
+    turn_valid (c.call-outcome.ensures.turn.turn told) (c.loop-one.invariant.valid told start)
 
 -- ---- an answer that ends the run
 
@@ -108,6 +115,10 @@ returns-then-ends_run-clause-run g c = λ told.
 pub returns-then-ends_run-clause-confined : goal.returns-then-ends_run-clause-confined
 returns-then-ends_run-clause-confined g c = λ told start.
     turn_confines (c.call-outcome.ensures.turn.turn told) (c.loop-one.invariant.confined told start)
+
+pub returns-then-ends_run-clause-valid : goal.returns-then-ends_run-clause-valid
+returns-then-ends_run-clause-valid g c = λ told start.
+    turn_valid (c.call-outcome.ensures.turn.turn told) (c.loop-one.invariant.valid told start)
 
 -- ---- all calls are answered
 

@@ -5,6 +5,7 @@ use Rattle.wasi_p1.specs.Reach.{Confined}
 use Rattle.wasi_p1.specs.Run.{ios, Allows}
 use Rattle.wasi_p1.specs.CallTurn.{OthersStay}
 use Rattle.wasi_p1.specs.Owners.{RunTraced}
+use Rattle.wasi_p1.specs.Validity.{IsValidState}
 use Rattle.wasi_p1.proofs.Runs.{SoFar}
 use Rattle.wasi_p1.proofs.Answering.{GoesOn}
 use Rattle.wasi_p1.proofs.run.run_calls.Given as goal
@@ -27,6 +28,8 @@ invariant-loop-one g l = record {
       (g.H.Host.world l.fn.context.host).touched
       → Confined (state_of g.H.Host.world l.fn.context l.fn.memory) (state_of g.H.Host.world l.context l.memory)
       (g.H.Host.world l.context.host).touched;
+  valid : IsTrue g.H.Host.told → IsValidState (state_of g.H.Host.world l.fn.context l.fn.memory)
+      → IsValidState (state_of g.H.Host.world l.context l.memory);
   later : g.H.Host.faults l.fn.context.host ≤ g.H.Host.faults l.context.host;
   count : length l.answers.answers ≡ l.one-index;
   room : length l.calls.items ≤ l.answers.spare + l.one-index;

@@ -1,32 +1,57 @@
-use Rattle.std.proofs.Common.{◌≡◌, Some, true, false, codes, refl, arith, ap, ◌∙◌}
+use Rattle.std.proofs.Common.{◌≡◌, true, false, codes, arith}
 use Rattle.std.specs.Str.{bytes_eq}
 use Rattle.json.specs.Json.{parse_map}
 use Rattle.wasi_form.specs.CallForm.{call_of}
-use Rattle.wasi_form.specs.Lists.{list_of}
+use Rattle.wasi_form.specs.Lists.{always, forms_of}
+use Rattle.wasi_form.specs.MemoryForm.{memory_of, shown_of}
+use Rattle.wasi_form.specs.NodeForm.{script_node}
 use Rattle.wasi_form.specs.Parts.{found_of, with_member}
+use Rattle.wasi_form.specs.PreopenForm.{preopen_of}
+use Rattle.wasi_form.specs.Tokens.{next_value}
+use Rattle.wasi_form.specs.declared.parts.TheConstants.{DEPTH}
+use Rattle.wasi_form.proofs.FoundParts.{with_nodes, with_preopens, with_calls, with_memory, with_show, IsOther, with_other}
 use Rattle.wasi_form.proofs.Grammar.{remade}
+use Rattle.wasi_form.proofs.Unreads.{read_as}
 use Rattle.wasi_form.proofs.parts.Parts.with.Goals as goal
 
-pub returns-in_ok-list-4 : goal.returns-in_ok-list-4
-unfolding with_member
-returns-in_ok-list-4 c =
+pub returns-in_ok-nodes : goal.returns-in_ok-nodes
+returns-in_ok-nodes c =
     let found = found_of c.args.self in
     let key = c.args.key.now in
-    let no_nodes : bytes_eq key (codes "nodes") ≡ false = grind arith in
-    let no_preopens : bytes_eq key (codes "preopens") ≡ false = grind arith in
-    let no_memory : bytes_eq key (codes "memory") ≡ false = grind arith in
-    let no_show : bytes_eq key (codes "show") ≡ false = grind arith in
-    let is_calls : bytes_eq key (codes "calls") ≡ true = grind arith in
-    remade (list_of call_of) (λ d. with_member key d found) (λ calls. record found { calls = Some calls }) _ _ _ (λ d. rw (no_nodes, no_preopens, no_memory, no_show, is_calls) refl) c.in_ok-list-4.ensures
+    let is : bytes_eq key (codes "nodes") ≡ true = grind arith in
+    remade (forms_of script_node) (λ d. with_member key d found) (λ nodes. record found { nodes = nodes }) _ _ _ (λ d. with_nodes key d found is) c.in_ok-nodes.ensures
 
-pub returns-in_ok-value : goal.returns-in_ok-value
-unfolding with_member
-returns-in_ok-value c =
+pub returns-in_ok-preopens : goal.returns-in_ok-preopens
+returns-in_ok-preopens c =
     let found = found_of c.args.self in
     let key = c.args.key.now in
-    let no_nodes : bytes_eq key (codes "nodes") ≡ false = grind arith in
-    let no_preopens : bytes_eq key (codes "preopens") ≡ false = grind arith in
-    let no_memory : bytes_eq key (codes "memory") ≡ false = grind arith in
-    let no_show : bytes_eq key (codes "show") ≡ false = grind arith in
-    let no_calls : bytes_eq key (codes "calls") ≡ false = grind arith in
-    ap (parse_map (λ d. with_member key d found)) c.in_ok-value.ensures ∙ ap (λ one. Some (one, c.value.new.reader)) (rw (no_nodes, no_preopens, no_memory, no_show, no_calls) refl)
+    let is : bytes_eq key (codes "preopens") ≡ true = grind arith in
+    remade (forms_of (always preopen_of)) (λ d. with_member key d found) (λ preopens. record found { preopens = preopens }) _ _ _ (λ d. with_preopens key d found is) c.in_ok-preopens.ensures
+
+pub returns-in_ok-calls : goal.returns-in_ok-calls
+returns-in_ok-calls c =
+    let found = found_of c.args.self in
+    let key = c.args.key.now in
+    let is : bytes_eq key (codes "calls") ≡ true = grind arith in
+    remade (forms_of call_of) (λ d. with_member key d found) (λ calls. record found { calls = calls }) _ _ _ (λ d. with_calls key d found is) c.in_ok-calls.ensures
+
+pub returns-in_ok-memory : goal.returns-in_ok-memory
+returns-in_ok-memory c =
+    let found = found_of c.args.self in
+    let key = c.args.key.now in
+    let is : bytes_eq key (codes "memory") ≡ true = grind arith in
+    remade (memory_of) (λ d. with_member key d found) (λ memory. record found { memory = memory }) _ _ _ (λ d. with_memory key d found is) c.in_ok-memory.ensures
+
+pub returns-in_ok-show : goal.returns-in_ok-show
+returns-in_ok-show c =
+    let found = found_of c.args.self in
+    let key = c.args.key.now in
+    let is : bytes_eq key (codes "show") ≡ true = grind arith in
+    remade (forms_of (always shown_of)) (λ d. with_member key d found) (λ show. record found { show = show }) _ _ _ (λ d. with_show key d found is) c.in_ok-show.ensures
+
+pub returns-else-eq-5 : goal.returns-else-eq-5
+returns-else-eq-5 c =
+    let found = found_of c.args.self in
+    let key = c.args.key.now in
+    let other : IsOther key = record { nodes = grind arith; preopens = grind arith; calls = grind arith; memory = grind arith; show = grind arith } in
+    read_as _ c.with_waiting.result _ _ (λ i. parse_map (λ d. with_other key d found other i) (next_value DEPTH c.args.reader.now)) c.with_waiting.ensures

@@ -4,9 +4,6 @@ use Rattle.wasi_tree.proofs.MemLemmas.{path_held}
 use Rattle.wasi_tree.proofs.mem_tree.MemTree.handle.Goals as goal
 
 pub invariant_of-self-2 : goal.invariant_of-self-2
-invariant_of-self-2 c = record {
-  held =
-      holds-given _ _ _ _ _ (rw c.reserve.ensures.same c.self.invariant.held) c.give.ensures.live c.give.ensures.held
-      (path_held _ _ (grind arith)) c.give.ensures.others;
-  counted = c.self.invariant.counted;
-}
+invariant_of-self-2 c =
+    holds-given _ _ _ _ _ (rw c.reserve.ensures.same c.self.invariant) c.give.ensures.live c.give.ensures.held
+    (path_held _ _ (grind arith)) c.give.ensures.others

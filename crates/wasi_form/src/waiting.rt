@@ -1,0 +1,302 @@
+//! The keys of a script that wait: what stands there is checked, and let go.
+ghost use Rattle.std.specs.Prelude.{◌≡◌, ◌<◌, true, length, is_some, unwrap_or, map, slice_set, IfSome};
+ghost use Rattle.std.specs.List.{list_all, list_any};
+ghost use Rattle.json.specs.Json.{parse_map};
+ghost use Rattle.serde_json.specs.Data.{no_members};
+ghost use Rattle.serde_json.specs.View.{view};
+ghost use Rattle.wasi_form.specs.IsRead.{IsRead};
+ghost use Rattle.wasi_form.specs.Lists.{always, forms_of};
+ghost use Rattle.wasi_form.specs.Shapes as shapes;
+ghost use Rattle.wasi_form.specs.Tokens.{next_value};
+ghost use Rattle.wasi_form.specs.WaitingForm as specs;
+
+use crate::lists::{Forms, item, list};
+use crate::shapes::{Form, Item, Shaped, Unread, hex_bytes, is_text, needed, require, two};
+use json::Reader;
+use serde_json::Value;
+use std::alloc::Global;
+use wasi_host::NANOSECONDS;
+
+/// What stands at a key that waits.
+#[derive(Clone, Copy, Debug, PartialEq, Eq)]
+pub enum Kind {
+    U64,
+    U32,
+    Limits,
+    Faults,
+    Hex,
+    Texts,
+    Pairs,
+    Moment,
+}
+
+// How many keys wait.
+const COUNT: usize = 12;
+
+// The keys that wait, each with the kind of its value.
+const WAITING: [(&str, Kind); COUNT] = [
+    ("fuel", Kind::U64),
+    ("table", Kind::U32),
+    ("limits", Kind::Limits),
+    ("faults", Kind::Faults),
+    ("stdin", Kind::Hex),
+    ("random", Kind::Hex),
+    ("args", Kind::Texts),
+    ("env", Kind::Pairs),
+    ("wall", Kind::Moment),
+    ("wall_res", Kind::Moment),
+    ("mono", Kind::U64),
+    ("mono_res", Kind::U64),
+];
+
+/// At each key that waits: whether what stands there is of its kind, where something does.
+#[derive(Clone, Copy)]
+pub struct Waiting {
+    pub found: [Option<bool>; COUNT],
+}
+
+impl Waiting {
+    /// Nothing at any key.
+    #[tactic(auto, unfolding(crate::specs::WaitingForm::waiting_in))]
+    pub fn none() -> Waiting
+        ensures { result.found ≡ specs.waiting_in no_members }
+    {
+        Waiting {
+            found: [None; COUNT],
+        }
+    }
+
+    /// With what stands at the key of a place.
+    pub fn with(self, place: usize, is: bool) -> Waiting
+        requires { place < COUNT }
+        ensures { result.found ≡ slice_set self.found place (Some is) }
+    {
+        let mut found = self.found;
+        found[place] = Some(is);
+        Waiting { found }
+    }
+
+    /// Whether all that stands there is of its kind.
+    pub fn are_of_their_kinds(&self) -> bool
+        ensures { result ≡ list_all (λ is. unwrap_or is true) self.now.found }
+    {
+        self.found.iter().all(|is| is.unwrap_or(true))
+    }
+
+    /// Whether something stands at one of the keys.
+    pub fn is_any_there(&self) -> bool
+        ensures { result ≡ list_any is_some self.now.found }
+    {
+        self.found.iter().any(|is| is.is_some())
+    }
+}
+
+fn place_in(rows: &[(&'static str, Kind)], key: &str) -> Option<(usize, Kind)>
+    ensures place { result ≡ specs.place_in (map (λ row. (row.0.now, row.1)) rows.now) key.now }
+    ensures within { IfSome result (λ place. place.0 < length rows.now) }
+{
+    for (place, row) in rows.iter().enumerate() {
+        if key == row.0 {
+            return Some((place, row.1));
+        }
+    }
+    None
+}
+
+/// The place of a key among those that wait, and the kind of its value.
+#[tactic(auto, unfolding(crate::specs::WaitingForm::waiting_key))]
+pub fn waiting_key(key: &str) -> Option<(usize, Kind)>
+    ensures place { result ≡ specs.waiting_key key.now }
+    ensures within { IfSome result (λ place. place.0 < COUNT) }
+{
+    place_in(&WAITING, key)
+}
+
+// The limits of a tree.
+#[derive(Drop)]
+struct Limits;
+
+impl Shaped for Limits {
+    ghost Seen = { Unit {0} };
+
+    ghost see = { λ limits. tt };
+
+    ghost of = { specs.limits_of };
+
+    fn read(alloc: Global, value: &Value) -> Result<Limits, Unread> {
+        require(Form::Limits.is_of(value))?;
+        let nodes = needed(alloc, value.get("nodes"))?;
+        let links = needed(alloc, value.get("links"))?;
+        require(is_limit(nodes) && is_limit(links))?;
+        Ok(Limits)
+    }
+}
+
+fn is_limit(n: u64) -> bool
+    ensures { result ≡ specs.is_limit n }
+{
+    1 <= n && n <= 1 << 32
+}
+
+// The number of a call of the host that is to fail.
+#[derive(Drop)]
+struct Fault {
+    number: u64,
+}
+
+impl Item for Fault {
+    ghost use Rattle.std.specs.Prelude.{ℕ};
+
+    ghost Seen = { ℕ };
+
+    ghost see = { λ fault. fault.number };
+
+    ghost of = { always specs.fault_of };
+
+    fn read(_alloc: Global, value: &Value) -> Result<Option<Fault>, Unread> {
+        let Some((number, when)) = two(value) else {
+            return Err(Unread::Shape);
+        };
+        let Some(number) = number.as_u64() else {
+            return Err(Unread::Shape);
+        };
+        require(is_text(when, "before") || is_text(when, "after"))?;
+        Ok(Some(Fault { number }))
+    }
+}
+
+fn rise(faults: &[Fault]) -> bool
+    ensures { result ≡ specs.rise_above 0 (map (λ fault. fault.number) faults.now) }
+{
+    let mut before = 0;
+    for fault in faults {
+        if fault.number <= before {
+            return false;
+        }
+        before = fault.number;
+    }
+    true
+}
+
+/// An argument, which waits.
+impl Item for String {
+    ghost use Rattle.std.specs.Prelude.{ℕ, List, string_bytes};
+
+    ghost Seen = { List ℕ };
+
+    ghost see = { string_bytes };
+
+    ghost of = { specs.text_of };
+
+    fn read(_alloc: Global, value: &Value) -> Result<Option<String>, Unread> {
+        require(value.is_string())?;
+        Ok(None)
+    }
+}
+
+/// A key and a value, which wait.
+impl Item for (String, String) {
+    ghost use Rattle.std.specs.Prelude.{ℕ, List, string_bytes};
+
+    ghost Seen = { List ℕ × List ℕ };
+
+    ghost see = { λ pair. (string_bytes pair.0, string_bytes pair.1) };
+
+    ghost of = { specs.pair_of };
+
+    fn read(_alloc: Global, value: &Value) -> Result<Option<(String, String)>, Unread> {
+        let Some((key, text)) = two(value) else {
+            return Err(Unread::Shape);
+        };
+        require(key.is_string() && text.is_string())?;
+        Ok(None)
+    }
+}
+
+// A moment of a clock.
+#[derive(Drop)]
+struct Moment;
+
+impl Shaped for Moment {
+    ghost Seen = { Unit {0} };
+
+    ghost see = { λ moment. tt };
+
+    ghost of = { specs.moment_of };
+
+    fn read(_alloc: Global, value: &Value) -> Result<Moment, Unread> {
+        let Some((seconds, nanoseconds)) = two(value) else {
+            return Err(Unread::Shape);
+        };
+        let Some(seconds) = seconds.as_u64() else {
+            return Err(Unread::Shape);
+        };
+        let Some(nanoseconds) = nanoseconds.as_u64() else {
+            return Err(Unread::Shape);
+        };
+        require(seconds < 1 << 63 && nanoseconds < NANOSECONDS as u64)?;
+        Ok(Moment)
+    }
+}
+
+// Bytes in hex.
+#[derive(Drop)]
+struct Hex(Vec<u8>);
+
+impl Shaped for Hex {
+    ghost use Rattle.std.specs.Prelude.{ℕ, List};
+
+    ghost Seen = { List ℕ };
+
+    ghost see = { λ hex. hex.0.items };
+
+    ghost of = { shapes.hex_of };
+
+    fn read(alloc: Global, value: &Value) -> Result<Hex, Unread> {
+        Ok(Hex(hex_bytes(alloc, value)?))
+    }
+}
+
+fn is_item<T: Shaped>(alloc: Global, reader: &mut Reader<'_>, depth: usize) -> Result<bool, Unread>
+    ensures { IsRead (λ is. (is, reader.new)) result (parse_map (λ d. is_some (T.of d)) (next_value depth reader.old)) }
+{
+    let found: Option<T> = item(alloc, reader, depth)?;
+    Ok(found.is_some())
+}
+
+fn is_list<T: Item>(alloc: Global, reader: &mut Reader<'_>, depth: usize) -> Result<bool, Unread>
+    ensures { IsRead (λ is. (is, reader.new)) result
+        (parse_map (λ d. is_some (forms_of T.of d)) (next_value depth reader.old)) }
+{
+    let found: Forms<T> = list(alloc, reader, depth)?;
+    Ok(found.is_some())
+}
+
+fn are_faults(alloc: Global, reader: &mut Reader<'_>, depth: usize) -> Result<bool, Unread>
+    ensures { IsRead (λ is. (is, reader.new)) result
+        (parse_map (λ d. specs.rise (forms_of (always specs.fault_of) d)) (next_value depth reader.old)) }
+{
+    let found: Forms<Fault> = list(alloc, reader, depth)?;
+    Ok(found.flatten().is_some_and(|faults| rise(&faults)))
+}
+
+/// Whether the next value of a text is of a kind.
+pub fn is_of_kind(
+    alloc: Global,
+    kind: Kind,
+    reader: &mut Reader<'_>,
+    depth: usize,
+) -> Result<bool, Unread>
+    ensures { IsRead (λ is. (is, reader.new)) result (parse_map (specs.has_kind kind) (next_value depth reader.old)) }
+{
+    match kind {
+        Kind::U64 => is_item::<u64>(alloc, reader, depth),
+        Kind::U32 => is_item::<u32>(alloc, reader, depth),
+        Kind::Limits => is_item::<Limits>(alloc, reader, depth),
+        Kind::Faults => are_faults(alloc, reader, depth),
+        Kind::Hex => is_item::<Hex>(alloc, reader, depth),
+        Kind::Texts => is_list::<String>(alloc, reader, depth),
+        Kind::Pairs => is_list::<(String, String)>(alloc, reader, depth),
+        Kind::Moment => is_item::<Moment>(alloc, reader, depth),
+    }
+}

@@ -1,0 +1,2 @@
+pub mod Perms
+pub mod OpenMode

@@ -1,0 +1,19 @@
+-- The flag sets of preview1 as numbers.
+use Rattle.std.specs.Prelude.{ℕ}
+use Rattle.wasi_guest.specs.declared.flags.LookupFlags.{LookupFlags}
+use Rattle.wasi_guest.specs.declared.flags.OFlags.{OFlags}
+use Rattle.wasi_guest.specs.declared.flags.FdFlags.{FdFlags}
+use Rattle.wasi_guest.specs.declared.flags.Rights.{Rights}
+
+-- the number of a set's bits
+abbrev pub lookupflag_bits : LookupFlags → ℕ
+lookupflag_bits set = set.0
+
+abbrev pub oflag_bits : OFlags → ℕ
+oflag_bits set = set.0
+
+abbrev pub fdflag_bits : FdFlags → ℕ
+fdflag_bits set = set.0
+
+abbrev pub right_bits : Rights → ℕ
+right_bits set = set.0

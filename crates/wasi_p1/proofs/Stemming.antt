@@ -1,0 +1,82 @@
+-- Each descriptor has the permissions of the one from which it stems.
+use Rattle.std.proofs.Common.{ℕ, ◌≡◌, ◌⊎◌, inl, inr, true, false, Bool, List, [], ◌∷◌, refl, ap, sym, subst, Option, Some, None, Ok, Err}
+use Rattle.std.specs.Prelude.{MatchBool}
+use Rattle.wasi_fs.specs.declared.perms.FsPerms.{FsPerms}
+use Rattle.wasi_guest.specs.declared.answer.Answer.{Answer}
+use Rattle.wasi_guest.specs.declared.answer.Answer.TheVariants as answers
+use Rattle.wasi_guest.specs.declared.answer.Value.{Value}
+use Rattle.wasi_guest.specs.declared.call.Call.{Call}
+use Rattle.wasi_guest.specs.declared.errno.Errno.TheVariants as errnos
+use Rattle.wasi_host.specs.Tree.{Tree}
+use Rattle.wasi_p1.specs.Guest.{Guest, State}
+use Rattle.wasi_p1.specs.Row.{Row, Program, done, asking}
+use Rattle.wasi_p1.specs.Rows.{row, turn}
+use Rattle.wasi_p1.specs.Run.{Turned, Run, Played, Faulted, Gives, answer_of, ends}
+use Rattle.wasi_p1.specs.Stems.{opened_through, stems_through, stems_from, stem_of, HasPerms}
+use Rattle.wasi_p1.specs.declared.error.P1Error.{P1Error}
+use Rattle.wasi_p1.specs.declared.error.P1Error.TheVariants.{Errno, Trap, Memory}
+use Rattle.wasi_p1.proofs.Alike.{ended}
+use Rattle.wasi_p1.proofs.Moving.{over_guest, replied_by, guest_still, turned_by}
+use Rattle.wasi_p1.proofs.Near.{IsNear, KeepsPlaces, given_by}
+use Rattle.wasi_p1.proofs.Nearness.{row_near}
+
+-- the descriptors after an answer stem from those before it
+abbrev Stem : Guest → Call → Answer → Guest → Type 0
+Stem g call answer g' = (n : ℕ) (perms : FsPerms) → HasPerms g' n perms → HasPerms g (stems_from call answer n) perms
+
+ended_stems : (g : Guest) (call : Call) (t : Tree) (m : Row (Program (Value × Guest))) (p : Value × State)
+    → IsNear g call m → ended t m ≡ Ok p → Stem g call (answers.Ok p.0) p.1.guest
+ended_stems g call t (Ok (done q)) p near is =
+    (subst (KeepsPlaces g (opened_through call) []) (over_guest t (Ok q) is) near.places).perms
+ended_stems g call t (Ok (asking r next)) p near is =
+    let did = replied_by t r next is in
+    (subst (KeepsPlaces g (opened_through call) (given_by r did.reply)) did.gives (near.places did.reply)).perms
+ended_stems g call t (Err e) p near is = absurd (cc)
+
+-- where it isn't answered Ok each descriptor stems from itself
+itself : (through : Option ℕ) (e : P1Error) {answer : Answer} (n : ℕ) → answer_of (Err e) ≡ Some answer
+    → stems_through through answer n ≡ n
+itself None e n is = refl
+itself (Some fd) (Errno e) {answer} n is =
+    let same : answers.Errno e ≡ answer = (cc) in ap (λ a. stems_through (Some fd) a n) (sym same)
+itself (Some fd) (Trap kind) {answer} n is =
+    let same : answers.Trap kind ≡ answer = (cc) in ap (λ a. stems_through (Some fd) a n) (sym same)
+itself (Some fd) Memory n is = absurd (cc)
+
+turn_stems : (t : Turned) → Played t ⊎ Faulted t → (n : ℕ) (perms : FsPerms) → HasPerms t.after.guest n perms
+    → HasPerms t.before.guest (stems_from t.call t.answer n) perms
+turn_stems t (inl played) n perms has = by (turn t.before t.call) refl played
+  where
+    by : (m : Row (Value × State)) → turn t.before t.call ≡ m → Gives m t.before t.answer t.after
+        → HasPerms t.before.guest (stems_from t.call t.answer n) perms
+    by (Ok p) is (answer, new) =
+        let stems = ended_stems t.before.guest t.call t.before.tree (row t.before.guest t.call) p
+        (row_near t.before.guest t.call) is in
+        subst (λ a. HasPerms t.before.guest (stems_from t.call a n) perms) (sym answer)
+        (stems n perms (subst (λ (s : State). HasPerms s.guest n perms) new has))
+    by (Err e) is (answer, same) =
+        subst (λ k. HasPerms t.before.guest k perms) (sym (itself (opened_through t.call) e n answer))
+        (subst (λ (s : State). HasPerms s.guest n perms) same has)
+turn_stems t (inr faulted) n perms has =
+    let still : t.after.guest ≡ t.before.guest = guest_still t.before t.after (turn t.before t.call) faulted.state in
+    let at = itself (opened_through t.call) (Errno errnos.Io) n (ap Some (sym faulted.io)) in
+    subst (λ k. HasPerms t.before.guest k perms) (sym at) (subst (λ (g : Guest). HasPerms g n perms) still has)
+
+-- ---- a run
+
+pub run_stems : (calls : List Call) (turns : List Turned) (k : ℕ) (old new : State) → Run k old calls turns new
+    → (n : ℕ) (perms : FsPerms) → HasPerms new.guest n perms → HasPerms old.guest (stem_of turns n) perms
+run_stems [] [] k old new run n perms has = subst (λ (s : State). HasPerms s.guest n perms) run has
+run_stems [] (t ∷ turns) k old new run n perms has = absurd run
+run_stems (call ∷ calls) [] k old new run n perms has = absurd run
+run_stems (call ∷ calls) (t ∷ turns) k old new (j, before, is, spends, rest) n perms has =
+    subst (λ (s : State). HasPerms s.guest (stem_of (t ∷ turns) n) perms) before
+    (turn_stems t (turned_by spends) (stem_of turns n) perms
+    (later (λ on. run_stems calls turns j t.after new on n perms has) (ends t.answer) rest))
+  where
+    later : (Run j t.after calls turns new → HasPerms t.after.guest (stem_of turns n) perms) → (b : Bool)
+        → MatchBool b ((turns ≡ []) × (new ≡ t.after)) (Run j t.after calls turns new)
+        → HasPerms t.after.guest (stem_of turns n) perms
+    later next true (none, last) = subst (λ ts. HasPerms t.after.guest (stem_of ts n) perms) (sym none)
+        (subst (λ (s : State). HasPerms s.guest n perms) last has)
+    later next false on = next on

@@ -1,0 +1,102 @@
+-- A turn from a valid state leads to one.
+use Rattle.std.proofs.Common.{ℕ, ◌≡◌, inl, inr, true, false, Bool, List, [], ◌∷◌, refl, ap, sym, ◌∙◌, subst, Result, Ok, Err}
+use Rattle.std.specs.Prelude.{MatchBool}
+use Rattle.wasi_guest.specs.declared.answer.Value.{Value}
+use Rattle.wasi_guest.specs.declared.call.Call.{Call}
+use Rattle.wasi_host.specs.Meaning.{World}
+use Rattle.wasi_host.specs.Tree.{Tree, Content, File, Directory, Link, node_at, next_of, bytes_of}
+use Rattle.wasi_host.specs.ValidTree.{IsValidTree, IsValidContent, are_bytes}
+use Rattle.wasi_host.proofs.Changes.{node_at-past}
+use Rattle.wasi_host.proofs.ValidSteps.{valid-step}
+use Rattle.wasi_p1.specs.CallTurn.{Turns, in_world}
+use Rattle.wasi_p1.specs.Guest.{Guest, State}
+use Rattle.wasi_p1.specs.Request.{Request, Reply, Open, Read, Write, reply_of}
+use Rattle.wasi_p1.specs.Row.{Row, Program, done, asking}
+use Rattle.wasi_p1.specs.Rows.{row, turn}
+use Rattle.wasi_p1.specs.Run.{Turned, Run, ends}
+use Rattle.wasi_p1.specs.Turn.{StepTaken}
+use Rattle.wasi_p1.specs.Validity.{IsValidState}
+use Rattle.wasi_p1.specs.declared.error.P1Error.{P1Error}
+use Rattle.wasi_p1.proofs.Agreeing.{unless_value, below_or}
+use Rattle.wasi_p1.proofs.Alike.{ended}
+use Rattle.wasi_p1.proofs.Bytes.{cut}
+use Rattle.wasi_p1.proofs.Moving.{Moves, turn_moves, turned_moves, turned_by, over_tree, over_guest, replied_by}
+use Rattle.wasi_p1.proofs.Near.{AreBytes, GivesBytes, KeepsBytes, IsNear, asked_as}
+use Rattle.wasi_p1.proofs.Nearness.{row_near}
+use Rattle.wasi_p1.proofs.Telling.{stands_for, unrefused}
+
+-- ---- what is read of a valid tree
+
+content_bytes : (t : Tree) (n : ℕ) → IsValidTree t → AreBytes (bytes_of (node_at t n).content)
+content_bytes t n valid = elim (below_or n (next_of t)) [
+  | inl within ↦ by (node_at t n).content (valid.nodes n within)
+  | inr past ↦ ap (λ k. are_bytes (bytes_of k.content)) (node_at-past t n past)
+]
+  where
+    by : (content : Content) → IsValidContent t n content → AreBytes (bytes_of content)
+    by (File bytes links) is = is.0
+    by (Directory names gone) is = refl
+    by (Link text links) is = refl
+
+gives_bytes : (t : Tree) (r : Request) (reply : Reply r) → IsValidTree t → reply_of t r ≡ Ok reply → GivesBytes r reply
+gives_bytes t (Open d name o) found valid is = tt
+gives_bytes t (Read f offset n) bytes valid is =
+    let whole = content_bytes t f.node valid in
+    subst AreBytes (unless_value _ is) (cut n _ (cut offset (bytes_of (node_at t f.node).content) whole).1).0
+gives_bytes t (Write f offset piece) count valid is = tt
+
+-- ---- a turn
+
+ended_valid : (s : State) (call : Call) (m : Row (Program (Value × Guest))) (p : Value × State) → IsValidState s
+    → IsNear s.guest call m → ended s.tree m ≡ Ok p → IsValidState p.1
+ended_valid s call (Ok (done q)) p valid near is = record {
+  tree = subst IsValidTree (sym (over_tree (Ok q) is)) valid.tree;
+  memory = subst KeepsBytes (over_guest s.tree (Ok q) is) (near.bytes valid.memory);
+}
+ended_valid s call (Ok (asking r next)) p valid near is =
+    let did = replied_by s.tree r next is in
+    let stands = stands_for s.tree r in
+    let stepped = valid-step s.tree (asked_as r) valid.tree (near.asked valid.memory) (unrefused stands did.is) in
+    let read = gives_bytes s.tree r did.reply valid.tree did.is in record {
+      tree = subst IsValidTree (stands.steps ∙ sym did.tree) stepped;
+      memory = subst KeepsBytes did.gives (near.bytes valid.memory did.reply read);
+    }
+ended_valid s call (Err e) p valid near is = absurd (cc)
+
+-- to whatever state it leads
+pub moved_valid : (s s' : State) (call : Call) → IsValidState s → Moves s s' (turn s call) → IsValidState s'
+moved_valid s s' call valid moves = elim moves [
+  | inl same ↦ subst IsValidState (sym same) valid
+  | inr (inl given) ↦ ended_valid s call (row s.guest call) _ valid (row_near s.guest call) given.1
+  | inr (inr step) ↦ by (turn s call) refl step
+]
+  where
+    by : (m : Row (Value × State)) → turn s call ≡ m → StepTaken s s' m → IsValidState s'
+    by (Ok p) is step =
+        let after = ended_valid s call (row s.guest call) p valid (row_near s.guest call) is in
+        subst IsValidState (sym step) (record { tree = after.tree; memory = valid.memory })
+    by (Err e) is step = absurd step
+
+pub turn_valid : {rose : Type 0} {w v : World} {g g' : Guest} {call : Call} {r : Result Value P1Error}
+    → Turns rose w v g g' call r → IsValidState (in_world w g) → IsValidState (in_world v g')
+turn_valid {rose} {w} {v} {g} {g'} {call} {r} takes valid =
+    moved_valid (in_world w g) (in_world v g') call valid (turn_moves rose _ r takes.turn)
+
+-- ---- a run
+
+pub run_valid : (calls : List Call) (turns : List Turned) (k : ℕ) (old new : State) → Run k old calls turns new
+    → IsValidState old → IsValidState new
+run_valid [] [] k old new run valid = subst IsValidState (sym run) valid
+run_valid [] (t ∷ turns) k old new run valid = absurd run
+run_valid (call ∷ calls) [] k old new run valid = absurd run
+run_valid (call ∷ calls) (t ∷ turns) k old new (j, before, is, spends, rest) valid =
+    later (λ on. run_valid calls turns j t.after new on here) (ends t.answer) rest
+  where
+    here : IsValidState t.after
+    here = moved_valid t.before t.after t.call (subst IsValidState (sym before) valid)
+        (turned_moves t (turned_by spends))
+
+    later : (Run j t.after calls turns new → IsValidState new) → (b : Bool)
+        → MatchBool b ((turns ≡ []) × (new ≡ t.after)) (Run j t.after calls turns new) → IsValidState new
+    later next true (none, last) = subst IsValidState (sym last) here
+    later next false on = next on

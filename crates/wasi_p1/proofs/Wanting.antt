@@ -1,0 +1,109 @@
+-- No part of a row is refused because memory was wanted.
+use Rattle.std.proofs.Common.{ℕ, true, false, cond, Bool, List, [], ◌∷◌, Option, Some, None, Ok, Err}
+use Rattle.std.specs.Str.{is_utf8}
+use Rattle.wasi_paths.specs.Text.{is_plain}
+use Rattle.wasi_fs.specs.Perms.{is_read_only}
+use Rattle.wasi_fs.specs.declared.perms.FsPerms.{FsPerms}
+use Rattle.wasi_guest.specs.Flags.{flags_in, known_lookupflags, known_oflags, known_fdflags, known_rights}
+use Rattle.wasi_guest.specs.Iovec.{first_buffer}
+use Rattle.wasi_guest.specs.Range.{in_memory}
+use Rattle.wasi_guest.specs.Steps.{◌>>=◌}
+use Rattle.wasi_guest.specs.declared.answer.TrapKind.{TrapKind}
+use Rattle.wasi_guest.specs.declared.errno.Errno.{Errno as ErrorNumber}
+use Rattle.wasi_guest.specs.declared.errno.Errno.TheVariants as errnos
+use Rattle.wasi_guest.specs.declared.iovec.Iovec.{Iovec}
+use Rattle.wasi_p1.specs.CallParts.{NotMemory}
+use Rattle.wasi_p1.specs.Guest.{Place, closed, stream, directory, file}
+use Rattle.wasi_p1.specs.OpenHow.{or_inval, open_how, none_of, open_rows, may_open}
+use Rattle.wasi_p1.specs.Row.{Row}
+use Rattle.wasi_p1.specs.Rows.{text_in, utf8_text, one_name, live_in, directory_in, file_in, or_trap, buffer_in, range, may_write}
+use Rattle.wasi_p1.specs.declared.error.P1Error.{P1Error}
+use Rattle.wasi_p1.specs.declared.error.P1Error.TheVariants.{Errno, Trap}
+use Rattle.wasi_p1.specs.declared.open_how.OpenHow.{OpenHow}
+
+abbrev pub Never : {A : Type 0} → Row A → Type 0
+Never (Ok x) = Unit {0}
+Never (Err e) = NotMemory e
+
+number : {e : ErrorNumber} → NotMemory (Errno e)
+number is = absurd (cc)
+
+trapped : {kind : TrapKind} → NotMemory (Trap kind)
+trapped is = absurd (cc)
+
+after : {A B : Type 0} (m : Row A) (next : A → Row B) → Never m → ((x : A) → Never (next x)) → Never (m >>= next)
+after (Ok x) next first then = then x
+after (Err e) next first then = first
+
+when : {A : Type 0} {e : P1Error} (b : Bool) (x : A) → NotMemory e → Never (cond b (Ok x) (Err e))
+when true x other = tt
+when false x other = other
+
+pub range_never : (memory : List ℕ) (at n : ℕ) → Never (range memory at n)
+range_never memory at n = when (in_memory memory at n) _ trapped
+
+pub text_never : (memory : List ℕ) (at n : ℕ) → Never (text_in memory at n)
+text_never memory at n =
+    after (range memory at n) utf8_text (range_never memory at n) (λ bytes. when (is_utf8 bytes) _ number)
+
+pub name_never : (text : List ℕ) → Never (one_name text)
+unfolding one_name
+name_never text = when (is_plain text) _ number
+
+inval_never : (flags : Option ℕ) → Never (or_inval flags)
+inval_never (Some set) = tt
+inval_never None = number
+
+pub how_never : (dirflags oflags base inheriting fdflags : ℕ) → Never (open_how dirflags oflags base inheriting fdflags)
+unfolding open_how
+how_never dirflags oflags base inheriting fdflags =
+    after (or_inval (flags_in known_lookupflags dirflags)) _ (inval_never _) (λ _.
+    after (or_inval (flags_in known_oflags oflags)) _ (inval_never _) (λ flags.
+    after (or_inval (flags_in known_rights base)) _ (inval_never _) (λ rights.
+    after (or_inval (flags_in known_rights inheriting)) _ (inval_never _) (λ _.
+    after (or_inval (flags_in known_fdflags fdflags)) _ (inval_never _) (λ modes. tt)))))
+
+none_never : (rows : List (Bool × ErrorNumber)) → Never (none_of rows)
+none_never [] = tt
+none_never ((true, e) ∷ rows) = number
+none_never ((false, e) ∷ rows) = none_never rows
+
+pub open_never : (how : OpenHow) (perms : FsPerms) → Never (may_open how perms)
+unfolding may_open
+open_never how perms = none_never (open_rows how perms)
+
+pub write_never : (perms : FsPerms) → Never (may_write perms)
+unfolding may_write
+write_never perms = by (is_read_only perms)
+  where
+    by : (b : Bool) → Never (let m : Row (Unit {0}) = cond b (Err (Errno errnos.Badf)) (Ok tt) in m)
+    by true = number
+    by false = tt
+
+pub live_never : (p : Option Place) → Never (live_in p)
+live_never (Some (directory d)) = tt
+live_never (Some (file f)) = tt
+live_never (Some (stream s)) = tt
+live_never (Some closed) = number
+live_never None = number
+
+pub directory_never : (p : Option Place) → Never (directory_in p)
+directory_never (Some (directory d)) = tt
+directory_never (Some (file f)) = number
+directory_never (Some (stream s)) = number
+directory_never (Some closed) = number
+directory_never None = number
+
+pub file_never : (p : Option Place) → Never (file_in p)
+file_never (Some (directory d)) = number
+file_never (Some (file f)) = tt
+file_never (Some (stream s)) = number
+file_never (Some closed) = number
+file_never None = number
+
+pub buffer_never : (memory : List ℕ) (iovs n : ℕ) → Never (buffer_in memory iovs n)
+buffer_never memory iovs n = by (first_buffer memory iovs n)
+  where
+    by : (o : Option Iovec) → Never (or_trap o)
+    by (Some item) = tt
+    by None = trapped

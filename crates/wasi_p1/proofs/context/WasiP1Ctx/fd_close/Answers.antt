@@ -1,0 +1,16 @@
+use Rattle.std.proofs.Common.{refl}
+use Rattle.std.proofs.lemmas.List.{map-set}
+use Rattle.wasi_p1.specs.Rows.{fd_close}
+use Rattle.wasi_p1.proofs.CallTracing.{traced_free}
+use Rattle.wasi_p1.proofs.Taking.{answered}
+use Rattle.wasi_p1.proofs.context.WasiP1Ctx.fd_close.Goals as goal
+
+pub returns-clause-lineage : goal.returns-clause-lineage
+returns-clause-lineage g c = rw (← c.self.view_is) (traced_free _ c.close_slot.ensures.lineage)
+
+pub returns-clause-turn : goal.returns-clause-turn
+unfolding fd_close
+returns-clause-turn g c = rw (← c.self.view_is) (answered
+    (rw (← c.in_ok-slot.ensures.row, c.close_slot.ensures.slots, map-set) refl) refl
+    (record { failed = c.close_slot.ensures.faults; looked = c.close_slot.ensures.logged })
+    c.close_slot.ensures.stays)

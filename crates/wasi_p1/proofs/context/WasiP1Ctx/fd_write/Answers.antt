@@ -1,0 +1,27 @@
+use Rattle.std.proofs.Common.{refl}
+use Rattle.std.proofs.lemmas.Result.{err_from_is_err_and}
+use Rattle.wasi_p1.specs.Row.{give}
+use Rattle.wasi_p1.proofs.Taking.{makes_err, moved_ok}
+use Rattle.wasi_p1.proofs.Fronts.{fd_write_asks, with_position}
+use Rattle.wasi_p1.proofs.Writing.{writes_whole}
+use Rattle.wasi_p1.proofs.context.WasiP1Ctx.fd_write.Goals as goal
+
+pub returns-in_err-count-clause-turn : goal.returns-in_err-count-clause-turn
+returns-in_err-count-clause-turn g c =
+    let error = err_from_is_err_and c.from_residual-in_err-count.result c.from_residual-in_err-count.ensures.1 in
+    rw (error.1, error.2, ← c.self.view_is) (makes_err give (with_position _ _) (fd_write_asks _ _ _ _
+    (rw c.in_ok-buffer.was at c.buffer_at.ensures) c.in_ok-file.ensures.row c.in_ok-piece.ensures.row
+    c.in_ok-check_write.ensures.row)
+    c.self.invariant c.in_err-count.ensures.front (λ _. refl)
+    (record { slots = refl; stdout = refl; stderr = refl; memory = refl }) c.in_err-count.ensures.told)
+
+pub returns-clause-turn : goal.returns-clause-turn
+returns-clause-turn g c = rw (← c.self.view_is) (moved_ok give (with_position _ _) (fd_write_asks _ _ _ _
+    (rw c.in_ok-buffer.was at c.buffer_at.ensures) c.in_ok-file.ensures.row c.in_ok-piece.ensures.row
+    c.in_ok-check_write.ensures.row)
+    c.self.invariant refl c.in_ok-count.ensures.front refl
+    (record { slots = c.put_file.ensures.slots; stdout = refl; stderr = refl }) c.in_ok-file.ensures.live
+    c.in_ok-count.ensures.told)
+
+pub returns-clause-whole : goal.returns-clause-whole
+returns-clause-whole g c = λ told. writes_whole _ _ _ _ _ _ ((returns-clause-turn g c).turn told).turn

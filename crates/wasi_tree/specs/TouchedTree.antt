@@ -1,0 +1,41 @@
+-- A tree with its touched nodes, and what a call does to it. Nothing fails here but for want of memory.
+use Rattle.std.specs.Prelude.{◌≡◌, ◌++◌, Result, Ok, Err, refl}
+use Rattle.std.specs.Coded.{Coded, code_by, coded×}
+use Rattle.wasi_host.specs.Tree.{Tree, Nodes}
+use Rattle.wasi_host.specs.TreeCode.{tree_code, nodes_code}
+use Rattle.wasi_host.specs.HostCall.{HostCall}
+use Rattle.wasi_host.specs.Answer.{HostAnswer, host_answer}
+use Rattle.wasi_host.specs.Step.{step, found_by, made_by, with_nodes}
+use Rattle.wasi_host.specs.declared.errors.ErrorCode.{ErrorCode}
+use Rattle.wasi_host.specs.declared.errors.HostError.{HostError}
+use Rattle.wasi_host.specs.declared.errors.HostError.TheVariants.{Code, Memory}
+
+pub record Touched : Type 0 where
+  pub tree : Tree
+  pub touched : Nodes
+
+abbrev pub touched_code : Coded Touched
+touched_code =
+    code_by (Tree × Nodes) (coded× tree_code nodes_code) (λ s. (s.tree, s.touched)) (λ p. record { tree = p.0; touched = p.1 }) (λ _. refl)
+
+-- The answer is the table's, the step was made, and the nodes that the call comes to or made are touched.
+pub record Answers (s u : Touched) (call : HostCall) (answer : HostAnswer call) : Type 0 where
+  pub meant : host_answer s.tree call ≡ Ok answer
+  pub tree : u.tree ≡ step s.tree call
+  pub touched : u.touched ≡ with_nodes s.touched (found_by s.tree call ++ made_by s.tree call)
+
+-- a code is the table's refusal
+abbrev pub MeansCode : {B : Type 0} → Result B ErrorCode → HostError → Type 0
+MeansCode meant Memory = Unit {0}
+MeansCode meant (Code code) = meant ≡ Err code
+
+-- The tree stays, and the nodes that the call comes to are touched.
+pub record Refuses (s u : Touched) (call : HostCall) (error : HostError) : Type 0 where
+  pub meant : MeansCode (host_answer s.tree call) error
+  pub tree : u.tree ≡ s.tree
+  pub touched : u.touched ≡ with_nodes s.touched (found_by s.tree call)
+
+abbrev pub Does : {A : Type 0} → Touched → Touched → (call : HostCall) → (A → HostAnswer call) → Result A HostError
+    → Type 0
+Does s u call shown (Ok a) = Answers s u call (shown a)
+Does s u call shown (Err error) = Refuses s u call error
