@@ -1,14 +1,14 @@
 -- What is known of an accepted script.
-use Rattle.std.proofs.Common.{ℕ, List, ◌≡◌, ◌+◌, ◌≤◌, ◌<◌, length, nat_lt, Bool, Option, Some, None, Result, Ok, Err, refl, subst, inl, inr, true, false, arith}
+use Rattle.std.proofs.Common.{ℕ, List, ◌≡◌, ◌+◌, ◌≤◌, ◌<◌, length, nat_lt, Bool, Option, Some, None, Result, Ok, Err, refl, true, false, arith}
 use Rattle.std.specs.Prelude.{sum_by, if◌then◌else◌}
 use Rattle.std.specs.List.{list_all}
-use Rattle.std.proofs.lemmas.Bool.{cases_Bool, and_parts, leb-true, lt-ltb}
+use Rattle.std.proofs.lemmas.Bool.{and_parts, leb-true, lt-ltb}
 use Rattle.serde_json.specs.Data.{Data}
 use Rattle.wasi_tree.specs.FirstTree.{is_first_tree}
 use Rattle.wasi_form.specs.Plan.{Plan}
 use Rattle.wasi_form.specs.ScriptForm.{script_of}
 use Rattle.wasi_form.specs.Built.{default_limits, default_table, most_memory, are_preopens_directories, is_piece_within, is_shown_within, is_built_call, is_built, is_within_limits, is_built_script}
-use Rattle.wasi_form.specs.Verdict.{value_of, or_limit, or_later, or_shape, or_json, most_script, verdict_of, Reads}
+use Rattle.wasi_form.specs.Verdict.{value_of, or_later, or_shape, or_json, most_script, verdict_of, Reads}
 use Rattle.wasi_form.specs.declared.verdict.Refusal.{Refusal}
 use Rattle.wasi_form.specs.declared.verdict.Refusal.TheVariants.{Long}
 use Rattle.wasi_form.specs.declared.script.Script.{Script}
@@ -16,7 +16,8 @@ use Rattle.wasi_form.specs.declared.verdict.ScriptError.{ScriptError}
 use Rattle.wasi_form.specs.declared.verdict.ScriptError.TheVariants.{Refused, Memory}
 
 -- a plan that is accepted is the one that was judged, and passes both tests
-built_plan : (s p : Plan) (built within : Bool) → is_built s ≡ built → is_within_limits s ≡ within → or_later (Some s) ≡ Ok p → is_built_script p ≡ true
+built_plan : (s p : Plan) (built within : Bool) → is_built s ≡ built → is_within_limits s ≡ within
+    → or_later (Some s) ≡ Ok p → is_built_script p ≡ true
 unfolding is_built_script
 built_plan s p true true built within e =
     let kept : or_later (Some s) ≡ Ok s = rw (built, within) refl in
@@ -42,11 +43,14 @@ pub too_many : (bytes : List ℕ) → most_script < length bytes → verdict_of 
 unfolding verdict_of
 too_many bytes over = let long = lt-ltb most_script (length bytes) over in rw long refl
 
-pub not_too_many : (bytes : List ℕ) (verdict : Result Plan Refusal) → length bytes ≤ most_script → or_json (value_of bytes) ≡ verdict → verdict_of bytes ≡ verdict
+pub not_too_many : (bytes : List ℕ) (verdict : Result Plan Refusal) → length bytes ≤ most_script
+    → or_json (value_of bytes) ≡ verdict → verdict_of bytes ≡ verdict
 unfolding verdict_of
-not_too_many bytes verdict fits is = let short : nat_lt most_script (length bytes) ≡ false = grind (arith) in rw short is
+not_too_many bytes verdict fits is =
+    let short : nat_lt most_script (length bytes) ≡ false = grind (arith) in rw short is
 
-built_within : (over : Bool) (d : Option Data) (p : Plan) → (if over then Err Long else or_json d) ≡ Ok p → is_built_script p ≡ true
+built_within : (over : Bool) (d : Option Data) (p : Plan) → (if over then Err Long else or_json d) ≡ Ok p
+    → is_built_script p ≡ true
 built_within true d p e = absurd (cc)
 built_within false d p e = built_value d p e
 
@@ -56,7 +60,8 @@ unfolding verdict_of
 built_of_verdict bytes p e = built_within (nat_lt most_script (length bytes)) (value_of bytes) p e
 
 -- what is read of the bytes is their verdict
-pub reads_within : (result : Result Script ScriptError) (bytes : List ℕ) → length bytes ≤ most_script → Reads result (or_json (value_of bytes)) → Reads result (verdict_of bytes)
+pub reads_within : (result : Result Script ScriptError) (bytes : List ℕ) → length bytes ≤ most_script
+    → Reads result (or_json (value_of bytes)) → Reads result (verdict_of bytes)
 reads_within (Ok s) bytes fits reads = not_too_many bytes _ fits reads
 reads_within (Err (Refused refusal)) bytes fits reads = not_too_many bytes _ fits reads
 reads_within (Err Memory) bytes fits reads = reads

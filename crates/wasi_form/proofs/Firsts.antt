@@ -12,7 +12,6 @@ use Rattle.serde_json.specs.Find.{as_object, as_array}
 use Rattle.serde_json.specs.Read.{number_of, of_json, converted}
 use Rattle.wasi_form.specs.Lists.{forms_of}
 use Rattle.wasi_form.specs.Tokens.{next_value}
-use Rattle.wasi_form.specs.ScriptForm.{script_of}
 use Rattle.wasi_form.proofs.Grammar.{next_null, next_boolean, next_string, next_number, next_array, next_deep_array, next_object, next_deep_object}
 
 -- a test of the value at the front
@@ -34,24 +33,30 @@ number_first : (p : Data → Bool) (n : Option Num) (ts : List Token) → ((x : 
 number_first p None ts fails = refl
 number_first p (Some n) ts fails = fails n
 
-made_first : {A : Type 0} (p : Data → Bool) (make : A → Data) (o : Option (A × List Token)) → ((a : A) → p (make a) ≡ false)
+made_first : {A : Type 0} (p : Data → Bool) (make : A → Data) (o : Option (A × List Token))
+    → ((a : A) → p (make a) ≡ false)
     → first_is p (parse_map make o) ≡ false
 made_first p make None fails = refl
 made_first p make (Some x) fails = fails x.0
 
-fails_first : (p : Data → Bool) (depth : ℕ) (t : Read.Token) (ts : List Token) → Fails p t → first_is p (next_value depth (token_of t ∷ ts)) ≡ false
+fails_first : (p : Data → Bool) (depth : ℕ) (t : Read.Token) (ts : List Token) → Fails p t
+    → first_is p (next_value depth (token_of t ∷ ts)) ≡ false
 fails_first p zero tokens.BeginObject ts fails = ap (first_is p) (next_deep_object zero ts refl)
 fails_first p (suc depth) tokens.BeginObject ts fails =
     ap (first_is p) (next_object (suc depth) ts (omega arith)) ∙ made_first p object _ (λ ms. fails.object ms refl)
-fails_first p depth tokens.EndObject ts fails = ap (λ o. first_is p (converted of_json o)) (value_is depth (Token.end_object ∷ ts))
+fails_first p depth tokens.EndObject ts fails =
+    ap (λ o. first_is p (converted of_json o)) (value_is depth (Token.end_object ∷ ts))
 fails_first p zero tokens.BeginArray ts fails = ap (first_is p) (next_deep_array zero ts refl)
 fails_first p (suc depth) tokens.BeginArray ts fails =
     ap (first_is p) (next_array (suc depth) ts (omega arith)) ∙ made_first p array _ (λ ds. fails.array ds refl)
-fails_first p depth tokens.EndArray ts fails = ap (λ o. first_is p (converted of_json o)) (value_is depth (Token.end_array ∷ ts))
-fails_first p depth (tokens.Key k) ts fails = ap (λ o. first_is p (converted of_json o)) (value_is depth (Token.key k.now ∷ ts))
+fails_first p depth tokens.EndArray ts fails =
+    ap (λ o. first_is p (converted of_json o)) (value_is depth (Token.end_array ∷ ts))
+fails_first p depth (tokens.Key k) ts fails =
+    ap (λ o. first_is p (converted of_json o)) (value_is depth (Token.key k.now ∷ ts))
 fails_first p depth (tokens.String s) ts fails = ap (first_is p) (next_string depth s.now ts) ∙ fails.string s.now
 fails_first p depth (tokens.Number s) ts fails =
-    ap (first_is p) (next_number depth s.now (number_of s.now) ts refl) ∙ number_first p (number_of s.now) ts fails.number
+    ap (first_is p) (next_number depth s.now (number_of s.now) ts refl)
+    ∙ number_first p (number_of s.now) ts fails.number
 fails_first p depth (tokens.Bool b) ts fails = ap (first_is p) (next_boolean depth b ts) ∙ fails.boolean b
 fails_first p depth tokens.Null ts fails = ap (first_is p) (next_null depth ts) ∙ fails.null
 fails_first p depth tokens.Bad ts fails = ap (λ o. first_is p (converted of_json o)) (value_is depth (Token.bad ∷ ts))
@@ -72,10 +77,11 @@ no_array (string s) other = refl
 no_array (array ds) other = absurd (cc)
 no_array (object ms) other = refl
 
--- a value that doesn't begin as an object is no script
-pub other_is_no_script : (depth : ℕ) (t : Read.Token) (ts r : List Token) (d : Data) → (t ≡ tokens.BeginObject → ⊥) → next_value depth (token_of t ∷ ts) ≡ Some (d, r)
-    → parse_map script_of (next_value depth (token_of t ∷ ts)) ≡ Some (None, r)
-other_is_no_script depth t ts r d other is =
+-- a value that doesn't begin as an object is none
+pub other_is_no_object : {S : Type 0} (of : Members → S) (depth : ℕ) (t : Read.Token) (ts r : List Token) (d : Data)
+    → (t ≡ tokens.BeginObject → ⊥) → next_value depth (token_of t ∷ ts) ≡ Some (d, r)
+    → parse_map (λ v. option_map of (as_object v)) (next_value depth (token_of t ∷ ts)) ≡ Some (None, r)
+other_is_no_object of depth t ts r d other is =
     let first = fails_first (λ v. is_some (as_object v)) depth t ts (record {
       null = refl;
       boolean = λ b. refl;
@@ -88,7 +94,8 @@ other_is_no_script depth t ts r d other is =
     rw is (rw none refl)
 
 -- a value that doesn't begin as a list is none
-pub other_is_no_list : {A : Type 0} (of : Data → Option (Option A)) (depth : ℕ) (t : Read.Token) (ts r : List Token) (d : Data)
+pub other_is_no_list : {A : Type 0} (of : Data → Option (Option A)) (depth : ℕ) (t : Read.Token) (ts r : List Token)
+    (d : Data)
     → (t ≡ tokens.BeginArray → ⊥) → next_value depth (token_of t ∷ ts) ≡ Some (d, r)
     → parse_map (forms_of of) (next_value depth (token_of t ∷ ts)) ≡ Some (None, r)
 other_is_no_list of depth t ts r d other is =

@@ -225,6 +225,12 @@ pub member_unread_left : {depth : ℕ} {all ts s : List Token} {found : Members}
 member_unread_left {depth = depth} {ts = ts} {s = s} {found = found} {k = k} left key none =
     left.so ∙ members_unread depth left.turns ts s k found _ left.enough key refl none
 
+-- the members that are left, and what those before came to
+pub record FoundLeft {S : Type 0} (of : Members → S) (depth : ℕ) (all : List Token) (found : S) (ts : List Token) : Type 0 where
+  pub before : Members
+  pub is : found ≡ of before
+  pub left : MembersLeft depth all before ts
+
 -- ---- the items of a list of values, as they are found
 
 abbrev pub items_before : List Value → Items → Items

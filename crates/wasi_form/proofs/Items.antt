@@ -1,60 +1,18 @@
 -- Reading the items of a list, one after another.
-use Rattle.std.proofs.Common.{ℕ, suc, List, [], ◌∷◌, ◌++◌, ◌+◌, ◌≡◌, ◌<◌, ◌≤◌, Option, Some, None, refl, ◌∙◌, ap, subst, arith, length, drop, get_or, map, add-one, append_assoc, append-nil, drop-cons}
+use Rattle.std.proofs.Common.{List, [], ◌∷◌, ◌++◌, ◌≡◌, Option, Some, None, refl, ap, map, append_assoc, append-nil}
 use Rattle.std.specs.Prelude.{option_map}
-use Rattle.std.proofs.lemmas.Grind.{common_steps}
 use Rattle.std.proofs.lemmas.List.{map-append}
 use Rattle.serde_json.specs.Data.{Data, Items, no_items, item}
-use Rattle.serde_json.specs.View.{view, items_view}
-use Rattle.serde_json.specs.declared.value.Value.{Value}
-use Rattle.wasi_form.specs.declared.shapes.Unread.{Unread}
-use Rattle.wasi_form.specs.declared.shapes.Unread.TheVariants.{Shape, Memory}
-use Rattle.wasi_form.specs.IsRead.{IsUnread}
 use Rattle.wasi_form.specs.Lists.{items_all, none_waits, forms_in, pushed, form_pushed, same, ◌>>=◌}
 
 -- what was read so far, before what is read of the rest
 abbrev pub before : {A : Type 0} → List A → Option (List A) → Option (List A)
 before done rest = option_map (λ xs. done ++ xs) rest
 
-abbrev pub SoFar : {A : Type 0} → (Data → Option A) → List Value → ℕ → List A → Type 0
-SoFar of values i done = items_all of (items_view values) ≡ before done (items_all of (items_view (drop i values)))
-
-pub then_cons : {A : Type 0} (x : A) (rest : Option (List A)) (done : List A) → before done (rest >>= (λ xs. Some (x ∷ xs))) ≡ before (done ++ x ∷ []) rest
+pub then_cons : {A : Type 0} (x : A) (rest : Option (List A)) (done : List A)
+    → before done (rest >>= (λ xs. Some (x ∷ xs))) ≡ before (done ++ x ∷ []) rest
 then_cons x None done = refl
 then_cons x (Some xs) done = rw append_assoc refl
-
-none_more : {A : Type 0} (of : Data → Option A) (values : List Value) (i : ℕ) (d : Value) (done : List A)
-    → SoFar of values i done → i < length values → of (view (get_or values i d)) ≡ None → items_all of (items_view values) ≡ None
-unfolding items_all
-none_more of values i d done so within none = so ∙ rw (drop-cons values i d, none) refl
-
-one_more : {A : Type 0} (of : Data → Option A) (values : List Value) (i : ℕ) (d : Value) (done : List A) (x : A)
-    → SoFar of values i done → i < length values → of (view (get_or values i d)) ≡ Some x → SoFar of values (i + 1) (done ++ x ∷ [])
-unfolding items_all
-one_more of values i d done x so within some = so ∙ rw (drop-cons values i d, some, add-one) (then_cons x (items_all of (items_view (drop (suc i) values))) done)
-
-pub no_more : {A : Type 0} (of : Data → Option A) (values : List Value) (i : ℕ) (done : List A)
-    → SoFar of values i done → length values ≤ i → items_all of (items_view values) ≡ Some done
-unfolding items_all
-no_more of values i done so all =
-    let none : drop i values ≡ [] = grind (arith, common_steps) in
-    so ∙ rw (none, append-nil) refl
-
--- an item that isn't read
-fails_more : {A : Type 0} (of : Data → Option A) (values : List Value) (i : ℕ) (d : Value) (done : List A) (e : Unread)
-    → SoFar of values i done → i < length values → IsUnread e (of (view (get_or values i d))) → IsUnread e (items_all of (items_view values))
-fails_more of values i d done Shape so within none = none_more of values i d done so within none
-fails_more of values i d done Memory so within free = tt
-
--- the same, where the item has a name
-pub fails_at : {A : Type 0} (of : Data → Option A) (values : List Value) (i : ℕ) (d : Value) (done : List A) (e : Unread)
-    → SoFar of values i done → i < length values → d ≡ get_or values i d → IsUnread e (of (view d)) → IsUnread e (items_all of (items_view values))
-fails_at of values i d done e so within is fails = fails_more of values i d done e so within (subst (λ (v : Value). IsUnread e (of (view v))) is fails)
-
-pub more_at : {T A : Type 0} (see : T → A) (of : Data → Option A) (values : List Value) (i : ℕ) (d : Value) (done : List T) (x : T)
-    → SoFar of values i (map see done) → i < length values → d ≡ get_or values i d → of (view d) ≡ Some (see x)
-    → SoFar of values (i + 1) (map see (done ++ x ∷ []))
-more_at see of values i d done x so within is some =
-    rw map-append (one_more of values i d (map see done) (see x) so within (subst (λ (v : Value). of (view v) ≡ Some (see x)) is some))
 
 pub map_same : {A : Type 0} (xs : List A) → map same xs ≡ xs
 map_same [] = refl
@@ -77,7 +35,8 @@ after-nil None = refl
 after-nil (Some None) = refl
 after-nil (Some (Some xs)) = refl
 
-pub after-no_items : {A : Type 0} (of : Data → Option (Option A)) (found : Option (Option (List A))) → after found (forms_in of no_items) ≡ found
+pub after-no_items : {A : Type 0} (of : Data → Option (Option A)) (found : Option (Option (List A)))
+    → after found (forms_in of no_items) ≡ found
 unfolding items_all
 after-no_items of None = refl
 after-no_items of (Some None) = refl
@@ -87,9 +46,11 @@ after-no_items of (Some (Some done)) = rw append-nil refl
 abbrev pub seen_by : {V T A : Type 0} → (V → List T) → (T → A) → Option V → Option (List A)
 seen_by items see list = option_map (λ v. map see (items v)) list
 
-one_built : {V T A : Type 0} (items : V → List T) (see : T → A) (done all : Option V) (x : Option T) (xs : List (Option A))
+one_built : {V T A : Type 0} (items : V → List T) (see : T → A) (done all : Option V) (x : Option T)
+    (xs : List (Option A))
     → option_map items all ≡ pushed (option_map items done) x
-    → built_before (seen_by items see done) (none_waits (option_map see x ∷ xs)) ≡ built_before (seen_by items see all) (none_waits xs)
+    → built_before (seen_by items see done) (none_waits (option_map see x ∷ xs))
+    ≡ built_before (seen_by items see all) (none_waits xs)
 one_built items see None None x xs is = refl
 one_built items see None (Some all) x xs is = absurd (cc)
 one_built items see (Some done) None None xs is = refl
@@ -99,17 +60,21 @@ one_built items see (Some done) (Some all) (Some x) xs is =
     let added : items all ≡ items done ++ x ∷ [] = cc in
     rw (added, map-append) (then_cons (see x) (none_waits xs) (map see (items done)))
 
-rest_built : {V T A : Type 0} (items : V → List T) (see : T → A) (done all : Option V) (x : Option T) (rest : Option (List (Option A)))
+rest_built : {V T A : Type 0} (items : V → List T) (see : T → A) (done all : Option V) (x : Option T)
+    (rest : Option (List (Option A)))
     → option_map items all ≡ pushed (option_map items done) x
-    → option_map (built_before (seen_by items see done)) (option_map none_waits (rest >>= (λ xs. Some (option_map see x ∷ xs))))
+    → option_map (built_before (seen_by items see done))
+    (option_map none_waits (rest >>= (λ xs. Some (option_map see x ∷ xs))))
     ≡ option_map (built_before (seen_by items see all)) (option_map none_waits rest)
 rest_built items see done all x None is = refl
 rest_built items see done all x (Some xs) is = ap Some (one_built items see done all x xs is)
 
 pub after-item : {V T A : Type 0} (items : V → List T) (see : T → A) (of : Data → Option (Option A))
     (found all : Option (Option V)) (x : Option (Option T)) (d : Data) (ds : Items)
-    → option_map (option_map items) all ≡ form_pushed (option_map (option_map items) found) x → of d ≡ option_map (option_map see) x
-    → after (option_map (seen_by items see) found) (forms_in of (item d ds)) ≡ after (option_map (seen_by items see) all) (forms_in of ds)
+    → option_map (option_map items) all ≡ form_pushed (option_map (option_map items) found) x
+    → of d ≡ option_map (option_map see) x
+    → after (option_map (seen_by items see) found) (forms_in of (item d ds))
+    ≡ after (option_map (seen_by items see) all) (forms_in of ds)
 unfolding items_all
 after-item items see of None None x d ds is read = refl
 after-item items see of None (Some all) x d ds is read = absurd (cc)

@@ -1,5 +1,5 @@
 -- Lists of another length than a form has.
-use Rattle.std.proofs.Common.{ℕ, List, [], ◌∷◌, ◌≡◌, ◌<◌, Bool, false, None, refl, arith, length}
+use Rattle.std.proofs.Common.{ℕ, List, [], ◌∷◌, ◌≡◌, ◌<◌, false, None, refl, arith, length}
 use Rattle.serde_json.specs.View.{items_view}
 use Rattle.serde_json.specs.declared.value.Value.{Value}
 use Rattle.wasi_form.specs.Shapes.{two_in, three_in}

@@ -3,7 +3,7 @@ pub mod Telling
 pub mod Grammar
 pub mod Firsts
 pub mod Unreads
-pub mod FoundParts
+pub mod FoundMembers
 pub mod ReadBack
 pub mod Items
 pub mod Keys

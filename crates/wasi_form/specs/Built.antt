@@ -40,7 +40,8 @@ is_directory_given (Some node) = is_dir_content node.content
 
 -- the node of each is a directory of the list
 abbrev pub are_preopens_directories : List Given → List PlannedPreopen → Bool
-are_preopens_directories nodes preopens = list_all (λ preopen. is_directory_given (slice_get nodes preopen.node)) preopens
+are_preopens_directories nodes preopens =
+    list_all (λ preopen. is_directory_given (slice_get nodes preopen.node)) preopens
 
 -- in a memory of this size
 abbrev pub is_piece_within : ℕ → PlannedPiece → Bool
@@ -53,8 +54,8 @@ is_shown_within size shown = nat_le (shown.ptr + shown.len) size
 -- preopens that are directories and that the table has room for beside the three streams; a memory and ranges that fit
 unfoldable pub is_within_limits : Plan → Bool
 is_within_limits p =
-    are_preopens_directories p.nodes p.preopens && nat_le (3 + length p.preopens) default_table && nat_le p.size most_memory
-    && list_all (is_piece_within p.size) p.pieces && list_all (is_shown_within p.size) p.show
+    are_preopens_directories p.nodes p.preopens && nat_le (3 + length p.preopens) default_table
+    && nat_le p.size most_memory && list_all (is_piece_within p.size) p.pieces && list_all (is_shown_within p.size) p.show
     && nat_le (sum_by (λ shown. shown.len) p.show) most_memory
 
 -- a plan that can be run today

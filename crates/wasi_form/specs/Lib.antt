@@ -15,4 +15,4 @@ pub mod Report
 pub mod Told
 pub mod ReadBack
 pub mod Tokens
-pub mod Parts
+pub mod FoundParts

@@ -34,10 +34,6 @@ items_all of (item d ds) = do
   xs ← items_all of ds
   Some (x ∷ xs)
 
--- a list, each item of the shape
-abbrev pub list_of : {A : Type 0} → (Data → Option A) → Data → Option (List A)
-list_of of d = find.as_array d >>= items_all of
-
 -- A form may wait until it is built. Where it does, a value of its shape is read as `Some None`.
 
 -- a form that never waits

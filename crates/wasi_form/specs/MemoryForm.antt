@@ -1,16 +1,17 @@
 -- The forms of the guest's memory, of what stands in it, and of what is shown of it.
-use Rattle.std.specs.Prelude.{ℕ, List, [], codes, if◌then◌else◌, Option, Some, None}
-use Rattle.serde_json.specs.Data.{Data}
+use Rattle.std.specs.Prelude.{ℕ, List, [], ◌∷◌, Bool, codes, if◌then◌else◌, Option, Some, None, option_map}
+use Rattle.serde_json.specs.Data.{Data, Members}
 use Rattle.serde_json.specs.Find as find
-use Rattle.wasi_form.specs.declared.shapes.Form.TheVariants as forms
+use Rattle.serde_json.specs.Find.{get_member}
 use Rattle.wasi_form.specs.declared.script.Shown.{Shown}
-use Rattle.wasi_form.specs.Lists.{◌>>=◌, only_if, needed, list_of}
-use Rattle.wasi_form.specs.Shapes.{u32_of, hex_of, is_text, two_of, three_of, is_object}
+use Rattle.wasi_form.specs.Lists.{◌>>=◌, only_if, needed, always, forms_of}
+use Rattle.wasi_form.specs.Shapes.{u32_of, hex_of, is_text, two_of, three_of, all_keys}
 use Rattle.wasi_form.specs.Plan.{PlannedPiece, PlannedMemory}
 
 -- the bytes of a text that is of the kind named before it
 abbrev pub piece_bytes : Data → Data → Option (List ℕ)
-piece_bytes kind d = if is_text (codes "hex") kind then hex_of d else (if is_text (codes "text") kind then find.as_str d else None)
+piece_bytes kind d =
+    if is_text (codes "hex") kind then hex_of d else (if is_text (codes "text") kind then find.as_str d else None)
 
 -- `[OFFSET, "hex", HEX]` or `[OFFSET, "text", TEXT]`
 abbrev pub piece_of : Data → Option PlannedPiece
@@ -24,13 +25,34 @@ piece_of d = do
 abbrev pub no_memory : PlannedMemory
 no_memory = record { size = 0; pieces = [] }
 
+unfoldable pub memory_keys : List (List ℕ)
+memory_keys = codes "size" ∷ codes "pieces" ∷ []
+
+-- whether all keys are those of a memory, and what stands at them: `None` where it is missing or of another shape
+pub record MemoryFound : Type 0 where
+  pub known : Bool
+  pub size : Option ℕ
+  pub pieces : Option (Option (List PlannedPiece))
+
+-- of all members
+abbrev pub memory_in : Members → MemoryFound
+memory_in ms = record {
+  known = all_keys memory_keys ms;
+  size = needed u32_of (get_member (codes "size") ms);
+  pieces = needed (forms_of (always piece_of)) (get_member (codes "pieces") ms);
+}
+
+-- the memory of what was found
+unfoldable pub memory_found : MemoryFound → Option (Option PlannedMemory)
+memory_found found = do
+  _ ← only_if found.known
+  size ← found.size
+  pieces ← found.pieces
+  Some (option_map (λ ps. record { size = size; pieces = ps }) pieces)
+
 -- `{"size": BYTES, "pieces": [PIECE ..]}`
-abbrev pub memory_of : Data → Option PlannedMemory
-memory_of d = do
-  _ ← only_if (is_object forms.Memory d)
-  size ← needed u32_of (find.get (codes "size") d)
-  pieces ← needed (list_of piece_of) (find.get (codes "pieces") d)
-  Some (record { size = size; pieces = pieces })
+abbrev pub memory_of : Data → Option (Option PlannedMemory)
+memory_of d = find.as_object d >>= (λ ms. memory_found (memory_in ms))
 
 -- `[PTR, LEN]`
 abbrev pub shown_of : Data → Option Shown

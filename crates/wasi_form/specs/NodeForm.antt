@@ -1,6 +1,6 @@
 -- The form of a node: an object with one of `"dir": {NAME: NODE ..}`, `"file": HEX` and `"link": TEXT`, and with
 -- `"bits": "rwx"` and `"times": [TIME, TIME, TIME]` where they are wanted. A node with a link, bits or times waits.
-use Rattle.std.specs.Prelude.{ℕ, List, [], ◌∷◌, Bool, true, false, ◌&&◌, ◌||◌, nat_eq, nat_lt, codes, if◌then◌else◌, Option, Some, None, option_map, is_some}
+use Rattle.std.specs.Prelude.{ℕ, List, [], ◌∷◌, Bool, false, ◌&&◌, ◌||◌, nat_eq, nat_lt, codes, if◌then◌else◌, Option, Some, None, option_map, is_some}
 use Rattle.serde_json.specs.Data.{Data, Members, no_members, member}
 use Rattle.serde_json.specs.Find as find
 use Rattle.wasi_host.specs.declared.TheConstants.{NANOSECONDS}
@@ -64,7 +64,8 @@ times_of d = do
 
 -- a node that has one of these keys waits
 abbrev pub waits : Data → Bool
-waits d = is_some (find.get (codes "link") d) || is_some (find.get (codes "bits") d) || is_some (find.get (codes "times") d)
+waits d =
+    is_some (find.get (codes "link") d) || is_some (find.get (codes "bits") d) || is_some (find.get (codes "times") d)
 
 abbrev pub script_node : Data → Option (Option Given)
 script_node d = do

@@ -1,5 +1,5 @@
 -- The form of a whole script: an object with a key for each part, and no others.
-use Rattle.std.specs.Prelude.{ℕ, List, [], ◌∷◌, ◌++◌, map, Bool, true, ◌&&◌, codes, if◌then◌else◌, Option, Some, None, is_some, unwrap_or}
+use Rattle.std.specs.Prelude.{ℕ, List, [], ◌∷◌, map, Bool, true, ◌&&◌, codes, if◌then◌else◌, Option, Some, None, is_some, unwrap_or}
 use Rattle.std.specs.List.{list_any, list_all}
 use Rattle.serde_json.specs.Data.{Data, Members}
 use Rattle.serde_json.specs.Find as find
@@ -17,7 +17,8 @@ use Rattle.wasi_form.specs.CallForm.{call_of}
 use Rattle.wasi_form.specs.WaitingForm.{waiting_keys, waiting_in}
 
 unfoldable pub script_keys : List (List ℕ)
-script_keys = codes "nodes" ∷ codes "preopens" ∷ codes "calls" ∷ codes "memory" ∷ codes "show" ∷ map (λ row. row.0) waiting_keys
+script_keys =
+    codes "nodes" ∷ codes "preopens" ∷ codes "calls" ∷ codes "memory" ∷ codes "show" ∷ map (λ row. row.0) waiting_keys
 
 -- Whether all keys are those of a script, and what stands at them. A part is `None` where it is of another shape, or is
 -- missing and has to be there, and `Some None` where a form in it waits. At a key that waits: nothing, or whether what
@@ -27,7 +28,7 @@ pub record Found : Type 0 where
   pub nodes : Option (Option (List Given))
   pub preopens : Option (Option (List PlannedPreopen))
   pub calls : Option (Option (List Call))
-  pub memory : Option PlannedMemory
+  pub memory : Option (Option PlannedMemory)
   pub show : Option (Option (List Shown))
   pub waiting : List (Option Bool)
 
@@ -38,19 +39,21 @@ found_in ms = record {
   nodes = needed (forms_of script_node) (get_member (codes "nodes") ms);
   preopens = needed (forms_of (always preopen_of)) (get_member (codes "preopens") ms);
   calls = needed (forms_of call_of) (get_member (codes "calls") ms);
-  memory = optional memory_of no_memory (get_member (codes "memory") ms);
+  memory = optional memory_of (Some no_memory) (get_member (codes "memory") ms);
   show = optional (forms_of (always shown_of)) (Some []) (get_member (codes "show") ms);
   waiting = waiting_in ms;
 }
 
 -- the plan of these parts, where none of them waits
-abbrev pub planned : Option (List Given) → Option (List PlannedPreopen) → Option (List Call) → PlannedMemory → Option (List Shown) → Option Plan
+abbrev pub planned : Option (List Given) → Option (List PlannedPreopen) → Option (List Call) → Option PlannedMemory
+    → Option (List Shown) → Option Plan
 planned nodes preopens calls memory show = do
   ns ← nodes
   ps ← preopens
   cs ← calls
+  m ← memory
   ss ← show
-  Some (record { nodes = ns; preopens = ps; size = memory.size; pieces = memory.pieces; show = ss; calls = cs })
+  Some (record { nodes = ns; preopens = ps; size = m.size; pieces = m.pieces; show = ss; calls = cs })
 
 -- the plan of what was found, where it is of the shape of a script; `Some None` where a form in it waits
 unfoldable pub script_found : Found → Option (Option Plan)

@@ -68,7 +68,6 @@ three_of d = find.as_array d >>= three_in
 abbrev pub keys_of : Form → List (List ℕ)
 keys_of forms.Node = codes "dir" ∷ codes "file" ∷ codes "link" ∷ codes "bits" ∷ codes "times" ∷ []
 keys_of forms.Preopen = codes "node" ∷ codes "name" ∷ codes "perms" ∷ []
-keys_of forms.Memory = codes "size" ∷ codes "pieces" ∷ []
 keys_of forms.Limits = codes "nodes" ∷ codes "links" ∷ []
 
 abbrev pub has_key : List (List ℕ) → List ℕ → Bool

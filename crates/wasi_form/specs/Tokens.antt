@@ -1,8 +1,8 @@
 -- What stands at the front of the tokens of a text, and the tokens behind it.
-use Rattle.std.specs.Prelude.{ℕ, List, length, Option}
+use Rattle.std.specs.Prelude.{◌≡◌, ℕ, List, length, Option}
 use Rattle.json.specs.Json as json
 use Rattle.json.specs.Token.{Token}
-use Rattle.serde_json.specs.Data.{Data, Items, Members}
+use Rattle.serde_json.specs.Data.{Data, Items, Members, put}
 use Rattle.serde_json.specs.Read.{of_json, of_items, of_members, converted}
 
 -- a value, in which lists and objects nest so deep
@@ -16,3 +16,7 @@ next_items depth ts = converted of_items (json.items (json.value depth) (length 
 -- the members that are left of an object, and its end, put one after another into those before
 abbrev pub next_members : ℕ → Members → List Token → Option (Members × List Token)
 next_members depth before ts = converted (λ ms. of_members ms before) (json.members (json.value depth) (length ts) ts)
+
+-- what all members come to is what is seen of one after another, of which the last one of equal keys counts
+abbrev pub TakesMembers : {S : Type 0} → (Members → S) → (List ℕ → Data → S → S) → Type 0
+TakesMembers of with = (k : List ℕ) (d : Data) (ms : Members) → of (put k d ms) ≡ with k d (of ms)

@@ -93,7 +93,8 @@ waiting_keys =
 
 abbrev pub place_in : List (List ℕ × Kind) → List ℕ → Option (ℕ × Kind)
 place_in [] key = None
-place_in (row ∷ rows) key = if bytes_eq key row.0 then Some (0, row.1) else option_map (λ place. (place.0 + 1, place.1)) (place_in rows key)
+place_in (row ∷ rows) key =
+    if bytes_eq key row.0 then Some (0, row.1) else option_map (λ place. (place.0 + 1, place.1)) (place_in rows key)
 
 -- the place of a key among those that wait, and the kind of its value
 unfoldable pub waiting_key : List ℕ → Option (ℕ × Kind)

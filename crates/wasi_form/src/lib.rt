@@ -9,6 +9,7 @@ mod laws;
 mod lists;
 mod memory;
 mod nodes;
+mod objects;
 mod outcome;
 mod parts;
 mod preopens;

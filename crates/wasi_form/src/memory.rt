@@ -1,13 +1,20 @@
 //! The guest's memory of a script, what stands in it, and what is shown of it.
-ghost use Rattle.std.specs.Prelude.{◌≡◌, []};
+ghost use Rattle.std.specs.Prelude.{◌≡◌, option_map};
+ghost use Rattle.json.specs.Json.{parse_map};
 ghost use Rattle.serde_json.specs.View.{view};
 ghost use Rattle.wasi_form.specs.IsRead.{IsRead};
 ghost use Rattle.wasi_form.specs.Lists.{same, always};
 ghost use Rattle.wasi_form.specs.MemoryForm as specs;
+ghost use Rattle.wasi_form.specs.FoundParts.{memory_found_of};
 ghost use Rattle.wasi_form.specs.Plan as plans;
+ghost use Rattle.wasi_form.specs.Tokens.{next_value};
 
+use crate::lists::{Forms, item, list};
+use crate::objects::{Fields, object};
 use crate::script::{Piece, Shown};
-use crate::shapes::{Form, Item, Shaped, Unread, hex_bytes, is_text, needed, require, three, two};
+use crate::shapes::{Item, Shaped, Unread, hex_bytes, is_text, three, two};
+use crate::tokens::value;
+use json::Reader;
 use serde_json::Value;
 use std::alloc::Global;
 
@@ -23,48 +30,110 @@ fn piece_bytes(alloc: Global, kind: &Value, text: &Value) -> Result<Vec<u8>, Unr
     }
 }
 
-impl Shaped for Piece {
+impl Item for Piece {
     ghost use Rattle.wasi_form.specs.Plan.{PlannedPiece};
 
     ghost Seen = { PlannedPiece };
 
     ghost see = { plans.planned_piece };
 
-    ghost of = { specs.piece_of };
+    ghost of = { always specs.piece_of };
 
-    fn read(alloc: Global, value: &Value) -> Result<Piece, Unread> {
+    fn read(alloc: Global, value: &Value) -> Result<Option<Piece>, Unread> {
         let Some((offset, kind, text)) = three(value) else {
             return Err(Unread::Shape);
         };
-        Ok(Piece {
+        Ok(Some(Piece {
             offset: u32::read(alloc, offset)?,
             bytes: piece_bytes(alloc, kind, text)?,
-        })
+        }))
     }
 }
 
-// The size of a memory, and what stands in it.
+/// The size of a memory, and what stands in it.
 #[derive(Drop)]
 pub struct ScriptMemory {
     pub size: u32,
     pub pieces: Vec<Piece>,
 }
 
-impl Shaped for ScriptMemory {
-    ghost use Rattle.wasi_form.specs.Plan.{PlannedMemory};
+// Whether all keys are those of a memory, and what stands at them.
+#[derive(Drop)]
+struct MemoryParts {
+    known: bool,
+    size: Option<u32>,
+    pieces: Forms<Piece>,
+}
 
-    ghost Seen = { PlannedMemory };
+impl Fields for MemoryParts {
+    ghost use Rattle.wasi_form.specs.MemoryForm.{MemoryFound, memory_in};
+    ghost use Rattle.wasi_form.specs.FoundParts.{memory_found_of, with_memory_member};
 
-    ghost see = { plans.planned_memory };
+    ghost Seen = { MemoryFound };
 
-    ghost of = { specs.memory_of };
+    ghost see = { memory_found_of };
 
-    fn read(alloc: Global, value: &Value) -> Result<ScriptMemory, Unread> {
-        require(Form::Memory.is_of(value))?;
-        Ok(ScriptMemory {
-            size: needed(alloc, value.get("size"))?,
-            pieces: needed(alloc, value.get("pieces"))?,
-        })
+    ghost of = { memory_in };
+
+    ghost with = { with_memory_member };
+
+    fn none(_alloc: Global) -> MemoryParts {
+        MemoryParts {
+            known: true,
+            size: None,
+            pieces: None,
+        }
+    }
+
+    fn with_member(
+        self,
+        alloc: Global,
+        key: &str,
+        reader: &mut Reader<'_>,
+        depth: usize,
+    ) -> Result<MemoryParts, Unread> {
+        if key == "size" {
+            let size = item(alloc, reader, depth)?;
+            Ok(MemoryParts { size, ..self })
+        } else if key == "pieces" {
+            let pieces = list(alloc, reader, depth)?;
+            Ok(MemoryParts { pieces, ..self })
+        } else {
+            drop(value(alloc, reader, depth)?);
+            let known = false;
+            Ok(MemoryParts { known, ..self })
+        }
+    }
+}
+
+impl MemoryParts {
+    #[tactic(auto, unfolding(crate::specs::MemoryForm::memory_found))]
+    fn memory(self) -> Option<Option<ScriptMemory>>
+        ensures { option_map (λ memory. option_map plans.planned_memory memory) result
+            ≡ specs.memory_found (memory_found_of self) }
+    {
+        if !self.known {
+            return None;
+        }
+        let size = self.size?;
+        let pieces = self.pieces?;
+        Some(pieces.map(|pieces| ScriptMemory { size, pieces }))
+    }
+}
+
+/// The next value of a text, read as a memory. `None` where it is of another shape.
+pub fn memory(
+    alloc: Global,
+    reader: &mut Reader<'_>,
+    depth: usize,
+) -> Result<Option<Option<ScriptMemory>>, Unread>
+    ensures { IsRead (λ found. (option_map (λ memory. option_map plans.planned_memory memory) found, reader.new)) result
+        (parse_map specs.memory_of (next_value depth reader.old)) }
+{
+    let parts: Option<MemoryParts> = object(alloc, reader, depth)?;
+    match parts {
+        Some(parts) => Ok(parts.memory()),
+        None => Ok(None),
     }
 }
 

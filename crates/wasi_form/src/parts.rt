@@ -1,29 +1,29 @@
-//! The members of a script, read one after another. Of equal keys the last counts.
-ghost use Rattle.std.specs.Prelude.{◌≡◌, ◌+◌, option_map, map};
+//! The parts of a script, read one after another.
+ghost use Rattle.std.specs.Prelude.{◌≡◌, option_map, map};
 ghost use Rattle.json.specs.Json.{parse_map};
-ghost use Rattle.serde_json.specs.Data.{no_members};
 ghost use Rattle.wasi_tree.specs.Given.{given};
 ghost use Rattle.wasi_form.specs.IsRead.{IsRead};
 ghost use Rattle.wasi_form.specs.Lists.{same};
-ghost use Rattle.wasi_form.specs.Parts.{found_of, with_member, with_waiting};
+ghost use Rattle.wasi_form.specs.FoundParts.{found_of, with_waiting};
 ghost use Rattle.wasi_form.specs.Plan.{plan, planned_preopen, planned_memory};
-ghost use Rattle.wasi_form.specs.ScriptForm.{found_in, planned, script_found, script_of};
-ghost use Rattle.wasi_form.specs.Tokens.{next_value, next_members};
+ghost use Rattle.wasi_form.specs.ScriptForm.{planned, script_found, script_of};
+ghost use Rattle.wasi_form.specs.Tokens.{next_value};
 ghost use Rattle.wasi_form.specs.WaitingForm.{waiting_key};
 
-use crate::lists::{Forms, item, list};
-use crate::memory::{ScriptMemory, no_memory};
+use crate::lists::{Forms, list};
+use crate::memory::{ScriptMemory, memory, no_memory};
+use crate::objects::{Fields, object};
 use crate::script::{Script, ScriptPreopen, Shown};
 use crate::shapes::Unread;
-use crate::tokens::{value, value_after};
+use crate::tokens::value;
 use crate::waiting::{Waiting, is_of_kind, waiting_key};
-use json::{Reader, Token};
+use json::Reader;
 use std::alloc::Global;
 use wasi_guest::Call;
 use wasi_tree::NewNode;
 
-// How deep lists and objects nest in a member of a script, where they nest 127 deep in the whole.
-const DEPTH: usize = 126;
+// How deep lists and objects nest in a script.
+const DEPTH: usize = 127;
 
 // Whether all keys are those of a script, and what stands at them, or counts where nothing does.
 #[derive(Drop)]
@@ -32,70 +32,83 @@ struct Parts {
     nodes: Forms<NewNode>,
     preopens: Forms<ScriptPreopen>,
     calls: Forms<Call>,
-    memory: Option<ScriptMemory>,
+    memory: Option<Option<ScriptMemory>>,
     show: Forms<Shown>,
     waiting: Waiting,
 }
 
-impl Parts {
-    fn none(alloc: Global) -> Parts
-        ensures { found_of result ≡ found_in no_members }
-    {
+impl Fields for Parts {
+    ghost use Rattle.wasi_form.specs.FoundParts.{found_of, with_member};
+    ghost use Rattle.wasi_form.specs.ScriptForm.{Found, found_in};
+
+    ghost Seen = { Found };
+
+    ghost see = { found_of };
+
+    ghost of = { found_in };
+
+    ghost with = { with_member };
+
+    fn none(alloc: Global) -> Parts {
         Parts {
             known: true,
             nodes: None,
             preopens: None,
             calls: None,
-            memory: Some(no_memory(alloc)),
+            memory: Some(Some(no_memory(alloc))),
             show: Some(Some(Vec::new(alloc))),
             waiting: Waiting::none(),
         }
     }
 
-    // With the member of a key, whose value is next in the text.
-    #[tactic(auto, unfolding(crate::specs::Parts::with_member))]
-    fn with(self, alloc: Global, key: &str, reader: &mut Reader<'_>) -> Result<Parts, Unread>
-        ensures { IsRead (λ parts. (found_of parts, reader.new)) result
-            (parse_map (λ d. with_member key.now d (found_of self)) (next_value DEPTH reader.old)) }
-    {
+    fn with_member(
+        self,
+        alloc: Global,
+        key: &str,
+        reader: &mut Reader<'_>,
+        depth: usize,
+    ) -> Result<Parts, Unread> {
         if key == "nodes" {
-            let nodes = list(alloc, reader, DEPTH)?;
+            let nodes = list(alloc, reader, depth)?;
             Ok(Parts { nodes, ..self })
         } else if key == "preopens" {
-            let preopens = list(alloc, reader, DEPTH)?;
+            let preopens = list(alloc, reader, depth)?;
             Ok(Parts { preopens, ..self })
         } else if key == "calls" {
-            let calls = list(alloc, reader, DEPTH)?;
+            let calls = list(alloc, reader, depth)?;
             Ok(Parts { calls, ..self })
         } else if key == "memory" {
-            let memory = item(alloc, reader, DEPTH)?;
+            let memory = memory(alloc, reader, depth)?;
             Ok(Parts { memory, ..self })
         } else if key == "show" {
-            let show = list(alloc, reader, DEPTH)?;
+            let show = list(alloc, reader, depth)?;
             Ok(Parts { show, ..self })
         } else {
-            self.with_waiting(alloc, key, reader)
+            self.with_waiting(alloc, key, reader, depth)
         }
     }
+}
 
+impl Parts {
     // With the member of another key.
     fn with_waiting(
         self,
         alloc: Global,
         key: &str,
         reader: &mut Reader<'_>,
+        depth: usize,
     ) -> Result<Parts, Unread>
         ensures { IsRead (λ parts. (found_of parts, reader.new)) result
-            (parse_map (λ d. with_waiting (waiting_key key.now) d (found_of self)) (next_value DEPTH reader.old)) }
+            (parse_map (λ d. with_waiting (waiting_key key.now) d (found_of self)) (next_value depth reader.old)) }
     {
         match waiting_key(key) {
             Some((place, kind)) => {
-                let is = is_of_kind(alloc, kind, reader, DEPTH)?;
+                let is = is_of_kind(alloc, kind, reader, depth)?;
                 let waiting = self.waiting.with(place, is);
                 Ok(Parts { waiting, ..self })
             }
             None => {
-                drop(value(alloc, reader, DEPTH)?);
+                drop(value(alloc, reader, depth)?);
                 let known = false;
                 Ok(Parts { known, ..self })
             }
@@ -137,49 +150,37 @@ fn built(
     nodes: Option<Vec<NewNode>>,
     preopens: Option<Vec<ScriptPreopen>>,
     calls: Option<Vec<Call>>,
-    memory: ScriptMemory,
+    memory: Option<ScriptMemory>,
     show: Option<Vec<Shown>>,
 ) -> Option<Script>
     ensures { option_map plan result ≡ planned (option_map (λ v. map given v.items) nodes)
         (option_map (λ v. map planned_preopen v.items) preopens) (option_map (λ v. map same v.items) calls)
-        (planned_memory memory) (option_map (λ v. map same v.items) show) }
+        (option_map planned_memory memory) (option_map (λ v. map same v.items) show) }
 {
-    let ScriptMemory { size, pieces } = memory;
+    let nodes = nodes?;
+    let preopens = preopens?;
+    let calls = calls?;
+    let ScriptMemory { size, pieces } = memory?;
+    let show = show?;
     Some(Script {
-        nodes: nodes?,
-        preopens: preopens?,
+        nodes,
+        preopens,
         size,
         pieces,
-        show: show?,
-        calls: calls?,
+        show,
+        calls,
     })
-}
-
-fn parts_left(alloc: Global, reader: &mut Reader<'_>) -> Result<Parts, Unread>
-    ensures { IsRead (λ parts. (found_of parts, reader.new)) result
-        (parse_map found_in (next_members DEPTH no_members reader.old)) }
-{
-    let mut parts = Parts::none(alloc);
-    'members: while let Some(key) = reader.next_key()? {
-        parts = parts.with(alloc, key, reader)?;
-    }
-    Ok(parts)
 }
 
 /// The next value of a text, read as a script. `None` where it is of another shape, `Some(None)` where a form in it
 /// waits.
 pub fn script(alloc: Global, reader: &mut Reader<'_>) -> Result<Option<Option<Script>>, Unread>
     ensures { IsRead (λ found. (option_map (λ script. option_map plan script) found, reader.new)) result
-        (parse_map script_of (next_value (DEPTH + 1) reader.old)) }
+        (parse_map script_of (next_value DEPTH reader.old)) }
 {
-    let Some(token) = reader.next() else {
-        return Err(Unread::Shape);
-    };
-    match token {
-        Token::BeginObject => Ok(parts_left(alloc, reader)?.script()),
-        _ => {
-            drop(value_after(alloc, token, reader, DEPTH + 1)?);
-            Ok(None)
-        }
+    let parts: Option<Parts> = object(alloc, reader, DEPTH)?;
+    match parts {
+        Some(parts) => Ok(parts.script()),
+        None => Ok(None),
     }
 }

@@ -1,5 +1,5 @@
 //! What a value of JSON is read as.
-ghost use Rattle.std.specs.Prelude.{◌≡◌, ◌^◌, [], Option, string_bytes, option_map, map};
+ghost use Rattle.std.specs.Prelude.{◌≡◌, Option, string_bytes, option_map};
 ghost use Rattle.std.specs.List.{list_all};
 ghost use Rattle.std.specs.BTreeMap.{keys};
 ghost use Rattle.serde_json.specs.Data.{Data};
@@ -7,7 +7,7 @@ ghost use Rattle.serde_json.specs.Find as find;
 ghost use Rattle.serde_json.specs.View.{view, items_view, members_view};
 ghost use Rattle.wasi_form.specs.IsRead.{IsRead};
 ghost use Rattle.wasi_form.specs.Lists as lists;
-ghost use Rattle.wasi_form.specs.Lists.{same, items_all, list_of};
+ghost use Rattle.wasi_form.specs.Lists.{same};
 ghost use Rattle.wasi_form.specs.Shapes as shapes;
 
 use hex::FromHexError;
@@ -57,7 +57,6 @@ impl From<Invalid> for Unread {
 pub enum Form {
     Node,
     Preopen,
-    Memory,
     Limits,
 }
 
@@ -70,7 +69,6 @@ impl Form {
                 key == "dir" || key == "file" || key == "link" || key == "bits" || key == "times"
             }
             Form::Preopen => key == "node" || key == "name" || key == "perms",
-            Form::Memory => key == "size" || key == "pieces",
             Form::Limits => key == "nodes" || key == "links",
         }
     }
@@ -170,21 +168,6 @@ impl Shaped for String {
     }
 }
 
-/// A list, each item of its shape.
-impl<T: Shaped> Shaped for Vec<T> {
-    ghost use Rattle.std.specs.Prelude.{List};
-
-    ghost Seen = { List T.Seen };
-
-    ghost see = { λ v. map T.see v.items };
-
-    ghost of = { list_of T.of };
-
-    fn read(alloc: Global, value: &Value) -> Result<Vec<T>, Unread> {
-        list(alloc, value)
-    }
-}
-
 /// A whole number of 32 bits.
 pub fn as_u32(value: &Value) -> Option<u32>
     ensures { result ≡ shapes.u32_of (view value.now) }
@@ -248,28 +231,6 @@ fn three_in(values: &[Value]) -> Option<(&Value, &Value, &Value)>
         return None;
     };
     Some((first, second, third))
-}
-
-/// The items of a list, each of its shape.
-pub fn items<T: Shaped>(alloc: Global, values: &[Value]) -> Result<Vec<T>, Unread>
-    ensures { IsRead (λ v. map T.see v.items) result (items_all T.of (items_view values.now)) }
-{
-    let mut read = Vec::new(alloc);
-    for item in values {
-        let next = T::read(alloc, item)?;
-        read.push(next)?;
-    }
-    Ok(read)
-}
-
-/// A list, each item of its shape.
-pub fn list<T: Shaped>(alloc: Global, value: &Value) -> Result<Vec<T>, Unread>
-    ensures { IsRead (λ v. map T.see v.items) result (list_of T.of (view value.now)) }
-{
-    match value.as_array() {
-        Some(values) => items(alloc, values.as_slice()),
-        None => Err(Unread::Shape),
-    }
 }
 
 /// Whether a value is this text.

@@ -8,6 +8,8 @@ pub mod MarkLemmas
 pub mod NameLemmas
 pub mod NodeLemmas
 pub mod PutLemmas
+pub mod SoundLemmas
+pub mod RowLemmas
 pub mod StoreLemmas
 pub mod TouchedLemmas
 pub mod MemLemmas

@@ -45,7 +45,9 @@ marked-push marks = same_set nat_cmp_total nat_cmp-IsAntisymmetric _ _ (λ q.
       | inl here ↦ ap (λ k. slice_index_or (marks ++ true ∷ []) k false) here ∙ get_or-append_seam marks true [] false
           ∙ grind (arith, members, nat_tests)
       | inr other ↦ elim (cases_lt q (length marks)) [
-        | inl before ↦ get_or_append_left marks (true ∷ []) false q before ∙ grind (arith, members, nat_tests, contains-marked)
+        | inl before ↦
+            get_or_append_left marks (true ∷ []) false q before
+            ∙ grind (arith, members, nat_tests, contains-marked)
         | inr after ↦
             get_or_past (marks ++ true ∷ []) q false (omega (arith, length-append marks (true ∷ [])))
             ∙ sym (get_or_past marks q false after) ∙ grind (arith, members, nat_tests, contains-marked)

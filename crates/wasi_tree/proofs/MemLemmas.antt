@@ -74,7 +74,9 @@ pub cause_of : {A : Type 0} {s u : Touched} (call : HostCall) (error : HostError
     → HasCause {A = A} 0 0 (Err error)
 cause_of call Memory is = no_fault (Err Memory) (λ io. (cc))
 cause_of {s = s} call (Code code) is =
-    no_fault (Err (Code code)) (λ io. never_answered_io s.tree call (is.meant ∙ ap Err (let same : code ≡ Io = (cc) in same)))
+    no_fault (Err (Code code)) (λ io.
+    let same : code ≡ Io = (cc) in
+    never_answered_io s.tree call (is.meant ∙ ap Err same))
 
 pub cause_done : {A : Type 0} (s u : Touched) (call : HostCall) (shown : A → HostAnswer call)
     (result : Result A HostError) → Does s u call shown result → HasCause 0 0 result

@@ -30,7 +30,8 @@ within bytes piece offset n k is_n is_k inside =
     ) in
     let no_gap : offset - length bytes ≡ 0 = omega arith in
     written_back bytes new n long is_n
-    ∙ ap (λ rest. take offset bytes ++ (piece ++ rest)) (drop-drop k offset bytes ∙ ap (λ m. drop (offset + m) bytes) is_k)
+    ∙ ap (λ rest. take offset bytes ++ (piece ++ rest))
+    (drop-drop k offset bytes ∙ ap (λ m. drop (offset + m) bytes) is_k)
     ∙ ap (λ m. take offset bytes ++ (replicate m 0 ++ (piece ++ drop (offset + length piece) bytes))) (sym no_gap)
 
 -- the bytes are what is lent, and the piece what is copied into them

@@ -16,7 +16,8 @@ pub record Touched : Type 0 where
 
 abbrev pub touched_code : Coded Touched
 touched_code =
-    code_by (Tree × Nodes) (coded× tree_code nodes_code) (λ s. (s.tree, s.touched)) (λ p. record { tree = p.0; touched = p.1 }) (λ _. refl)
+    code_by (Tree × Nodes) (coded× tree_code nodes_code)
+    (λ s. (s.tree, s.touched)) (λ p. record { tree = p.0; touched = p.1 }) (λ _. refl)
 
 -- The answer is the table's, the step was made, and the nodes that the call comes to or made are touched.
 pub record Answers (s u : Touched) (call : HostCall) (answer : HostAnswer call) : Type 0 where

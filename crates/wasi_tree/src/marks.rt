@@ -8,8 +8,8 @@ ghost use Rattle.wasi_host.specs.Step.{with_nodes};
 use std::alloc::{AllocError, Global};
 use std::marker::Model;
 
-/// Some of a tree's nodes, as those that were touched. Contracts see the count of nodes, the set of the marked ones, and
-/// for how many more nodes there is room.
+/// Some of a tree's nodes, as those that were touched. Contracts see the count of nodes, the set of the marked ones,
+/// and for how many more nodes there is room.
 #[derive(Debug, Drop)]
 pub struct Marks {
     rows: Vec<bool>,

@@ -181,8 +181,8 @@ impl RowContent {
     /// Puts a node under a name into a directory. Where memory is wanted, nothing has changed.
     pub fn add_name(&mut self, alloc: Global, name: &str, node: u64) -> Result<(), AllocError>
         requires { is_directory (stored_content self.old) ≡ true }
-        ensures added { OnOk result (stored_content self.new
-            ≡ Directory (maps.insert (names_of (stored_content self.old)) name.now node) (is_gone (stored_content self.old))) }
+        ensures added { let was = stored_content self.old in
+            OnOk result (stored_content self.new ≡ Directory (maps.insert (names_of was) name.now node) (is_gone was)) }
         ensures kept { OnErr result (stored_content self.new ≡ stored_content self.old) }
     {
         match self {
@@ -342,8 +342,8 @@ fn add_entry(
     Ok(())
 }
 
-/// Puts a piece into bytes from an offset on, with zeros in a gap before it. A piece that runs past the end is copied once,
-/// into room that grows by doubling. Where memory is wanted, the bytes are as they were.
+/// Puts a piece into bytes from an offset on, with zeros in a gap before it. A piece that runs past the end is copied
+/// once, into room that grows by doubling. Where memory is wanted, the bytes are as they were.
 fn put_piece(bytes: &mut Vec<u8>, offset: usize, piece: &[u8]) -> Result<(), AllocError>
     requires { offset + length piece.now ≤ FILE_MAX }
     ensures put { OnOk result (bytes.new.items ≡ with_piece bytes.old.items offset piece.now) }

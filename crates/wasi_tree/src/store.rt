@@ -12,6 +12,7 @@ ghost use Rattle.wasi_tree.specs.Given.{given, given_of, tree_of};
 ghost use Rattle.wasi_tree.specs.First.{first_node};
 ghost use Rattle.wasi_tree.specs.FirstTree.{is_first_tree};
 ghost use Rattle.wasi_tree.specs.Lent.{lent};
+ghost use Rattle.wasi_tree.specs.Sound.{Stays};
 ghost use Rattle.wasi_tree.specs.StoredTree.{stored_node};
 ghost use Rattle.wasi_tree.specs.OpenRows.{missing_rows, found_rows};
 ghost use Rattle.wasi_tree.specs.TouchedTree.{MeansCode};
@@ -230,7 +231,10 @@ impl Store {
     /// Cuts a file that is opened to no bytes, where the options ask for it.
     pub fn cut_where_asked(&mut self, node: u64, options: &OpenOptions)
         requires { node < next_of self.old }
-        ensures { self.new ≡ (if is_cut options.now (node_at self.old node).content then file_cut self.old node else self.old) }
+        ensures tree { self.new
+            ≡ (if is_cut options.now (node_at self.old node).content then file_cut self.old node else self.old) }
+        ensures stays { Stays self.old self.new }
+        ensures count { next_of self.new ≡ next_of self.old }
     {
         if !options.is_truncate() || !self.row(node).content.is_file() {
             return;
@@ -246,6 +250,7 @@ impl Store {
         ensures number { IfOk result (λ n. n ≡ next_of self.old) }
         ensures made { OnOk result (self.new ≡ file_made self.old directory (name_bytes name.entry)) }
         ensures kept { OnErr result (self.new ≡ self.old) }
+        ensures stays { Stays self.old self.new }
     {
         let node = self.count();
         self.rows.reserve(1)?;
@@ -299,6 +304,8 @@ impl Store {
             (MeansCode (bytes_taken self.old file offset piece.now)) }
         ensures step { OnOk result (self.new ≡ write_step self.old file.node offset piece.now) }
         ensures kept { OnErr result (self.new ≡ self.old) }
+        ensures stays { Stays self.old self.new }
+        ensures count { next_of self.new ≡ next_of self.old }
         ensures all { IfOk result (λ n. n ≡ length piece.now) }
         ensures offset { OnOk result (offset < 2 ^ 63) }
     {
@@ -324,6 +331,8 @@ impl Store {
         requires fits { offset + length piece.now ≤ FILE_MAX }
         ensures put { OnOk result (self.new ≡ bytes_put self.old file offset piece.now) }
         ensures kept { OnErr result (self.new ≡ self.old) }
+        ensures stays { Stays self.old self.new }
+        ensures count { next_of self.new ≡ next_of self.old }
     {
         self.rows[file as usize].content.put(offset, piece)?;
         self.worked.mark(file);

@@ -79,7 +79,8 @@ impl TouchedTree {
         options: &OpenOptions,
     ) -> Result<Held, HostError>
         requires { directory < next_of self.old.tree }
-        ensures does { Does self.old self.new (OpenAt directory (name_bytes name.entry) options.now) (λ held. held) result }
+        ensures does { Does self.old self.new (OpenAt directory (name_bytes name.entry) options.now)
+            (λ held. held) result }
         ensures held { IfOk result (IsHeld self.new.tree) }
         ensures stays { Stays self.old.tree self.new.tree }
     {
@@ -117,7 +118,8 @@ impl TouchedTree {
     /// Reads a file's bytes from an offset on into the front of `buf`, and answers how many.
     pub fn read_at(&mut self, file: Held, buf: &mut [u8], offset: u64) -> Result<usize, ErrorCode>
         requires { file.node < next_of self.old.tree }
-        ensures does { Does self.old self.new (Pread file offset (length buf.old)) (λ n. take n buf.new) (hosted result) }
+        ensures does { Does self.old self.new (Pread file offset (length buf.old))
+            (λ n. take n buf.new) (hosted result) }
         ensures fits { IfOk result (λ n. n ≤ length buf.old) }
         ensures offset { OnOk result (offset < 2 ^ 63) }
         ensures rest { IfOk result (λ n. drop n buf.new ≡ drop n buf.old) }

@@ -8,4 +8,5 @@ use Rattle.wasi_form.proofs.built.are_preopens_directories.Goals as goal
 pub returns : goal.returns
 returns c =
     c.each_preopen_is_directory.ensures
-    ∙ sym (list_all-map (λ preopen. is_directory_given (slice_get (map given c.args.nodes.now.items) preopen.node)) planned_preopen c.args.preopens.now)
+    ∙ sym (list_all-map (λ preopen. is_directory_given (slice_get (map given c.args.nodes.now.items) preopen.node))
+    planned_preopen c.args.preopens.now)

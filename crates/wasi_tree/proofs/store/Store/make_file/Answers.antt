@@ -7,8 +7,10 @@ use Rattle.wasi_host.specs.Tree.{Tree, Node, Nodes, Content, next_of, is_directo
 use Rattle.wasi_host.specs.Step.{file_made, with_nodes}
 use Rattle.wasi_host.proofs.Changes.{directory_within}
 use Rattle.wasi_tree.specs.StoredTree.{stored_content, stored_tree}
-use Rattle.wasi_tree.proofs.StoreLemmas.{Rewrites, rows_same, next-rows, row_read, rows_kept, with_entry, tree_grown, sound_made}
+use Rattle.wasi_tree.proofs.SoundLemmas.{sound_made, stays_same, stays_made}
+use Rattle.wasi_tree.proofs.RowLemmas.{IsRow, rows_same, next-rows, row_node, row_kept, with_entry, tree_grown}
 use Rattle.wasi_tree.proofs.store.Store.make_file.Goals as goal
+use Rattle.wasi_tree.proofs.store.Store.make_file.Goals.{After-index_mut, After-push}
 
 pub index_mut-requires : goal.index_mut-requires
 index_mut-requires c =
@@ -16,55 +18,76 @@ index_mut-requires c =
     let count = next-rows _ _ _ _ (rows_same c.reserve.ensures.items c.reserve-2.ensures.nodes c.self.view_is) in
     grind (arith, common_steps)
 
+-- the directory's row, once there is room
+row : (c : After-index_mut) → IsRow c.reserve.new.self.items c.self.inside.limits c.reserve-2.new.self.nodes
+    c.args.self.now c.args.directory c.index_mut.result.now
+row c = record {
+  stands = rows_same c.reserve.ensures.items c.reserve-2.ensures.nodes c.self.view_is;
+  within = directory_within _ _ c.requires;
+  read = c.index_mut.ensures.value;
+}
+
 pub add_name-requires : goal.add_name-requires
 add_name-requires c =
-    ap (λ (node : Node). is_directory node.content)
-    (sym (row_read _ _ _ _ _ _ (rows_same c.reserve.ensures.items c.reserve-2.ensures.nodes c.self.view_is)
-    (directory_within _ _ c.requires) c.index_mut.ensures.value)) ∙ c.requires
+    ap (λ (node : Node). is_directory node.content) (sym (row_node (row (goal.at.add_name-requires c).After-index_mut)))
+    ∙ c.requires
+
+-- ---- memory is wanted
 
 pub invariant_of-self-in_err-add_name : goal.invariant_of-self-in_err-add_name
 invariant_of-self-in_err-add_name c =
-    rw (rows_kept _ _ _ _ _ _ c.index_mut.ensures.value c.in_err-add_name.ensures.kept)
+    let at = (goal.at.invariant_of-self-in_err-add_name c).After-index_mut in
+    rw (row_kept (row at) c.add_name.new.self c.in_err-add_name.ensures.kept)
     (rw (c.reserve.ensures.items, c.reserve-2.ensures.nodes, c.reserve-2.ensures.count) c.self.invariant)
 
 pub returns-in_err-add_name-clause-kept : goal.returns-in_err-add_name-clause-kept
 returns-in_err-add_name-clause-kept c =
     let error = err_from_is_err_and c.from_residual-in_err-add_name.result c.from_residual-in_err-add_name.ensures.1 in
-    rw error.1 (rows_kept _ _ _ _ _ _ c.index_mut.ensures.value c.in_err-add_name.ensures.kept
-    ∙ rows_same c.reserve.ensures.items c.reserve-2.ensures.nodes c.self.view_is)
+    let at = (goal.at.returns-in_err-add_name-clause-kept c).After-index_mut in
+    rw error.1 (row_kept (row at) c.add_name.new.self c.in_err-add_name.ensures.kept ∙ (row at).stands)
 
-counted : (c : goal.After-push) → c.mark.new.self.count ≡ next_of c.args.self.now
+pub returns-in_err-add_name-clause-stays : goal.returns-in_err-add_name-clause-stays
+returns-in_err-add_name-clause-stays c =
+    let at = (goal.at.returns-in_err-add_name-clause-stays c).After-index_mut in
+    stays_same _ _ (row_kept (row at) c.add_name.new.self c.in_err-add_name.ensures.kept ∙ (row at).stands)
+
+-- ---- the file is made
+
+counted : (c : After-push) → c.mark.new.self.count ≡ next_of c.args.self.now
 counted c =
     c.mark.ensures.count ∙ c.reserve-2.ensures.count ∙ c.self.invariant.counted
     ∙ ap (λ (u : Tree). next_of u) c.self.view_is
 
-marked : (c : goal.After-push)
+marked : (c : After-push)
     → c.push.new.self.nodes ≡ with_nodes c.args.self.now.worked (c.args.directory ∷ next_of c.args.self.now ∷ [])
 marked c =
     c.push.ensures.nodes ∙ (λ i. insert (c.mark.ensures.nodes i) (counted c i))
     ∙ ap (λ (nodes : Nodes). insert (insert nodes c.args.directory) (next_of c.args.self.now))
     (c.reserve-2.ensures.nodes ∙ ap (λ (u : Tree). u.worked) c.self.view_is)
 
-made : (c : goal.After-push)
+made : (c : After-push)
+    → IsRow c.reserve.new.self.items c.self.inside.limits c.reserve-2.new.self.nodes
+    c.args.self.now c.args.directory c.index_mut.result.now
     → stored_tree c.push_reserved.new.self.items c.self.inside.limits c.push.new.self.nodes
     ≡ file_made c.args.self.now c.args.directory (name_bytes c.args.name)
-made c =
-    let t : Tree = c.args.self.now in
+made c is =
     let was : Content = stored_content c.index_mut.result.now.content in
-    let rewrites : Rewrites c.reserve.new.self.items c.self.inside.limits c.reserve-2.new.self.nodes t c.args.directory
-    c.index_mut.result.now c.add_name.new.self (with_entry (name_bytes c.args.name) (next_of t)) = record {
-      stands = rows_same c.reserve.ensures.items c.reserve-2.ensures.nodes c.self.view_is;
-      within = directory_within _ _ c.requires;
-      read = c.index_mut.ensures.value;
-      does = c.in_ok-add_name.ensures.added ∙ (λ i. with_entry (c.as_str.ensures.text i) (c.count-node.ensures i) was);
-    } in
-    tree_grown (name_bytes c.args.name) rewrites c.new_file.result _ _ c.new_file.ensures c.push_reserved.ensures.items (marked c)
+    tree_grown is (name_bytes c.args.name) c.add_name.new.self
+    (c.in_ok-add_name.ensures.added ∙ (λ i. with_entry (c.as_str.ensures.text i) (c.count-node.ensures i) was))
+    c.new_file.result c.new_file.ensures c.push_reserved.new.self.items c.push_reserved.ensures.items
+    c.push.new.self.nodes (marked c)
 
 pub invariant_of-self-2 : goal.invariant_of-self-2
 invariant_of-self-2 c =
     let sound = rw c.self.view_is at c.self.invariant in
     let count : c.push.new.self.count ≡ c.self.inside.worked.count + 1 = omega arith in
-    rw (made c, count) (sound_made c.args.self.now c.args.directory (name_bytes c.args.name) c.requires _ sound)
+    rw (made c (row (goal.at.invariant_of-self-2 c).After-index_mut), count)
+    (sound_made c.args.self.now c.args.directory (name_bytes c.args.name) c.requires _ sound)
 
 pub returns-clause-made : goal.returns-clause-made
-returns-clause-made c = made c
+returns-clause-made c = made c (row (goal.at.returns-clause-made c).After-index_mut)
+
+pub returns-clause-stays : goal.returns-clause-stays
+returns-clause-stays c =
+    rw (made c (row (goal.at.returns-clause-stays c).After-index_mut))
+    (stays_made c.args.self.now c.args.directory (name_bytes c.args.name) c.requires)

@@ -1,6 +1,6 @@
 use Rattle.std.proofs.Common.{ap}
 use Rattle.wasi_tree.specs.StoredTree.{names_in}
-use Rattle.wasi_tree.proofs.StoreLemmas.{sound_one}
+use Rattle.wasi_tree.proofs.SoundLemmas.{sound_one}
 use Rattle.wasi_tree.proofs.store.tests.one_directory.Goals as goal
 
 pub invariant_of-result : goal.invariant_of-result
