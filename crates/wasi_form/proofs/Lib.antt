@@ -1,10 +1,7 @@
-pub mod Fronts
-pub mod Telling
 pub mod Grammar
 pub mod Firsts
 pub mod Unreads
 pub mod FoundMembers
-pub mod ReadBack
 pub mod Items
 pub mod Keys
 pub mod Entries

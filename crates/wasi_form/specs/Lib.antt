@@ -1,4 +1,3 @@
-pub mod Ends
 pub mod IsRead
 pub mod Lists
 pub mod Shapes
@@ -11,8 +10,5 @@ pub mod WaitingForm
 pub mod ScriptForm
 pub mod Built
 pub mod Verdict
-pub mod Report
-pub mod Told
-pub mod ReadBack
 pub mod Tokens
 pub mod FoundParts

@@ -1,4 +1,3 @@
-pub mod Steps
 pub mod Flags
 pub mod FlagSets
 pub mod Range

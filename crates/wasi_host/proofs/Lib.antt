@@ -5,3 +5,6 @@ pub mod Pieces
 pub mod EntryLemmas
 pub mod ValidSteps
 pub mod Times
+pub mod Leaving
+pub mod Agreeing
+pub mod Refusals

@@ -15,7 +15,7 @@ use Rattle.wasi_paths.specs.Text.{is_dot_text, is_long, IsName}
 use Rattle.wasi_host.specs.Tree.{Tree, Node, Nodes, Content, File, Directory, Link, Names, node_at, next_of, names_of, is_file, is_directory, is_gone, stray, child}
 use Rattle.wasi_host.specs.ValidTree.{are_bytes, has_nul, is_entry_name, names_for, name_count, Reached, root, held, IsEntry, IsPlaced, IsValidContent, IsValidTree}
 use Rattle.wasi_host.specs.Options.{Options}
-use Rattle.wasi_host.specs.HostCall.{HostCall, OpenAt, Stat, Pread, Pwrite, Dup, Close, CanBeAsked}
+use Rattle.wasi_host.specs.HostCall.{HostCall, OpenAt, StatAt, ReadLinkAt, Access, Stat, Pread, Pwrite, Dup, Close, CanBeAsked}
 use Rattle.wasi_host.specs.Refusal.{refusal}
 use Rattle.wasi_host.specs.Step.{with_nodes, with_name, new_file, node_made, file_made, no_bytes, is_cut, file_cut, opened_step, open_step, piece_in, bytes_put, write_step, step, with_piece}
 use Rattle.wasi_host.specs.declared.held.Held.{Held}
@@ -448,6 +448,9 @@ pub valid-step : (t : Tree) (call : HostCall) → IsValidTree t → CanBeAsked c
     → IsValidTree (step t call)
 unfolding open_step
 valid-step t (OpenAt d name o) valid asked none = valid-opened t d name o valid asked none (child t d name) refl
+valid-step t (StatAt d name) valid asked none = valid
+valid-step t (ReadLinkAt d name) valid asked none = valid
+valid-step t (Access d) valid asked none = valid
 valid-step t (Stat n) valid asked none = valid
 valid-step t (Pread file offset n) valid asked none = valid
 valid-step t (Pwrite file offset piece) valid asked none = valid-write t file offset piece valid asked none

@@ -1,14 +1,17 @@
 //! The trait of hosts, with its laws.
 ghost use Rattle.std.specs.Prelude.{◌≡◌, ◌≤◌, ◌<◌, ◌^◌, ◌-◌, ℕ, Bool, true, false, IsTrue, Ok, IfOk, OnOk, OnErr, List, Some, None, length, take, drop};
 ghost use Rattle.std.specs.Ordering.{nat_cmp};
+ghost use Rattle.std.specs.String.{string_bytes};
 ghost use Rattle.std.specs.FinSet.{FinSet, contains, remove};
 ghost use Rattle.wasi_paths.specs.Name.{name_bytes};
-ghost use Rattle.wasi_host.specs.HostCall.{OpenAt, Stat, Pread, Pwrite, Dup, Close};
+ghost use Rattle.wasi_host.specs.HostCall.{OpenAt, StatAt, ReadLinkAt, Access, Stat, Pread, Pwrite, Dup, Close};
 ghost use Rattle.wasi_host.specs.Meaning.{World, AllHeld, HasCause, Rose, LiveGot, Told, Logged, hosted, answered};
+ghost use Rattle.wasi_host.specs.declared.limits.TheConstants.{LINK_MAX};
 ghost use Rattle.wasi_host.specs.declared.lookup.Lookup.{Lookup};
 ghost use Rattle.wasi_host.specs.Time.{HasTimes};
 
 use crate::{ErrorCode, Handle, HostError, LookKind, Metadata, OpenOptions};
+use std::alloc::Global;
 use wasi_paths::Name;
 
 /// A tree of files behind handles, which is all that the crates above ever see of one.
@@ -26,7 +29,7 @@ pub trait Host {
     /// The live handles.
     ghost live: { Self → FinSet nat_cmp };
 
-    /// The look-ups so far. Only `open_at` and `dup` add to them.
+    /// The look-ups so far. Only `open_at`, `stat_at`, `read_link_at` and `dup` add to them, one a call.
     ghost lookups: { Self → List Lookup };
 
     /// Whether the host tells its world.
@@ -52,6 +55,36 @@ pub trait Host {
             (OpenAt ((world self.old).held start).node (name_bytes name.entry) options.now)
             (world self.new).held result };
 
+    /// The metadata of the node under a name in a directory. A link is not followed: the metadata are its own.
+    /// Refusals: the rows for a name; NoEntry where it is missing.
+    fn stat_at(&mut self, start: Handle, name: Name<'_>) -> Result<Metadata, HostError>
+        requires { contains (live self.old) start ≡ true }
+        ensures cause { HasCause (faults self.old) (faults self.new) result }
+        ensures live { live self.new ≡ live self.old }
+        ensures logged { Logged (lookups self.old) LookKind.Stat start (λ metadata. None) result (lookups self.new) }
+        ensures times { IfOk result HasTimes }
+        ensures told { IsTrue told → Told (live self.old) (live self.new) (world self.old) (world self.new)
+            (StatAt ((world self.old).held start).node (name_bytes name.entry))
+            (λ metadata. metadata) result };
+
+    /// The text of the link under a name in a directory, which has 1 to 4,095 bytes. Refusals: the rows for a name;
+    /// NoEntry where it is missing; Invalid where it is no link.
+    fn read_link_at(
+        &mut self,
+        alloc: Global,
+        start: Handle,
+        name: Name<'_>,
+    ) -> Result<String, HostError>
+        requires { contains (live self.old) start ≡ true }
+        ensures cause { HasCause (faults self.old) (faults self.new) result }
+        ensures live { live self.new ≡ live self.old }
+        ensures logged { Logged (lookups self.old) LookKind.ReadLink start (λ text. None) result (lookups self.new) }
+        ensures some { IfOk result (λ text. 0 < length (string_bytes text)) }
+        ensures most { IfOk result (λ text. length (string_bytes text) ≤ LINK_MAX) }
+        ensures told { IsTrue told → Told (live self.old) (live self.new) (world self.old) (world self.new)
+            (ReadLinkAt ((world self.old).held start).node (name_bytes name.entry))
+            (λ text. string_bytes text) result };
+
     /// Another live handle of the same node and access.
     fn dup(&mut self, handle: Handle) -> Result<Handle, HostError>
         requires { contains (live self.old) handle ≡ true }
@@ -60,6 +93,16 @@ pub trait Host {
         ensures logged { Logged (lookups self.old) LookKind.Dup handle (λ h. Some h) result (lookups self.new) }
         ensures told { IsTrue told → Told (live self.old) (live self.new) (world self.old) (world self.new)
             (Dup ((world self.old).held handle)) (world self.new).held result };
+
+    /// Whether names may be looked up in a directory: `Access` where its search bit is missing. It takes no memory.
+    fn access(&mut self, directory: Handle) -> Result<(), ErrorCode>
+        requires { contains (live self.old) directory ≡ true }
+        ensures cause { HasCause (faults self.old) (faults self.new) (hosted result) }
+        ensures live { live self.new ≡ live self.old }
+        ensures logged { lookups self.new ≡ lookups self.old }
+        ensures told { IsTrue told → Told (live self.old) (live self.new) (world self.old) (world self.new)
+            (Access ((world self.old).held directory).node)
+            (λ unit. unit) (hosted result) };
 
     /// The metadata of what a handle stands for. It takes no memory.
     fn stat(&mut self, handle: Handle) -> Result<Metadata, ErrorCode>

@@ -27,7 +27,7 @@ pub use handle::Handle;
 pub use held::{AccessMode, Held};
 pub use host::Host;
 pub use laws::steps_keep_trees_valid;
-pub use limits::{FILE_MAX, Limits};
+pub use limits::{FILE_MAX, LINK_MAX, Limits};
 pub use lookup::{LookKind, Lookup};
 pub use metadata::Metadata;
 pub use open_options::{

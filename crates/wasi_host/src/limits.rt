@@ -9,5 +9,8 @@ pub struct Limits {
     pub links: u64,
 }
 
+/// The bytes of the longest text of a link: POSIX's `PATH_MAX` without the NUL that ends it.
+pub const LINK_MAX: usize = 4095;
+
 /// The bytes of the largest file.
 pub const FILE_MAX: usize = 1 << 30;

@@ -6,6 +6,8 @@ use crate::Handle;
 #[derive(Clone, Copy, Debug, PartialEq, Eq)]
 pub enum LookKind {
     Open,
+    Stat,
+    ReadLink,
     Dup,
 }
 

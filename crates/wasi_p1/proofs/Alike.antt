@@ -5,7 +5,7 @@ use Rattle.wasi_host.specs.Tree.{Tree}
 use Rattle.wasi_host.specs.declared.errors.ErrorCode.{ErrorCode}
 use Rattle.wasi_p1.specs.Guest.{Guest, State}
 use Rattle.wasi_p1.specs.Request.{Request, Reply, reply_of, after, starts_at}
-use Rattle.wasi_guest.specs.Steps.{◌>>=◌}
+use Rattle.wasi_host.specs.Steps.{◌>>=◌}
 use Rattle.wasi_p1.specs.Row.{Row, give, Program, done, asking, run_on, beside, from_host}
 use Rattle.wasi_p1.specs.Rows.{row, turn, with_tree}
 use Rattle.wasi_p1.proofs.Near.{given_by, KeepsPlaces, StaysNear, IsNear, AsksNear}
@@ -13,7 +13,8 @@ use Rattle.wasi_p1.specs.Agree.{Alike, AnswerAlike}
 use Rattle.wasi_p1.specs.Stems.{opened_through}
 use Rattle.wasi_guest.specs.declared.call.Call.{Call}
 use Rattle.wasi_guest.specs.declared.answer.Value.{Value}
-use Rattle.wasi_p1.proofs.Agreeing.{after_agree, reply_same, after_closed, given_seen, same_agree, still_closed}
+use Rattle.wasi_host.proofs.Agreeing.{same_agree, still_closed}
+use Rattle.wasi_p1.proofs.Agreeing.{after_agree, reply_same, after_closed, given_seen}
 use Rattle.wasi_p1.proofs.Nearness.{row_near}
 
 -- an answer and a guest, beside the tree after them

@@ -8,7 +8,7 @@ use Rattle.std.proofs.lemmas.Str.{IsUtf8-from_is_utf8}
 use Rattle.wasi_paths.specs.Text.{IsName, is_plain, is_dot_text}
 use Rattle.wasi_host.specs.ValidTree.{are_bytes}
 use Rattle.wasi_guest.specs.Range.{in_memory, with_bytes}
-use Rattle.wasi_guest.specs.Steps.{◌>>=◌}
+use Rattle.wasi_host.specs.Steps.{◌>>=◌}
 use Rattle.wasi_guest.specs.declared.answer.TrapKind.TheVariants.{Pointer}
 use Rattle.wasi_guest.specs.declared.errno.Errno.TheVariants as errnos
 use Rattle.wasi_p1.specs.Row.{Row}

@@ -1,23 +1,24 @@
 -- No turn comes to a node out of reach.
 use Rattle.std.proofs.Common.{ℕ, ◌≤◌, ◌≡◌, inl, inr, refl, sym, subst, arith, Result, Ok, Err}
 use Rattle.std.specs.Prelude.{Contains}
+use Rattle.wasi_host.specs.Agree.{IsClosed, OrMade}
 use Rattle.wasi_host.specs.Tree.{Tree, next_of}
 use Rattle.wasi_host.specs.Meaning.{World}
 use Rattle.wasi_p1.specs.Guest.{Guest, State}
 use Rattle.wasi_p1.specs.Request.{reply_of, after}
-use Rattle.wasi_guest.specs.Steps.{◌>>=◌}
+use Rattle.wasi_host.specs.Steps.{◌>>=◌}
 use Rattle.wasi_p1.specs.Row.{Row, Program, done, asking, from_host, starts}
 use Rattle.wasi_p1.specs.Rows.{row, turn, with_tree}
 use Rattle.wasi_p1.proofs.Near.{Has, IsNear}
 use Rattle.wasi_p1.specs.Turn.{IsTurn, StepTaken, ReachesHost}
-use Rattle.wasi_p1.specs.Agree.{IsClosed, OrMade, Alike, AnswerAlike}
+use Rattle.wasi_p1.specs.Agree.{Alike, AnswerAlike}
 use Rattle.wasi_p1.specs.CallTurn.{Turns, in_world}
 use Rattle.wasi_p1.specs.Reach.{Inside, InReach, Confined}
 use Rattle.wasi_guest.specs.declared.call.Call.{Call}
 use Rattle.wasi_p1.specs.declared.error.P1Error.{P1Error}
 use Rattle.wasi_guest.specs.declared.answer.Value.{Value}
 use Rattle.wasi_p1.proofs.Leaving.{request_leaves}
-use Rattle.wasi_p1.proofs.Agreeing.{itself, still_closed, reach_closed, once, twice}
+use Rattle.wasi_host.proofs.Agreeing.{itself, still_closed, reach_closed, once, twice}
 use Rattle.wasi_p1.proofs.Nearness.{row_near}
 use Rattle.wasi_p1.proofs.Alike.{over, ended, turn_alike}
 

@@ -5,7 +5,7 @@ use Rattle.wasi_p1.specs.Guest.{Guest, OpenDirectory, OpenFile}
 use Rattle.wasi_p1.specs.OpenHow.{open_how, may_open, options_of}
 use Rattle.wasi_p1.specs.Request.{Open, Read, Write}
 use Rattle.wasi_p1.specs.Row.{Row, Program, give, ask}
-use Rattle.wasi_guest.specs.Steps.{◌>>=◌}
+use Rattle.wasi_host.specs.Steps.{◌>>=◌}
 use Rattle.wasi_p1.specs.Rows.{path_open, fd_read, fd_write, text_in, one_name, directory_in, file_in, buffer_in, range, opened_among, held_by, may_write, moved}
 use Rattle.wasi_p1.specs.declared.open_how.OpenHow.{OpenHow}
 use Rattle.wasi_guest.specs.declared.iovec.Iovec.{Iovec}

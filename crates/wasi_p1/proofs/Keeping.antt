@@ -9,7 +9,7 @@ use Rattle.wasi_host.specs.Refusal.{refusal}
 use Rattle.wasi_host.specs.Step.{open_step, opened_step, is_cut, file_cut}
 use Rattle.wasi_host.proofs.Chain.{free}
 use Rattle.std.specs.Prelude.{OnErr}
-use Rattle.wasi_guest.specs.Steps.{◌>>=◌}
+use Rattle.wasi_host.specs.Steps.{◌>>=◌}
 use Rattle.wasi_guest.specs.declared.answer.Value.{Value}
 use Rattle.wasi_guest.specs.declared.errno.Errno.TheVariants as errnos
 use Rattle.wasi_p1.specs.Guest.{Guest, Place, new_number, with_place}

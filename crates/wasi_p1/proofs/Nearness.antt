@@ -3,7 +3,7 @@ use Rattle.std.proofs.Common.{ℕ, ◌≡◌, [], ◌∷◌, refl, ap, ◌∙◌
 use Rattle.std.specs.Prelude.{Contains}
 use Rattle.wasi_fs.specs.declared.perms.FsPerms.{FsPerms}
 use Rattle.wasi_fs.specs.declared.perms.FsPerms.TheVariants.{ReadOnly}
-use Rattle.wasi_guest.specs.Steps.{◌>>=◌}
+use Rattle.wasi_host.specs.Steps.{◌>>=◌}
 use Rattle.wasi_guest.specs.declared.answer.Value.{Value}
 use Rattle.wasi_guest.specs.declared.call.Call.{Call}
 use Rattle.wasi_guest.specs.declared.call.Call.TheVariants.{PathOpen, FdRead, FdWrite, FdClose}
@@ -11,7 +11,7 @@ use Rattle.wasi_p1.specs.Guest.{Guest, perms_in}
 use Rattle.wasi_p1.specs.OpenHow.{open_how, may_open}
 use Rattle.wasi_p1.specs.Row.{Row, Program}
 use Rattle.wasi_p1.specs.Rows.{path_open, fd_read, fd_write, fd_close, row, text_in, one_name, live_in, directory_in, file_in, buffer_in, range, may_write}
-use Rattle.wasi_p1.proofs.Agreeing.{one}
+use Rattle.wasi_host.proofs.Agreeing.{one}
 use Rattle.wasi_p1.proofs.Bytes.{put_bytes, range_bytes, text_utf8, is_name}
 use Rattle.wasi_p1.proofs.Changing.{named_directory, named_file, directory_perms, file_perms, put_back, put_closed, put_opened, opened_bytes}
 use Rattle.wasi_p1.proofs.Keeping.{open_keeps, opened_ends, read_only_kept, no_write}

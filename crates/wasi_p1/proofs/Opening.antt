@@ -7,6 +7,7 @@ use Rattle.wasi_fs.specs.declared.perms.FsPerms.{FsPerms}
 use Rattle.std.specs.FinSet.{contains, insert, members}
 use Rattle.std.proofs.lemmas.List.Elements.{All-contains, Contains-push}
 use Rattle.std.proofs.lemmas.Bool.Decides.{nat_tests}
+use Rattle.wasi_host.specs.Agree.{Touches}
 use Rattle.wasi_host.specs.Tree.{Tree, node_at, is_directory, Content, File, Directory, Link}
 use Rattle.wasi_host.specs.HostCall.{OpenAt, Stat, Close}
 use Rattle.wasi_host.specs.Refusal.{refusal}
@@ -29,13 +30,12 @@ use Rattle.wasi_p1.specs.Row.{Row}
 use Rattle.wasi_p1.specs.OpenHow.{options_of}
 use Rattle.wasi_p1.specs.Guest.{Place, OpenDirectory, directory, file, place_of}
 use Rattle.wasi_p1.specs.CallParts.{OpensSlot, slot_for}
-use Rattle.wasi_p1.specs.Turn.{Touches}
 use Rattle.wasi_p1.specs.Asked.{Asked}
 use Rattle.wasi_p1.specs.declared.context.Slot.{Slot}
 use Rattle.wasi_p1.specs.declared.error.P1Error.{P1Error}
 use Rattle.wasi_p1.specs.declared.error.P1Error.TheVariants.{Errno}
 use Rattle.wasi_p1.specs.declared.open_how.OpenHow.{OpenHow}
-use Rattle.wasi_p1.proofs.Agreeing.{unless_value, one}
+use Rattle.wasi_host.proofs.Agreeing.{unless_value, one}
 use Rattle.wasi_p1.proofs.Touching.{NearOrMade, touches_then, no_ends}
 use Rattle.wasi_p1.proofs.Telling.{comes_to, open_stands, open_ends, asked_of_ok, asked_of_err, both_near}
 

@@ -12,7 +12,7 @@ use Rattle.wasi_p1.specs.CallParts.{OpensSlot, OpensInto, IsReplied, Rests, Stay
 use Rattle.wasi_p1.specs.Request.{Open, Opened}
 use Rattle.wasi_p1.specs.Row.{give}
 use Rattle.wasi_p1.specs.Rows.{place_for, opened_among}
-use Rattle.wasi_guest.specs.Steps.{◌>>=◌}
+use Rattle.wasi_host.specs.Steps.{◌>>=◌}
 use Rattle.wasi_fs.specs.declared.perms.FsPerms.{FsPerms}
 use Rattle.wasi_p1.specs.OpenHow.{options_of}
 use Rattle.wasi_p1.specs.declared.error.P1Error.{P1Error}

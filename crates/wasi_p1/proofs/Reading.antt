@@ -15,7 +15,7 @@ use Rattle.wasi_guest.specs.Range.{with_bytes}
 use Rattle.wasi_p1.specs.CallParts.{ReadsInto, WritesPiece, filled_at}
 use Rattle.wasi_p1.specs.declared.error.P1Error.TheVariants.{Errno}
 use Rattle.wasi_guest.proofs.Ranges.{with_filled}
-use Rattle.wasi_p1.proofs.Agreeing.{unless_value}
+use Rattle.wasi_host.proofs.Agreeing.{unless_value}
 use Rattle.wasi_p1.proofs.Telling.{read_stands, write_stands, asked_of_ok, asked_of_err}
 
 -- a read over a told host of so many bytes, into the front of a buffer

@@ -1,16 +1,17 @@
 -- A run rests on the guest and on what is in its reach.
 use Rattle.std.proofs.Common.{ℕ, ◌≤◌, ◌≡◌, inl, true, false, Bool, List, [], ◌∷◌, refl, ap, sym, ◌∙◌, subst, arith, Some, Ok, Err}
+use Rattle.wasi_host.specs.Agree.{OrMade}
 use Rattle.wasi_host.specs.Tree.{next_of}
 use Rattle.wasi_p1.specs.Guest.{State}
 use Rattle.wasi_p1.specs.Row.{Row}
 use Rattle.wasi_p1.specs.Rows.{row, turn}
-use Rattle.wasi_p1.specs.Agree.{OrMade, Alike, AnswerAlike, RunAlike}
+use Rattle.wasi_p1.specs.Agree.{Alike, AnswerAlike, RunAlike}
 use Rattle.wasi_p1.specs.Run.{Turned, Run, Gives, ends, answer_of}
 use Rattle.wasi_guest.specs.declared.answer.Answer.{Answer}
 use Rattle.wasi_guest.specs.declared.answer.Answer.TheVariants as answers
 use Rattle.wasi_guest.specs.declared.call.Call.{Call}
 use Rattle.wasi_guest.specs.declared.answer.Value.{Value}
-use Rattle.wasi_p1.proofs.Agreeing.{none_made, once, twice}
+use Rattle.wasi_host.proofs.Agreeing.{none_made, once, twice}
 use Rattle.wasi_p1.proofs.Alike.{turn_alike}
 use Rattle.wasi_p1.proofs.Confining.{row_grows}
 use Rattle.wasi_p1.proofs.RunLaws.{Rest, FirstTurn, first_turn}

@@ -1,7 +1,7 @@
 -- From what the parts of a call give to what the call does.
 use Rattle.std.proofs.Common.{Result, ℕ, true, ◌+◌, slice_set, List, ◌≡◌, inl, inr, refl, ap, sym, ◌∙◌, subst, Bool, Ok, Err, length}
 use Rattle.std.specs.Prelude.{IsTrue}
-use Rattle.wasi_guest.specs.Steps.{◌>>=◌}
+use Rattle.wasi_host.specs.Steps.{◌>>=◌}
 use Rattle.std.specs.FinSet.{contains}
 use Rattle.wasi_host.specs.Meaning.{World, Handles, Rose}
 use Rattle.wasi_host.specs.declared.held.Held.{Held}

@@ -2,14 +2,15 @@
 use Rattle.std.proofs.Common.{◌≡◌, inl, inr, ℕ, Bool, true, false, cond, List, [], ◌∷◌, ◌++◌, Option, Some, None, Ok, Err, refl, sym, ap, subst, ◌∙◌, arith}
 use Rattle.std.specs.Prelude.{All, Contains, option_to_list, is_none}
 use Rattle.std.proofs.lemmas.List.Elements.{All-nil, All-cons, Contains-append_cases, Contains-append_right, Contains-push}
+use Rattle.wasi_host.specs.Agree.{IsMade, Touches}
 use Rattle.wasi_paths.specs.Text.{is_dot_text}
 use Rattle.wasi_host.specs.Tree.{Tree, child, node_at, next_of}
 use Rattle.wasi_host.specs.ValidTree.{Reached, root, held}
 use Rattle.wasi_host.specs.Options.{Options}
-use Rattle.wasi_host.specs.HostCall.{HostCall, OpenAt, Stat, Pread, Pwrite, Dup, Close}
+use Rattle.wasi_host.specs.HostCall.{HostCall, OpenAt, Pread, Pwrite}
 use Rattle.wasi_host.specs.Refusal.{refusal}
 use Rattle.wasi_host.specs.Step.{step, open_step, opened_step, found_by, made_by}
-use Rattle.wasi_host.specs.Answer.{HostAnswer, host_answer, reached, or_next, unless}
+use Rattle.wasi_host.specs.Answer.{HostAnswer, reached, or_next, unless}
 use Rattle.wasi_host.specs.Meaning.{World, Handles, Told, Looked, Stepped}
 use Rattle.wasi_host.specs.declared.errors.ErrorCode.{ErrorCode}
 use Rattle.wasi_host.specs.declared.errors.ErrorCode.TheVariants.{Io}
@@ -19,10 +20,10 @@ use Rattle.wasi_host.specs.declared.held.Held.{Held}
 use Rattle.wasi_p1.specs.Errnos.{error_of}
 use Rattle.wasi_p1.specs.Request.{Request, Reply, Open, Read, Write, reply_of, after, starts_at, ends_at}
 use Rattle.wasi_p1.specs.Row.{from_host}
-use Rattle.wasi_p1.specs.Turn.{IsMade, Touches}
 use Rattle.wasi_p1.specs.Asked.{Asked, Hidden}
-use Rattle.wasi_p1.proofs.Leaving.{named_in, next_is_made}
-use Rattle.wasi_p1.proofs.Agreeing.{one}
+use Rattle.wasi_host.proofs.Leaving.{named_in, next_is_made}
+use Rattle.wasi_host.proofs.Agreeing.{one}
+use Rattle.wasi_host.proofs.Refusals.{refusal_of}
 use Rattle.wasi_p1.proofs.Near.{asked_as}
 use Rattle.wasi_p1.proofs.Touching.{NearOrMade, touches_with, touches_same}
 
@@ -38,21 +39,6 @@ pub record Stands (t : Tree) (r : Request) (call : HostCall) : Type 0 where
 -- the nodes to which a host call comes, and those that it makes
 abbrev pub comes_to : Tree → HostCall → List ℕ
 comes_to t call = found_by t call ++ made_by t call
-
-unless-err : {B : Type 0} (refused : Option ErrorCode) (x : B) {code : ErrorCode} → unless refused x ≡ Err code
-    → refused ≡ Some code
-unless-err None x is = absurd (cc)
-unless-err (Some d) x is = cc
-
--- a code that the table has for a call is its refusal
-refusal_of : (t : Tree) (call : HostCall) {code : ErrorCode} → host_answer t call ≡ Err code
-    → refusal t call ≡ Some code
-refusal_of t (OpenAt d name o) is = unless-err (refusal t (OpenAt d name o)) _ is
-refusal_of t (Stat n) is = unless-err (refusal t (Stat n)) _ is
-refusal_of t (Pread file offset n) is = unless-err (refusal t (Pread file offset n)) _ is
-refusal_of t (Pwrite file offset piece) is = unless-err (refusal t (Pwrite file offset piece)) _ is
-refusal_of t (Dup stands) is = absurd (cc)
-refusal_of t Close is = absurd (cc)
 
 pub both_near : {t : Tree} {r : Request} {call : HostCall} → Stands t r call → (n : ℕ) → Contains (comes_to t call) n
     → NearOrMade t (after t r) (starts_at r) n

@@ -7,11 +7,11 @@ use Rattle.std.specs.Cmp.{nat_eq_equiv}
 use Rattle.std.proofs.lemmas.Bool.{eqb-true}
 use Rattle.std.proofs.lemmas.List.Elements.{All-weaker, All-nil}
 use Rattle.std.proofs.lemmas.Map.Views.{list_any-from_Contains, Contains-from_any}
+use Rattle.wasi_host.specs.Agree.{IsMade, Touches}
 use Rattle.wasi_host.specs.Tree.{Tree, Nodes}
 use Rattle.wasi_host.specs.ValidTree.{Reached}
 use Rattle.wasi_host.specs.Step.{with_nodes}
 use Rattle.wasi_host.proofs.Chain.{contains-with_nodes}
-use Rattle.wasi_p1.specs.Turn.{IsMade, Touches}
 
 -- reached from these nodes, or made
 abbrev pub NearOrMade : Tree → Tree → List ℕ → ℕ → Type 0

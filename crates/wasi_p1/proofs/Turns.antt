@@ -1,14 +1,15 @@
 -- From what a request did over a told host to the turn of its call.
 use Rattle.std.proofs.Common.{[], ◌≡◌, ◌⊎◌, inl, inr, refl, ap, sym, ◌∙◌, subst, Result, Ok, Err}
 use Rattle.std.specs.Prelude.{OnErr, is_ok, if◌then◌else◌}
+use Rattle.wasi_host.specs.Agree.{Touches}
 use Rattle.wasi_host.specs.Meaning.{World}
 use Rattle.wasi_host.specs.declared.errors.ErrorCode.{ErrorCode}
 use Rattle.wasi_p1.specs.Guest.{Guest, State}
 use Rattle.wasi_p1.specs.Request.{Request, Reply, reply_of, after}
-use Rattle.wasi_guest.specs.Steps.{◌>>=◌}
+use Rattle.wasi_host.specs.Steps.{◌>>=◌}
 use Rattle.wasi_p1.specs.Row.{Row, Program, done, asking, from_host, Asks, starts, path_ends}
 use Rattle.wasi_p1.specs.Rows.{row}
-use Rattle.wasi_p1.specs.Turn.{IsTurn, Refuses, Faults, Wants, Touches, StepTaken}
+use Rattle.wasi_p1.specs.Turn.{IsTurn, Refuses, Faults, Wants, StepTaken}
 use Rattle.wasi_p1.specs.CallTurn.{Turns, in_world}
 use Rattle.wasi_p1.specs.Asked.{Asked, Hidden, GivesOrElse, TreeAfter}
 use Rattle.wasi_guest.specs.declared.call.Call.{Call}

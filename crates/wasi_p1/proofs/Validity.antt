@@ -17,7 +17,7 @@ use Rattle.wasi_p1.specs.Run.{Turned, Run, ends}
 use Rattle.wasi_p1.specs.Turn.{StepTaken}
 use Rattle.wasi_p1.specs.Validity.{IsValidState}
 use Rattle.wasi_p1.specs.declared.error.P1Error.{P1Error}
-use Rattle.wasi_p1.proofs.Agreeing.{unless_value, below_or}
+use Rattle.wasi_host.proofs.Agreeing.{unless_value, below_or}
 use Rattle.wasi_p1.proofs.Alike.{ended}
 use Rattle.wasi_p1.proofs.Bytes.{cut}
 use Rattle.wasi_p1.proofs.Moving.{Moves, turn_moves, turned_moves, turned_by, over_tree, over_guest, replied_by}

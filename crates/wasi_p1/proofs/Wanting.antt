@@ -7,7 +7,7 @@ use Rattle.wasi_fs.specs.declared.perms.FsPerms.{FsPerms}
 use Rattle.wasi_guest.specs.Flags.{flags_in, known_lookupflags, known_oflags, known_fdflags, known_rights}
 use Rattle.wasi_guest.specs.Iovec.{first_buffer}
 use Rattle.wasi_guest.specs.Range.{in_memory}
-use Rattle.wasi_guest.specs.Steps.{◌>>=◌}
+use Rattle.wasi_host.specs.Steps.{◌>>=◌}
 use Rattle.wasi_guest.specs.declared.answer.TrapKind.{TrapKind}
 use Rattle.wasi_guest.specs.declared.errno.Errno.{Errno as ErrorNumber}
 use Rattle.wasi_guest.specs.declared.errno.Errno.TheVariants as errnos

@@ -10,7 +10,7 @@ use Rattle.wasi_p1.specs.Request.{Write}
 use Rattle.wasi_p1.specs.Row.{Row}
 use Rattle.wasi_p1.specs.Rows.{fd_write, buffer_in, file_in, range, may_write, or_trap, held_by, moved}
 use Rattle.wasi_p1.specs.Writing.{WritesWhole}
-use Rattle.wasi_p1.proofs.Agreeing.{unless_value}
+use Rattle.wasi_host.proofs.Agreeing.{unless_value}
 use Rattle.wasi_p1.proofs.Alike.{ended}
 use Rattle.wasi_p1.proofs.Bytes.{range_is}
 use Rattle.wasi_p1.proofs.Moving.{gave, replied_by}

@@ -1,29 +1,14 @@
 -- When two states are the same to a guest.
-use Rattle.std.specs.Prelude.{ℕ, ◌≡◌, ◌≤◌, ◌⊎◌, List, Some, Contains, Ok, Err}
-use Rattle.std.specs.FinMap as map
-use Rattle.wasi_host.specs.Tree.{Tree, node_at, next_of, names_of}
+use Rattle.std.specs.Prelude.{ℕ, ◌≡◌, ◌≤◌, List, Contains, Ok, Err}
+use Rattle.wasi_host.specs.Agree.{AgreeOn, IsClosed, OrMade}
+use Rattle.wasi_host.specs.Tree.{next_of}
 use Rattle.wasi_p1.specs.Guest.{State, nodes_of}
 use Rattle.wasi_p1.specs.Row.{Row}
 use Rattle.wasi_p1.specs.Rows.{turn}
-use Rattle.wasi_p1.specs.Turn.{IsMade}
 use Rattle.wasi_p1.specs.Reach.{Inside}
 use Rattle.wasi_p1.specs.Run.{Turned, Run, answers_of}
 use Rattle.wasi_guest.specs.declared.call.Call.{Call}
 use Rattle.wasi_guest.specs.declared.answer.Value.{Value}
-
--- with a directory of the set each node that its names hold
-pub record IsClosed (Seen : ℕ → Type 0) (t : Tree) : Type 0 where
-  pub under : (d n : ℕ) (name : List ℕ) → Seen d → map.get (names_of (node_at t d).content) name ≡ Some n → Seen n
-
--- two trees with equal nodes on a set
-pub record AgreeOn (Seen : ℕ → Type 0) (t u : Tree) : Type 0 where
-  pub nodes : (n : ℕ) → Seen n → node_at t n ≡ node_at u n
-  pub next : next_of t ≡ next_of u
-  pub limits : t.limits ≡ u.limits
-
--- of the set, or made since
-abbrev pub OrMade : (ℕ → Type 0) → Tree → Tree → ℕ → Type 0
-OrMade Seen t t' n = Seen n ⊎ IsMade t t' n
 
 -- two states with the same guest, whose trees are equal on a closed set that has its descriptors' nodes
 pub record Alike (Seen : ℕ → Type 0) (s s' : State) : Type 0 where

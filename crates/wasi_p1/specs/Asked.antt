@@ -1,10 +1,10 @@
 -- What a request does over a told host.
 use Rattle.std.specs.Prelude.{◌≡◌, ◌⊎◌, [], Ok, Err, is_ok, if◌then◌else◌}
+use Rattle.wasi_host.specs.Agree.{Touches}
 use Rattle.wasi_host.specs.Tree.{Tree}
 use Rattle.wasi_host.specs.Meaning.{World}
 use Rattle.wasi_p1.specs.Request.{Request, Reply, reply_of, after, starts_at, ends_at}
 use Rattle.wasi_p1.specs.Row.{Row, from_host}
-use Rattle.wasi_p1.specs.Turn.{Touches}
 use Rattle.wasi_guest.specs.declared.errno.Errno.TheVariants as errnos
 use Rattle.wasi_p1.specs.declared.error.P1Error.TheVariants.{Errno, Memory}
 

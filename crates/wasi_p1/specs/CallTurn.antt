@@ -1,5 +1,6 @@
 -- What a call of the context does.
 use Rattle.std.specs.Prelude.{ℕ, ◌≡◌, ◌≤◌, ◌⊎◌, Bool, true, false, IsTrue, List, [], length, slice_get, Contains, Some, Result, Ok, Err, OnErr, is_ok, if◌then◌else◌}
+use Rattle.wasi_host.specs.Agree.{Touches}
 use Rattle.wasi_fs.specs.declared.perms.FsPerms.TheVariants.{ReadOnly}
 use Rattle.wasi_host.specs.Meaning.{World, Handles, Rose}
 use Rattle.wasi_host.specs.declared.lookup.Lookup.{Lookup}
@@ -9,7 +10,7 @@ use Rattle.wasi_p1.specs.CallParts.{IsReplied, with_after}
 use Rattle.wasi_p1.specs.Guest.{Guest, State, perms_in, guest_of, guest_by}
 use Rattle.wasi_p1.specs.Row.{Row, Program, done, asking}
 use Rattle.wasi_p1.specs.Rows.{row, turn}
-use Rattle.wasi_p1.specs.Turn.{IsTurn, Touches, ReachesHost, named_by, roots_of}
+use Rattle.wasi_p1.specs.Turn.{IsTurn, ReachesHost, named_by, roots_of}
 use Rattle.wasi_guest.specs.declared.call.Call.{Call}
 use Rattle.wasi_guest.specs.declared.call.Call.TheVariants.{PathOpen, FdRead, FdWrite, FdClose}
 use Rattle.wasi_guest.specs.declared.errno.Errno.TheVariants.{Io}

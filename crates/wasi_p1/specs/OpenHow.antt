@@ -6,7 +6,7 @@ use Rattle.wasi_host.specs.Options.{Options, no_options}
 use Rattle.wasi_host.specs.declared.open_options.FollowSymlinks.TheVariants.{No}
 use Rattle.wasi_guest.specs.Flags as flag
 use Rattle.wasi_guest.specs.Flags.{has, flags_in, known_lookupflags, known_oflags, known_fdflags, known_rights}
-use Rattle.wasi_guest.specs.Steps.{◌>>=◌}
+use Rattle.wasi_host.specs.Steps.{◌>>=◌}
 use Rattle.wasi_guest.specs.declared.errno.Errno.{Errno as ErrorNumber}
 use Rattle.wasi_guest.specs.declared.errno.Errno.TheVariants as errnos
 use Rattle.wasi_p1.specs.Row.{Row, give}

@@ -2,10 +2,10 @@
 use Rattle.std.specs.Prelude.{ℕ, ◌≡◌, ◌≤◌, ◌⊎◌, true, List, Some, Contains}
 use Rattle.std.specs.FinSet.{contains}
 use Rattle.std.specs.FinMap as map
+use Rattle.wasi_host.specs.Agree.{IsMade}
 use Rattle.wasi_host.specs.Tree.{Nodes, node_at, names_of, next_of}
 use Rattle.wasi_host.specs.ValidTree.{Reached}
 use Rattle.wasi_p1.specs.Guest.{State, nodes_of}
-use Rattle.wasi_p1.specs.Turn.{IsMade}
 
 -- reached at the start from a descriptor's node, so at the start of a guest's run from a preopen
 abbrev pub Inside : State → ℕ → Type 0

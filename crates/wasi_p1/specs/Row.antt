@@ -2,7 +2,7 @@
 use Rattle.std.specs.Prelude.{ℕ, List, [], Result, Ok, Err}
 use Rattle.wasi_host.specs.Tree.{Tree}
 use Rattle.wasi_host.specs.declared.errors.ErrorCode.{ErrorCode}
-use Rattle.wasi_guest.specs.Steps.{◌>>=◌}
+use Rattle.wasi_host.specs.Steps.{◌>>=◌}
 use Rattle.wasi_p1.specs.Errnos.{errno_of}
 use Rattle.wasi_p1.specs.Request.{Request, Reply, reply_of, after, starts_at, ends_at}
 use Rattle.wasi_p1.specs.declared.error.P1Error.{P1Error}

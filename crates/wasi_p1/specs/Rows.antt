@@ -12,7 +12,7 @@ use Rattle.wasi_p1.specs.Guest.{Guest, State, Place, closed, stream, directory, 
 use Rattle.wasi_p1.specs.OpenHow.{open_how, may_open, options_of}
 use Rattle.wasi_p1.specs.Request.{Open, Read, Write, Opened}
 use Rattle.wasi_p1.specs.Row.{Row, give, Program, answer, ask, run_on}
-use Rattle.wasi_guest.specs.Steps.{◌>>=◌}
+use Rattle.wasi_host.specs.Steps.{◌>>=◌}
 use Rattle.wasi_guest.specs.declared.iovec.Iovec.{Iovec}
 use Rattle.wasi_guest.specs.declared.call.Call.{Call}
 use Rattle.wasi_guest.specs.declared.call.Call.TheVariants.{PathOpen, FdRead, FdWrite, FdClose}

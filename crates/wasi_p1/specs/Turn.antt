@@ -1,8 +1,5 @@
 -- What a call did, against its row.
-use Rattle.std.specs.Prelude.{ℕ, ◌<◌, ◌≤◌, List, ◌≡◌, ◌⊎◌, true, Result, Ok, Err, All}
-use Rattle.std.specs.FinSet.{contains}
-use Rattle.wasi_host.specs.Tree.{Tree, Nodes, next_of}
-use Rattle.wasi_host.specs.ValidTree.{Reached}
+use Rattle.std.specs.Prelude.{ℕ, List, ◌≡◌, ◌⊎◌, Result, Ok, Err}
 use Rattle.wasi_p1.specs.Guest.{State}
 use Rattle.wasi_p1.specs.Row.{Row, Asks, starts, path_ends}
 use Rattle.wasi_p1.specs.Rows.{row}
@@ -40,18 +37,6 @@ abbrev pub IsTurn : Type 0 → Type 0 → State → State → Result Value P1Err
 IsTurn rose reaches before after (Ok x) row = row ≡ Ok (x, after)
 IsTurn rose reaches before after (Err e) row =
     Refuses before after e row ⊎ (Wants before after e ⊎ Faults rose reaches before after e row)
-
--- a node that was made between two trees
-pub record IsMade (t t' : Tree) (n : ℕ) : Type 0 where
-  pub fresh : next_of t ≤ n
-  pub there : n < next_of t'
-
--- what a call touches: nothing is given up; it comes to nodes reached from the roots, or made, and to all that its
--- paths ended at
-pub record Touches (t t' : Tree) (roots paths : List ℕ) (old new : Nodes) : Type 0 where
-  pub stays : (n : ℕ) → contains old n ≡ true → contains new n ≡ true
-  pub near : (n : ℕ) → contains new n ≡ true → (contains old n ≡ true) ⊎ (Reached t roots n ⊎ IsMade t t' n)
-  pub ends : All (λ n. contains new n ≡ true) paths
 
 -- no refusal of the row stands before its request
 abbrev pub ReachesHost : State → Call → Type 0

@@ -15,8 +15,8 @@ use Rattle.wasi_tree.specs.Given.{tree_of}
 use Rattle.wasi_tree.specs.MemState.{MemState, world_of}
 use Rattle.wasi_script.specs.Headline.{told_of, Reports}
 use Rattle.wasi_p1.specs.Reach.{Confined}
-use Rattle.wasi_form.specs.Report.{report_text}
-use Rattle.wasi_form.specs.ReadBack.{IsOrdered}
+use Rattle.wasi_report.specs.Report.{report_text}
+use Rattle.wasi_report.specs.ReadBack.{IsOrdered}
 use Rattle.wasi_p1.specs.Run.{Run, Allows, DidRun, named}
 use Rattle.wasi_form.specs.Plan.{Plan}
 use Rattle.wasi_form.specs.Built.{default_limits}

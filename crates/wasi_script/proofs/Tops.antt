@@ -2,11 +2,11 @@
 use Rattle.std.proofs.Common.{ℕ, ◌+◌, ◌<◌, ◌≤◌, ◌≡◌, Bool, true, List, [], length}
 use Rattle.std.proofs.Common.{refl, sym, ◌∙◌, subst, arith, Result, Err}
 use Rattle.std.proofs.lemmas.List.{drop_all}
-use Rattle.wasi_form.specs.Ends.{ReadAll}
+use Rattle.wasi_ends.specs.Ends.{ReadAll}
 use Rattle.wasi_form.specs.Plan.{Plan}
 use Rattle.wasi_form.specs.Verdict.{Reads, most_script, verdict_of}
-use Rattle.wasi_form.specs.declared.reading.Unfinished.{Unfinished}
-use Rattle.wasi_form.specs.declared.reading.Unfinished.TheVariants as errors
+use Rattle.wasi_ends.specs.declared.reading.Unfinished.{Unfinished}
+use Rattle.wasi_ends.specs.declared.reading.Unfinished.TheVariants as errors
 use Rattle.wasi_form.specs.declared.verdict.Refusal.{Refusal}
 use Rattle.wasi_form.specs.declared.verdict.ScriptError.{ScriptError}
 use Rattle.wasi_form.specs.declared.verdict.ScriptError.TheVariants as scripts

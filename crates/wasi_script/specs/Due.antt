@@ -1,7 +1,7 @@
 -- What the program has to write, and what stands after it, by its status.
 use Rattle.std.specs.Prelude.{◌≡◌, ℕ, ◌+◌, ◌++◌, Bool, true, false, List, [], ◌∷◌, drop, codes, Result, Ok, Err, ⊤}
 use Rattle.std.specs.Str.{bytes_eq}
-use Rattle.wasi_form.specs.Ends.{TookFront}
+use Rattle.wasi_ends.specs.Ends.{TookFront}
 use Rattle.wasi_script.specs.Headline.{Reports}
 use Rattle.wasi_form.specs.Plan.{Plan, plan}
 use Rattle.wasi_form.specs.Verdict.{most_script, verdict_of}

@@ -1,8 +1,8 @@
 -- The statuses of the program.
 use Rattle.std.specs.Prelude.{ℕ}
-use Rattle.wasi_form.specs.declared.reading.Unfinished.{Unfinished}
-use Rattle.wasi_form.specs.declared.reading.Unfinished.TheVariants.{Fault, Memory}
-use Rattle.wasi_form.specs.declared.reading.Unfinished.TheVariants as unfinished
+use Rattle.wasi_ends.specs.declared.reading.Unfinished.{Unfinished}
+use Rattle.wasi_ends.specs.declared.reading.Unfinished.TheVariants.{Fault, Memory}
+use Rattle.wasi_ends.specs.declared.reading.Unfinished.TheVariants as unfinished
 use Rattle.wasi_form.specs.declared.verdict.Refusal.TheVariants.{Long}
 use Rattle.wasi_form.specs.declared.verdict.ScriptError.{ScriptError}
 use Rattle.wasi_form.specs.declared.verdict.ScriptError.TheVariants as scripts

@@ -4,8 +4,8 @@ use Rattle.std.specs.List.Sorted.{IsStrictlySortedBy}
 use Rattle.std.specs.Ordering.{nat_cmp}
 use Rattle.wasi_tree.specs.Given.{given_of}
 use Rattle.wasi_p1.specs.Reach.{InReach}
-use Rattle.wasi_form.specs.Report.{Report, report_text}
-use Rattle.wasi_form.specs.ReadBack.{IsOrdered}
+use Rattle.wasi_report.specs.Report.{Report, report_text}
+use Rattle.wasi_report.specs.ReadBack.{IsOrdered}
 use Rattle.wasi_p1.specs.Run.{Turned, Run, answers_of, named}
 use Rattle.wasi_form.specs.Plan.{Plan}
 use Rattle.wasi_script.specs.Start.{start}

@@ -2,7 +2,8 @@
 ghost use Rattle.std.specs.Prelude.{◌≡◌, ◌↔◌, ◌⊎◌, IsNone};
 ghost use Rattle.wasi_script.specs.Exit.{exit_code, unfinished_status, script_status};
 
-use wasi_form::{Refusal, ScriptError, Unfinished};
+use wasi_ends::Unfinished;
+use wasi_form::{Refusal, ScriptError};
 
 /// How the program ended.
 #[derive(Clone, Copy, Debug, PartialEq, Eq)]

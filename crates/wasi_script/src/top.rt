@@ -10,8 +10,10 @@ ghost use Rattle.wasi_script.specs.Due.{is_run, due, the_usage, due_of, refusal_
 use crate::start::{first_context, first_memory, shown};
 use crate::status::Status;
 use std::alloc::{AllocError, Global};
-use wasi_form::{Outcome, Refusal, Script, Sink, Source, read_all, read_script, report, write_all};
+use wasi_ends::{Sink, Source, read_all, write_all};
+use wasi_form::{Refusal, Script, read_script};
 use wasi_p1::run_calls;
+use wasi_report::{Outcome, report};
 
 const USAGE: &str = "usage: wasirun run | wasirun gen N\n";
 

@@ -5,7 +5,8 @@ use Rattle.std.proofs.lemmas.List.{drop_more, length-set, get_or_append_left}
 use Rattle.wasi_tree.specs.declared.node.NewEntry.{NewEntry}
 use Rattle.wasi_tree.specs.declared.node.NewNode.{NewNode}
 use Rattle.wasi_tree.specs.Given.{given, given_content}
-use Rattle.wasi_tree.specs.FirstTreeMarks.{entry_numbers, with_marks, are_unmarked, content_numbers, all_numbers}
+use Rattle.wasi_tree.specs.EntryNumbers.{entry_numbers, content_numbers, all_numbers}
+use Rattle.wasi_tree.specs.FirstTreeMarks.{with_marks, are_unmarked}
 
 -- what is left to mark has the outcome of the whole
 pub record IsMarking (marks start : List Bool) (left all : List ℕ) : Type 0 where

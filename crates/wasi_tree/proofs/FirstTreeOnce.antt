@@ -1,23 +1,18 @@
-use Rattle.std.proofs.Common.{◌≡◌, ℕ, zero, suc, ◌+◌, ◌-◌, ◌<◌, ◌≤◌, Bool, true, false, not, cond, ◌&&◌, List, [], ◌∷◌, map, drop, length, length-drop, slice_index_or, slice_set, nat_eq, nat_lt, count_by, refl, sym, ap, ◌∙◌, subst, arith, ⊎_elim}
+use Rattle.std.proofs.Common.{◌≡◌, ℕ, zero, suc, ◌+◌, ◌-◌, ◌<◌, ◌≤◌, Bool, true, false, not, ◌&&◌, List, [], ◌∷◌, map, drop, length, length-drop, slice_index_or, slice_set, nat_eq, nat_lt, refl, sym, ap, ◌∙◌, subst, arith, ⊎_elim}
 use Rattle.std.specs.List.{All, list_all}
 use Rattle.std.proofs.Math.ListN.{replicate}
 use Rattle.std.proofs.lemmas.List.{length-set, get_or-set_same, get_or-set_other, get_or-replicate, get_or-drop, length-replicate}
 use Rattle.std.proofs.Math.Bool.{and-false}
 use Rattle.std.proofs.lemmas.Bool.{true≢false, cases_eq, and_parts, ltb-true, ne_eqb}
 use Rattle.std.proofs.lemmas.List.Elements.{All-nil, All-cons, All-append}
-use Rattle.std.proofs.lemmas.List.Sums.{sum_by-cons, sum_by-append}
 use Rattle.wasi_host.proofs.EntryLemmas.{times, once, times-cons}
-use Rattle.wasi_tree.specs.Given.{Given, GivenContent, file, directory, link, given_entries, entry_count}
+use Rattle.wasi_tree.specs.Given.{Given, GivenContent, file, directory, link, entry_count}
 use Rattle.wasi_tree.specs.FirstTree.{is_first_name, are_distinct, is_first_entry, is_first_content, is_first_node, are_first_nodes, numbers_from}
-use Rattle.wasi_tree.specs.FirstTreeMarks.{stand_once, with_marks, are_unmarked, content_numbers, all_numbers}
+use Rattle.wasi_tree.specs.EntryNumbers.{content_numbers, all_numbers}
+use Rattle.wasi_tree.specs.FirstTreeMarks.{stand_once, with_marks, are_unmarked}
 use Rattle.wasi_tree.proofs.FirstTreeMarks.{length-with_marks}
-
-pub nat_eq-refl : (n : ℕ) → nat_eq n n ≡ true
-nat_eq-refl n = grind arith
-
-pub not_true : (b : Bool) → not b ≡ true → b ≡ false
-not_true true is = sym is
-not_true false is = refl
+use Rattle.wasi_tree.proofs.CountLemmas.{nat_eq-refl, entry_count-times}
+use Rattle.wasi_tree.proofs.GivenNames.{not_true}
 
 -- a mark that is set anew: its place has it, each other place stays
 once-set : (marks : List Bool) (m n : ℕ) → m < length marks → slice_index_or marks m false ≡ false
@@ -88,22 +83,6 @@ all-same p k [] same = refl
 all-same p k (b ∷ marks) same =
     let first : b ≡ p k = same 0 (omega arith) ∙ ap p (omega arith) in
     rw (first, all-same p (k + 1) marks (λ i h. same (suc i) (omega arith) ∙ ap p (omega arith))) refl
-
-pub times-numbers : (n : ℕ) (entries : List (List ℕ × ℕ))
-    → count_by (λ e. nat_eq e.1 n) entries ≡ times n (map (λ e. e.1) entries)
-times-numbers n [] = refl
-times-numbers n (e ∷ entries) =
-    sum_by-cons (λ (f : List ℕ × ℕ). cond (nat_eq f.1 n) 1 0) e entries
-    ∙ ap (λ k. cond (nat_eq e.1 n) 1 0 + k) (times-numbers n entries)
-    ∙ sym (sum_by-cons (λ k. cond (nat_eq k n) 1 0) e.1 (map (λ f. f.1) entries))
-
-pub entry_count-times : (n : ℕ) (nodes : List Given) → entry_count n nodes ≡ times n (all_numbers nodes)
-entry_count-times n [] = refl
-entry_count-times n (g ∷ gs) =
-    sum_by-cons (λ (h : Given). count_by (λ e. nat_eq e.1 n) (given_entries h.content)) g gs
-    ∙ ap (λ k. k + entry_count n gs) (times-numbers n (given_entries g.content))
-    ∙ ap (λ k. times n (content_numbers g.content) + k) (entry_count-times n gs)
-    ∙ sym (sum_by-append (λ k. cond (nat_eq k n) 1 0) (content_numbers g.content) (all_numbers gs))
 
 once-1 : (b : Bool) (n : ℕ) → once b ≡ n → b ≡ nat_eq n 1
 once-1 true n is = rw (← is) refl

@@ -1,7 +1,13 @@
+pub mod DistinctLemmas
+pub mod FitLemmas
+pub mod CountLemmas
+pub mod FoundLemmas
 pub mod FirstTreeLemmas
 pub mod FirstTreeMarks
 pub mod FirstTreeOnce
-pub mod FirstTreeNames
+pub mod GivenNames
+pub mod FitDecides
+pub mod FitValid
 pub mod FirstTreeValid
 pub mod SlotLemmas
 pub mod MarkLemmas
@@ -13,4 +19,4 @@ pub mod RowLemmas
 pub mod StoreLemmas
 pub mod TouchedLemmas
 pub mod MemLemmas
-pub mod FirstLemmas
+pub mod NewTreeLemmas

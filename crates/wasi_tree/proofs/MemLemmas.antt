@@ -3,7 +3,7 @@ use Rattle.std.proofs.lemmas.Bool.{true≢false}
 use Rattle.std.specs.Ordering.{nat_cmp}
 use Rattle.std.specs.FinSet.{contains, empty, contains-empty}
 use Rattle.wasi_host.specs.Tree.{Tree, is_directory, node_at, next_of}
-use Rattle.wasi_host.specs.HostCall.{HostCall, OpenAt, Stat, Pread, Pwrite, Dup, Close}
+use Rattle.wasi_host.specs.HostCall.{HostCall, OpenAt, StatAt, ReadLinkAt, Access, Stat, Pread, Pwrite, Dup, Close}
 use Rattle.wasi_host.specs.Refusal.{refusal}
 use Rattle.wasi_host.specs.Answer.{HostAnswer, host_answer, unless}
 use Rattle.wasi_host.specs.Meaning.{AllHeld, IsHeld, HasCause}
@@ -51,6 +51,9 @@ refused_io (Some code) b never is = never (cc)
 never_io : (t : Tree) (call : HostCall) → refusal t call ≢ Some Io
 unfolding refusal
 never_io t (OpenAt d name o) io = grind (arith)
+never_io t (StatAt d name) io = grind (arith)
+never_io t (ReadLinkAt d name) io = grind (arith)
+never_io t (Access d) io = grind (arith)
 never_io t (Stat n) io = grind (arith)
 never_io t (Pread file offset length) io = grind (arith)
 never_io t (Pwrite file offset piece) io = grind (arith)
@@ -59,6 +62,10 @@ never_io t Close io = grind (arith)
 
 never_answered_io : (t : Tree) (call : HostCall) → host_answer t call ≢ Err Io
 never_answered_io t (OpenAt d name o) is = refused_io (refusal t (OpenAt d name o)) _ (never_io t (OpenAt d name o)) is
+never_answered_io t (StatAt d name) is = refused_io (refusal t (StatAt d name)) _ (never_io t (StatAt d name)) is
+never_answered_io t (ReadLinkAt d name) is =
+    refused_io (refusal t (ReadLinkAt d name)) _ (never_io t (ReadLinkAt d name)) is
+never_answered_io t (Access d) is = refused_io (refusal t (Access d)) _ (never_io t (Access d)) is
 never_answered_io t (Stat n) is = refused_io (refusal t (Stat n)) _ (never_io t (Stat n)) is
 never_answered_io t (Pread file offset n) is =
     refused_io (refusal t (Pread file offset n)) _ (never_io t (Pread file offset n)) is

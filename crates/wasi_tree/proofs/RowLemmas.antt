@@ -11,7 +11,7 @@ use Rattle.wasi_tree.specs.StoredTree.{stored_content, stored_node, stored_tree}
 use Rattle.wasi_tree.specs.Sound.{IsSound, IsSoundNode}
 use Rattle.wasi_tree.specs.declared.row.Row.{Row}
 use Rattle.wasi_tree.specs.declared.row.RowContent.{RowContent}
-use Rattle.wasi_tree.proofs.SoundLemmas.{sound_changed}
+use Rattle.wasi_tree.proofs.SoundLemmas.{seen, sound_changed}
 
 pub next-rows : (rows : List Row) (limits : Limits) (worked : Nodes) (t : Tree) → stored_tree rows limits worked ≡ t
     → next_of t ≡ length rows
@@ -87,13 +87,13 @@ module _ {rows : List Row} {limits : Limits} {worked : Nodes} {t : Tree} {n : �
     tree_written now = λ i.
         let u : Tree = record { nodes = nodes_written i; limits = (is.stands i).limits; worked = now } in u
 
-    pub sound_written : (now : Nodes) {marks count : ℕ} → ((c : Content) → names_of (f c) ≡ names_of c)
+    pub sound_written : (now : Nodes) {marks count : ℕ} → ((c : Content) → seen (f c) ≡ seen c)
         → IsSound (stored_tree rows limits worked) marks → count ≡ marks
         → IsSound (stored_tree (slice_set rows n new) limits now) count
-    sound_written now {marks} names sound same =
+    sound_written now {marks} same_seen sound same =
         subst (IsSound (stored_tree (slice_set rows n new) limits now)) (sym same)
         (subst (λ u. IsSound u marks) (sym (tree_written now))
-        (sound_changed t marks n changed_node now (tree_sound sound) is.within (names old.content)))
+        (sound_changed t marks n changed_node now (tree_sound sound) is.within (same_seen old.content)))
 
 -- the tree with one row more, which a name of the row's directory holds
 pub tree_grown : {rows : List Row} {limits : Limits} {worked : Nodes} {t : Tree} {d : ℕ} {row : Row}

@@ -1,51 +1,79 @@
 -- Changes keep a tree sound, and its files files.
 use Rattle.std.proofs.Common.{◌≡◌, ◌<◌, ◌≤◌, ◌+◌, ℕ, zero, suc, Bool, true, false, cond, List, [], ◌∷◌, Option, Some, inl, inr, refl, sym, ap, ◌∙◌, subst, arith}
-use Rattle.std.proofs.lemmas.Bool.{cases_eq, cases_lt}
+use Rattle.std.proofs.lemmas.Bool.{true≢false, cases_eq, cases_lt}
 use Rattle.std.specs.Ordering.{nat_cmp, eq_by_cmp}
 use Rattle.std.specs.Cmp.Lexicographic.{slice_cmp, nat_list_cmp_total}
 use Rattle.std.specs.FinMap.{get, empty, get-empty, get-insert}
-use Rattle.wasi_host.specs.Tree.{Tree, Node, Nodes, Names, Content, File, Directory, Link, node_at, next_of, stray, names_of, is_file, is_directory}
-use Rattle.wasi_host.specs.Step.{new_file, with_name, file_made}
+use Rattle.wasi_host.specs.Tree.{Tree, Node, Nodes, Names, Content, File, Directory, Link, node_at, next_of, stray, names_of, text_of, is_file, is_directory, is_link}
+use Rattle.wasi_host.specs.Step.{new_file, with_name, file_made, no_bytes, piece_in}
 use Rattle.wasi_host.specs.declared.limits.Limits.{Limits}
 use Rattle.wasi_host.proofs.Changes.{changed, next_of-changed, node_at-same, node_at-past, node_at-parent, node_at-apart, node_at-made, node_at-kept, next_of-made, directory_within}
 use Rattle.wasi_tree.specs.StoredTree.{stored_content, stored_node, stored_tree}
-use Rattle.wasi_tree.specs.Sound.{IsSound, IsSoundNode, Stays}
+use Rattle.wasi_tree.specs.Sound.{IsSound, IsSoundNode, IsSoundText, Stays}
 use Rattle.wasi_tree.specs.declared.row.Row.{Row}
 
-sound_by : (t : Tree) (node : Node) (count : ℕ) (names : Names) → names_of node.content ≡ names → next_of t ≤ count
-    → ((name : List ℕ) (n : ℕ) → get names name ≡ Some n → n < next_of t) → IsSoundNode count node
-sound_by t node count names same more below = record {
-  below = λ name n is. let within = below name n (ap (λ m. get m name) (sym same) ∙ is) in omega (arith, within, more);
+-- what is sound of a content: its names, and the text of a link
+abbrev pub Seen : Type 0
+Seen = Names × (Bool × List ℕ)
+
+abbrev pub seen : Content → Seen
+seen content = (names_of content, (is_link content, text_of content))
+
+pub seen-no_bytes : (content : Content) → seen (no_bytes content) ≡ seen content
+seen-no_bytes (File bytes links) = refl
+seen-no_bytes (Directory names gone) = refl
+seen-no_bytes (Link text links) = refl
+
+pub seen-piece_in : (content : Content) (offset : ℕ) (piece : List ℕ)
+    → seen (piece_in content offset piece) ≡ seen content
+seen-piece_in (File bytes links) offset piece = refl
+seen-piece_in (Directory names gone) offset piece = refl
+seen-piece_in (Link text links) offset piece = refl
+
+-- a node in which the same is seen as in a sound one, among as many nodes or more
+sound_by : (count more : ℕ) (sound other : Node) → seen other.content ≡ seen sound.content → count ≤ more
+    → IsSoundNode count sound → IsSoundNode more other
+sound_by count more sound other same grown is = record {
+  below = λ name n held.
+      let within = is.below name n (ap (λ (s : Seen). get s.0 name) (sym same) ∙ held) in
+      omega (arith, within, grown);
+  text = λ link.
+      subst IsSoundText (ap (λ (s : Seen). s.1.1) (sym same))
+      (is.text (ap (λ (s : Seen). s.1.0) (sym same) ∙ link));
 }
 
--- a node is another one with the same names
+-- a node is another one in which the same is seen
 pub sound_changed : (t : Tree) (marks n : ℕ) (node : Node) (worked : Nodes) → IsSound t marks → n < next_of t
-    → names_of node.content ≡ names_of (node_at t n).content → IsSound (changed t n node worked) marks
+    → seen node.content ≡ seen (node_at t n).content → IsSound (changed t n node worked) marks
 sound_changed t marks n node worked sound within same = record {
   nodes = λ k.
-      sound_by t _ (next_of (changed t n node worked)) (names_of (node_at t k).content)
-      (node_at-same t n node worked within (λ x. names_of x.content) same k)
-      (omega (arith, next_of-changed t n node worked)) (sound.nodes k).below;
+      sound_by (next_of t) (next_of (changed t n node worked)) (node_at t k) _
+      (node_at-same t n node worked within (λ x. seen x.content) same k)
+      (omega (arith, next_of-changed t n node worked)) (sound.nodes k);
   counted = sound.counted ∙ sym (next_of-changed t n node worked);
 }
 
-no_names : (count : ℕ) (node : Node) → names_of node.content ≡ empty → IsSoundNode count node
-no_names count node none = record {
+-- a node without names that is no link
+pub bare : (count : ℕ) (node : Node) → names_of node.content ≡ empty → is_link node.content ≡ false
+    → IsSoundNode count node
+bare count node none no_link = record {
   below = λ name n is.
       let nothing : get (empty {X = ℕ} {R = slice_cmp nat_cmp}) name ≡ Some n = ap (λ m. get m name) (sym none) ∙ is in
       let no = get-empty {X = ℕ} (slice_cmp nat_cmp) name in
       absurd (cc);
+  text = λ link. absurd (true≢false (sym link ∙ no_link));
 }
 
--- one node without names
+-- one node without names, which is no link
 pub sound_one : (row : Row) (limits : Limits) (worked : Nodes) (rows : List Row) (marks : ℕ) → rows ≡ row ∷ []
-    → names_of (stored_content row.content) ≡ empty → marks ≡ 1 → IsSound (stored_tree rows limits worked) marks
+    → names_of (stored_content row.content) ≡ empty → is_link (stored_content row.content) ≡ false → marks ≡ 1
+    → IsSound (stored_tree rows limits worked) marks
 unfolding node_at
-sound_one row limits worked rows marks is none counted =
+sound_one row limits worked rows marks is none no_link counted =
     rw (is, counted) (record {
       nodes = λ n. elim n as (λ k. IsSoundNode 1 (node_at (stored_tree (row ∷ []) limits worked) k)) [
-        | zero ↦ no_names 1 (stored_node row) none
-        | suc k ↦ no_names 1 stray refl
+        | zero ↦ bare 1 (stored_node row) none no_link
+        | suc k ↦ bare 1 stray refl refl
       ];
       counted = refl;
     })
@@ -75,6 +103,7 @@ module _ (t : Tree) (d : ℕ) (name : List ℕ) (directory : is_directory (node_
         let held = made_held (eq_by_cmp (slice_cmp nat_cmp) q name) (next_of t) n (get names q) (sound.below q n)
         (sym (get-insert nat_list_cmp_total names name (next_of t) q) ∙ is) in
         omega (arith, held, next);
+    text = λ link. absurd (true≢false (sym link));
   }
 
   node_sound : (marks : ℕ) → IsSound t marks → (k : ℕ) → IsSoundNode (next_of grown) (node_at grown k)
@@ -84,16 +113,18 @@ module _ (t : Tree) (d : ℕ) (name : List ℕ) (directory : is_directory (node_
           subst (λ j. IsSoundNode (next_of grown) (node_at grown j)) (sym here)
           (rw (node_at-parent t d name new_file within) (parent_sound (sound.nodes d)))
       | inr apart ↦
-          sound_by t _ (next_of grown) (names_of (node_at t k).content)
-          (ap (λ x. names_of x.content) (node_at-apart t d name new_file within k before apart)) (omega (arith, next))
-          (sound.nodes k).below
+          sound_by (next_of t) (next_of grown) (node_at t k) (node_at grown k)
+          (ap (λ x. seen x.content) (node_at-apart t d name new_file within k before apart)) (omega (arith, next))
+          (sound.nodes k)
     ]
     | inr after ↦ elim (cases_lt k (next_of grown)) [
       | inl there ↦
           let last : k ≡ next_of t = omega (arith, next, after, there) in
-          no_names (next_of grown) _ (ap (λ j. names_of (node_at grown j).content) last
-          ∙ ap (λ x. names_of x.content) (node_at-made t d name new_file within))
-      | inr past ↦ no_names (next_of grown) _ (ap (λ x. names_of x.content) (node_at-past grown k past))
+          subst (IsSoundNode (next_of grown))
+          (sym (ap (node_at grown) last ∙ node_at-made t d name new_file within))
+          (bare (next_of grown) new_file refl refl)
+      | inr past ↦ subst (IsSoundNode (next_of grown)) (sym (node_at-past grown k past))
+          (bare (next_of grown) stray refl refl)
     ]
   ]
 

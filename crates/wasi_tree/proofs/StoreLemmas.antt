@@ -1,15 +1,17 @@
 -- Lemmas on the nodes of a store.
-use Rattle.std.proofs.Common.{◌≡◌, ◌<◌, ◌≤◌, ℕ, true, false, cond, List, [], ◌∷◌, Option, Some, None, IfSome, length, refl, ap, arith}
+use Rattle.std.proofs.Common.{◌≡◌, ◌<◌, ◌≤◌, ℕ, true, false, cond, List, [], ◌∷◌, Option, Some, None, IfSome, Ok, Err, length, refl, sym, ap, ◌∙◌, arith}
 use Rattle.std.proofs.lemmas.List.{get_or_past}
 use Rattle.std.specs.FinMap.{get}
 use Rattle.wasi_paths.specs.Text.{is_dot_text}
 use Rattle.wasi_host.specs.Options.{Options, are_refused}
-use Rattle.wasi_host.specs.Tree.{Tree, Node, Content, File, Directory, Link, node_at, next_of, stray, child, names_of, is_file, is_directory}
-use Rattle.wasi_host.specs.HostCall.{OpenAt}
+use Rattle.wasi_host.specs.Tree.{Tree, Node, Content, File, Directory, Link, node_at, next_of, stray, child, names_of, text_of, is_file, is_directory, is_link}
+use Rattle.wasi_host.specs.HostCall.{OpenAt, StatAt, ReadLinkAt}
 use Rattle.wasi_host.specs.Refusal.{refusal, first_row, name_rows}
 use Rattle.wasi_host.specs.Step.{is_cut, bytes_put, write_step}
 use Rattle.wasi_host.specs.declared.errors.ErrorCode.{ErrorCode}
-use Rattle.wasi_host.specs.Answer.{metadata_of, metadata_from}
+use Rattle.wasi_host.specs.declared.errors.ErrorCode.TheVariants as codes
+use Rattle.wasi_host.specs.declared.metadata.Metadata.{Metadata}
+use Rattle.wasi_host.specs.Answer.{metadata_of, metadata_from, unless, reached, or_next, stat_at_answer, text_held, link_text, link_answer}
 use Rattle.wasi_tree.specs.Sound.{IsSoundNode}
 use Rattle.wasi_tree.proofs.RowLemmas.{next-rows}
 
@@ -43,6 +45,69 @@ pub open_refused : (t : Tree) (d : ℕ) (name : List ℕ) (o : Options) (code : 
     → refusal t (OpenAt d name o) ≡ Some code
 unfolding refusal
 open_refused t d name o code directory accepted name_refused = grind (arith)
+
+-- ---- a look at a name
+
+-- a row for the name refuses a look at it
+pub look_refused : (t : Tree) (d : ℕ) (name : List ℕ) (code : ErrorCode) → is_directory (node_at t d).content ≡ true
+    → first_row (name_rows t d name) ≡ Some code → refusal t (StatAt d name) ≡ Some code
+unfolding refusal
+look_refused t d name code directory name_refused = grind (arith)
+
+pub look_missing : (t : Tree) (d : ℕ) (name : List ℕ) → is_directory (node_at t d).content ≡ true
+    → first_row (name_rows t d name) ≡ None → child t d name ≡ None → refusal t (StatAt d name) ≡ Some codes.NoEntry
+unfolding refusal
+look_missing t d name directory named missing = grind (arith)
+
+pub look_free : (t : Tree) (d n : ℕ) (name : List ℕ) → is_directory (node_at t d).content ≡ true
+    → first_row (name_rows t d name) ≡ None → child t d name ≡ Some n → refusal t (StatAt d name) ≡ None
+unfolding refusal
+look_free t d n name directory named found = grind (arith)
+
+-- the metadata of what is found
+pub stat_at_is : (t : Tree) (d n : ℕ) (name : List ℕ) (metadata : Metadata) → refusal t (StatAt d name) ≡ None
+    → child t d name ≡ Some n → metadata ≡ metadata_of t n → stat_at_answer t d name ≡ Ok metadata
+unfolding reached
+stat_at_is t d n name metadata free found is =
+    ap (λ r. unless r (metadata_of t (or_next (child t d name) (next_of t)))) free
+    ∙ ap (λ f. Ok (metadata_of t (or_next f (next_of t)))) found ∙ ap Ok (sym is)
+
+pub stat_at_refused : (t : Tree) (d : ℕ) (name : List ℕ) (code : ErrorCode) → refusal t (StatAt d name) ≡ Some code
+    → stat_at_answer t d name ≡ Err code
+stat_at_refused t d name code refused = ap (λ r. unless r (metadata_of t (reached t d name))) refused
+
+-- what refuses a look at a name's metadata refuses to read it as a link
+refused_link : (t : Tree) (d : ℕ) (name : List ℕ) (code : ErrorCode) → refusal t (StatAt d name) ≡ Some code
+    → refusal t (ReadLinkAt d name) ≡ Some code
+unfolding refusal
+refused_link t d name code refused = grind (arith)
+
+invalid_link : (t : Tree) (d n : ℕ) (name : List ℕ) → refusal t (StatAt d name) ≡ None → child t d name ≡ Some n
+    → is_link (node_at t n).content ≡ false → refusal t (ReadLinkAt d name) ≡ Some codes.Invalid
+unfolding refusal
+invalid_link t d n name free found no_link = grind (arith)
+
+free_link : (t : Tree) (d n : ℕ) (name : List ℕ) → refusal t (StatAt d name) ≡ None → child t d name ≡ Some n
+    → is_link (node_at t n).content ≡ true → refusal t (ReadLinkAt d name) ≡ None
+unfolding refusal
+free_link t d n name free found link = grind (arith)
+
+pub link_refused : (t : Tree) (d : ℕ) (name : List ℕ) (code : ErrorCode) → refusal t (StatAt d name) ≡ Some code
+    → link_answer t d name ≡ Err code
+link_refused t d name code refused = ap (λ r. unless r (link_text t d name)) (refused_link t d name code refused)
+
+pub no_link_refused : (t : Tree) (d n : ℕ) (name : List ℕ) → refusal t (StatAt d name) ≡ None
+    → child t d name ≡ Some n → is_link (node_at t n).content ≡ false → link_answer t d name ≡ Err codes.Invalid
+no_link_refused t d n name free found no_link =
+    ap (λ r. unless r (link_text t d name)) (invalid_link t d n name free found no_link)
+
+pub link_is : (t : Tree) (d n : ℕ) (name text : List ℕ) → refusal t (StatAt d name) ≡ None
+    → child t d name ≡ Some n → is_link (node_at t n).content ≡ true → text ≡ text_of (node_at t n).content
+    → link_answer t d name ≡ Ok text
+unfolding link_text
+link_is t d n name text free found link is =
+    ap (λ r. unless r (text_held t (child t d name))) (free_link t d n name free found link)
+    ∙ ap (λ f. Ok (text_held t f)) found ∙ ap Ok (sym is)
 
 pub metadata_is : (t : Tree) (n : ℕ) (node : Node) → node_at t n ≡ node → metadata_of t n ≡ metadata_from n node
 unfolding metadata_of

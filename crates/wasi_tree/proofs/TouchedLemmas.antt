@@ -1,21 +1,23 @@
 -- Lemmas on a tree with its touched nodes.
-use Rattle.std.proofs.Common.{◌≡◌, ◌<◌, ℕ, Bool, true, false, cond, List, [], ◌∷◌, ◌++◌, Option, Some, None, Ok, refl, sym, ap, ◌∙◌, arith}
-use Rattle.std.specs.Prelude.{is_none, option_to_list}
+use Rattle.std.proofs.Common.{◌≡◌, ◌<◌, ℕ, Bool, true, false, cond, List, [], ◌∷◌, ◌++◌, Option, Some, None, Result, Ok, Err, refl, sym, ap, ◌∙◌, arith}
+use Rattle.std.proofs.lemmas.List.{append-nil}
+use Rattle.std.specs.Prelude.{is_none, option_to_list, MatchResult}
 use Rattle.std.specs.FinSet.{insert}
 use Rattle.wasi_host.specs.Options.{Options, is_path_only}
 use Rattle.wasi_host.specs.Tree.{Tree, Content, File, Directory, Link, node_at, next_of, child, is_file, is_directory, is_link}
-use Rattle.wasi_host.specs.HostCall.{OpenAt, Stat}
+use Rattle.wasi_host.specs.HostCall.{OpenAt, StatAt, ReadLinkAt, Stat}
 use Rattle.wasi_host.specs.Refusal.{refusal, can_write}
 use Rattle.wasi_host.specs.Step.{new_file, is_cut, file_cut, file_made, opened_step, open_step, with_nodes}
-use Rattle.wasi_host.specs.Answer.{access_of, unless, reached, or_next, metadata_of}
-use Rattle.wasi_host.specs.Meaning.{IsHeld}
+use Rattle.wasi_host.specs.Answer.{access_of, unless, reached, or_next, metadata_of, stat_at_answer, link_answer}
+use Rattle.wasi_host.specs.Meaning.{IsHeld, hosted}
+use Rattle.wasi_host.specs.declared.errors.ErrorCode.{ErrorCode}
 use Rattle.wasi_host.specs.declared.held.AccessMode.TheVariants.{Read, Write, ReadWrite, PathOnly}
 use Rattle.wasi_host.specs.declared.held.Held.{Held}
 use Rattle.wasi_host.specs.declared.metadata.Metadata.{Metadata}
 use Rattle.wasi_host.proofs.Changes.{node_at-made, next_of-made, directory_within}
 use Rattle.wasi_host.proofs.ValidSteps.{open_directory}
 use Rattle.wasi_tree.specs.Sound.{Stays}
-use Rattle.wasi_tree.specs.TouchedTree.{Touched, Answers}
+use Rattle.wasi_tree.specs.TouchedTree.{Touched, Answers, Does}
 
 -- what is held stays held
 pub held_stays : {t u : Tree} {held : Held} → Stays t u → IsHeld t held → IsHeld u held
@@ -118,5 +120,31 @@ pub stats : (s u : Touched) (n : ℕ) (metadata : Metadata) → metadata ≡ met
     → u.touched ≡ insert s.touched n → Answers s u (Stat n) metadata
 unfolding refusal
 stats s u n metadata is tree touched = record { meant = ap Ok (sym is); tree = tree; touched = touched }
+
+-- ---- a look at a name
+
+-- nothing was stepped, and what the call comes to is touched
+pub record LooksAt (s u : Touched) (d : ℕ) (name : List ℕ) : Type 0 where
+  pub tree : u.tree ≡ s.tree
+  pub touched : u.touched ≡ with_nodes s.touched (d ∷ option_to_list (child s.tree d name))
+
+module _ {s u : Touched} {d : ℕ} {name : List ℕ} (looks : LooksAt s u d name) where
+  and_none : u.touched ≡ with_nodes s.touched ((d ∷ option_to_list (child s.tree d name)) ++ [])
+  and_none = looks.touched ∙ ap (with_nodes s.touched) (sym (append-nil (d ∷ option_to_list (child s.tree d name))))
+
+  pub stats_at : (result : Result Metadata ErrorCode)
+      → MatchResult result (λ metadata. stat_at_answer s.tree d name ≡ Ok metadata)
+      (λ code. stat_at_answer s.tree d name ≡ Err code)
+      → Does s u (StatAt d name) (λ metadata. metadata) (hosted result)
+  stats_at (Ok metadata) is = record { meant = is; tree = looks.tree; touched = and_none }
+  stats_at (Err code) is = record { meant = is; tree = looks.tree; touched = looks.touched }
+
+  pub reads_link : {A : Type 0} (text : List ℕ) (shown : A → List ℕ) (a : A) → link_answer s.tree d name ≡ Ok text
+      → shown a ≡ text → Does s u (ReadLinkAt d name) shown (Ok a)
+  reads_link text shown a is copied = record {
+    meant = is ∙ ap Ok (sym copied);
+    tree = looks.tree;
+    touched = and_none;
+  }
 
 pub ruleset touched_rules = (stats)

@@ -1,32 +1,18 @@
 -- First trees: what a tree in memory can be made of today.
-use Rattle.std.specs.Prelude.{ℕ, zero, suc, ℤ, pos, negsuc, ◌+◌, ◌-◌, Bool, true, false, not, ◌&&◌, nat_eq, nat_lt, nat_le, List, [], ◌∷◌, map, length}
-use Rattle.std.specs.List.{list_any, list_all}
-use Rattle.std.specs.Str.{bytes_eq, is_utf8}
+use Rattle.std.specs.Prelude.{ℕ, ℤ, pos, negsuc, ◌+◌, ◌-◌, Bool, true, false, not, ◌&&◌, nat_eq, nat_lt, nat_le, List, [], ◌∷◌, map, length}
+use Rattle.std.specs.List.{list_all}
+use Rattle.std.specs.Str.{is_utf8}
 use Rattle.wasi_paths.specs.Text.{is_entry_name}
-use Rattle.wasi_host.specs.ValidTree.{are_bytes}
 use Rattle.wasi_host.specs.declared.system_time.SystemTime.{SystemTime}
 use Rattle.wasi_host.specs.declared.bits.Bits.{Bits}
 use Rattle.wasi_host.specs.declared.limits.Limits.{Limits}
-use Rattle.wasi_host.specs.declared.limits.TheConstants.{FILE_MAX}
 use Rattle.wasi_tree.specs.Given.{Given, GivenContent, file, directory, link, entry_count}
-
-abbrev pub is_dir_content : GivenContent → Bool
-is_dir_content (file bytes) = false
-is_dir_content (directory entries) = true
-is_dir_content (link text) = false
-
--- no text stands twice
-abbrev pub are_distinct : List (List ℕ) → Bool
-are_distinct [] = true
-are_distinct (name ∷ names) = not (list_any (bytes_eq name) names) && are_distinct names
+pub use Rattle.wasi_tree.specs.GivenTests.{is_dir_content, are_distinct, numbers_from, starts_with_directory}
+use Rattle.wasi_tree.specs.Fit.{is_fit_file}
 
 -- a name that a directory may hold, in UTF-8
 abbrev pub is_first_name : List ℕ → Bool
 is_first_name name = is_entry_name name && is_utf8 name
-
--- bytes, not too many for a file
-abbrev pub is_first_file : List ℕ → Bool
-is_first_file bytes = are_bytes bytes && nat_le (length bytes) FILE_MAX
 
 -- an entry of node k among so many nodes: its name is good, and its number is larger than k
 abbrev pub is_first_entry : ℕ → ℕ → List ℕ × ℕ → Bool
@@ -34,7 +20,7 @@ is_first_entry count k entry = is_first_name entry.0 && nat_lt k entry.1 && nat_
 
 -- a file that isn't too large, or a directory of such entries that holds a name once
 abbrev pub is_first_content : ℕ → ℕ → GivenContent → Bool
-is_first_content count k (file bytes) = is_first_file bytes
+is_first_content count k (file bytes) = is_fit_file bytes
 is_first_content count k (directory entries) = list_all (is_first_entry count k) entries && are_distinct (map (λ e. e.0) entries)
 is_first_content count k (link text) = false
 
@@ -59,15 +45,6 @@ is_first_node count k g =
 abbrev pub are_first_nodes : ℕ → ℕ → List Given → Bool
 are_first_nodes count k [] = true
 are_first_nodes count k (g ∷ gs) = is_first_node count k g && are_first_nodes count (k + 1) gs
-
--- so many numbers, from k on
-abbrev pub numbers_from : ℕ → ℕ → List ℕ
-numbers_from k zero = []
-numbers_from k (suc n) = k ∷ numbers_from (k + 1) n
-
-abbrev pub starts_with_directory : List Given → Bool
-starts_with_directory [] = false
-starts_with_directory (g ∷ gs) = is_dir_content g.content
 
 -- Only directories and files, with default bits and zero times; node 0 is a directory; each other node stands in exactly
 -- one entry, whose number is larger than its directory's. Names, sizes and the number of nodes are those of a valid tree.

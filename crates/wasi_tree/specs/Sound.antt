@@ -1,14 +1,21 @@
 -- What holds of every tree in memory.
-use Rattle.std.specs.Prelude.{◌≡◌, ℕ, ◌<◌, ◌≤◌, true, List, Some}
+use Rattle.std.specs.Prelude.{◌≡◌, ℕ, ◌<◌, ◌≤◌, true, List, length, Some}
 use Rattle.std.specs.FinMap as maps
 use Rattle.std.specs.FinSet.{contains}
-use Rattle.wasi_host.specs.Tree.{Tree, Node, node_at, next_of, names_of, is_file}
+use Rattle.wasi_host.specs.Tree.{Tree, Node, node_at, next_of, names_of, text_of, is_file, is_link}
 use Rattle.wasi_host.specs.Meaning.{IsHeld}
+use Rattle.wasi_host.specs.declared.limits.TheConstants.{LINK_MAX}
 use Rattle.wasi_tree.specs.MemState.{HeldMap, live_of, held_in}
 
--- a node among so many: its names hold nodes that are there
+-- a link's text: some bytes, and not too many
+pub record IsSoundText (text : List ℕ) : Type 0 where
+  pub some : 0 < length text
+  pub most : length text ≤ LINK_MAX
+
+-- a node among so many: its names hold nodes that are there, and where it is a link it has a text
 pub record IsSoundNode (count : ℕ) (node : Node) : Type 0 where
   pub below : (name : List ℕ) (n : ℕ) → maps.get (names_of node.content) name ≡ Some n → n < count
+  pub text : is_link node.content ≡ true → IsSoundText (text_of node.content)
 
 -- each node is sound, and there is a mark for each node
 pub record IsSound (t : Tree) (marks : ℕ) : Type 0 where

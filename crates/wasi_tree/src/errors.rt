@@ -8,7 +8,7 @@ use std::alloc::AllocError;
 /// Why no tree is made of a list of nodes.
 #[derive(Clone, Copy, Debug, PartialEq, Eq)]
 pub enum TreeError {
-    /// The node of this number isn't one that a tree may have. A list that is known to be a first tree has none.
+    /// This number breaks the rules of `MemTree::new`, and none below it does.
     Invalid(u64),
     /// Memory was wanted.
     Memory,

@@ -1,41 +1,27 @@
 //! The test of first trees.
-ghost use Rattle.std.specs.Prelude.{◌≡◌, ◌<◌, true, false, not, List, map, drop, length, slice_index_or, slice_set, All, IfOk};
+ghost use Rattle.std.specs.Prelude.{◌≡◌, ◌<◌, true, List, map, drop, length, All, IfOk};
 ghost use Rattle.std.specs.Bool.{OnTrue};
 ghost use Rattle.std.specs.List.{list_all};
 ghost use Rattle.std.specs.Vec.{vec_len};
 ghost use Rattle.wasi_host.specs.ValidTree.{AreLimits, IsValidTree};
 ghost use Rattle.wasi_host.specs.declared.limits.Limits.{Limits};
 ghost use Rattle.wasi_tree.specs.Given.{Given, given, given_content, pair_of, tree_of};
-ghost use Rattle.wasi_tree.specs.FirstTreeMarks.{entry_numbers, content_numbers, all_numbers, stand_once, with_marks, are_unmarked};
-ghost use Rattle.wasi_tree.specs.FirstTree.{is_dir_content, is_first_name, is_first_file, is_first_entry, are_distinct, is_first_content, has_default_bits, is_zero_time, is_first_node, are_first_nodes, starts_with_directory, is_first_tree};
+ghost use Rattle.wasi_tree.specs.Fit.{AreFit};
+ghost use Rattle.wasi_tree.specs.EntryNumbers.{entry_numbers, content_numbers, all_numbers};
+ghost use Rattle.wasi_tree.specs.FirstTreeMarks.{stand_once, with_marks, are_unmarked};
+ghost use Rattle.wasi_tree.specs.FirstTree.{is_first_entry, is_first_content, has_default_bits, is_zero_time, is_first_node, are_first_nodes, is_first_tree};
 
+use crate::fit::{
+    are_distinct, is_dir_content, is_fit_file, is_fit_name, mark, starts_with_directory,
+};
 use crate::{NewContent, NewEntry, NewNode};
 use std::alloc::{AllocError, Global};
-use std::collections::BTreeSet;
-use wasi_host::{Bits, FILE_MAX, Limits, SystemTime};
-use wasi_paths::Name;
-
-#[tactic(auto, using(crate::proofs::FirstTreeLemmas::type_rules))]
-fn is_first_name(name: &str) -> bool
-    ensures test { result ≡ is_first_name name.now }
-{
-    match Name::plain(name) {
-        Some(name) => name.is_entry(),
-        None => false,
-    }
-}
-
-#[tactic(auto, using(crate::proofs::FirstTreeLemmas::type_rules))]
-fn is_first_file(bytes: &[u8]) -> bool
-    ensures test { result ≡ is_first_file bytes.now }
-{
-    bytes.len() <= FILE_MAX
-}
+use wasi_host::{Bits, Limits, SystemTime};
 
 fn is_first_entry(count: u64, directory: u64, entry: &NewEntry) -> bool
     ensures test { result ≡ is_first_entry count directory (pair_of entry.now) }
 {
-    is_first_name(&entry.name) && directory < entry.node && entry.node < count
+    is_fit_name(&entry.name) && directory < entry.node && entry.node < count
 }
 
 fn has_default_bits(is_directory: bool, bits: Bits) -> bool
@@ -50,35 +36,12 @@ fn is_zero_time(time: SystemTime) -> bool
     time.seconds == 0 && time.nanoseconds == 0
 }
 
-fn is_dir_content(content: &NewContent) -> bool
-    ensures test { result ≡ is_dir_content (given_content content.now) }
-{
-    match content {
-        NewContent::Dir(_) => true,
-        NewContent::File(_) => false,
-        NewContent::Link(_) => false,
-    }
-}
-
 fn are_first_entries(count: u64, directory: u64, entries: &[NewEntry]) -> bool
     ensures test { result ≡ list_all (λ e. is_first_entry count directory (pair_of e)) entries.now }
 {
     entries
         .iter()
         .all(|entry| is_first_entry(count, directory, entry))
-}
-
-#[tactic(auto, using(crate::proofs::FirstTreeLemmas::seen_rules))]
-fn are_distinct(alloc: Global, entries: &[NewEntry]) -> Result<bool, AllocError>
-    ensures test { IfOk result (λ is. is ≡ are_distinct (map (λ e. e.0) (map pair_of entries.now))) }
-{
-    let mut seen = BTreeSet::new(alloc);
-    for entry in entries {
-        if !seen.insert(entry.name.as_str())? {
-            return Ok(false);
-        }
-    }
-    Ok(true)
 }
 
 #[tactic(auto, using(crate::proofs::FirstTreeLemmas::content_rules))]
@@ -91,7 +54,7 @@ fn is_first_content(
     ensures test { IfOk result (λ is. is ≡ is_first_content count number (given_content content.now)) }
 {
     match content {
-        NewContent::File(bytes) => Ok(is_first_file(bytes)),
+        NewContent::File(bytes) => Ok(is_fit_file(bytes)),
         NewContent::Dir(entries) => {
             if !are_first_entries(count, number, entries) {
                 return Ok(false);
@@ -116,15 +79,6 @@ fn is_first_node(alloc: Global, count: u64, number: u64, node: &NewNode) -> Resu
     )
 }
 
-fn starts_with_directory(nodes: &[NewNode]) -> bool
-    ensures test { result ≡ starts_with_directory (map given nodes.now) }
-{
-    match nodes.first() {
-        Some(node) => is_dir_content(&node.content),
-        None => false,
-    }
-}
-
 #[tactic(auto, using(crate::proofs::FirstTreeLemmas::node_rules))]
 fn are_first_nodes(alloc: Global, nodes: &[NewNode]) -> Result<bool, AllocError>
     ensures test { IfOk result (λ is. is ≡ are_first_nodes (length nodes.now) 0 (map given nodes.now)) }
@@ -136,19 +90,6 @@ fn are_first_nodes(alloc: Global, nodes: &[NewNode]) -> Result<bool, AllocError>
         }
     }
     Ok(true)
-}
-
-/// Marks a number. Whether it had no mark before.
-fn mark(marks: &mut Vec<bool>, number: u64) -> bool
-    requires within { number < vec_len marks.old }
-    ensures unmarked { result ≡ not (slice_index_or marks.old.items number false) }
-    ensures marked { marks.new.items ≡ slice_set marks.old.items number true }
-    ensures len { vec_len marks.new ≡ vec_len marks.old }
-{
-    let place = &mut marks[number as usize];
-    let unmarked = !*place;
-    *place = true;
-    unmarked
 }
 
 #[tactic(auto, using(crate::proofs::FirstTreeMarks::marking_rules))]
@@ -242,6 +183,12 @@ pub fn is_first_tree(
     stand_once(alloc, nodes)
 }
 
+/// The nodes of a first tree are fit.
+pub fn first_trees_are_fit()
+    ensures fit { (limits : Limits) (nodes : List Given)
+        → is_first_tree limits nodes ≡ true → AreLimits limits → AreFit limits nodes }
+{}
+
 /// A first tree is a valid tree.
 pub fn first_trees_are_valid()
     ensures valid { (limits : Limits) (nodes : List Given)
@@ -251,57 +198,11 @@ pub fn first_trees_are_valid()
 #[cfg(test)]
 mod tests {
     use super::*;
+    use crate::listed::listed;
 
-    /// The text itself, or one letter more than the number that it says.
-    fn name(alloc: Global, text: &str) -> Result<String, AllocError> {
-        let Ok(len) = text.parse::<u8>() else {
-            return String::from_str(alloc, text);
-        };
-        let mut name = String::from_str(alloc, "x")?;
-        for _ in 0..len {
-            name.push('x')?;
-        }
-        Ok(name)
-    }
-
-    fn entries(alloc: Global, text: &str) -> Result<Vec<NewEntry>, AllocError> {
-        let mut entries = Vec::new(alloc);
-        for entry in text.split(',') {
-            if let Some((text, number)) = entry.split_once('=') {
-                entries.push(NewEntry {
-                    name: name(alloc, text)?,
-                    node: number.parse::<u64>().unwrap_or(0),
-                })?;
-            }
-        }
-        Ok(entries)
-    }
-
-    fn content(alloc: Global, text: &str) -> Result<NewContent, AllocError> {
-        match text {
-            "file" | "executable" | "touched" => Ok(NewContent::File(Vec::new(alloc))),
-            "link" => Ok(NewContent::Link(String::from_str(alloc, "f")?)),
-            _ => Ok(NewContent::Dir(entries(alloc, text)?)),
-        }
-    }
-
-    fn node(alloc: Global, text: &str) -> Result<NewNode, AllocError> {
-        let mut node = NewNode::new(content(alloc, text)?);
-        if text == "executable" {
-            node.bits.x = true;
-        }
-        if text == "touched" {
-            node.mtime.seconds = 1;
-        }
-        Ok(node)
-    }
-
-    /// The answer at nodes that a text gives, between blanks: a word for a file or a link, else a directory's entries.
+    /// The answer at nodes that a text gives, of at most so many.
     fn answer(alloc: Global, text: &str, most: u64) -> Result<bool, AllocError> {
-        let mut nodes = Vec::new(alloc);
-        for part in text.split_whitespace() {
-            nodes.push(node(alloc, part)?)?;
-        }
+        let nodes = listed(alloc, text)?;
         let limits = Limits {
             nodes: most,
             links: 1,
@@ -322,7 +223,7 @@ mod tests {
             ("d=1 d=0", 2, false),
             ("f=1,g=1 file", 2, false),
             ("empty file", 2, false),
-            ("f=1 link", 2, false),
+            ("f=1 @f", 2, false),
             ("..=1 file", 2, false),
             ("255=1 file", 2, false),
             ("f=1 executable", 2, false),

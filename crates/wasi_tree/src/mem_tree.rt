@@ -1,12 +1,12 @@
 //! The tree in memory, as a host.
-ghost use Rattle.std.specs.Prelude.{◌≡◌, ◌↔◌, ◌<◌, ℕ, true, false, List, [], Err, IfOk, IfErr, OnErr, map};
+ghost use Rattle.std.specs.Prelude.{◌≡◌, ◌↔◌, ◌<◌, ℕ, true, false, List, [], Err, IfOk, IfErr, OnOk, OnErr, map};
 ghost use Rattle.std.specs.Ordering.{nat_cmp};
 ghost use Rattle.std.specs.List.Sorted.{IsStrictlySortedBy};
 ghost use Rattle.std.specs.FinSet.{contains, insert, empty, from_list};
 ghost use Rattle.wasi_host.specs.Tree.{next_of, node_at, is_directory};
 ghost use Rattle.wasi_tree.specs.Given.{given, given_of, tree_of};
 ghost use Rattle.wasi_host.specs.ValidTree.{AreLimits};
-ghost use Rattle.wasi_tree.specs.FirstTree.{is_first_tree};
+ghost use Rattle.wasi_tree.specs.Fit.{AreFit, IsTreeCause};
 ghost use Rattle.wasi_tree.specs.Lent.{lent};
 ghost use Rattle.wasi_tree.specs.MemState.{live_of, held_in, world_of};
 
@@ -50,16 +50,29 @@ impl Model for MemTree {
 
 #[tactic(auto, using(crate::proofs::MemLemmas::mem_rules))]
 impl MemTree {
-    /// A tree of these nodes, which are a first tree: it has no live handle, no node is touched, and there
-    /// is no look-up.
+    /// A tree of these nodes, whose numbers are their places in the list. It has no live handle, no node is touched, and
+    /// there is no look-up. Bits and times are as given. Every entry counts as a name of the node that it gives: a file
+    /// or a link has as many links as names, and a directory but node 0 that has no name is removed.
+    ///
+    /// The rules: Node 0 is a directory without a name. Each other directory has exactly one name and is found from
+    /// node 0, or it is removed: it has no name and no entries. A name has 1 to 255 bytes, no NUL and no `/`, and isn't
+    /// `.` or `..`; a directory holds it once, and gives it the number of a node. A link's text has 1 to 4,095 bytes and
+    /// no NUL. No file has more than 2^30 bytes, no file or link more than `limits.links` names, and no number is at or
+    /// above `limits.nodes`.
+    ///
+    /// `Invalid` comes exactly where a number breaks the rules, with the lowest one that does. A bad name, a name that
+    /// stands twice, or an entry whose number is no node's counts for the directory that holds it. A wrong number of
+    /// names, entries of a directory without a name, and not being found from node 0 count for the directory itself. A
+    /// number at the limit, a count of names, a size or a link's text counts for its node. An empty list, or a node 0
+    /// that isn't a directory, is `Invalid(0)`.
     pub fn new(alloc: Global, nodes: Vec<NewNode>, limits: Limits) -> Result<MemTree, TreeError>
         requires limits { AreLimits limits }
-        requires first { is_first_tree limits (map given nodes.items) ≡ true }
         ensures tree { IfOk result (λ m. m.tree ≡ tree_of (map given nodes.items) limits) }
+        ensures fit { OnOk result (AreFit limits (map given nodes.items)) }
+        ensures cause { IfErr result (IsTreeCause limits (map given nodes.items)) }
         ensures live { IfOk result (λ m. live_of m.handles ≡ empty) }
         ensures touched { IfOk result (λ m. m.touched ≡ empty) }
         ensures lookups { IfOk result (λ m. m.lookups ≡ []) }
-        ensures err { IfErr result (λ e. e ≡ TreeError.Memory) }
     {
         Ok(MemTree {
             tree: TouchedTree::new(alloc, nodes, limits)?,
@@ -169,6 +182,49 @@ impl Host for MemTree {
             }
             Err(HostError::Memory) => Err(HostError::Memory),
         }
+    }
+
+    fn stat_at(&mut self, start: Handle, name: Name<'_>) -> Result<Metadata, HostError> {
+        self.log.reserve(1)?;
+        let directory = self.slots.held(start).node;
+        let answer = self.tree.stat_at(directory, name);
+        self.log.push_reserved(Lookup {
+            kind: LookKind::Stat,
+            from: start,
+            got: None,
+        });
+        Ok(answer?)
+    }
+
+    fn read_link_at(
+        &mut self,
+        alloc: Global,
+        start: Handle,
+        name: Name<'_>,
+    ) -> Result<String, HostError> {
+        self.log.reserve(1)?;
+        let directory = self.slots.held(start).node;
+        let look = Lookup {
+            kind: LookKind::ReadLink,
+            from: start,
+            got: None,
+        };
+        match self.tree.read_link_at(alloc, directory, name) {
+            Ok(text) => {
+                self.log.push_reserved(look);
+                Ok(text)
+            }
+            Err(HostError::Code(code)) => {
+                self.log.push_reserved(look);
+                Err(HostError::Code(code))
+            }
+            Err(HostError::Memory) => Err(HostError::Memory),
+        }
+    }
+
+    fn access(&mut self, directory: Handle) -> Result<(), ErrorCode> {
+        let node = self.slots.held(directory).node;
+        self.tree.access(node)
     }
 
     fn dup(&mut self, handle: Handle) -> Result<Handle, HostError> {

@@ -1,6 +1,7 @@
 //! Nodes as plain data.
 ghost use Rattle.std.specs.Prelude.{◌≡◌};
 ghost use Rattle.wasi_tree.specs.Given.{given, given_content, new_given, may_search};
+ghost use Rattle.wasi_host.specs.Tree.{default_bits};
 
 use std::collections::BTreeMap;
 use wasi_host::{Bits, SystemTime};
@@ -40,15 +41,22 @@ impl NewNode {
         let x = content.may_search();
         NewNode {
             content,
-            bits: Bits {
-                r: true,
-                w: true,
-                x,
-            },
+            bits: new_bits(x),
             atime: SystemTime::EPOCH,
             mtime: SystemTime::EPOCH,
             btime: SystemTime::EPOCH,
         }
+    }
+}
+
+/// The bits of a new node: it may be read and written, and searched or executed where that is asked.
+pub fn new_bits(x: bool) -> Bits
+    ensures { result ≡ default_bits x }
+{
+    Bits {
+        r: true,
+        w: true,
+        x,
     }
 }
 

@@ -1,16 +1,15 @@
 //! One node, as it is stored.
-ghost use Rattle.std.specs.Prelude.{◌≡◌, ◌+◌, ◌≤◌, IfOk, OnOk, OnErr, length, map, true};
+ghost use Rattle.std.specs.Prelude.{◌≡◌, ◌+◌, ◌≤◌, List, IfOk, OnOk, OnErr, length, map, true, not, nat_eq, ◌&&◌};
 ghost use Rattle.std.specs.FinMap as maps;
-ghost use Rattle.wasi_host.specs.Tree.{Directory, is_directory, is_file, is_link, is_gone, names_of, bytes_of};
+ghost use Rattle.wasi_host.specs.Tree.{Directory, is_directory, is_file, is_link, is_gone, names_of, bytes_of, text_of};
 ghost use Rattle.wasi_host.specs.Step.{new_file, no_bytes, piece_in, with_piece};
 ghost use Rattle.wasi_host.specs.declared.limits.TheConstants.{FILE_MAX};
-ghost use Rattle.wasi_tree.specs.Given.{pair_of, given, given_content, given_of, content_given};
-ghost use Rattle.wasi_tree.specs.First.{first_node, first_content};
+ghost use Rattle.wasi_tree.specs.Given.{Given, pair_of, given, given_content, given_of, content_given, entry_count, content_from, node_from};
 ghost use Rattle.wasi_tree.specs.Lent.{lent, lent_content};
 ghost use Rattle.wasi_tree.specs.StoredTree.{names_in};
 ghost use Rattle.wasi_host.specs.Answer.{kind_of, size_of, links_of, metadata_from};
 
-use crate::node::{LentContent, LentNode, NewContent, NewEntry, NewNode};
+use crate::node::{LentContent, LentNode, NewContent, NewEntry, NewNode, new_bits};
 use std::alloc::{AllocError, Global};
 use std::collections::BTreeMap;
 use wasi_host::{Bits, FileType, Metadata, SystemTime};
@@ -46,17 +45,23 @@ pub struct Row {
 impl RowContent {
     ghost use Rattle.wasi_tree.specs.StoredTree.{stored_content};
 
-    /// The content of a node of a first tree.
-    fn first(alloc: Global, content: NewContent) -> Result<RowContent, AllocError>
-        ensures { IfOk result (λ made. stored_content made ≡ first_content (given_content content)) }
+    /// The content of the node of a number, which so many entries of its list give.
+    fn new(
+        alloc: Global,
+        content: NewContent,
+        number: u64,
+        links: u64,
+    ) -> Result<RowContent, AllocError>
+        ensures { IfOk result (λ made. (all : List Given) → entry_count number all ≡ links
+            → stored_content made ≡ content_from all number (given_content content)) }
     {
         match content {
-            NewContent::File(bytes) => Ok(RowContent::File { bytes, links: 1 }),
+            NewContent::File(bytes) => Ok(RowContent::File { bytes, links }),
             NewContent::Dir(entries) => Ok(RowContent::Dir {
                 names: first_names(alloc, entries)?,
-                gone: false,
+                gone: is_removed(number, links),
             }),
-            NewContent::Link(text) => Ok(RowContent::Link { text, links: 1 }),
+            NewContent::Link(text) => Ok(RowContent::Link { text, links }),
         }
     }
 
@@ -167,6 +172,17 @@ impl RowContent {
         }
     }
 
+    /// A link's text. Nothing of what is no link.
+    pub fn text(&self) -> &str
+        ensures { result.now ≡ text_of (stored_content self.now) }
+    {
+        match self {
+            RowContent::File { .. } => "",
+            RowContent::Dir { .. } => "",
+            RowContent::Link { text, .. } => text.as_str(),
+        }
+    }
+
     /// The number under a name. Nothing in what is no directory.
     pub fn child(&self, name: &str) -> Option<u64>
         ensures { result ≡ maps.get (names_of (stored_content self.now)) name.now }
@@ -224,12 +240,13 @@ impl RowContent {
 impl Row {
     ghost use Rattle.wasi_tree.specs.StoredTree.{stored_node};
 
-    /// The row of a node of a first tree.
-    pub fn first(alloc: Global, node: NewNode) -> Result<Row, AllocError>
-        ensures { IfOk result (λ row. stored_node row ≡ first_node (given node)) }
+    /// The row of the node of a number, which so many entries of its list give.
+    pub fn new(alloc: Global, node: NewNode, number: u64, links: u64) -> Result<Row, AllocError>
+        ensures { IfOk result (λ row. (all : List Given) → entry_count number all ≡ links
+            → stored_node row ≡ node_from all number (given node)) }
     {
         Ok(Row {
-            content: RowContent::first(alloc, node.content)?,
+            content: RowContent::new(alloc, node.content, number, links)?,
             bits: node.bits,
             atime: node.atime,
             mtime: node.mtime,
@@ -246,11 +263,7 @@ impl Row {
                 bytes: Vec::new(alloc),
                 links: 1,
             },
-            bits: Bits {
-                r: true,
-                w: true,
-                x: false,
-            },
+            bits: new_bits(false),
             atime: SystemTime::EPOCH,
             mtime: SystemTime::EPOCH,
             btime: SystemTime::EPOCH,
@@ -296,6 +309,13 @@ impl Row {
             links: self.content.links(),
         }
     }
+}
+
+/// Whether the directory of a number is removed, where so many entries give it: one but node 0 that has no name.
+fn is_removed(number: u64, links: u64) -> bool
+    ensures { result ≡ (not (nat_eq number 0) && nat_eq links 0) }
+{
+    number != 0 && links == 0
 }
 
 /// The names of a list of entries. Of two entries of one name the first one stays.

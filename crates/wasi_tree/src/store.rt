@@ -1,22 +1,23 @@
 //! The nodes by number.
-ghost use Rattle.std.specs.Prelude.{◌≡◌, ◌+◌, ◌<◌, ◌≤◌, ◌^◌, ℕ, OnOk, Some, None, IfSome, IfOk, OnErr, MatchResult, Ok, Err, if◌then◌else◌, take, drop, length, map, true};
+ghost use Rattle.std.specs.Prelude.{◌≡◌, ◌+◌, ◌<◌, ◌≤◌, ◌^◌, ℕ, OnOk, Some, None, IfSome, IfOk, IfErr, OnErr, MatchResult, Ok, Err, if◌then◌else◌, take, drop, length, map, true};
 ghost use Rattle.wasi_paths.specs.Name.{name_bytes};
 ghost use Rattle.wasi_host.specs.Tree.{Tree, next_of, node_at, child, is_directory};
-ghost use Rattle.wasi_host.specs.HostCall.{OpenAt, Stat, Pread, Pwrite};
+ghost use Rattle.wasi_host.specs.HostCall.{OpenAt, StatAt, ReadLinkAt, Access, Stat, Pread, Pwrite};
 ghost use Rattle.wasi_host.specs.Refusal.{refusal, first_row, name_rows};
 ghost use Rattle.wasi_host.specs.Step.{is_cut, file_cut, file_made, bytes_put, write_step};
-ghost use Rattle.wasi_host.specs.Answer.{metadata_of, bytes_read, bytes_taken};
-ghost use Rattle.wasi_host.specs.declared.limits.TheConstants.{FILE_MAX};
+ghost use Rattle.wasi_host.specs.Answer.{metadata_of, stat_at_answer, link_answer, access_answer, bytes_read, bytes_taken};
+ghost use Rattle.wasi_host.specs.declared.limits.TheConstants.{FILE_MAX, LINK_MAX};
 ghost use Rattle.std.specs.Option.{ForSome};
-ghost use Rattle.wasi_tree.specs.Given.{given, given_of, tree_of};
-ghost use Rattle.wasi_tree.specs.First.{first_node};
-ghost use Rattle.wasi_tree.specs.FirstTree.{is_first_tree};
+ghost use Rattle.wasi_tree.specs.Given.{given, given_of, nodes_from, tree_of};
+ghost use Rattle.wasi_tree.specs.Fit.{AreFit, IsTreeCause, name_counts};
 ghost use Rattle.wasi_tree.specs.Lent.{lent};
-ghost use Rattle.wasi_tree.specs.Sound.{Stays};
+ghost use Rattle.wasi_tree.specs.Sound.{Stays, IsSoundText};
 ghost use Rattle.wasi_tree.specs.StoredTree.{stored_node};
 ghost use Rattle.wasi_tree.specs.OpenRows.{missing_rows, found_rows};
 ghost use Rattle.wasi_tree.specs.TouchedTree.{MeansCode};
 
+use crate::errors::TreeError;
+use crate::fit::counted_names;
 use crate::marks::Marks;
 use crate::node::{LentNode, NewNode};
 use crate::row::Row;
@@ -54,13 +55,15 @@ impl Store {
     ghost use Rattle.wasi_tree.specs.Sound.{IsSoundNode};
     ghost use Rattle.wasi_host.specs.Time.{HasTimes};
 
-    /// A first tree of these nodes.
-    #[tactic(auto, using(crate::proofs::FirstLemmas::first_rules))]
-    pub fn new(alloc: Global, nodes: Vec<NewNode>, limits: Limits) -> Result<Store, AllocError>
-        requires { is_first_tree limits (map given nodes.items) ≡ true }
-        ensures { IfOk result (λ store. store ≡ tree_of (map given nodes.items) limits) }
+    /// A tree of these nodes; else the lowest number that breaks the rules.
+    #[tactic(auto, using(crate::proofs::NewTreeLemmas::new_tree_rules))]
+    pub fn new(alloc: Global, nodes: Vec<NewNode>, limits: Limits) -> Result<Store, TreeError>
+        ensures tree { IfOk result (λ store. store ≡ tree_of (map given nodes.items) limits) }
+        ensures fit { OnOk result (AreFit limits (map given nodes.items)) }
+        ensures cause { IfErr result (IsTreeCause limits (map given nodes.items)) }
     {
-        let rows = first_rows(alloc, nodes)?;
+        let counts = counted_names(alloc, &nodes, limits)?;
+        let rows = rows_of(alloc, nodes, &counts)?;
         let worked = Marks::new(alloc, rows.len())?;
         Ok(Store {
             rows,
@@ -228,6 +231,88 @@ impl Store {
         self.refuse_found(node, options)
     }
 
+    /// The node that a name holds, where no row of a look at its metadata refuses; else the row's code.
+    #[tactic(auto, unfolding(wasi_host::specs::Refusal::refusal))]
+    fn node_under(
+        &self,
+        directory: u64,
+        name: Name<'_>,
+        found: Option<u64>,
+    ) -> Result<u64, ErrorCode>
+        requires within { directory < next_of self.now }
+        requires found { found ≡ child self.now directory (name_bytes name) }
+        requires below { ForSome found (λ n. n < next_of self.now) }
+        ensures free { OnOk result (refusal self.now (StatAt directory (name_bytes name.entry)) ≡ None) }
+        ensures refused { IfErr result (λ code. refusal self.now (StatAt directory (name_bytes name.entry)) ≡ Some code) }
+        ensures node { IfOk result (λ n. child self.now directory (name_bytes name.entry) ≡ Some n) }
+        ensures below { IfOk result (λ n. n < next_of self.now) }
+    {
+        if !self.row(directory).content.is_directory() {
+            return Err(ErrorCode::NotDirectory);
+        }
+        if let Some(code) = self.refuse_name(directory, name) {
+            return Err(code);
+        }
+        let Some(node) = found else {
+            return Err(ErrorCode::NoEntry);
+        };
+        Ok(node)
+    }
+
+    /// The metadata of the node that a name holds, a link's own.
+    pub fn stat_at(
+        &self,
+        directory: u64,
+        name: Name<'_>,
+        found: Option<u64>,
+    ) -> Result<Metadata, ErrorCode>
+        requires within { directory < next_of self.now }
+        requires found { found ≡ child self.now directory (name_bytes name) }
+        requires below { ForSome found (λ n. n < next_of self.now) }
+        ensures meaning { MatchResult result
+            (λ metadata. stat_at_answer self.now directory (name_bytes name.entry) ≡ Ok metadata)
+            (λ code. stat_at_answer self.now directory (name_bytes name.entry) ≡ Err code) }
+        ensures times { IfOk result HasTimes }
+    {
+        let node = self.node_under(directory, name, found)?;
+        Ok(self.metadata(node))
+    }
+
+    /// The text of the link that a name holds.
+    pub fn link_at(
+        &self,
+        directory: u64,
+        name: Name<'_>,
+        found: Option<u64>,
+    ) -> Result<&str, ErrorCode>
+        requires within { directory < next_of self.now }
+        requires found { found ≡ child self.now directory (name_bytes name) }
+        requires below { ForSome found (λ n. n < next_of self.now) }
+        ensures meaning { MatchResult result
+            (λ text. link_answer self.now directory (name_bytes name.entry) ≡ Ok text.now)
+            (λ code. link_answer self.now directory (name_bytes name.entry) ≡ Err code) }
+        ensures text { IfOk result (λ text. IsSoundText text.now) }
+    {
+        let node = self.node_under(directory, name, found)?;
+        let content = &self.row(node).content;
+        if !content.is_link() {
+            return Err(ErrorCode::Invalid);
+        }
+        Ok(content.text())
+    }
+
+    /// Whether a directory may be searched.
+    #[tactic(auto, unfolding(wasi_host::specs::Refusal::refusal))]
+    pub fn access(&self, directory: u64) -> Result<(), ErrorCode>
+        requires { directory < next_of self.now }
+        ensures { access_answer self.now directory ≡ result }
+    {
+        if self.row(directory).bits.x {
+            return Ok(());
+        }
+        Err(ErrorCode::Access)
+    }
+
     /// Cuts a file that is opened to no bytes, where the options ask for it.
     pub fn cut_where_asked(&mut self, node: u64, options: &OpenOptions)
         requires { node < next_of self.old }
@@ -340,12 +425,17 @@ impl Store {
     }
 }
 
-fn first_rows(alloc: Global, nodes: Vec<NewNode>) -> Result<Vec<Row>, AllocError>
-    ensures { IfOk result (λ rows. map stored_node rows.items ≡ map first_node (map given nodes.items)) }
+/// The rows of these nodes; the counts say how many entries give each number.
+fn rows_of(alloc: Global, nodes: Vec<NewNode>, counts: &[u64]) -> Result<Vec<Row>, AllocError>
+    requires { counts.now ≡ name_counts (map given nodes.items) }
+    ensures { let all = map given nodes.items in
+        IfOk result (λ rows. map stored_node rows.items ≡ nodes_from all 0 all) }
 {
     let mut rows = Vec::with_capacity(alloc, nodes.len())?;
     for node in nodes {
-        rows.push(Row::first(alloc, node)?)?;
+        let number = rows.len();
+        let row = Row::new(alloc, node, number as u64, counts[number])?;
+        rows.push(row)?;
     }
     Ok(rows)
 }

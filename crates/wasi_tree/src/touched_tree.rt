@@ -1,20 +1,22 @@
 //! A tree with its touched nodes.
-ghost use Rattle.std.specs.Prelude.{◌≡◌, ◌<◌, ◌≤◌, ◌^◌, Ok, IfOk, OnOk, OnErr, length, take, drop, map, true};
+ghost use Rattle.std.specs.Prelude.{◌≡◌, ◌<◌, ◌≤◌, ◌^◌, Ok, IfOk, IfErr, OnOk, OnErr, length, take, drop, map};
 ghost use Rattle.std.specs.FinSet.{empty};
+ghost use Rattle.std.specs.String.{string_bytes};
 ghost use Rattle.wasi_paths.specs.Name.{name_bytes};
 ghost use Rattle.wasi_host.specs.Tree.{Tree, next_of};
-ghost use Rattle.wasi_host.specs.HostCall.{OpenAt, Stat, Pread, Pwrite};
+ghost use Rattle.wasi_host.specs.HostCall.{OpenAt, StatAt, ReadLinkAt, Access, Stat, Pread, Pwrite};
 ghost use Rattle.wasi_host.specs.Meaning.{IsHeld, hosted};
 ghost use Rattle.wasi_host.specs.Time.{HasTimes};
 ghost use Rattle.wasi_tree.specs.Given.{given, tree_of};
-ghost use Rattle.wasi_tree.specs.FirstTree.{is_first_tree};
-ghost use Rattle.wasi_tree.specs.Sound.{Stays};
+ghost use Rattle.wasi_tree.specs.Fit.{AreFit, IsTreeCause};
+ghost use Rattle.wasi_tree.specs.Sound.{Stays, IsSoundText};
 ghost use Rattle.wasi_tree.specs.TouchedTree.{Does};
 
+use crate::errors::TreeError;
 use crate::marks::Marks;
 use crate::node::NewNode;
 use crate::store::Store;
-use std::alloc::{AllocError, Global};
+use std::alloc::Global;
 use std::marker::Model;
 use wasi_host::{ErrorCode, Held, HostError, Limits, Metadata, OpenOptions};
 use wasi_paths::Name;
@@ -42,14 +44,11 @@ impl Model for TouchedTree {
 
 #[tactic(auto, using(crate::proofs::TouchedLemmas::touched_rules))]
 impl TouchedTree {
-    /// A first tree of these nodes, none of which is touched.
-    pub fn new(
-        alloc: Global,
-        nodes: Vec<NewNode>,
-        limits: Limits,
-    ) -> Result<TouchedTree, AllocError>
-        requires { is_first_tree limits (map given nodes.items) ≡ true }
+    /// A tree of these nodes, none of which is touched; else the lowest number that breaks the rules.
+    pub fn new(alloc: Global, nodes: Vec<NewNode>, limits: Limits) -> Result<TouchedTree, TreeError>
         ensures tree { IfOk result (λ t. t.tree ≡ tree_of (map given nodes.items) limits) }
+        ensures fit { OnOk result (AreFit limits (map given nodes.items)) }
+        ensures cause { IfErr result (IsTreeCause limits (map given nodes.items)) }
         ensures touched { IfOk result (λ t. t.touched ≡ empty) }
     {
         let store = Store::new(alloc, nodes, limits)?;
@@ -102,6 +101,48 @@ impl TouchedTree {
                 Ok(Held { node, mode })
             }
         }
+    }
+
+    /// The metadata of the node under a name in a directory, a link's own.
+    pub fn stat_at(&mut self, directory: u64, name: Name<'_>) -> Result<Metadata, ErrorCode>
+        requires { directory < next_of self.old.tree }
+        ensures does { Does self.old self.new (StatAt directory (name_bytes name.entry))
+            (λ metadata. metadata) (hosted result) }
+        ensures times { IfOk result HasTimes }
+        ensures tree { self.new.tree ≡ self.old.tree }
+    {
+        let found = self.store.child(directory, name);
+        self.touched.mark_found(directory, found);
+        self.store.stat_at(directory, name, found)
+    }
+
+    /// The text of the link under a name in a directory, in memory of its own.
+    pub fn read_link_at(
+        &mut self,
+        alloc: Global,
+        directory: u64,
+        name: Name<'_>,
+    ) -> Result<String, HostError>
+        requires { directory < next_of self.old.tree }
+        ensures does { Does self.old self.new (ReadLinkAt directory (name_bytes name.entry))
+            (λ text. string_bytes text) result }
+        ensures text { IfOk result (λ text. IsSoundText (string_bytes text)) }
+        ensures tree { self.new.tree ≡ self.old.tree }
+    {
+        let found = self.store.child(directory, name);
+        self.touched.mark_found(directory, found);
+        let text = self.store.link_at(directory, name, found)?;
+        Ok(String::from_str(alloc, text)?)
+    }
+
+    /// Whether a directory may be searched.
+    pub fn access(&mut self, directory: u64) -> Result<(), ErrorCode>
+        requires { directory < next_of self.old.tree }
+        ensures does { Does self.old self.new (Access directory) (λ unit. unit) (hosted result) }
+        ensures tree { self.new.tree ≡ self.old.tree }
+    {
+        self.touched.mark(directory);
+        self.store.access(directory)
     }
 
     /// The metadata of a node.

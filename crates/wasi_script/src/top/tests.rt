@@ -1,6 +1,6 @@
 use super::*;
 use std::test::Fail;
-use wasi_form::{BytesSink, BytesSource};
+use wasi_ends::{BytesSink, BytesSource};
 
 // What the scripts of these tests differ in.
 #[derive(Clone, Copy)]

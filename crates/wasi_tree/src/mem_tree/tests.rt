@@ -1,30 +1,28 @@
-ghost use Rattle.std.specs.Prelude.{◌≡◌, true, IfOk, map};
+ghost use Rattle.std.specs.Prelude.{◌≡◌, true, IfOk};
 ghost use Rattle.std.specs.FinSet.{contains};
 ghost use Rattle.wasi_tree.specs.MemState.{live_of};
-ghost use Rattle.wasi_tree.specs.Given.{given};
-ghost use Rattle.wasi_tree.specs.FirstTree.{is_first_tree};
 
 use super::MemTree;
 use crate::errors::{HandleError, TreeError};
-use crate::is_first_tree;
 use crate::node::{NewContent, NewEntry, NewNode};
 use std::alloc::{AllocError, Global};
 use std::test::Fail;
-use wasi_host::{ErrorCode, FileType, Handle, Host, HostError, Limits, LookKind, OpenOptions};
+use wasi_host::{
+    Bits, ErrorCode, FileType, Handle, Host, HostError, Limits, LookKind, Metadata, OpenOptions,
+};
 use wasi_paths::Name;
 
 const LIMITS: Limits = Limits { nodes: 5, links: 8 };
 
+fn entry(alloc: Global, name: &str, node: u64) -> Result<NewEntry, AllocError> {
+    let name = String::from_str(alloc, name)?;
+    Ok(NewEntry { name, node })
+}
+
 /// Node 0 has the file `f` and the directory `d`, in this order.
 fn small_nodes(alloc: Global) -> Result<Vec<NewNode>, AllocError> {
-    let file = NewEntry {
-        name: String::from_str(alloc, "f")?,
-        node: 1,
-    };
-    let directory = NewEntry {
-        name: String::from_str(alloc, "d")?,
-        node: 2,
-    };
+    let file = entry(alloc, "f", 1)?;
+    let directory = entry(alloc, "d", 2)?;
     let bytes = Vec::from_slice(alloc, b"hello")?;
     Ok(vec![in alloc;
         NewNode::new(NewContent::Dir(vec![in alloc; file, directory]?)),
@@ -34,11 +32,88 @@ fn small_nodes(alloc: Global) -> Result<Vec<NewNode>, AllocError> {
 }
 
 fn small_tree(alloc: Global) -> Result<MemTree, TreeError> {
-    let nodes = small_nodes(alloc)?;
-    if !is_first_tree(alloc, &nodes, LIMITS)? {
-        return Err(TreeError::Invalid(0));
+    MemTree::new(alloc, small_nodes(alloc)?, LIMITS)
+}
+
+/// Node 0 has the link `l`, the directory `d` that may not be searched, the file `f` that may neither be read nor
+/// written, and one entry more. Node 4 is a directory without a name.
+fn odd_nodes(alloc: Global, name: &str, node: u64) -> Result<Vec<NewNode>, AllocError> {
+    let names = vec![in alloc;
+        entry(alloc, "l", 1)?,
+        entry(alloc, "d", 2)?,
+        entry(alloc, "f", 3)?,
+        entry(alloc, name, node)?,
+    ]?;
+    let text = String::from_str(alloc, "d/g")?;
+    let mut directory = NewNode::new(NewContent::Dir(Vec::new(alloc)));
+    directory.bits.x = false;
+    let mut file = NewNode::new(NewContent::File(Vec::from_slice(alloc, b"hello")?));
+    file.bits = Bits {
+        r: false,
+        w: false,
+        x: true,
+    };
+    Ok(vec![in alloc;
+        NewNode::new(NewContent::Dir(names)),
+        NewNode::new(NewContent::Link(text)),
+        directory,
+        file,
+        NewNode::new(NewContent::Dir(Vec::new(alloc))),
+    ]?)
+}
+
+/// The tree of these nodes, with a second name for the file.
+fn odd_tree(alloc: Global) -> Result<MemTree, TreeError> {
+    MemTree::new(alloc, odd_nodes(alloc, "m", 3)?, LIMITS)
+}
+
+/// The metadata under a name of a directory.
+#[tactic(auto, using(crate::proofs::SlotLemmas::slot_rules))]
+fn metadata_in(tree: &mut MemTree, directory: u64, text: &str) -> Result<Metadata, HostError> {
+    let Ok(handle) = tree.handle(directory) else {
+        return Err(HostError::Memory);
+    };
+    let name = Name::plain(text).unwrap_or(Name::dot());
+    let metadata = tree.stat_at(handle, name);
+    tree.close(handle);
+    metadata
+}
+
+/// The text of the link under a name of a directory.
+#[tactic(auto, using(crate::proofs::SlotLemmas::slot_rules))]
+fn link_in(
+    tree: &mut MemTree,
+    alloc: Global,
+    directory: u64,
+    text: &str,
+) -> Result<String, HostError> {
+    let Ok(handle) = tree.handle(directory) else {
+        return Err(HostError::Memory);
+    };
+    let name = Name::plain(text).unwrap_or(Name::dot());
+    let link = tree.read_link_at(alloc, handle, name);
+    tree.close(handle);
+    link
+}
+
+/// The code that refuses a look into a directory.
+#[tactic(auto, using(crate::proofs::SlotLemmas::slot_rules))]
+fn access_refused(tree: &mut MemTree, directory: u64) -> Option<ErrorCode> {
+    let Ok(handle) = tree.handle(directory) else {
+        return Some(ErrorCode::NotDirectory);
+    };
+    let answer = tree.access(handle);
+    tree.close(handle);
+    answer.err()
+}
+
+/// A name of 256 bytes.
+fn long_name(alloc: Global) -> Result<String, AllocError> {
+    let mut name = String::new(alloc);
+    for _ in 0..256 {
+        name.push('n')?;
     }
-    MemTree::new(alloc, nodes, LIMITS)
+    Ok(name)
 }
 
 /// The options that the letters of a word ask for.
@@ -264,6 +339,106 @@ fn tells_look_ups(rt: HostRuntime) -> Result<(), Fail> {
         assert_eq!(rt; (lookup.kind, lookup.got), (kind, got));
     }
     assert_eq!(rt; lookups[1].from, file);
+    Ok(())
+}
+
+#[test]
+fn refuses_nodes(rt: HostRuntime) -> Result<(), Fail> {
+    for (name, node, want) in [
+        ("m", 4, None),
+        ("m", 0, Some(0)),
+        ("m", 2, Some(2)),
+        ("m", 5, Some(0)),
+        ("l", 3, Some(0)),
+        ("m/n", 3, Some(0)),
+        ("", 3, Some(0)),
+    ] {
+        let nodes = odd_nodes(rt.alloc(), name, node)?;
+        let refused = MemTree::new(rt.alloc(), nodes, LIMITS).err();
+        assert_eq!(rt; refused, want.map(TreeError::Invalid), "of {name} {node}");
+    }
+    let few = Limits { nodes: 4, links: 1 };
+    let nodes = odd_nodes(rt.alloc(), "m", 3)?;
+    let refused = MemTree::new(rt.alloc(), nodes, few).err();
+    assert_eq!(rt; refused, Some(TreeError::Invalid(3)));
+    let refused = MemTree::new(rt.alloc(), Vec::new(rt.alloc()), LIMITS).err();
+    assert_eq!(rt; refused, Some(TreeError::Invalid(0)));
+    Ok(())
+}
+
+#[test]
+fn tells_metadata_of_names(rt: HostRuntime) -> Result<(), Fail> {
+    let mut tree = odd_tree(rt.alloc())?;
+    let long = long_name(rt.alloc())?;
+    for (directory, text, want) in [
+        (0, ".", Ok((0, FileType::Directory, 0, 1))),
+        (0, "l", Ok((1, FileType::SymbolicLink, 3, 1))),
+        (0, "d", Ok((2, FileType::Directory, 0, 1))),
+        (0, "f", Ok((3, FileType::RegularFile, 5, 2))),
+        (4, ".", Ok((4, FileType::Directory, 0, 1))),
+        (4, "f", Err(ErrorCode::NoEntry)),
+        (2, "f", Err(ErrorCode::Access)),
+        (2, ".", Err(ErrorCode::Access)),
+        (2, "n\0", Err(ErrorCode::Invalid)),
+        (2, long.as_str(), Err(ErrorCode::NameTooLong)),
+    ] {
+        let told = metadata_in(&mut tree, directory, text).map(|told| (
+            told.ino(),
+            told.file_type(),
+            told.len(),
+            told.nlink(),
+        ));
+        let want = want.map_err(HostError::Code);
+        assert_eq!(rt; told, want, "of {text} in {directory}");
+    }
+    let touched = tree.touched(rt.alloc())?;
+    assert_eq!(rt; touched.as_slice(), [0, 1, 2, 3, 4].as_slice());
+    assert_eq!(rt; tree.lookups().len(), 10);
+    for lookup in tree.lookups() {
+        assert_eq!(rt; (lookup.kind, lookup.got), (LookKind::Stat, None));
+    }
+    Ok(())
+}
+
+#[test]
+fn reads_links(rt: HostRuntime) -> Result<(), Fail> {
+    let mut tree = odd_tree(rt.alloc())?;
+    let long = long_name(rt.alloc())?;
+    for (directory, text, want, code) in [
+        (0, "l", "d/g", None),
+        (0, "f", "", Some(ErrorCode::Invalid)),
+        (0, ".", "", Some(ErrorCode::Invalid)),
+        (0, "n", "", Some(ErrorCode::NoEntry)),
+        (2, "l", "", Some(ErrorCode::Access)),
+        (0, "n\0", "", Some(ErrorCode::Invalid)),
+        (0, long.as_str(), "", Some(ErrorCode::NameTooLong)),
+    ] {
+        let (link, refused) = match link_in(&mut tree, rt.alloc(), directory, text) {
+            Ok(link) => (link, None),
+            Err(error) => (String::new(rt.alloc()), Some(error)),
+        };
+        let code = code.map(HostError::Code);
+        assert_eq!(rt;
+            (link.as_str(), refused),
+            (want, code),
+            "of {text} in {directory}"
+        );
+    }
+    assert_eq!(rt; tree.lookups().len(), 7);
+    for lookup in tree.lookups() {
+        assert_eq!(rt; (lookup.kind, lookup.got), (LookKind::ReadLink, None));
+    }
+    Ok(())
+}
+
+#[test]
+fn asks_for_the_search_bit(rt: HostRuntime) -> Result<(), Fail> {
+    let mut tree = odd_tree(rt.alloc())?;
+    for (directory, want) in [(0, None), (2, Some(ErrorCode::Access)), (4, None)] {
+        let refused = access_refused(&mut tree, directory);
+        assert_eq!(rt; refused, want, "of {directory}");
+    }
+    assert!(rt; tree.lookups().is_empty());
     Ok(())
 }
 

@@ -1,7 +1,7 @@
 use Rattle.std.proofs.Common.{map}
 use Rattle.wasi_tree.specs.Given.{given}
 use Rattle.wasi_form.specs.Built.{default_limits}
-use Rattle.wasi_script.proofs.Starts.{directories_given}
+use Rattle.wasi_script.proofs.Starts.{directories_given, never_unfit}
 use Rattle.wasi_script.proofs.start.first_context.Goals as goal
 
 pub given_handles-requires : goal.given_handles-requires
@@ -9,3 +9,8 @@ given_handles-requires c = record {
   directories = rw c.in-Ok.ensures.tree
       (directories_given (map given c.args.nodes.items) default_limits c.args.preopens.now c.requires.directories);
 }
+
+pub unreachable-requires : goal.unreachable-requires
+unreachable-requires c =
+    let cause = rw c.in-Err-Invalid.field-0-is at c.in-Err-Invalid.ensures.cause in
+    never_unfit (map given c.args.nodes.items) c.in-Err-Invalid.field-0-0 c.requires.first cause

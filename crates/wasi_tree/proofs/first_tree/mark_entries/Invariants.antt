@@ -1,5 +1,5 @@
 use Rattle.std.proofs.Common.{drop}
-use Rattle.wasi_tree.specs.FirstTreeMarks.{entry_numbers}
+use Rattle.wasi_tree.specs.EntryNumbers.{entry_numbers}
 use Rattle.wasi_tree.proofs.FirstTreeMarks.{IsMarking}
 use Rattle.wasi_tree.proofs.first_tree.mark_entries.Given as goal
 

@@ -1,6 +1,6 @@
 use Rattle.std.proofs.Common.{map, sym}
 use Rattle.wasi_tree.specs.Given.{given}
-use Rattle.wasi_tree.specs.FirstTreeMarks.{all_numbers}
+use Rattle.wasi_tree.specs.EntryNumbers.{all_numbers}
 use Rattle.wasi_tree.proofs.FirstTreeMarks.{nodes_more, nodes_stop}
 use Rattle.wasi_tree.proofs.first_tree.mark_nodes.Goals as goal
 

@@ -1,6 +1,6 @@
 use Rattle.std.proofs.Common.{drop, map}
 use Rattle.wasi_tree.specs.Given.{given}
-use Rattle.wasi_tree.specs.FirstTreeMarks.{all_numbers}
+use Rattle.wasi_tree.specs.EntryNumbers.{all_numbers}
 use Rattle.wasi_tree.proofs.FirstTreeMarks.{IsMarking}
 use Rattle.wasi_tree.proofs.first_tree.mark_nodes.Given as goal
 

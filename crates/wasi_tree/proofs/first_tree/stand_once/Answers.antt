@@ -2,7 +2,8 @@ use Rattle.std.proofs.Common.{◌≡◌, map, sym, ◌∙◌, ap, length, drop, 
 use Rattle.std.proofs.Math.ListN.{replicate}
 use Rattle.std.specs.List.{list_all}
 use Rattle.wasi_tree.specs.Given.{given}
-use Rattle.wasi_tree.specs.FirstTreeMarks.{are_unmarked, all_numbers}
+use Rattle.wasi_tree.specs.EntryNumbers.{all_numbers}
+use Rattle.wasi_tree.specs.FirstTreeMarks.{are_unmarked}
 use Rattle.wasi_tree.proofs.FirstTreeOnce.{not_once, are_once}
 use Rattle.wasi_tree.proofs.first_tree.stand_once.Goals as goal
 

@@ -1,4 +1,5 @@
-use Rattle.std.proofs.Common.{refl, true}
+use Rattle.std.proofs.Common.{◌∙◌, refl, ap}
+use Rattle.wasi_host.specs.Tree.{default_bits}
 use Rattle.wasi_host.proofs.Times.{zero_time-is}
 use Rattle.wasi_tree.proofs.NodeLemmas.{given-new}
 use Rattle.wasi_tree.proofs.node.NewNode.new.Goals as goal
@@ -6,6 +7,6 @@ use Rattle.wasi_tree.proofs.node.NewNode.new.Goals as goal
 pub returns : goal.returns
 returns c = record {
   node =
-      given-new _ (λ i. record { r = true; w = true; x = c.may_search-x.ensures i })
+      given-new _ (c.new_bits.ensures ∙ ap default_bits c.may_search-x.ensures)
       (zero_time-is _ refl refl) (zero_time-is _ refl refl) (zero_time-is _ refl refl);
 }

@@ -6,5 +6,5 @@ use Rattle.wasi_tree.proofs.row.Row.new_file.Goals as goal
 
 pub returns : goal.returns
 returns c =
-    is_new_file _ (ap (λ bytes. File bytes 1) c.new.ensures.items) refl (zero_time-is _ refl refl)
+    is_new_file _ (ap (λ bytes. File bytes 1) c.new.ensures.items) c.new_bits.ensures (zero_time-is _ refl refl)
     (zero_time-is _ refl refl) (zero_time-is _ refl refl)

@@ -5,7 +5,7 @@ use Rattle.wasi_host.specs.Step.{no_bytes, file_cut}
 use Rattle.wasi_host.proofs.Changes.{changed}
 use Rattle.wasi_host.proofs.ValidSteps.{has_no_bytes}
 use Rattle.wasi_tree.proofs.RowLemmas.{IsRow, tree_written, sound_written}
-use Rattle.wasi_tree.proofs.SoundLemmas.{stays_changed}
+use Rattle.wasi_tree.proofs.SoundLemmas.{seen-no_bytes, stays_changed}
 use Rattle.wasi_tree.proofs.StoreLemmas.{cut_asked}
 use Rattle.wasi_tree.proofs.store.Store.cut_where_asked.Goals as goal
 
@@ -16,7 +16,7 @@ row c = record { stands = c.self.view_is; within = c.requires; read = c.index_mu
 pub invariant_of-self : goal.invariant_of-self
 invariant_of-self c =
     sound_written (row c) no_bytes c.cut.new.self c.cut.ensures c.mark.new.self.nodes
-    (λ content. (has_no_bytes content).names) c.self.invariant c.mark.ensures.count
+    seen-no_bytes c.self.invariant c.mark.ensures.count
 
 pub returns-clause-tree : goal.returns-clause-tree
 returns-clause-tree c =

@@ -6,7 +6,7 @@ use Rattle.wasi_host.specs.Step.{piece_in}
 use Rattle.wasi_host.proofs.Changes.{changed}
 use Rattle.wasi_host.proofs.ValidSteps.{has_piece}
 use Rattle.wasi_tree.proofs.RowLemmas.{IsRow, row_kept, tree_written, sound_written}
-use Rattle.wasi_tree.proofs.SoundLemmas.{stays_same, stays_changed}
+use Rattle.wasi_tree.proofs.SoundLemmas.{seen-piece_in, stays_same, stays_changed}
 use Rattle.wasi_tree.proofs.store.Store.put.Goals as goal
 use Rattle.wasi_tree.proofs.store.Store.put.Goals.{After-index_mut}
 
@@ -39,7 +39,7 @@ invariant_of-self-2 c =
     sound_written (row (goal.at.invariant_of-self-2 c).After-index_mut)
     (λ content. piece_in content c.args.offset c.args.piece.now) c.put.new.self c.in_ok-put.ensures.put
     c.mark.new.self.nodes
-    (λ content. (has_piece content c.args.offset c.args.piece.now).names) c.self.invariant c.mark.ensures.count
+    (λ content. seen-piece_in content c.args.offset c.args.piece.now) c.self.invariant c.mark.ensures.count
 
 pub returns-clause-put : goal.returns-clause-put
 returns-clause-put c =

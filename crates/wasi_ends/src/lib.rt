@@ -1,0 +1,14 @@
+//! Where a run's bytes come from and where they go.
+#![tactic(auto)]
+
+mod bytes_ends;
+mod ends;
+mod reading;
+mod standard_ends;
+mod writing;
+
+pub use bytes_ends::{BytesSink, BytesSource};
+pub use ends::{Failed, Sink, Source};
+pub use reading::{MOST, Unfinished, read_all};
+pub use standard_ends::{StdinSource, StdoutSink};
+pub use writing::write_all;

@@ -1,0 +1,64 @@
+//! Reading to the end, up to a limit.
+ghost use Rattle.std.specs.Prelude.{◌≡◌, ◌≤◌, ◌<◌, IsTrue, length, IsErrOf};
+ghost use Rattle.std.specs.Result.{result_map_both};
+ghost use Rattle.wasi_host.specs.Meaning.{Rose};
+ghost use Rattle.wasi_ends.specs.Ends.{ReadAll};
+
+use crate::ends::Source;
+use std::alloc::Global;
+
+/// The largest script has so many bytes.
+pub const MOST: usize = 16_777_216;
+
+// How many bytes are read at once.
+const CHUNK: usize = 65_536;
+
+/// Why a source wasn't read to its end.
+#[derive(Clone, Copy, Debug, PartialEq, Eq)]
+pub enum Unfinished {
+    /// More than `MOST` bytes were left.
+    Long,
+    /// A read failed.
+    Fault,
+    /// Memory was wanted.
+    Memory,
+}
+
+/// All that is left of a source, at most `MOST` bytes. At most one more byte is read.
+pub fn read_all<S: Source>(alloc: Global, source: &mut S) -> Result<Vec<u8>, Unfinished>
+    ensures bytes { IsTrue S.told → ReadAll MOST (result_map_both (λ v. v.items) (λ e. e) result) (S.left source.old) (S.left source.new) }
+    ensures count { S.faults source.old ≤ S.faults source.new }
+    ensures cause { IsErrOf result Unfinished.Fault → Rose (S.faults source.old) (S.faults source.new) }
+{
+    let Ok(mut chunk) = vec![in alloc; 0u8; CHUNK] else {
+        return Err(Unfinished::Memory);
+    };
+    read_by(alloc, source, chunk.as_mut_slice())
+}
+
+// All that is left, read a chunk at a time.
+fn read_by<S: Source>(
+    alloc: Global,
+    source: &mut S,
+    chunk: &mut [u8],
+) -> Result<Vec<u8>, Unfinished>
+    requires { 0 < length chunk.old }
+    ensures bytes { IsTrue S.told → ReadAll MOST (result_map_both (λ v. v.items) (λ e. e) result) (S.left source.old) (S.left source.new) }
+    ensures count { S.faults source.old ≤ S.faults source.new }
+    ensures cause { IsErrOf result Unfinished.Fault → Rose (S.faults source.old) (S.faults source.new) }
+{
+    let mut all = Vec::new(alloc);
+    while all.len() <= MOST {
+        let want = (MOST + 1 - all.len()).min(chunk.len());
+        let Ok(count) = source.read(&mut chunk[..want]) else {
+            return Err(Unfinished::Fault);
+        };
+        if count == 0 {
+            return Ok(all);
+        }
+        if all.extend_from_slice(&chunk[..count]).is_err() {
+            return Err(Unfinished::Memory);
+        }
+    }
+    Err(Unfinished::Long)
+}

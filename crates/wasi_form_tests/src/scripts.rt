@@ -1,0 +1,184 @@
+//! Texts that are scripts, and texts that aren't.
+use std::alloc::{AllocError, Global};
+use std::test::Fail;
+use wasi_ends::MOST;
+use wasi_form::Refusal::{Json, Later, Limit, Long, Shape};
+use wasi_form::{Refusal, ScriptError, read_script};
+
+const BASE: &str =
+    r#""nodes":[{"dir":{"f":1}},{"file":"746f70"}],"preopens":[{"node":0,"name":"/","perms":"rw"}],"memory":{"size":64,"pieces":[[0,"text","f"],[8,"hex","10"]]},"show":[[16,4]],"calls":[["path_open",3,0,0,1,0,2,0,0],["fd_read",4,8,1]]"#;
+
+// Why a script is refused, with what follows the keys of `BASE`, of which it takes the place where a key stands in it
+// again.
+const ROWS: [(Option<Refusal>, &[&str]); 5] = [
+    (
+        None,
+        &[
+            "",
+            r#","nodes":0,"nodes":[{"dir":{}}]"#,
+            r#","preopens":[]"#,
+            r#","preopens":[{"node":0,"name":"","perms":"ro"},{"node":0,"name":"a","perms":"rw"}]"#,
+            r#","calls":[["path_open",9,1,0,1,15,18446744073709551615,7,0],["fd_write",3,0,2],["fd_close",4294967295]]"#,
+            r#","memory":{"size":16777216,"pieces":[]},"show":[[0,16777216],[16777216,0]]"#,
+        ],
+    ),
+    (
+        Some(Json),
+        &[
+            r#","calls":["#,
+            r#","fuel":1e999}"#,
+            r#"}"#,
+            r#","fuel":"","other":1e999"#,
+        ],
+    ),
+    (
+        Some(Shape),
+        &[
+            r#","other":null"#,
+            r#","nodes":{}"#,
+            r#","nodes":[{"dir":{},"file":""}]"#,
+            r#","nodes":[{"dir":{}},{"bits":"rw-"}]"#,
+            r#","nodes":[{"dir":{},"other":0}]"#,
+            r#","nodes":[{"dir":{"f":-1}}]"#,
+            r#","nodes":[{"dir":{},"bits":"rwz"}]"#,
+            r#","nodes":[{"dir":{},"bits":"rwx-"}]"#,
+            r#","nodes":[{"dir":{},"times":[[0,0],[0,0]]}]"#,
+            r#","nodes":[{"dir":{},"times":[[0,0],[0,0],[0,1000000000]]}]"#,
+            r#","preopens":[{"node":0,"name":"/","perms":"ao"}]"#,
+            r#","preopens":[{"node":0,"perms":"ro"}]"#,
+            r#","preopens":[{"node":0,"name":"/","perms":"ro","rights":0}]"#,
+            r#","memory":{"size":64}"#,
+            r#","memory":{"size":4294967296,"pieces":[]}"#,
+            r#","memory":{"size":64,"pieces":[[0,"hex","1"]]}"#,
+            r#","show":[[0,1,2]]"#,
+            r#","calls":[["fd_close",4.0]]"#,
+            r#","calls":[["fd_close",-0]]"#,
+            r#","calls":[["fd_close",1e2]]"#,
+            r#","calls":[["fd_close"]]"#,
+            r#","calls":[["fd_tell",4,0]]"#,
+            r#","calls":[["fd_seek",4,9223372036854775808,0]]"#,
+            r#","calls":[["fd_advise",4,0,0,4294967296]]"#,
+            r#","calls":[["fd_open",4]]"#,
+            r#","calls":[[]]"#,
+            r#","fuel":-1"#,
+            r#","table":4294967296"#,
+            r#","limits":{"nodes":0,"links":1}"#,
+            r#","limits":{"nodes":1,"links":4294967297}"#,
+            r#","limits":{"nodes":1}"#,
+            r#","faults":[[0,"before"]]"#,
+            r#","faults":[[2,"before"],[2,"after"]]"#,
+            r#","faults":[[1,"within"]]"#,
+            r#","stdin":"0g""#,
+            r#","random":[]"#,
+            r#","args":["a",0]"#,
+            r#","env":[["a"]]"#,
+            r#","wall":[9223372036854775808,0]"#,
+            r#","wall_res":[0,1000000000]"#,
+            r#","mono":null"#,
+            r#","mono_res":"1""#,
+            r#","fuel":0,"fuel":"""#,
+            r#","fuel":0,"show":0"#,
+        ],
+    ),
+    (
+        Some(Later),
+        &[
+            r#","nodes":[{"dir":{}},{"dir":{}}]"#,
+            r#","nodes":[{"dir":{"f":1}},{"link":"f"}]"#,
+            r#","nodes":[{"dir":{},"bits":"rwx"}]"#,
+            r#","nodes":[{"dir":{},"times":[[-9223372036854775808,0],[0,0],[0,999999999]]}]"#,
+            r#","calls":[["fd_seek",4,-9223372036854775808,0]]"#,
+            r#","calls":[["path_filestat_set_times",3,0,0,0,18446744073709551615,0,0]]"#,
+            r#","calls":[["sched_yield"]]"#,
+            r#","calls":[["fd_read",2,0,0]]"#,
+            r#","calls":[["fd_write",1,0,0]]"#,
+            r#","calls":[["fd_close",0]]"#,
+            r#","calls":[["path_open",3,0,0,1,0,2,0,1]]"#,
+            r#","fuel":18446744073709551615"#,
+            r#","table":1024"#,
+            r#","limits":{"nodes":4294967296,"links":1}"#,
+            r#","faults":[]"#,
+            r#","faults":[[1,"after"],[18446744073709551615,"before"]]"#,
+            r#","stdin":"0Aa0""#,
+            r#","random":"""#,
+            r#","args":["a",""]"#,
+            r#","env":[["a","b"]]"#,
+            r#","wall":[9223372036854775807,999999999]"#,
+            r#","wall_res":[0,1]"#,
+            r#","mono":0"#,
+            r#","mono_res":1"#,
+            r#","fuel":"","fuel":0"#,
+            r#","show":[[61,4]],"mono":0"#,
+            r#","show":[[61,4]],"nodes":[]"#,
+        ],
+    ),
+    (
+        Some(Limit),
+        &[
+            r#","memory":{"size":16777217,"pieces":[]}"#,
+            r#","memory":{"size":64,"pieces":[[63,"text","ab"]]}"#,
+            r#","show":[[61,4]]"#,
+            r#","memory":{"size":16777216,"pieces":[]},"show":[[0,16777216],[0,1]]"#,
+            r#","preopens":[{"node":1,"name":"/","perms":"ro"}]"#,
+            r#","preopens":[{"node":2,"name":"/","perms":"ro"}]"#,
+        ],
+    ),
+];
+
+fn refusal(alloc: Global, text: &str) -> Result<Option<Refusal>, AllocError> {
+    match read_script(alloc, text.as_bytes()) {
+        Ok(_) => Ok(None),
+        Err(ScriptError::Refused(refusal)) => Ok(Some(refusal)),
+        Err(ScriptError::Memory) => Err(AllocError),
+    }
+}
+
+#[test]
+fn rows(rt: HostRuntime) -> Result<(), Fail> {
+    let alloc = rt.alloc();
+    for (want, rows) in &ROWS {
+        for more in *rows {
+            let text = format!(in alloc; "{{{BASE}{more}}}")?;
+            assert_eq!(rt; refusal(alloc, text.as_str())?, *want, "{more}");
+        }
+    }
+    Ok(())
+}
+
+// What is too long, or has too many preopens.
+#[test]
+fn repeated(rt: HostRuntime) -> Result<(), Fail> {
+    let alloc = rt.alloc();
+    let blanks = " ".repeat(alloc, MOST + 1)?;
+    assert_eq!(rt; refusal(alloc, blanks.as_str())?, Some(Long));
+    for (count, want) in [(1_021, None), (1_022, Some(Limit))] {
+        let preopens = r#"{"node":0,"name":"","perms":"ro"},"#.repeat(alloc, count)?;
+        let list = preopens.as_str().trim_end_matches(',');
+        let text = format!(in alloc; r#"{{{BASE},"preopens":[{list}]}}"#)?;
+        assert_eq!(rt; refusal(alloc, text.as_str())?, want);
+    }
+    Ok(())
+}
+
+#[test]
+fn parts_and_messages(rt: HostRuntime) -> Result<(), Fail> {
+    let alloc = rt.alloc();
+    let text = format!(in alloc; "{{{BASE}}}")?;
+    let script = read_script(alloc, text.as_bytes())
+        .ok()
+        .ok_or("it is a script")?;
+    assert_eq!(rt;
+        (
+            script.nodes.len(),
+            script.preopens.len(),
+            script.calls.len(),
+            script.size
+        ),
+        (2, 1, 2, 64)
+    );
+    let refused = ScriptError::Refused(Json);
+    assert_eq!(rt; format!(in alloc; "{refused}")?.as_str(), "script refused");
+    let memory = ScriptError::Memory;
+    assert_eq!(rt; format!(in alloc; "{memory}")?.as_str(), "out of memory");
+    Ok(())
+}

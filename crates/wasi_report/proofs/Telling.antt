@@ -1,0 +1,105 @@
+-- The names of a directory in order, and the items and members that are left to be told.
+use Rattle.std.proofs.Common.{ℕ, zero, suc, List, [], ◌∷◌, ◌++◌, ◌≡◌, ◌<◌, ◌+◌, All, Less, refl, sym, ap, ◌∙◌, map, drop, length, get_or, slice_index_or, append_assoc, arith}
+use Rattle.std.proofs.lemmas.List.{drop_more, length-map}
+use Rattle.std.proofs.lemmas.List.Elements.{All-map}
+use Rattle.std.specs.Cmp.Lexicographic.{slice_cmp}
+use Rattle.std.specs.FinMap.{entries}
+use Rattle.std.specs.List.{AllByRecursion}
+use Rattle.std.specs.List.Sorted.{IsStrictlySortedBy}
+use Rattle.std.specs.Map.{keys_of}
+use Rattle.std.specs.Ordering.{nat_cmp}
+use Rattle.std.specs.Prelude.{String, string_bytes}
+use Rattle.std.specs.String.{string_cmp}
+use Rattle.std.specs.declared.alloc.Global.{Global}
+use Rattle.json.specs.Token.{Token}
+use Rattle.json.specs.Tree.{items_tokens, members_tokens}
+use Rattle.serde_json.specs.Data.{Data, array, item, Members, no_members}
+use Rattle.serde_json.specs.View.{items_of}
+use Rattle.serde_json.specs.Written.{items_outline, members_outline}
+use Rattle.wasi_host.specs.Tree.{Tree, Node, node_at, next_of, stray}
+use Rattle.wasi_tree.specs.Given.{Given, GivenContent, file, directory, link, given_of}
+use Rattle.wasi_tree.specs.StoredTree.{names_in, text_entry}
+use Rattle.wasi_tree.proofs.NameLemmas.{entries-names_in}
+use Rattle.wasi_report.specs.Report.{put_all, node_value, list_value, content_member}
+use Rattle.wasi_report.specs.ReadBack.{FitsContent, FitsEntry}
+use Rattle.wasi_report.specs.Told.{told, told_at, content_told}
+use Rattle.wasi_report.proofs.ReadBack.{IsRising, in_order, put_rising}
+
+abbrev Number : Type 0
+Number = String Global × ℕ
+
+-- ---- a map of numbers
+
+below_in_text : (name : String Global) (es : List Number) → AllByRecursion (λ k. string_cmp name k ≡ Less) (keys_of es)
+    → AllByRecursion (λ k. slice_cmp nat_cmp (string_bytes name) k ≡ Less) (map (λ e. e.0) (map text_entry es))
+below_in_text name [] below = tt
+below_in_text name (e ∷ es) below = (below.0, below_in_text name es below.1)
+
+rising_in_text : (es : List Number) → IsStrictlySortedBy string_cmp (keys_of es) → IsRising (map text_entry es)
+unfolding IsStrictlySortedBy
+rising_in_text [] ordered = tt
+rising_in_text (e ∷ es) ordered = (below_in_text e.0 es ordered.0, rising_in_text es ordered.1)
+
+-- the names that ordered entries hold are told in the entries' order
+pub names_in_order : (es : List Number) → IsStrictlySortedBy string_cmp (keys_of es)
+    → in_order (map text_entry es) ≡ put_all (entries (names_in es)) no_members
+names_in_order es ordered =
+    sym (ap (λ names. put_all names no_members) (entries-names_in es ordered) ∙ put_rising (map text_entry es) (rising_in_text es ordered))
+
+-- the names that ordered entries hold are in order, and their numbers in range
+pub names_fit : (es : List Number) → IsStrictlySortedBy string_cmp (keys_of es) → All FitsEntry es
+    → FitsContent (directory (entries (names_in es)))
+names_fit es ordered numbers =
+    rw (entries-names_in es ordered) (rising_in_text es ordered, All-map FitsEntry text_entry es numbers)
+
+-- ---- what is left
+
+-- the tokens of these items and of the array's end
+abbrev pub items_told : {A : Type 0} → (A → Data) → List A → List Token
+items_told value_of items = items_tokens (items_outline (items_of (map value_of items)))
+
+-- the tokens of these members and of the object's end
+abbrev pub numbers_told : List Number → List Token
+numbers_told es = members_tokens (members_outline (in_order (map text_entry es)))
+
+pub item_next : {A : Type 0} (value_of : A → Data) (items : List A) (i : ℕ) (a : A) (now next all : List Token)
+    → now ++ items_told value_of (drop i items) ≡ all → i < length items → a ≡ get_or items i a → next ≡ now ++ told (value_of a)
+    → next ++ items_told value_of (drop (i + 1) items) ≡ all
+item_next value_of items i a now next all so within here told_now =
+    rw (told_now, append_assoc) (sym (ap (λ rest. now ++ items_told value_of rest) (drop_more items i a within ∙ ap (λ x. x ∷ drop (i + 1) items) (sym here))) ∙ so)
+
+given_at : (nodes : List Node) (n : ℕ) (node : Given) → n < length nodes → node ≡ given_of (slice_index_or nodes n stray)
+    → node ≡ get_or (map given_of nodes) n node
+given_at [] n node within is = absurd (omega arith)
+given_at (first ∷ nodes) zero node within is = is
+given_at (first ∷ nodes) (suc n) node within is = given_at nodes n node (omega arith) is
+
+-- the node of the next number of a tree is told
+pub node_next : (t : Tree) (n : ℕ) (node : Given) (now next all : List Token)
+    → now ++ items_told node_value (drop n (map given_of t.nodes)) ≡ all → n < next_of t → node ≡ given_of (node_at t n)
+    → next ≡ now ++ told (node_value node) → next ++ items_told node_value (drop (n + 1) (map given_of t.nodes)) ≡ all
+unfolding node_at
+node_next t n node now next all so within is told_now =
+    item_next node_value (map given_of t.nodes) n node now next all so (omega (arith, length-map t.nodes given_of)) (given_at t.nodes n node within is) told_now
+
+-- ---- one part after another
+
+pub content_is : (content : GivenContent) (others : Members)
+    → members_tokens (members_outline (content_member content others)) ≡ content_told content ++ members_tokens (members_outline others)
+content_is (file bytes) others = refl
+content_is (directory entries) others = refl
+content_is (link text) others = refl
+
+mapped : {A B : Type 0} (value_of : B → Data) (see : A → B) (items : List A) → items_of (map (λ a. value_of (see a)) items) ≡ items_of (map value_of (map see items))
+mapped value_of see [] = refl
+mapped value_of see (a ∷ items) = ap (item (value_of (see a))) (mapped value_of see items)
+
+-- a list told by what is seen of its items
+pub told_seen : {A B : Type 0} (value_of : B → Data) (see : A → B) (items : List A) (name : List ℕ) (old new : List Token)
+    → new ≡ old ++ told_at name (list_value (λ a. value_of (see a)) items) → new ≡ old ++ told_at name (list_value value_of (map see items))
+told_seen value_of see items name old new added = added ∙ ap (λ ds. old ++ told_at name (array ds)) (mapped value_of see items)
+
+-- eight parts one after another
+pub eight : (s t u v w x y z all a b c d e f g h : List Token) → t ≡ s ++ a → u ≡ t ++ b → v ≡ u ++ c → w ≡ v ++ d → x ≡ w ++ e → y ≡ x ++ f → z ≡ y ++ g → all ≡ z ++ h
+    → all ≡ s ++ (a ++ (b ++ (c ++ (d ++ (e ++ (f ++ (g ++ h)))))))
+eight s t u v w x y z all a b c d e f g h p q r i j k l m = rw (m, l, k, j, i, r, q, p) (simp append_assoc)

@@ -1,0 +1,28 @@
+use Rattle.std.proofs.Common.{◌∙◌, subst, take_all}
+use Rattle.std.proofs.lemmas.List.Elements.{All-map, All-more}
+use Rattle.std.proofs.lemmas.Result.{on_ok_weaker}
+use Rattle.wasi_host.specs.Tree.{node_at, stray}
+use Rattle.wasi_tree.specs.Given.{given_of}
+use Rattle.wasi_report.specs.ReadBack.{FitsNode}
+use Rattle.wasi_report.proofs.Telling.{node_next}
+use Rattle.wasi_report.proofs.outcome.tell_tree.Goals as goal
+
+pub loop-n-preserved : goal.loop-n-preserved
+unfolding node_at
+loop-n-preserved c =
+    let within = rw c.count-n-end.ensures.count at c.loop-n-test.true in
+    record {
+      before = c.in_ok-tell_node.ensures.before ∙ c.loop-n.invariant.before;
+      tokens =
+          node_next c.args.tree.now.tree c.loop-n.n _ _ _ _ c.loop-n.invariant.tokens within c.node.ensures.node
+          c.in_ok-tell_node.ensures.tokens;
+      fits =
+          All-more (λ node. FitsNode (given_of node)) _ _ stray within c.loop-n.invariant.fits
+          (subst FitsNode c.node.ensures.node c.in_ok-tell_node.ensures.fits);
+    }
+
+pub returns-clause-fits : goal.returns-clause-fits
+returns-clause-fits c =
+    let none_left = rw c.count-n-end.ensures.count at c.loop-n-test.false in
+    let told_all = rw (take_all _ _ none_left) at c.loop-n.invariant.fits in
+    on_ok_weaker c.end_array.result (λ _. All-map FitsNode given_of _ told_all) c.end_array.ensures.ok

@@ -1,0 +1,62 @@
+-- A report's text tells the report.
+use Rattle.std.specs.Prelude.{◌≡◌, ℕ, ◌^◌, ◌<◌, map, ⊤, All}
+use Rattle.std.specs.Cmp.Lexicographic.{slice_cmp}
+use Rattle.std.specs.Int.Signed.{mag}
+use Rattle.std.specs.List.Sorted.{IsStrictlySortedBy}
+use Rattle.std.specs.Ordering.{nat_cmp}
+use Rattle.hex.specs.Hex.{IsBytes}
+use Rattle.wasi_host.specs.declared.system_time.SystemTime.{SystemTime}
+use Rattle.wasi_tree.specs.Given.{Given, GivenContent, file, directory, link}
+use Rattle.wasi_report.specs.Report.{Report, report_text}
+use Rattle.wasi_guest.specs.declared.answer.Answer.{Answer}
+use Rattle.wasi_guest.specs.declared.answer.Answer.TheVariants as answers
+use Rattle.wasi_guest.specs.declared.answer.Value.{Value}
+use Rattle.wasi_guest.specs.declared.answer.Value.TheVariants as values
+
+-- a number fits 64 bits
+abbrev pub FitsNumber : ℕ → Type 0
+FitsNumber n = n < 2 ^ 64
+
+abbrev pub FitsValue : Value → Type 0
+FitsValue values.Unit = ⊤
+FitsValue (values.Number n) = FitsNumber n
+
+abbrev pub FitsAnswer : Answer → Type 0
+FitsAnswer (answers.Ok value) = FitsValue value
+FitsAnswer (answers.Errno errno) = ⊤
+FitsAnswer (answers.Trap kind) = ⊤
+
+-- the number under a name
+abbrev pub FitsEntry : {Name : Type 0} → Name × ℕ → Type 0
+FitsEntry entry = FitsNumber entry.1
+
+-- the names of a directory stand in strictly rising byte order, so that none stands twice
+abbrev pub FitsContent : GivenContent → Type 0
+FitsContent (file bytes) = IsBytes bytes
+FitsContent (directory entries) =
+    IsStrictlySortedBy (slice_cmp nat_cmp) (map (λ e. e.0) entries) × All FitsEntry entries
+FitsContent (link text) = ⊤
+
+-- the seconds fit 64 bits with a sign
+pub record FitsTime (time : SystemTime) : Type 0 where
+  pub seconds : mag time.seconds < 2 ^ 63
+  pub nanoseconds : FitsNumber time.nanoseconds
+
+pub record FitsTimes (node : Given) : Type 0 where
+  pub atime : FitsTime node.atime
+  pub mtime : FitsTime node.mtime
+  pub btime : FitsTime node.btime
+
+pub record FitsNode (node : Given) : Type 0 where
+  pub content : FitsContent node.content
+  pub times : FitsTimes node
+
+-- numbers fit 64 bits and bytes are bytes, as in each run's report, and names stand in byte order
+unfoldable pub IsOrdered : Report → Type 0
+IsOrdered r =
+    All FitsAnswer r.answers × All IsBytes r.memory × IsBytes r.stderr × IsBytes r.stdout
+    × All FitsNumber r.touched × All FitsNode r.tree
+
+-- two such reports with the same text are the same
+abbrev pub ReportsAreTold : Type 0
+ReportsAreTold = (a b : Report) → IsOrdered a → IsOrdered b → report_text a ≡ report_text b → a ≡ b

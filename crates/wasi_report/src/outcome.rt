@@ -1,0 +1,189 @@
+//! What a run came to, and its report as a text.
+ghost use Rattle.std.specs.Prelude.{◌≡◌, ◌++◌, IfOk, OnOk, All, map};
+ghost use Rattle.hex.specs.Hex.{IsBytes};
+ghost use Rattle.wasi_tree.specs.Given.{given_of};
+ghost use Rattle.wasi_report.specs.ReadBack.{FitsNode, IsOrdered};
+ghost use Rattle.wasi_report.specs.Report.{reported, report_value, report_text, list_value, hex_value, node_value};
+ghost use Rattle.wasi_report.specs.Told.{told, told_at};
+
+use crate::told::{Told, tell_bytes, tell_list};
+use crate::told_nodes::tell_node;
+use json::Writer;
+use std::alloc::{AllocError, Global};
+use wasi_guest::Answers;
+use wasi_tree::MemTree;
+
+/// What a run came to, but for the tree that it left.
+#[derive(Drop)]
+pub struct Outcome {
+    /// The answer of each call, in order.
+    pub answers: Answers,
+    /// The bytes of each range of memory that is to be shown, in order.
+    pub shown: Vec<Vec<u8>>,
+    pub stdout: Vec<u8>,
+    pub stderr: Vec<u8>,
+    /// The numbers of the nodes that were touched.
+    pub touched: Vec<u64>,
+}
+
+/// The report's text: one object of JSON with no space and with keys in byte order, and a newline. The nodes of the tree
+/// are listed by their numbers. It is a text that tells the report, as `reports_are_told` says.
+pub fn report(alloc: Global, outcome: &Outcome, tree: &MemTree) -> Result<Vec<u8>, AllocError>
+    ensures text { IfOk result (λ text. text.items ≡ report_text (reported outcome.now tree.now.tree.nodes)) }
+    ensures ordered { OnOk result (IsOrdered (reported outcome.now tree.now.tree.nodes)) }
+{
+    let mut out = Writer::new(Vec::new(alloc));
+    tell_outcome(alloc, outcome, tree, &mut out)?;
+    let mut text = out.into_inner();
+    text.push(b'\n')?;
+    Ok(text)
+}
+
+#[tactic(auto, unfolding(crate::specs::ReadBack::IsOrdered))]
+fn tell_outcome(
+    alloc: Global,
+    outcome: &Outcome,
+    tree: &MemTree,
+    out: &mut Writer,
+) -> Result<(), AllocError>
+    ensures before { out.new.before ≡ out.old.before }
+    ensures tokens { OnOk result (out.new.tokens
+        ≡ out.old.tokens ++ told (report_value (reported outcome.now tree.now.tree.nodes))) }
+    ensures ordered { OnOk result (IsOrdered (reported outcome.now tree.now.tree.nodes)) }
+{
+    out.begin_object()?;
+    tell_list_at(alloc, "answers", outcome.answers.as_slice(), out)?;
+    tell_texts_at(alloc, "memory", outcome.shown.as_slice(), out)?;
+    tell_bytes_at(alloc, "stderr", outcome.stderr.as_slice(), out)?;
+    tell_bytes_at(alloc, "stdout", outcome.stdout.as_slice(), out)?;
+    tell_list_at(alloc, "touched", outcome.touched.as_slice(), out)?;
+    out.key("tree")?;
+    tell_tree(alloc, tree, out)?;
+    out.end_object()
+}
+
+fn tell_list_at<T: Told>(
+    alloc: Global,
+    name: &str,
+    items: &[T],
+    out: &mut Writer,
+) -> Result<(), AllocError>
+    ensures before { out.new.before ≡ out.old.before }
+    ensures tokens { OnOk result (out.new.tokens ≡ out.old.tokens ++ told_at name.now (list_value T.value items.now)) }
+    ensures fits { OnOk result (All T.fits items.now) }
+{
+    out.key(name)?;
+    tell_list(alloc, items, out)
+}
+
+fn tell_bytes_at(
+    alloc: Global,
+    name: &str,
+    bytes: &[u8],
+    out: &mut Writer,
+) -> Result<(), AllocError>
+    ensures before { out.new.before ≡ out.old.before }
+    ensures tokens { OnOk result (out.new.tokens ≡ out.old.tokens ++ told_at name.now (hex_value bytes.now)) }
+    ensures fits { OnOk result (IsBytes bytes.now) }
+{
+    out.key(name)?;
+    tell_bytes(alloc, bytes, out)
+}
+
+fn tell_texts_at(
+    alloc: Global,
+    name: &str,
+    texts: &[Vec<u8>],
+    out: &mut Writer,
+) -> Result<(), AllocError>
+    ensures before { out.new.before ≡ out.old.before }
+    ensures tokens { OnOk result (out.new.tokens ≡ out.old.tokens ++ told_at name.now (list_value hex_value (map (λ text. text.items) texts.now))) }
+    ensures fits { OnOk result (All IsBytes (map (λ text. text.items) texts.now)) }
+{
+    tell_list_at(alloc, name, texts, out)
+}
+
+// The nodes by their numbers, each as the tree lends it.
+fn tell_tree(alloc: Global, tree: &MemTree, out: &mut Writer) -> Result<(), AllocError>
+    ensures before { out.new.before ≡ out.old.before }
+    ensures tokens { OnOk result (out.new.tokens
+        ≡ out.old.tokens ++ told (list_value node_value (map given_of tree.now.tree.nodes))) }
+    ensures fits { OnOk result (All FitsNode (map given_of tree.now.tree.nodes)) }
+{
+    out.begin_array()?;
+    for n in 0..tree.count() {
+        tell_node(alloc, &tree.node(n), out)?;
+    }
+    out.end_array()
+}
+
+#[cfg(test)]
+mod tests {
+    use super::*;
+    use std::test::Fail;
+    use wasi_guest::{Answer, Errno, TrapKind, Value};
+    use wasi_host::Limits;
+    use wasi_tree::{NewContent, NewEntry, NewNode, TreeError, is_first_tree};
+
+    const LIMITS: Limits = Limits { nodes: 8, links: 8 };
+
+    fn tree_of(alloc: Global, nodes: Vec<NewNode>) -> Result<MemTree, TreeError> {
+        if !is_first_tree(alloc, &nodes, LIMITS)? {
+            return Err(TreeError::Invalid(0));
+        }
+        MemTree::new(alloc, nodes, LIMITS)
+    }
+
+    #[test]
+    fn smallest(rt: HostRuntime) -> Result<(), Fail> {
+        let alloc = rt.alloc();
+        let outcome = Outcome {
+            answers: Answers::with_room(alloc, 0)?,
+            shown: Vec::new(alloc),
+            stdout: Vec::new(alloc),
+            stderr: Vec::new(alloc),
+            touched: Vec::new(alloc),
+        };
+        let root = NewNode::new(NewContent::Dir(Vec::new(alloc)));
+        let tree = tree_of(alloc, vec![in alloc; root]?)?;
+        let want =
+            "{\"answers\":[],\"memory\":[],\"stderr\":\"\",\"stdout\":\"\",\"touched\":[],\"tree\":[{\"bits\":\"rwx\",\"dir\":{},\"times\":[[0,0],[0,0],[0,0]]}]}\n";
+        assert_eq!(rt; report(alloc, &outcome, &tree)?.as_slice(), want.as_bytes());
+        Ok(())
+    }
+
+    #[test]
+    fn every_part(rt: HostRuntime) -> Result<(), Fail> {
+        let alloc = rt.alloc();
+        let mut answers = Answers::with_room(alloc, 4)?;
+        answers.push(Answer::Ok(Value::Number(4)));
+        answers.push(Answer::Ok(Value::Unit));
+        answers.push(Answer::Errno(Errno::Noent));
+        answers.push(Answer::Trap(TrapKind::Pointer));
+        let mut entries = Vec::new(alloc);
+        entries.push(NewEntry {
+            name: String::from_str(alloc, "f")?,
+            node: 1,
+        })?;
+        entries.push(NewEntry {
+            name: String::from_str(alloc, "a\"")?,
+            node: 2,
+        })?;
+        let mut nodes = Vec::new(alloc);
+        nodes.push(NewNode::new(NewContent::Dir(entries)))?;
+        nodes.push(NewNode::new(NewContent::File(vec![in alloc; 0u8, 255]?)))?;
+        nodes.push(NewNode::new(NewContent::Dir(Vec::new(alloc))))?;
+        let outcome = Outcome {
+            answers,
+            shown: vec![in alloc; vec![in alloc; 171u8, 1]?]?,
+            stdout: vec![in alloc; 104u8]?,
+            stderr: vec![in alloc; 105u8]?,
+            touched: vec![in alloc; 0u64, 2]?,
+        };
+        let tree = tree_of(alloc, nodes)?;
+        let want =
+            "{\"answers\":[{\"ok\":4},{\"ok\":null},{\"errno\":\"noent\"},{\"trap\":\"pointer\"}],\"memory\":[\"ab01\"],\"stderr\":\"69\",\"stdout\":\"68\",\"touched\":[0,2],\"tree\":[{\"bits\":\"rwx\",\"dir\":{\"a\\\"\":2,\"f\":1},\"times\":[[0,0],[0,0],[0,0]]},{\"bits\":\"rw-\",\"file\":\"00ff\",\"times\":[[0,0],[0,0],[0,0]]},{\"bits\":\"rwx\",\"dir\":{},\"times\":[[0,0],[0,0],[0,0]]}]}\n";
+        assert_eq!(rt; report(alloc, &outcome, &tree)?.as_slice(), want.as_bytes());
+        Ok(())
+    }
+}

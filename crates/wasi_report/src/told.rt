@@ -1,0 +1,83 @@
+//! Writing the parts of a report.
+ghost use Rattle.std.specs.Prelude.{◌≡◌, ◌++◌, OnOk, All};
+ghost use Rattle.hex.specs.Hex.{IsBytes};
+ghost use Rattle.json.specs.Token.{key};
+ghost use Rattle.serde_json.specs.Data.{Data, array};
+ghost use Rattle.serde_json.specs.View.{items_of};
+ghost use Rattle.wasi_report.specs.ReadBack.{FitsNumber, FitsTime};
+ghost use Rattle.wasi_report.specs.Report.{list_value, hex_value, number_value, time_value};
+ghost use Rattle.wasi_report.specs.Told.{told};
+
+use json::Writer;
+use std::alloc::{AllocError, Global};
+use wasi_host::SystemTime;
+
+/// What is written as a value of JSON.
+pub trait Told {
+    ghost value: { Self → Data };
+
+    /// In range, as each value of the type is: numbers fit 64 bits, and bytes are bytes.
+    ghost fits: { Self → Type 0 };
+
+    fn tell(&self, alloc: Global, out: &mut Writer) -> Result<(), AllocError>
+        ensures before { out.new.before ≡ out.old.before }
+        ensures tokens { OnOk result (out.new.tokens ≡ out.old.tokens ++ told (value self.now)) }
+        ensures fits { OnOk result (fits self.now) };
+}
+
+impl Told for u64 {
+    ghost value = { number_value };
+
+    ghost fits = { FitsNumber };
+
+    fn tell(&self, _alloc: Global, out: &mut Writer) -> Result<(), AllocError> {
+        out.u64(*self)
+    }
+}
+
+/// Bytes, in hex.
+impl Told for Vec<u8> {
+    ghost value = { λ bytes. hex_value bytes.items };
+
+    ghost fits = { λ bytes. IsBytes bytes.items };
+
+    fn tell(&self, alloc: Global, out: &mut Writer) -> Result<(), AllocError> {
+        tell_bytes(alloc, self.as_slice(), out)
+    }
+}
+
+impl Told for SystemTime {
+    ghost value = { time_value };
+
+    ghost fits = { FitsTime };
+
+    fn tell(&self, _alloc: Global, out: &mut Writer) -> Result<(), AllocError> {
+        out.begin_array()?;
+        out.i64(self.seconds)?;
+        out.u64(self.nanoseconds as u64)?;
+        out.end_array()
+    }
+}
+
+/// Bytes, in hex.
+pub fn tell_bytes(alloc: Global, bytes: &[u8], out: &mut Writer) -> Result<(), AllocError>
+    ensures before { out.new.before ≡ out.old.before }
+    ensures tokens { OnOk result (out.new.tokens ≡ out.old.tokens ++ told (hex_value bytes.now)) }
+    ensures fits { IsBytes bytes.now }
+{
+    let text = hex::encode(alloc, bytes)?;
+    out.string(text.as_str())
+}
+
+/// The items of a list, in order.
+pub fn tell_list<T: Told>(alloc: Global, items: &[T], out: &mut Writer) -> Result<(), AllocError>
+    ensures before { out.new.before ≡ out.old.before }
+    ensures tokens { OnOk result (out.new.tokens ≡ out.old.tokens ++ told (list_value T.value items.now)) }
+    ensures fits { OnOk result (All T.fits items.now) }
+{
+    out.begin_array()?;
+    for item in items {
+        item.tell(alloc, out)?;
+    }
+    out.end_array()
+}

@@ -1,0 +1,68 @@
+//! How answers are reported.
+ghost use Rattle.std.specs.Prelude.{◌≡◌, ◌++◌, OnOk, codes};
+ghost use Rattle.serde_json.specs.Data.{string};
+ghost use Rattle.wasi_report.specs.ReadBack.{FitsAnswer, FitsValue};
+ghost use Rattle.wasi_report.specs.Report.{only, success_value, trap_name, answer_value};
+ghost use Rattle.wasi_report.specs.Told.{told};
+
+use crate::told::Told;
+use json::Writer;
+use std::alloc::{AllocError, Global};
+use wasi_guest::{Answer, TrapKind, Value};
+
+impl Told for Answer {
+    ghost value = { answer_value };
+
+    ghost fits = { FitsAnswer };
+
+    fn tell(&self, alloc: Global, out: &mut Writer) -> Result<(), AllocError> {
+        match *self {
+            Answer::Ok(value) => tell_success(alloc, value, out),
+            Answer::Errno(errno) => tell_text("errno", errno.name(), out),
+            Answer::Trap(kind) => tell_text("trap", trap_name(kind), out),
+        }
+    }
+}
+
+impl Told for Value {
+    ghost value = { success_value };
+
+    ghost fits = { FitsValue };
+
+    fn tell(&self, _alloc: Global, out: &mut Writer) -> Result<(), AllocError> {
+        match *self {
+            Value::Unit => out.null(),
+            Value::Number(n) => out.u64(n),
+        }
+    }
+}
+
+fn trap_name(kind: TrapKind) -> &'static str
+    ensures { result.now ≡ trap_name kind }
+{
+    match kind {
+        TrapKind::Pointer => "pointer",
+    }
+}
+
+fn tell_success(alloc: Global, value: Value, out: &mut Writer) -> Result<(), AllocError>
+    ensures before { out.new.before ≡ out.old.before }
+    ensures tokens { OnOk result (out.new.tokens ≡ out.old.tokens ++ told (only (codes "ok") (success_value value))) }
+    ensures fits { OnOk result (FitsValue value) }
+{
+    out.begin_object()?;
+    out.key("ok")?;
+    value.tell(alloc, out)?;
+    out.end_object()
+}
+
+// An object with one text.
+fn tell_text(name: &str, text: &str, out: &mut Writer) -> Result<(), AllocError>
+    ensures before { out.new.before ≡ out.old.before }
+    ensures tokens { OnOk result (out.new.tokens ≡ out.old.tokens ++ told (only name.now (string text.now))) }
+{
+    out.begin_object()?;
+    out.key(name)?;
+    out.string(text)?;
+    out.end_object()
+}

@@ -1,0 +1,9 @@
+//! The walk along the parts of a path, which never leaves the directory that it starts from.
+#![tactic(auto)]
+
+mod laws;
+
+pub use laws::{paths_agree, paths_stay_in_reach, walks_have_one_end, walks_read_few_links};
+
+/// How many links one walk reads at most: the crate's constant of that name.
+pub const MAX_SYMLINK_EXPANSIONS: u8 = 40;

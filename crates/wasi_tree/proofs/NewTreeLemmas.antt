@@ -1,0 +1,158 @@
+-- The rows of a list of nodes stand for its tree, and it is sound where the nodes are fit.
+use Rattle.std.proofs.Common.{◌≡◌, ◌<◌, ℕ, zero, suc, ◌+◌, Bool, true, false, cond, not, ◌&&◌, nat_lt, nat_le, List, [], ◌∷◌, ◌++◌, Option, Some, map, length, refl, sym, ap, ◌∙◌, subst, arith, append_assoc, slice_index_or}
+use Rattle.std.specs.Prelude.{slice_get}
+use Rattle.std.proofs.lemmas.Bool.{true≢false, and_parts, ltb-true, leb-true}
+use Rattle.std.proofs.lemmas.List.{length-map, length-append, append-nil, map_push}
+use Rattle.std.specs.List.{list_all}
+use Rattle.std.specs.Option.{ForSome}
+use Rattle.std.specs.Ordering.{nat_cmp, eq_by_cmp}
+use Rattle.std.specs.Str.{is_utf8}
+use Rattle.std.specs.Cmp.Lexicographic.{slice_cmp, nat_list_cmp_total}
+use Rattle.std.specs.FinMap as maps
+use Rattle.std.specs.FinSet as set
+use Rattle.wasi_paths.specs.Text.{has_nul, is_entry_name}
+use Rattle.wasi_host.specs.Tree.{Tree, Node, Nodes, node_at, stray, names_of, text_of, is_link}
+use Rattle.wasi_host.specs.declared.limits.Limits.{Limits}
+use Rattle.wasi_host.specs.declared.limits.TheConstants.{LINK_MAX}
+use Rattle.wasi_tree.specs.Given.{Given, GivenContent, file, directory, link, entry_count, content_from, node_from, nodes_from, tree_of}
+use Rattle.wasi_tree.specs.FirstTree.{numbers_from}
+use Rattle.wasi_tree.specs.Fit.{is_fit_entry, IsFitContent, IsFit, AreFit, name_counts}
+use Rattle.wasi_tree.specs.StoredTree.{stored_node, stored_tree}
+use Rattle.wasi_tree.specs.Sound.{IsSound, IsSoundNode, IsSoundText}
+use Rattle.wasi_tree.specs.declared.row.Row.{Row}
+use Rattle.wasi_tree.proofs.SoundLemmas.{bare}
+
+-- ---- the counts, by number
+
+length-numbers : (k n : ℕ) → length (numbers_from k n) ≡ n
+length-numbers k zero = refl
+length-numbers k (suc n) = ap suc (length-numbers (k + 1) n)
+
+value_at : (f : ℕ → ℕ) (k n i d : ℕ) → i < n → slice_index_or (map f (numbers_from k n)) i d ≡ f (k + i)
+value_at f k zero i d within = absurd (omega arith)
+value_at f k (suc n) zero d within = ap f (omega arith)
+value_at f k (suc n) (suc i) d within = value_at f (k + 1) n i d (omega arith) ∙ ap f (omega arith)
+
+length-name_counts : (all : List Given) → length (name_counts all) ≡ length all
+length-name_counts all =
+    length-map (numbers_from 0 (length all)) (λ n. entry_count n all) ∙ length-numbers 0 (length all)
+
+-- ---- rows of the nodes, one after another
+
+-- the rows of the first nodes are made, and these nodes are left
+pub record AreRows (all : List Given) (rows : List Row) (left : List Given) : Type 0 where
+  pub same : map stored_node rows ++ nodes_from all (length rows) left ≡ nodes_from all 0 all
+  pub count : length rows + length left ≡ length all
+
+pub no_row : (all : List Given) (rows : List Row) → rows ≡ [] → AreRows all rows all
+no_row all rows none =
+    subst (λ (made : List Row). AreRows all made all) (sym none) (record { same = refl; count = omega arith })
+
+-- the next number has a count, which is how many entries give it
+pub next_count : {all : List Given} {rows : List Row} {n : ℕ} {left rest : List Given} {g : Given} {counts : List ℕ}
+    → n ≡ length rows → counts ≡ name_counts all → left ≡ g ∷ rest → AreRows all rows left
+    → (n < length counts) × (slice_index_or counts n 0 ≡ entry_count n all)
+next_count {all} {n = n} number is next so_far =
+    let within : n < length all = omega (arith, number, so_far.count, ap length next) in (
+      omega (arith, within, ap length is, length-name_counts all),
+      ap (λ ns. slice_index_or ns n 0) is
+          ∙ value_at (λ k. entry_count k all) 0 (length all) n 0 within ∙ ap (λ k. entry_count k all) (omega arith),
+    )
+
+pub row_more : {all : List Given} {rows now : List Row} {n : ℕ} {left rest : List Given} {g : Given} (row : Row)
+    → n ≡ length rows → now ≡ rows ++ row ∷ [] → stored_node row ≡ node_from all n g → left ≡ g ∷ rest
+    → AreRows all rows left → AreRows all now rest
+row_more {all} {rows} {now} {left = left} {rest} {g} row number pushed is next so_far =
+    let long : length now ≡ length rows + 1 = ap length pushed ∙ length-append rows (row ∷ []) in
+    record {
+      same =
+          (λ i. map stored_node (pushed i) ++ nodes_from all (long i) rest)
+          ∙ ap (λ made. made ++ nodes_from all (length rows + 1) rest) (map_push stored_node rows row)
+          ∙ append_assoc (map stored_node rows) (stored_node row ∷ []) (nodes_from all (length rows + 1) rest)
+          ∙ ap (λ node. map stored_node rows ++ node ∷ nodes_from all (length rows + 1) rest)
+          (is ∙ ap (λ k. node_from all k g) number)
+          ∙ ap (λ gs. map stored_node rows ++ nodes_from all (length rows) gs) (sym next) ∙ so_far.same;
+      count = omega (arith, long, ap length next, so_far.count);
+    }
+
+pub all_rows : {all : List Given} {rows : List Row} {left : List Given} → left ≡ [] → AreRows all rows left
+    → map stored_node rows ≡ nodes_from all 0 all
+all_rows {all} {rows} none so_far =
+    sym (append-nil (map stored_node rows))
+    ∙ ap (λ gs. map stored_node rows ++ nodes_from all (length rows) gs) (sym none) ∙ so_far.same
+
+-- ---- fit nodes are sound
+
+length-nodes_from : (all : List Given) (k : ℕ) (gs : List Given) → length (nodes_from all k gs) ≡ length gs
+length-nodes_from all k [] = refl
+length-nodes_from all k (g ∷ gs) = ap suc (length-nodes_from all (k + 1) gs)
+
+no_names : (count : ℕ) (name : List ℕ) (n : ℕ)
+    → maps.get {X = ℕ} (maps.empty {R = slice_cmp nat_cmp}) name ≡ Some n → n < count
+no_names count name n is = let none = sym (maps.get-empty {X = ℕ} (slice_cmp nat_cmp) name) ∙ is in absurd (cc)
+
+entries_below : (count : ℕ) (entries : List (List ℕ × ℕ)) → list_all (is_fit_entry count) entries ≡ true
+    → (name : List ℕ) (n : ℕ) → maps.get (maps.from_entries {R = slice_cmp nat_cmp} entries) name ≡ Some n
+    → n < count
+entries_below count [] are name n is = no_names count name n is
+entries_below count (e ∷ es) are name n is =
+    let parts = and_parts (is_fit_entry count e) (list_all (is_fit_entry count) es) are in
+    let within = ltb-true e.1 count (and_parts (is_entry_name e.0 && is_utf8 e.0) (nat_lt e.1 count) parts.0).1 in
+    pick (eq_by_cmp (slice_cmp nat_cmp) name e.0) e.1 n (maps.get (maps.from_entries es) name) within
+    (entries_below count es parts.1 name n)
+    (sym (maps.get-insert nat_list_cmp_total (maps.from_entries es) e.0 e.1 name) ∙ is)
+  where
+    pick : (b : Bool) (m n : ℕ) (o : Option ℕ) → m < count → (o ≡ Some n → n < count) → cond b (Some m) o ≡ Some n
+        → n < count
+    pick true m n o within rest found = let same : m ≡ n = cc in subst (λ x. x < count) same within
+    pick false m n o within rest found = rest found
+
+module _ (limits : Limits) (all : List Given) where
+  content_below : (k : ℕ) (content : GivenContent) → IsFitContent limits all k content → (name : List ℕ) (n : ℕ)
+      → maps.get (names_of (content_from all k content)) name ≡ Some n → n < length all
+  content_below k (file bytes) fit name n is = no_names (length all) name n is
+  content_below k (directory entries) fit name n is = entries_below (length all) entries fit.0 name n is
+  content_below k (link text) fit name n is = no_names (length all) name n is
+
+  content_text : (k : ℕ) (content : GivenContent) → IsFitContent limits all k content
+      → is_link (content_from all k content) ≡ true → IsSoundText (text_of (content_from all k content))
+  content_text k (file bytes) fit linked = absurd (true≢false (sym linked))
+  content_text k (directory entries) fit linked = absurd (true≢false (sym linked))
+  content_text k (link text) fit linked =
+      let long : Bool = nat_lt 0 (length text) && nat_le (length text) LINK_MAX in
+      let utf8 = and_parts (long && is_utf8 text) (not (has_nul text)) fit.0 in
+      let short = and_parts long (is_utf8 text) utf8.0 in
+      let parts = and_parts (nat_lt 0 (length text)) (nat_le (length text) LINK_MAX) short.0 in
+      record { some = ltb-true 0 (length text) parts.0; most = leb-true (length text) LINK_MAX parts.1 }
+
+  node_sound : (k : ℕ) (g : Given) → IsFit limits all k g → IsSoundNode (length all) (node_from all k g)
+  node_sound k g fit = record { below = content_below k g.content fit.1; text = content_text k g.content fit.1 }
+
+  nodes_sound : (k : ℕ) (gs : List Given)
+      → ((j n : ℕ) → j ≡ k + n → ForSome (slice_get gs n) (IsFit limits all j)) → (n : ℕ)
+      → IsSoundNode (length all) (slice_index_or (nodes_from all k gs) n stray)
+  nodes_sound k [] fit n = bare (length all) stray refl refl
+  nodes_sound k (g ∷ gs) fit zero = node_sound k g (fit k 0 (omega arith) g refl)
+  nodes_sound k (g ∷ gs) fit (suc n) = nodes_sound (k + 1) gs (λ j m is. fit j (suc m) (omega (arith, is))) n
+
+pub rows_sound : (rows : List Row) (limits : Limits) (worked : Nodes) (marks : ℕ) (all : List Given)
+    → AreFit limits all → map stored_node rows ≡ nodes_from all 0 all → marks ≡ length rows
+    → IsSound (stored_tree rows limits worked) marks
+unfolding node_at
+rows_sound rows limits worked marks all fit same counted = record {
+  nodes = λ n.
+      subst (λ (nodes : List Node). IsSoundNode (length nodes) (slice_index_or nodes n stray)) (sym same)
+      (subst (λ count. IsSoundNode count (slice_index_or (nodes_from all 0 all) n stray))
+      (sym (length-nodes_from all 0 all)) (nodes_sound limits all 0 all (λ j m is.
+      subst (λ i. ForSome (slice_get all i) (IsFit limits all j)) (omega (arith, is)) ((fit j).fit)) n));
+  counted = counted ∙ sym (length-map rows stored_node);
+}
+
+pub rows_tree : (rows : List Row) (limits : Limits) (worked : Nodes) (all : List Given)
+    → map stored_node rows ≡ nodes_from all 0 all → worked ≡ set.empty
+    → stored_tree rows limits worked ≡ tree_of all limits
+unfolding tree_of
+rows_tree rows limits worked all same none =
+    λ i. let t : Tree = record { nodes = same i; limits = limits; worked = none i } in t
+
+pub ruleset new_tree_rules = (rows_sound, rows_tree)

@@ -1,0 +1,7 @@
+use Rattle.std.proofs.Common.{take}
+use Rattle.wasi_tree.specs.EntryNumbers.{entry_numbers}
+use Rattle.wasi_tree.specs.FitTests.{AreCounted}
+use Rattle.wasi_tree.proofs.fit.count_entries.Given as goal
+
+abbrev pub invariant-loop-entry : goal.invariant-loop-entry
+invariant-loop-entry l = AreCounted (entry_numbers (take l.entry-index l.entries)) l.initial.counts.items l.counts.items

@@ -1,0 +1,21 @@
+use Rattle.std.proofs.Common.{◌∙◌, sym, ap}
+use Rattle.std.proofs.lemmas.Result.{err_from_is_err_and}
+use Rattle.wasi_host.specs.Tree.{Node, is_link, text_of}
+use Rattle.wasi_tree.proofs.StoreLemmas.{link_refused, no_link_refused, link_is}
+use Rattle.wasi_tree.proofs.store.Store.link_at.Goals as goal
+
+pub returns-in_err-node-clause-meaning : goal.returns-in_err-node-clause-meaning
+returns-in_err-node-clause-meaning c =
+    let error = err_from_is_err_and c.from_residual.result c.from_residual.ensures.1 in
+    rw (error.1, error.2) (link_refused _ _ _ _ c.in_err-node.ensures.refused)
+
+pub returns-then-not-is_link-clause-meaning : goal.returns-then-not-is_link-clause-meaning
+returns-then-not-is_link-clause-meaning c =
+    no_link_refused _ _ _ _ c.in_ok-node.ensures.free c.in_ok-node.ensures.node
+    (ap (λ (node : Node). is_link node.content) c.row.ensures.node ∙ sym c.if-not-is_link.ensures)
+
+pub returns-clause-meaning : goal.returns-clause-meaning
+returns-clause-meaning c =
+    link_is _ _ _ _ _ c.in_ok-node.ensures.free c.in_ok-node.ensures.node
+    (ap (λ (node : Node). is_link node.content) c.row.ensures.node ∙ sym c.if-not-is_link.ensures)
+    (c.text.ensures ∙ sym (ap (λ (node : Node). text_of node.content) c.row.ensures.node))
