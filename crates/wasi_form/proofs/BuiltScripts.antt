@@ -1,73 +1,157 @@
 -- What is known of an accepted script.
-use Rattle.std.proofs.Common.{ℕ, List, ◌≡◌, ◌+◌, ◌≤◌, ◌<◌, length, nat_lt, Bool, Option, Some, None, Result, Ok, Err, refl, true, false, arith}
-use Rattle.std.specs.Prelude.{sum_by, if◌then◌else◌}
+use Rattle.std.proofs.Common.{ℕ, List, ◌≡◌, ◌+◌, ◌≤◌, ◌<◌, length, Bool, Option, Some, None, Result, Ok, Err, refl, sym, ap, ◌∙◌, true, false, arith, subst, map}
+use Rattle.std.specs.Prelude.{sum_by, nat_le}
+use Rattle.std.specs.Bool.{Decides}
 use Rattle.std.specs.List.{list_all}
-use Rattle.std.proofs.lemmas.Bool.{and_parts, leb-true, lt-ltb}
+use Rattle.std.proofs.lemmas.Bool.{and_parts, leb-true}
+use Rattle.std.proofs.lemmas.Bool.Decides.{same_from_decides}
 use Rattle.serde_json.specs.Data.{Data}
-use Rattle.wasi_tree.specs.FirstTree.{is_first_tree}
-use Rattle.wasi_form.specs.Plan.{Plan}
+use Rattle.wasi_host.specs.Steps.{◌>>=◌}
+use Rattle.wasi_tree.specs.Given.{given}
+use Rattle.wasi_tree.specs.Fit.{AreFit}
+use Rattle.wasi_tree.specs.declared.node.NewNode.{NewNode}
+use Rattle.wasi_form.specs.Plan.{Plan, plan}
 use Rattle.wasi_form.specs.ScriptForm.{script_of}
 use Rattle.wasi_form.specs.Built.{default_limits, default_table, most_memory, are_preopens_directories, is_piece_within, is_shown_within, is_built_call, is_built, is_within_limits, is_built_script}
-use Rattle.wasi_form.specs.Verdict.{value_of, or_later, or_shape, or_json, most_script, verdict_of, Reads}
+use Rattle.wasi_form.specs.Verdict.{holds, found, value_of, built, plan_in, built_plan, most_script, verdict_of, IsFitFor, IsVerdict, Reads}
 use Rattle.wasi_form.specs.declared.verdict.Refusal.{Refusal}
-use Rattle.wasi_form.specs.declared.verdict.Refusal.TheVariants.{Long}
+use Rattle.wasi_form.specs.declared.verdict.Refusal.TheVariants.{Long, Shape, Later, Tree, Limit}
 use Rattle.wasi_form.specs.declared.script.Script.{Script}
 use Rattle.wasi_form.specs.declared.verdict.ScriptError.{ScriptError}
 use Rattle.wasi_form.specs.declared.verdict.ScriptError.TheVariants.{Refused, Memory}
 
--- a plan that is accepted is the one that was judged, and passes both tests
-built_plan : (s p : Plan) (built within : Bool) → is_built s ≡ built → is_within_limits s ≡ within
-    → or_later (Some s) ≡ Ok p → is_built_script p ≡ true
-unfolding is_built_script
-built_plan s p true true built within e =
-    let kept : or_later (Some s) ≡ Ok s = rw (built, within) refl in
-    let same : s ≡ p = cc in
-    rw (← same, built, within) refl
-built_plan s p true false built within e = let refused = rw (built, within) at e in absurd (cc)
-built_plan s p false within built limits e = let refused = rw built at e in absurd (cc)
-
-built_form : (form : Option Plan) (p : Plan) → or_later form ≡ Ok p → is_built_script p ≡ true
-built_form None p e = absurd (cc)
-built_form (Some s) p e = built_plan s p (is_built s) (is_within_limits s) refl refl e
-
-built_shape : (form : Option (Option Plan)) (p : Plan) → or_shape form ≡ Ok p → is_built_script p ≡ true
-built_shape None p e = absurd (cc)
-built_shape (Some form) p e = built_form form p e
-
-built_value : (d : Option Data) (p : Plan) → or_json d ≡ Ok p → is_built_script p ≡ true
-built_value None p e = absurd (cc)
-built_value (Some d) p e = built_shape (script_of d) p e
+-- ---- from the bytes to a plan whose forms are built
 
 -- too many bytes are refused unread
-pub too_many : (bytes : List ℕ) → most_script < length bytes → verdict_of bytes ≡ Err Long
-unfolding verdict_of
-too_many bytes over = let long = lt-ltb most_script (length bytes) over in rw long refl
+pub too_many : (bytes : List ℕ) → most_script < length bytes → built_plan bytes ≡ Err Long
+unfolding built_plan
+too_many bytes over = let long : nat_le (length bytes) most_script ≡ false = grind (arith) in rw long refl
 
-pub not_too_many : (bytes : List ℕ) (verdict : Result Plan Refusal) → length bytes ≤ most_script
-    → or_json (value_of bytes) ≡ verdict → verdict_of bytes ≡ verdict
-unfolding verdict_of
+not_too_many : (bytes : List ℕ) (verdict : Result Plan Refusal) → length bytes ≤ most_script
+    → plan_in (value_of bytes) ≡ verdict → built_plan bytes ≡ verdict
+unfolding built_plan
 not_too_many bytes verdict fits is =
-    let short : nat_lt most_script (length bytes) ≡ false = grind (arith) in rw short is
+    let short : nat_le (length bytes) most_script ≡ true = grind (arith) in rw short is
 
-built_within : (over : Bool) (d : Option Data) (p : Plan) → (if over then Err Long else or_json d) ≡ Ok p
-    → is_built_script p ≡ true
-built_within true d p e = absurd (cc)
-built_within false d p e = built_value d p e
-
--- an accepted script can be run today
-pub built_of_verdict : (bytes : List ℕ) (p : Plan) → verdict_of bytes ≡ Ok p → is_built_script p ≡ true
-unfolding verdict_of
-built_of_verdict bytes p e = built_within (nat_lt most_script (length bytes)) (value_of bytes) p e
-
--- what is read of the bytes is their verdict
+-- what is read of the value is read of the bytes
 pub reads_within : (result : Result Script ScriptError) (bytes : List ℕ) → length bytes ≤ most_script
-    → Reads result (or_json (value_of bytes)) → Reads result (verdict_of bytes)
+    → Reads result (λ verdict. plan_in (value_of bytes) ≡ verdict)
+    → Reads result (λ verdict. built_plan bytes ≡ verdict)
 reads_within (Ok s) bytes fits reads = not_too_many bytes _ fits reads
 reads_within (Err (Refused refusal)) bytes fits reads = not_too_many bytes _ fits reads
 reads_within (Err Memory) bytes fits reads = reads
 
+built_is : (q p : Plan) (is : Bool) → is_built q ≡ is → built q ≡ Ok p → is_built p ≡ true
+built_is q p true is e =
+    let kept : built q ≡ Ok q = rw is refl in
+    let same : q ≡ p = cc in
+    rw (← same, is) refl
+built_is q p false is e = let refused = rw is at e in absurd (cc)
+
+form_built : (form : Option Plan) (p : Plan) → (found Later form >>= built) ≡ Ok p → is_built p ≡ true
+form_built None p e = absurd (cc)
+form_built (Some q) p e = built_is q p (is_built q) refl e
+
+shape_built : (form : Option (Option Plan)) (p : Plan) → (found Shape form >>= (λ f. found Later f >>= built)) ≡ Ok p
+    → is_built p ≡ true
+shape_built None p e = absurd (cc)
+shape_built (Some form) p e = form_built form p e
+
+value_built : (d : Option Data) (p : Plan) → plan_in d ≡ Ok p → is_built p ≡ true
+value_built None p e = absurd (cc)
+value_built (Some d) p e = shape_built (script_of d) p e
+
+within_built : (fits : Bool) (d : Option Data) (p : Plan) → (holds Long fits >>= (λ _. plan_in d)) ≡ Ok p
+    → is_built p ≡ true
+within_built false d p e = absurd (cc)
+within_built true d p e = value_built d p e
+
+plan_is_built : (bytes : List ℕ) (p : Plan) → built_plan bytes ≡ Ok p → is_built p ≡ true
+unfolding built_plan
+plan_is_built bytes p e = within_built (nat_le (length bytes) most_script) (value_of bytes) p e
+
+-- ---- from there to the verdict
+
+-- bytes that are refused before their nodes are looked at
+pub refused_before : {bytes : List ℕ} {refusal : Refusal} → built_plan bytes ≡ Err refusal → IsVerdict bytes (Err refusal)
+unfolding verdict_of
+refused_before is = record { fit = true; is_test = rw is tt; is = rw is refl }
+
+pub unread_before : (bytes : List ℕ) (error : ScriptError) → Reads (Err error) (λ verdict. built_plan bytes ≡ verdict)
+    → Reads (Err error) (IsVerdict bytes)
+unread_before bytes (Refused refusal) is = refused_before is
+unread_before bytes Memory is = tt
+
+-- bytes whose nodes were tested
+pub record IsTested (bytes : List ℕ) (p : Plan) (fit : Bool) : Type 0 where
+  pub plan_is : built_plan bytes ≡ Ok p
+  pub decides : Decides fit (AreFit default_limits p.nodes)
+
+pub tested : {bytes : List ℕ} {nodes : List NewNode} {fit : Bool} (s : Script) → built_plan bytes ≡ Ok (plan s)
+    → nodes ≡ s.nodes.items → Decides fit (AreFit default_limits (map given nodes)) → IsTested bytes (plan s) fit
+tested s is nodes-are decides = record { plan_is = is; decides = rw nodes-are at decides }
+
+pub no_tree : {bytes : List ℕ} {p : Plan} {fit : Bool} → IsTested bytes p fit → fit ≡ false → IsVerdict bytes (Err Tree)
+unfolding verdict_of
+no_tree {p} {fit} is unfit = record { fit = fit; is_test = rw is.plan_is is.decides; is = rw (is.plan_is, unfit) refl }
+
+pub past_limit : {bytes : List ℕ} {p : Plan} {fit : Bool} → IsTested bytes p fit → fit ≡ true
+    → is_within_limits p ≡ false → IsVerdict bytes (Err Limit)
+unfolding verdict_of
+past_limit {p} {fit} is fits over =
+    record { fit = fit; is_test = rw is.plan_is is.decides; is = rw (is.plan_is, fits, over) refl }
+
+pub taken : {bytes : List ℕ} {p : Plan} {fit : Bool} → IsTested bytes p fit → fit ≡ true
+    → is_within_limits p ≡ true → IsVerdict bytes (Ok p)
+unfolding verdict_of
+taken {p} {fit} is fits within =
+    record { fit = fit; is_test = rw is.plan_is is.decides; is = rw (is.plan_is, fits, within) refl }
+
+-- ---- what a verdict says
+
+-- what is left to ask of a plan whose forms are built
+abbrev past_forms : Bool → Plan → Result Plan Refusal
+past_forms fit p = do
+  _ ← holds Tree fit
+  _ ← holds Limit (is_within_limits p)
+  Ok p
+
+one_outcome : (first : Result Plan Refusal) (fit other : Bool) → IsFitFor fit first → IsFitFor other first
+    → (first >>= past_forms fit) ≡ (first >>= past_forms other)
+one_outcome (Err refusal) fit other is also = refl
+one_outcome (Ok p) fit other is also = ap (λ f. past_forms f p) (same_from_decides fit other is also)
+
+pub one_verdict : (bytes : List ℕ) (verdict other : Result Plan Refusal) → IsVerdict bytes verdict
+    → IsVerdict bytes other → verdict ≡ other
+unfolding verdict_of
+one_verdict bytes verdict other is also =
+    sym is.is ∙ one_outcome (built_plan bytes) is.fit also.fit is.is_test also.is_test ∙ also.is
+
+-- a plan that is accepted can be run today
+pub record IsAccepted (p : Plan) : Type 0 where
+  pub script : is_built_script p ≡ true
+  pub fit : AreFit default_limits p.nodes
+
+accepted_within : (q p : Plan) (within : Bool) → is_within_limits q ≡ within → AreFit default_limits q.nodes
+    → is_built q ≡ true → past_forms true q ≡ Ok p → IsAccepted p
+unfolding is_built_script
+accepted_within q p true within fit is e =
+    let kept : past_forms true q ≡ Ok q = rw within refl in
+    let same : q ≡ p = cc in
+    subst IsAccepted same (record { script = rw (is, within) refl; fit = fit })
+accepted_within q p false within fit is e = let refused = rw within at e in absurd (cc)
+
+accepted_plan : (first : Result Plan Refusal) (fit : Bool) (p : Plan) → IsFitFor fit first
+    → ((q : Plan) → first ≡ Ok q → is_built q ≡ true) → (first >>= past_forms fit) ≡ Ok p → IsAccepted p
+accepted_plan (Err refusal) fit p test is e = absurd (cc)
+accepted_plan (Ok q) true p test is e = accepted_within q p (is_within_limits q) refl (test.0 refl) (is q refl) e
+accepted_plan (Ok q) false p test is e = absurd (cc)
+
+pub accepted : {bytes : List ℕ} {p : Plan} → IsVerdict bytes (Ok p) → IsAccepted p
+unfolding verdict_of
+accepted {bytes} {p} is = accepted_plan (built_plan bytes) is.fit p is.is_test (plan_is_built bytes) is.is
+
 pub record IsBuilt (p : Plan) : Type 0 where
-  pub tree : is_first_tree default_limits p.nodes ≡ true
   pub calls : list_all is_built_call p.calls ≡ true
   pub preopens : are_preopens_directories p.nodes p.preopens ≡ true
   pub table : 3 + length p.preopens ≤ default_table
@@ -80,15 +164,13 @@ pub built_parts : (p : Plan) → is_built_script p ≡ true → IsBuilt p
 unfolding is_built_script is_built is_within_limits
 built_parts p e =
     let both = and_parts _ _ e in
-    let forms = and_parts _ _ both.0 in
     let shown = and_parts _ _ both.1 in
     let show = and_parts _ _ shown.0 in
     let pieces = and_parts _ _ show.0 in
     let size = and_parts _ _ pieces.0 in
     let table = and_parts _ _ size.0 in
     record {
-      tree = forms.0;
-      calls = forms.1;
+      calls = both.0;
       preopens = table.0;
       table = leb-true _ _ table.1;
       size = leb-true _ _ size.1;

@@ -10,7 +10,7 @@ use Rattle.std.proofs.lemmas.Slice.Eq.{bytes_eq-Decides}
 use Rattle.serde_json.specs.Data.{Data, Members, member, no_members, put}
 use Rattle.serde_json.specs.Find.{get_member}
 use Rattle.serde_json.proofs.Views.{get_member-put, get_member-put_other}
-use Rattle.wasi_tree.specs.FirstTree.{are_distinct}
+use Rattle.wasi_tree.specs.GivenTests.{are_distinct}
 use Rattle.wasi_form.specs.declared.waiting.Kind.{Kind}
 use Rattle.wasi_form.specs.Shapes.{u32_of, has_key, all_keys}
 use Rattle.wasi_form.specs.Lists.{needed, optional, always, forms_of}

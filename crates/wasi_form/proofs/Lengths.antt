@@ -1,9 +1,9 @@
 -- Lists of another length than a form has.
-use Rattle.std.proofs.Common.{ℕ, List, [], ◌∷◌, ◌≡◌, ◌<◌, false, None, refl, arith, length}
+use Rattle.std.proofs.Common.{ℕ, List, [], ◌∷◌, ◌≡◌, ◌<◌, None, refl, arith, length}
 use Rattle.serde_json.specs.View.{items_view}
 use Rattle.serde_json.specs.declared.value.Value.{Value}
 use Rattle.wasi_form.specs.Shapes.{two_in, three_in}
-use Rattle.wasi_form.specs.NodeForm.{is_bits_text}
+use Rattle.wasi_form.specs.NodeForm.{bits_in}
 
 pub short_is_no_two : (xs : List Value) → length xs < 2 → two_in (items_view xs) ≡ None
 short_is_no_two [] short = refl
@@ -29,13 +29,13 @@ long_is_no_three (x ∷ y ∷ []) long = absurd (omega arith)
 long_is_no_three (x ∷ y ∷ z ∷ []) long = absurd (omega arith)
 long_is_no_three (x ∷ y ∷ z ∷ u ∷ xs) long = refl
 
-pub short_is_no_bits : (xs : List ℕ) → length xs < 3 → is_bits_text xs ≡ false
+pub short_is_no_bits : (xs : List ℕ) → length xs < 3 → bits_in xs ≡ None
 short_is_no_bits [] short = refl
 short_is_no_bits (x ∷ []) short = refl
 short_is_no_bits (x ∷ y ∷ []) short = refl
 short_is_no_bits (x ∷ y ∷ z ∷ xs) short = absurd (omega arith)
 
-pub long_is_no_bits : (xs : List ℕ) → 3 < length xs → is_bits_text xs ≡ false
+pub long_is_no_bits : (xs : List ℕ) → 3 < length xs → bits_in xs ≡ None
 long_is_no_bits [] long = absurd (omega arith)
 long_is_no_bits (x ∷ []) long = absurd (omega arith)
 long_is_no_bits (x ∷ y ∷ []) long = absurd (omega arith)

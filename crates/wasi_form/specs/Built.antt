@@ -3,7 +3,7 @@ use Rattle.std.specs.Prelude.{ℕ, ◌+◌, List, length, slice_get, sum_by, Boo
 use Rattle.std.specs.List.{list_all}
 use Rattle.wasi_host.specs.declared.limits.Limits.{Limits}
 use Rattle.wasi_tree.specs.Given.{Given}
-use Rattle.wasi_tree.specs.FirstTree.{is_first_tree, is_dir_content}
+use Rattle.wasi_tree.specs.GivenTests.{is_dir_content}
 use Rattle.wasi_guest.specs.declared.call.Call.{Call}
 use Rattle.wasi_guest.specs.declared.call.Call.TheVariants.{PathOpen, FdRead, FdWrite, FdClose}
 use Rattle.wasi_form.specs.declared.built.TheConstants.{MOST_MEMORY, DEFAULT_LIMITS, DEFAULT_TABLE}
@@ -29,9 +29,9 @@ is_built_call (FdRead fd iovs iovs_len) = nat_le 3 fd
 is_built_call (FdWrite fd iovs iovs_len) = nat_le 3 fd
 is_built_call (FdClose fd) = nat_le 3 fd
 
--- a first tree, and calls that are built
+-- all its calls are built
 unfoldable pub is_built : Plan → Bool
-is_built p = is_first_tree default_limits p.nodes && list_all is_built_call p.calls
+is_built p = list_all is_built_call p.calls
 
 -- there is such a node, and it is a directory
 abbrev pub is_directory_given : Option Given → Bool
@@ -58,6 +58,6 @@ is_within_limits p =
     && nat_le p.size most_memory && list_all (is_piece_within p.size) p.pieces && list_all (is_shown_within p.size) p.show
     && nat_le (sum_by (λ shown. shown.len) p.show) most_memory
 
--- a plan that can be run today
+-- a plan that can be run today, where a tree can be made of its nodes
 unfoldable pub is_built_script : Plan → Bool
 is_built_script p = is_built p && is_within_limits p

@@ -1,9 +1,10 @@
 -- The form of a node: an object with one of `"dir": {NAME: NODE ..}`, `"file": HEX` and `"link": TEXT`, and with
--- `"bits": "rwx"` and `"times": [TIME, TIME, TIME]` where they are wanted. A node with a link, bits or times waits.
-use Rattle.std.specs.Prelude.{ℕ, List, [], ◌∷◌, Bool, false, ◌&&◌, ◌||◌, nat_eq, nat_lt, codes, if◌then◌else◌, Option, Some, None, option_map, is_some}
+-- `"bits": "rwx"` and `"times": [TIME, TIME, TIME]` where they are wanted. A node with times waits.
+use Rattle.std.specs.Prelude.{ℕ, List, [], ◌∷◌, Bool, true, false, nat_eq, nat_lt, codes, if◌then◌else◌, Option, Some, None, option_map, is_some}
 use Rattle.serde_json.specs.Data.{Data, Members, no_members, member}
 use Rattle.serde_json.specs.Find as find
 use Rattle.wasi_host.specs.declared.TheConstants.{NANOSECONDS}
+use Rattle.wasi_host.specs.declared.bits.Bits.{Bits}
 use Rattle.wasi_tree.specs.Given.{Given, GivenContent, file, directory, link, new_given}
 use Rattle.wasi_form.specs.declared.shapes.Form.TheVariants as forms
 use Rattle.wasi_form.specs.Lists.{◌>>=◌, only_if, optional}
@@ -31,20 +32,24 @@ script_content (Some names) (Some bytes) other = None
 script_content (Some names) None (Some text) = None
 script_content None (Some bytes) (Some text) = None
 
--- the letter of a bit, or a dash
-abbrev pub is_bit : ℕ → ℕ → Bool
-is_bit letter c = nat_eq c letter || nat_eq c 45
+-- a bit is set by its letter, and not by a dash
+abbrev pub bit_of : ℕ → ℕ → Option Bool
+bit_of letter c = if nat_eq c letter then Some true else (if nat_eq c 45 then Some false else None)
 
 -- `r`, `w` and `x`, each of them or a dash
-abbrev pub is_bits_text : List ℕ → Bool
-is_bits_text [] = false
-is_bits_text (r ∷ []) = false
-is_bits_text (r ∷ w ∷ []) = false
-is_bits_text (r ∷ w ∷ x ∷ []) = is_bit 114 r && is_bit 119 w && is_bit 120 x
-is_bits_text (r ∷ w ∷ x ∷ c ∷ cs) = false
+abbrev pub bits_in : List ℕ → Option Bits
+bits_in [] = None
+bits_in (r ∷ []) = None
+bits_in (r ∷ w ∷ []) = None
+bits_in (r ∷ w ∷ x ∷ []) = do
+  read ← bit_of 114 r
+  write ← bit_of 119 w
+  search ← bit_of 120 x
+  Some (record { r = read; w = write; x = search })
+bits_in (r ∷ w ∷ x ∷ c ∷ cs) = None
 
-abbrev pub bits_of : Data → Option (Unit {0})
-bits_of d = find.as_str d >>= (λ text. only_if (is_bits_text text))
+abbrev pub bits_of : Data → Option Bits
+bits_of d = find.as_str d >>= bits_in
 
 -- `[SECONDS, NANOSECONDS]`, the seconds with a sign
 abbrev pub time_of : Data → Option (Unit {0})
@@ -62,15 +67,15 @@ times_of d = do
   _ ← time_of three.1
   time_of three.2
 
--- a node that has one of these keys waits
+-- a node that has its times waits
 abbrev pub waits : Data → Bool
-waits d =
-    is_some (find.get (codes "link") d) || is_some (find.get (codes "bits") d) || is_some (find.get (codes "times") d)
+waits d = is_some (find.get (codes "times") d)
 
+-- its bits are those of a new node where none are given
 abbrev pub script_node : Data → Option (Option Given)
 script_node d = do
   _ ← only_if (is_object forms.Node d)
   content ← script_content (find.get (codes "dir") d) (find.get (codes "file") d) (find.get (codes "link") d)
-  _ ← optional bits_of tt (find.get (codes "bits") d)
+  bits ← optional bits_of (new_given content).bits (find.get (codes "bits") d)
   _ ← optional times_of tt (find.get (codes "times") d)
-  Some (if waits d then None else Some (new_given content))
+  Some (if waits d then None else Some (record (new_given content) { bits = bits }))

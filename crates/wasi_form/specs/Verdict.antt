@@ -1,47 +1,83 @@
--- Which bytes are scripts, or why they are refused. The refusals are tried in their order.
-use Rattle.std.specs.Prelude.{◌≡◌, ℕ, List, length, nat_lt, if◌then◌else◌, Option, Some, None, Result, Ok, Err}
+-- Which bytes are scripts, or why they are refused. The refusals are tried in their order, from the top to the bottom of
+-- this file: long, json, shape, later, tree, limit.
+use Rattle.std.specs.Prelude.{◌≡◌, ℕ, List, length, Bool, nat_le, if◌then◌else◌, Option, Some, None, Result, Ok, Err}
+use Rattle.std.specs.Bool.{Decides}
 use Rattle.std.specs.Str.{is_utf8}
 use Rattle.serde_json.specs.Data.{Data}
 use Rattle.serde_json.specs.Read.{read}
+use Rattle.wasi_host.specs.Steps.{◌>>=◌}
+use Rattle.wasi_tree.specs.Fit.{AreFit}
 use Rattle.wasi_ends.specs.declared.reading.TheConstants.{MOST}
 use Rattle.wasi_form.specs.declared.script.Script.{Script}
 use Rattle.wasi_form.specs.declared.verdict.Refusal.{Refusal}
-use Rattle.wasi_form.specs.declared.verdict.Refusal.TheVariants.{Long, Json, Shape, Later, Limit}
+use Rattle.wasi_form.specs.declared.verdict.Refusal.TheVariants.{Long, Json, Shape, Later, Tree, Limit}
 use Rattle.wasi_form.specs.declared.verdict.ScriptError.{ScriptError}
 use Rattle.wasi_form.specs.declared.verdict.ScriptError.TheVariants.{Refused, Memory}
 use Rattle.wasi_form.specs.Plan.{Plan, plan}
 use Rattle.wasi_form.specs.ScriptForm.{script_of}
-use Rattle.wasi_form.specs.Built.{is_built, is_within_limits}
+use Rattle.wasi_form.specs.Built.{default_limits, is_built, is_within_limits}
 
--- the value that is read of bytes
-unfoldable pub value_of : List ℕ → Option Data
-value_of bytes = if is_utf8 bytes then read bytes else None
+-- a step that refuses where the test fails
+abbrev pub holds : Refusal → Bool → Result (Unit {0}) Refusal
+holds refusal test = if test then Ok tt else Err refusal
 
-abbrev pub or_limit : Plan → Result Plan Refusal
-or_limit p = if is_within_limits p then Ok p else Err Limit
-
-abbrev pub or_later : Option Plan → Result Plan Refusal
-or_later None = Err Later
-or_later (Some p) = if is_built p then or_limit p else Err Later
-
-abbrev pub or_shape : Option (Option Plan) → Result Plan Refusal
-or_shape None = Err Shape
-or_shape (Some form) = or_later form
-
-abbrev pub or_json : Option Data → Result Plan Refusal
-or_json None = Err Json
-or_json (Some d) = or_shape (script_of d)
+-- a step that refuses where there is nothing
+abbrev pub found : {A : Type 0} → Refusal → Option A → Result A Refusal
+found refusal None = Err refusal
+found refusal (Some x) = Ok x
 
 -- how many bytes a script has at most
 abbrev pub most_script : ℕ
 most_script = MOST
 
--- the plan of bytes that are a script, or why they are refused
-unfoldable pub verdict_of : List ℕ → Result Plan Refusal
-verdict_of bytes = if nat_lt most_script (length bytes) then Err Long else or_json (value_of bytes)
+-- the value that is read of bytes
+unfoldable pub value_of : List ℕ → Option Data
+value_of bytes = if is_utf8 bytes then read bytes else None
 
--- want of memory is free
-abbrev pub Reads : Result Script ScriptError → Result Plan Refusal → Type 0
-Reads (Ok s) verdict = verdict ≡ Ok (plan s)
-Reads (Err (Refused refusal)) verdict = verdict ≡ Err refusal
-Reads (Err Memory) verdict = Unit {0}
+-- a plan whose calls are built
+abbrev pub built : Plan → Result Plan Refusal
+built p = do
+  _ ← holds Later (is_built p)
+  Ok p
+
+-- the plan of a value, where all its forms are built
+abbrev pub plan_in : Option Data → Result Plan Refusal
+plan_in value = do
+  d ← found Json value
+  form ← found Shape (script_of d)
+  p ← found Later form
+  built p
+
+-- the plan of bytes, all that is known of them but for what their nodes and numbers are
+unfoldable pub built_plan : List ℕ → Result Plan Refusal
+built_plan bytes = do
+  _ ← holds Long (nat_le (length bytes) most_script)
+  plan_in (value_of bytes)
+
+-- The plan of bytes that are a script, or why they are refused; by whether a tree can be made of the nodes.
+unfoldable pub verdict_of : Bool → List ℕ → Result Plan Refusal
+verdict_of fit bytes = do
+  p ← built_plan bytes
+  _ ← holds Tree fit
+  _ ← holds Limit (is_within_limits p)
+  Ok p
+
+abbrev pub IsFitFor : Bool → Result Plan Refusal → Type 0
+IsFitFor fit (Ok p) = Decides fit (AreFit default_limits p.nodes)
+IsFitFor fit (Err refusal) = Unit {0}
+
+-- Whether a tree can be made of the nodes of the plan. Bytes that are refused before have none to ask of.
+abbrev pub IsFitTest : Bool → List ℕ → Type 0
+IsFitTest fit bytes = IsFitFor fit (built_plan bytes)
+
+-- the verdict on bytes; the test of their nodes has one outcome, so there is one verdict
+pub record IsVerdict (bytes : List ℕ) (verdict : Result Plan Refusal) : Type 0 where
+  pub fit : Bool
+  pub is_test : IsFitTest fit bytes
+  pub is : verdict_of fit bytes ≡ verdict
+
+-- what was read is as is said; want of memory is free
+abbrev pub Reads : Result Script ScriptError → (Result Plan Refusal → Type 0) → Type 0
+Reads (Ok s) Is = Is (Ok (plan s))
+Reads (Err (Refused refusal)) Is = Is (Err refusal)
+Reads (Err Memory) Is = Unit {0}

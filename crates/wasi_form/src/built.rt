@@ -1,5 +1,5 @@
 //! Which forms are built, and which scripts are within the limits.
-ghost use Rattle.std.specs.Prelude.{◌≡◌, ◌+◌, IfOk, length, map, slice_get, sum_by, nat_le};
+ghost use Rattle.std.specs.Prelude.{◌≡◌, ◌+◌, length, map, slice_get, sum_by, nat_le};
 ghost use Rattle.std.specs.List.{list_all};
 ghost use Rattle.wasi_tree.specs.Given.{given};
 ghost use Rattle.wasi_form.specs.Built as specs;
@@ -7,10 +7,9 @@ ghost use Rattle.wasi_form.specs.Plan.{plan, planned_preopen, planned_piece};
 ghost use Rattle.wasi_form.specs.Built.{default_table, most_memory};
 
 use crate::script::{Piece, Script, ScriptPreopen, Shown};
-use std::alloc::{AllocError, Global};
 use wasi_guest::Call;
 use wasi_host::Limits;
-use wasi_tree::{NewContent, NewNode, is_first_tree};
+use wasi_tree::{NewContent, NewNode};
 
 /// The limits of a tree whose script doesn't set them.
 pub const DEFAULT_LIMITS: Limits = Limits {
@@ -119,11 +118,10 @@ fn are_built_calls(calls: &[Call]) -> bool
 
 /// Whether all forms of a script are built.
 #[tactic(auto, unfolding(crate::specs::Built::is_built))]
-pub fn is_built(alloc: Global, script: &Script) -> Result<bool, AllocError>
-    ensures { IfOk result (λ is. is ≡ specs.is_built (plan script.now)) }
+pub fn is_built(script: &Script) -> bool
+    ensures { result ≡ specs.is_built (plan script.now) }
 {
-    let is_tree = is_first_tree(alloc, &script.nodes, DEFAULT_LIMITS)?;
-    Ok(is_tree && are_built_calls(script.calls.as_slice()))
+    are_built_calls(script.calls.as_slice())
 }
 
 /// Whether a script is within the limits.

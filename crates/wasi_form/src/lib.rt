@@ -17,4 +17,4 @@ mod waiting;
 
 pub use built::{DEFAULT_LIMITS, DEFAULT_TABLE};
 pub use script::{Piece, Script, ScriptPreopen, Shown};
-pub use verdict::{Refusal, ScriptError, read_script};
+pub use verdict::{Refusal, ScriptError, read_script, verdicts_are_one};

@@ -1,13 +1,13 @@
 //! Which bytes are scripts.
-ghost use Rattle.std.specs.Prelude.{◌≡◌, true, option_map};
+ghost use Rattle.std.specs.Prelude.{◌≡◌, ℕ, List, Result, option_map};
 ghost use Rattle.serde_json.specs.Read.{read as read_text};
-ghost use Rattle.wasi_form.specs.Built as built;
 ghost use Rattle.wasi_form.specs.IsRead.{IsRead};
-ghost use Rattle.wasi_form.specs.Plan.{plan};
+ghost use Rattle.wasi_form.specs.Plan.{Plan, plan};
 ghost use Rattle.wasi_form.specs.ScriptForm.{script_of};
-ghost use Rattle.wasi_form.specs.Verdict.{Reads, value_of, verdict_of, or_limit, or_later, or_shape, or_json};
+ghost use Rattle.wasi_form.specs.declared.verdict.Refusal.{Refusal};
+ghost use Rattle.wasi_form.specs.Verdict.{Reads, IsVerdict, value_of, built, plan_in, built_plan};
 
-use crate::built::{is_built, is_within_limits};
+use crate::built::{DEFAULT_LIMITS, is_built, is_within_limits};
 use crate::parts::script;
 use crate::script::Script;
 use crate::shapes::Unread;
@@ -16,6 +16,7 @@ use std::alloc::{AllocError, Global};
 use std::str;
 use thiserror::Error;
 use wasi_ends::MOST;
+use wasi_tree::are_fit;
 
 /// Why bytes aren't taken as a script. The first that holds is the refusal.
 #[derive(Clone, Copy, Debug, PartialEq, Eq)]
@@ -28,6 +29,8 @@ pub enum Refusal {
     Shape,
     /// It has a form that isn't built yet.
     Later,
+    /// Its nodes are no tree: `MemTree::new` would refuse one of them.
+    Tree,
     /// Its memory or what is shown of it is too large, a piece or a shown range leaves the memory, a preopen isn't a
     /// directory, or there are more preopens than descriptors.
     Limit,
@@ -54,19 +57,32 @@ impl From<AllocError> for ScriptError {
 /// The script that bytes are: the text of a JSON object with the keys `nodes`, `preopens` and `calls`, and with `memory`
 /// and `show` where they are wanted. Numbers are whole, of 64 or 32 bits. Of equal keys the last counts.
 ///
-/// A node is `{"dir": {NAME: NODE ..}}` or `{"file": HEX}`, a preopen `{"node": NODE, "name": NAME, "perms": "ro"}` or
-/// `"rw"`, the memory `{"size": BYTES, "pieces": [PIECE ..]}`, a piece `[OFFSET, "hex", HEX]` or
+/// A node is `{"dir": {NAME: NODE ..}}`, `{"file": HEX}` or `{"link": TEXT}`, with `"bits"` beside it where they aren't
+/// those of a new node, as `"r--"`; a preopen is `{"node": NODE, "name": NAME, "perms": "ro"}` or `"rw"`, the memory `{"size": BYTES, "pieces": [PIECE ..]}`, a piece `[OFFSET, "hex", HEX]` or
 /// `[OFFSET, "text", TEXT]`, a shown range `[PTR, LEN]`, and a call a list of its name and its arguments.
 ///
-/// Forms that aren't built yet are refused as `Later`, where all else is of the shape of a script: links, and the bits
-/// and times of nodes; trees that aren't first trees; the keys `fuel`, `table`, `limits`, `faults`, `stdin`, `random`,
-/// `args`, `env`, `wall`, `wall_res`, `mono` and `mono_res`; calls but `path_open`, `fd_read`, `fd_write` and
-/// `fd_close`, those of the latter three whose descriptor is below 3, and `path_open` with flags of the descriptor.
+/// Forms that aren't built yet are refused as `Later`, where all else is of the shape of a script: the times of nodes; the
+/// keys `fuel`, `table`, `limits`, `faults`, `stdin`, `random`, `args`, `env`, `wall`, `wall_res`, `mono` and `mono_res`;
+/// calls but `path_open`, `fd_read`, `fd_write` and `fd_close`, those of the latter three whose descriptor is below 3, and
+/// `path_open` with flags of the descriptor.
 ///
 /// More than 16,777,216 bytes are refused unread.
-#[tactic(auto, using(crate::proofs::BuiltScripts::too_many, crate::proofs::BuiltScripts::reads_within))]
 pub fn read_script(alloc: Global, bytes: &[u8]) -> Result<Script, ScriptError>
-    ensures verdict { Reads result (verdict_of bytes.now) }
+    ensures verdict { Reads result (IsVerdict bytes.now) }
+{
+    let script = built_script(alloc, bytes)?;
+    if !are_fit(alloc, script.nodes.as_slice(), DEFAULT_LIMITS)? {
+        return Err(ScriptError::Refused(Refusal::Tree));
+    }
+    if !is_within_limits(&script) {
+        return Err(ScriptError::Refused(Refusal::Limit));
+    }
+    Ok(script)
+}
+
+#[tactic(auto, using(crate::proofs::BuiltScripts::too_many, crate::proofs::BuiltScripts::reads_within))]
+fn built_script(alloc: Global, bytes: &[u8]) -> Result<Script, ScriptError>
+    ensures { Reads result (λ verdict. built_plan bytes.now ≡ verdict) }
 {
     if bytes.len() > MOST {
         return Err(ScriptError::Refused(Refusal::Long));
@@ -75,10 +91,10 @@ pub fn read_script(alloc: Global, bytes: &[u8]) -> Result<Script, ScriptError>
 }
 
 fn script_in(alloc: Global, bytes: &[u8]) -> Result<Script, ScriptError>
-    ensures { Reads result (or_json (value_of bytes.now)) }
+    ensures { Reads result (λ verdict. plan_in (value_of bytes.now) ≡ verdict) }
 {
     match script_of_bytes(alloc, bytes) {
-        Ok(Some(Some(script))) => if_built(alloc, script),
+        Ok(Some(Some(script))) => if_built(script),
         Ok(Some(None)) => Err(ScriptError::Refused(Refusal::Later)),
         Ok(None) => Err(ScriptError::Refused(Refusal::Shape)),
         Err(Unread::Shape) => Err(ScriptError::Refused(Refusal::Json)),
@@ -86,14 +102,11 @@ fn script_in(alloc: Global, bytes: &[u8]) -> Result<Script, ScriptError>
     }
 }
 
-fn if_built(alloc: Global, script: Script) -> Result<Script, ScriptError>
-    ensures { Reads result (or_later (Some (plan script))) }
+fn if_built(script: Script) -> Result<Script, ScriptError>
+    ensures { Reads result (λ verdict. built (plan script) ≡ verdict) }
 {
-    if !is_built(alloc, &script)? {
+    if !is_built(&script) {
         return Err(ScriptError::Refused(Refusal::Later));
-    }
-    if !is_within_limits(&script) {
-        return Err(ScriptError::Refused(Refusal::Limit));
     }
     Ok(script)
 }
@@ -121,3 +134,9 @@ fn script_of_text(alloc: Global, text: &str) -> Result<Option<Option<Script>>, U
         None => Ok(found),
     }
 }
+
+/// Bytes have one verdict: whether a tree can be made of their nodes has one answer.
+pub fn verdicts_are_one()
+    ensures one { (bytes : List ℕ) (verdict other : Result Plan Refusal)
+        → IsVerdict bytes verdict → IsVerdict bytes other → verdict ≡ other }
+{}

@@ -2,7 +2,7 @@
 use std::alloc::{AllocError, Global};
 use std::test::Fail;
 use wasi_ends::MOST;
-use wasi_form::Refusal::{Json, Later, Limit, Long, Shape};
+use wasi_form::Refusal::{Json, Later, Limit, Long, Shape, Tree};
 use wasi_form::{Refusal, ScriptError, read_script};
 
 const BASE: &str =
@@ -10,12 +10,16 @@ const BASE: &str =
 
 // Why a script is refused, with what follows the keys of `BASE`, of which it takes the place where a key stands in it
 // again.
-const ROWS: [(Option<Refusal>, &[&str]); 5] = [
+const ROWS: [(Option<Refusal>, &[&str]); 6] = [
     (
         None,
         &[
             "",
             r#","nodes":0,"nodes":[{"dir":{}}]"#,
+            r#","nodes":[{"dir":{}},{"dir":{}}]"#,
+            r#","nodes":[{"dir":{"d":2}},{"file":""},{"dir":{"f":1,"g":1}}]"#,
+            r#","nodes":[{"dir":{"f":1}},{"link":"f"}]"#,
+            r#","nodes":[{"dir":{"l":1,"f":2},"bits":"r-x"},{"link":"../a","bits":"---"},{"file":"","bits":"-w-"}]"#,
             r#","preopens":[]"#,
             r#","preopens":[{"node":0,"name":"","perms":"ro"},{"node":0,"name":"a","perms":"rw"}]"#,
             r#","calls":[["path_open",9,1,0,1,15,18446744073709551615,7,0],["fd_write",3,0,2],["fd_close",4294967295]]"#,
@@ -41,6 +45,10 @@ const ROWS: [(Option<Refusal>, &[&str]); 5] = [
             r#","nodes":[{"dir":{},"other":0}]"#,
             r#","nodes":[{"dir":{"f":-1}}]"#,
             r#","nodes":[{"dir":{},"bits":"rwz"}]"#,
+            r#","nodes":[{"dir":{},"bits":"wrx"}]"#,
+            r#","nodes":[{"dir":{},"bits":7}]"#,
+            r#","nodes":[{"dir":{}},{"link":"f","file":""}]"#,
+            r#","nodes":[{"dir":{}},{"link":0}]"#,
             r#","nodes":[{"dir":{},"bits":"rwx-"}]"#,
             r#","nodes":[{"dir":{},"times":[[0,0],[0,0]]}]"#,
             r#","nodes":[{"dir":{},"times":[[0,0],[0,0],[0,1000000000]]}]"#,
@@ -83,9 +91,6 @@ const ROWS: [(Option<Refusal>, &[&str]); 5] = [
     (
         Some(Later),
         &[
-            r#","nodes":[{"dir":{}},{"dir":{}}]"#,
-            r#","nodes":[{"dir":{"f":1}},{"link":"f"}]"#,
-            r#","nodes":[{"dir":{},"bits":"rwx"}]"#,
             r#","nodes":[{"dir":{},"times":[[-9223372036854775808,0],[0,0],[0,999999999]]}]"#,
             r#","calls":[["fd_seek",4,-9223372036854775808,0]]"#,
             r#","calls":[["path_filestat_set_times",3,0,0,0,18446744073709551615,0,0]]"#,
@@ -109,7 +114,26 @@ const ROWS: [(Option<Refusal>, &[&str]); 5] = [
             r#","mono_res":1"#,
             r#","fuel":"","fuel":0"#,
             r#","show":[[61,4]],"mono":0"#,
+            r#","nodes":[],"calls":[["sched_yield"]]"#,
+            r#","nodes":[],"fuel":0"#,
+        ],
+    ),
+    (
+        Some(Tree),
+        &[
+            r#","nodes":[]"#,
+            r#","nodes":[{"file":""}]"#,
+            r#","nodes":[{"dir":{"r":0}}]"#,
+            r#","nodes":[{"dir":{"f":2}},{"file":""}]"#,
+            r#","nodes":[{"dir":{"":1}},{"file":""}]"#,
+            r#","nodes":[{"dir":{"..":1}},{"file":""}]"#,
+            r#","nodes":[{"dir":{"a/b":1}},{"file":""}]"#,
+            r#","nodes":[{"dir":{"a":1,"b":1}},{"dir":{}}]"#,
+            r#","nodes":[{"dir":{}},{"dir":{"a":2}},{"dir":{"b":1}}]"#,
+            r#","nodes":[{"dir":{}},{"dir":{"f":2}},{"file":""}]"#,
+            r#","nodes":[{"dir":{"l":1}},{"link":""}]"#,
             r#","show":[[61,4]],"nodes":[]"#,
+            r#","nodes":[{"dir":{"a":1,"b":1}},{"dir":{}}],"preopens":[{"node":2,"name":"/","perms":"ro"}]"#,
         ],
     ),
     (
@@ -145,7 +169,7 @@ fn rows(rt: HostRuntime) -> Result<(), Fail> {
     Ok(())
 }
 
-// What is too long, or has too many preopens.
+// What is too long, or has too many preopens, or a link's text that is too long.
 #[test]
 fn repeated(rt: HostRuntime) -> Result<(), Fail> {
     let alloc = rt.alloc();
@@ -155,6 +179,11 @@ fn repeated(rt: HostRuntime) -> Result<(), Fail> {
         let preopens = r#"{"node":0,"name":"","perms":"ro"},"#.repeat(alloc, count)?;
         let list = preopens.as_str().trim_end_matches(',');
         let text = format!(in alloc; r#"{{{BASE},"preopens":[{list}]}}"#)?;
+        assert_eq!(rt; refusal(alloc, text.as_str())?, want);
+    }
+    for (count, want) in [(4_095, None), (4_096, Some(Tree))] {
+        let link = "a".repeat(alloc, count)?;
+        let text = format!(in alloc; r#"{{{BASE},"nodes":[{{"dir":{{}}}},{{"link":"{link}"}}]}}"#)?;
         assert_eq!(rt; refusal(alloc, text.as_str())?, want);
     }
     Ok(())

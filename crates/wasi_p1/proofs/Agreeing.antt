@@ -1,16 +1,16 @@
 -- A request is answered alike over two trees with equal nodes where it starts, and leaves them with equal nodes there.
-use Rattle.std.proofs.Common.{ℕ, ◌≡◌, inl, inr, List, [], refl, ap, sym, ◌∙◌, subst, arith, Some, Ok}
+use Rattle.std.proofs.Common.{ℕ, ◌≡◌, inl, inr, List, [], refl, arith, Some, Ok}
 use Rattle.std.specs.Prelude.{Contains}
 use Rattle.std.proofs.lemmas.List.Elements.{Contains-push}
 use Rattle.wasi_host.specs.Tree.{Tree, node_at}
+use Rattle.wasi_host.specs.ValidTree.{Reached, root}
 use Rattle.wasi_host.specs.Agree.{IsClosed, AgreeOn, OrMade}
-use Rattle.wasi_host.specs.HostCall.{OpenAt, Pwrite}
+use Rattle.wasi_host.specs.HostCall.{Pwrite}
 use Rattle.wasi_host.specs.Refusal.{refusal}
-use Rattle.wasi_host.specs.Step.{open_step}
-use Rattle.wasi_host.specs.Answer.{reached, unless, metadata_of}
 use Rattle.wasi_host.proofs.Leaving.{named_in}
-use Rattle.wasi_host.proofs.Agreeing.{one, unless_value, reached_seen, reached_same, refused_same, opened_agree, step_agree, same_agree, reach_closed, none_past}
-use Rattle.wasi_p1.specs.Request.{Request, Reply, Open, Read, Write, Opened, opened_at, reply_of, after, starts_at}
+use Rattle.wasi_host.proofs.Agreeing.{step_agree, same_agree, reach_closed, none_past}
+use Rattle.wasi_resolve.proofs.Requests.{reached_closed, path_reply_same, path_after_agree, path_given_seen}
+use Rattle.wasi_p1.specs.Request.{Request, Reply, Path, Read, Write, reply_of, after, starts_at}
 use Rattle.wasi_p1.proofs.Near.{given_by}
 use Rattle.wasi_p1.proofs.Leaving.{request_leaves}
 
@@ -34,10 +34,7 @@ module _ {Seen : ℕ → Type 0} {t : Tree} (closed : IsClosed Seen t) where
   pub given_seen : (r : Request) (reply : Reply r) → ((n : ℕ) → Contains (starts_at r) n → Seen n)
       → reply_of t r ≡ Ok reply
       → (n : ℕ) → Contains (given_by r reply) n → OrMade Seen t (after t r) n
-  given_seen (Open d name o) reply from is n has =
-      let node : reached t d name ≡ n =
-      ap (λ (x : Opened). x.held.node) (unless_value (refusal t (OpenAt d name o)) is) ∙ one has in
-      subst (OrMade Seen t (open_step t d name o)) node (reached_seen closed d name o (from d (Contains-push [] d)))
+  given_seen (Path p) reply from is n has = path_given_seen closed p reply from is n has
   given_seen (Read f offset k) reply from is n has = absurd (omega (arith, has.1))
   given_seen (Write f offset piece) reply from is n has = absurd (omega (arith, has.1))
 
@@ -45,19 +42,18 @@ module _ {Seen : ℕ → Type 0} {t u : Tree} (closed : IsClosed Seen t) (agree 
   -- the trees after a request are again equal on the set and on what was made
   pub after_agree : (r : Request) → ((n : ℕ) → Contains (starts_at r) n → Seen n)
       → AgreeOn (OrMade Seen t (after t r)) (after t r) (after u r)
-  after_agree (Open d name o) from = step_agree closed agree (OpenAt d name o) from
+  after_agree (Path p) from = path_after_agree closed agree p from
   after_agree (Read f offset n) from = same_agree closed agree
   after_agree (Write f offset piece) from = step_agree closed agree (Pwrite f offset piece) from
 
   -- equal answers
   pub reply_same : (r : Request) → ((n : ℕ) → Contains (starts_at r) n → Seen n) → reply_of t r ≡ reply_of u r
-  unfolding refusal metadata_of
-  reply_same (Open d name o) from =
-      let seen = from d (Contains-push [] d) in
-      let at = reached_same closed agree d name seen in
-      let node = (opened_agree closed agree d name o seen).nodes (reached t d name) (reached_seen closed d name o seen) in
-      let same : opened_at t d name o ≡ opened_at u d name o = rw (sym at, node) refl in
-      let refused : refusal t (OpenAt d name o) ≡ refusal u (OpenAt d name o) = refused_same closed agree (OpenAt d name o) from in
-      ap (λ c. unless c (opened_at t d name o)) refused ∙ ap (unless (refusal u (OpenAt d name o))) same
+  unfolding refusal
+  reply_same (Path p) from = path_reply_same closed agree p from
   reply_same (Read f offset n) from = rw (agree.nodes f.node (from f.node (Contains-push [] f.node))) refl
   reply_same (Write f offset piece) from = refl
+
+-- what an answer gives is reached from where the request starts, or made
+pub given_near : (t : Tree) (r : Request) {reply : Reply r} → reply_of t r ≡ Ok reply
+    → (n : ℕ) → Contains (given_by r reply) n → OrMade (Reached t (starts_at r)) t (after t r) n
+given_near t r {reply} is n has = given_seen (reached_closed t (starts_at r)) r reply (λ m from. root m from) is n has

@@ -1,18 +1,18 @@
 -- Bytes of memory, and texts among them.
-use Rattle.std.proofs.Common.{ℕ, ◌+◌, ◌-◌, ◌≡◌, true, false, cond, Bool, ◌&&◌, ◌||◌, List, ◌++◌, length, take, drop, refl, ap, sym, ◌∙◌, subst, arith, slice_range, Ok, Err}
+use Rattle.std.proofs.Common.{ℕ, ◌+◌, ◌-◌, ◌≡◌, true, false, cond, Bool, ◌&&◌, List, ◌++◌, length, take, drop, refl, ap, sym, ◌∙◌, subst, arith, slice_range, Ok, Err}
+use Rattle.std.specs.Prelude.{IsUtf8}
 use Rattle.std.specs.Str.{is_utf8}
 use Rattle.std.proofs.lemmas.Grind.{common_steps}
 use Rattle.std.proofs.lemmas.List.{take-append-drop}
 use Rattle.std.proofs.lemmas.List.Folds.{list_all-append}
 use Rattle.std.proofs.lemmas.Str.{IsUtf8-from_is_utf8}
-use Rattle.wasi_paths.specs.Text.{IsName, is_plain, is_dot_text}
 use Rattle.wasi_host.specs.ValidTree.{are_bytes}
 use Rattle.wasi_guest.specs.Range.{in_memory, with_bytes}
 use Rattle.wasi_host.specs.Steps.{◌>>=◌}
 use Rattle.wasi_guest.specs.declared.answer.TrapKind.TheVariants.{Pointer}
 use Rattle.wasi_guest.specs.declared.errno.Errno.TheVariants as errnos
 use Rattle.wasi_p1.specs.Row.{Row}
-use Rattle.wasi_p1.specs.Rows.{utf8_text, one_name, range}
+use Rattle.wasi_p1.specs.Rows.{utf8_text, range}
 use Rattle.wasi_p1.specs.declared.error.P1Error.TheVariants.{Errno, Trap}
 use Rattle.wasi_p1.proofs.Near.{AreBytes}
 
@@ -71,35 +71,15 @@ range_bytes memory at n are is =
 
 -- ---- a text
 
--- a text that is one name can be a name
-utf8_of : (bytes : List ℕ) {text : List ℕ} → utf8_text bytes ≡ Ok text → (is_utf8 text ≡ true)
+utf8_of : (bytes : List ℕ) {text : List ℕ} → utf8_text bytes ≡ Ok text → IsUtf8 text
 utf8_of bytes {text} is = by (is_utf8 bytes) refl is
   where
     by : (b : Bool) → is_utf8 bytes ≡ b
         → (let m : Row (List ℕ) = cond b (Ok bytes) (Err (Errno errnos.Ilseq)) in m) ≡ Ok text
-        → is_utf8 text ≡ true
-    by true at given = let same : bytes ≡ text = (cc) in subst (λ t. is_utf8 t ≡ true) same at
+        → IsUtf8 text
+    by true at given = let same : bytes ≡ text = (cc) in subst IsUtf8 same (IsUtf8-from_is_utf8 bytes at)
     by false at given = absurd (cc)
 
-pub text_utf8 : (m : Row (List ℕ)) {text : List ℕ} → (m >>= utf8_text) ≡ Ok text → is_utf8 text ≡ true
+pub text_utf8 : (m : Row (List ℕ)) {text : List ℕ} → (m >>= utf8_text) ≡ Ok text → IsUtf8 text
 text_utf8 (Ok bytes) is = utf8_of bytes is
 text_utf8 (Err e) is = absurd (cc)
-
-pub is_name : (text : List ℕ) {name : List ℕ} → is_utf8 text ≡ true → one_name text ≡ Ok name → IsName name
-unfolding one_name
-is_name text {name} utf8 is = by (is_plain text) refl is
-  where
-    or_right : (a b : Bool) → b ≡ true → (a || b) ≡ true
-    or_right true b is = refl
-    or_right false b is = is
-
-    by : (b : Bool) → is_plain text ≡ b
-        → (let m : Row (List ℕ) = cond b (Ok text) (Err (Errno errnos.Notsup)) in m) ≡ Ok name
-        → IsName name
-    by true plain given =
-        let same : text ≡ name = (cc) in
-        subst IsName same (record {
-          name = or_right (is_dot_text text) (is_plain text) plain;
-          utf8 = IsUtf8-from_is_utf8 text utf8;
-        })
-    by false plain given = absurd (cc)

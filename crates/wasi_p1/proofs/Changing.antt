@@ -12,7 +12,7 @@ use Rattle.wasi_guest.specs.declared.answer.Value.TheVariants.{Number}
 use Rattle.wasi_guest.specs.declared.errno.Errno.TheVariants as errnos
 use Rattle.wasi_p1.specs.Guest.{Guest, Place, OpenDirectory, OpenFile, closed, stream, directory, file, is_closed, new_number, with_place, node_in, nodes_of, perms_in}
 use Rattle.wasi_p1.specs.Numbering.{last_where, free_number, put_at, with_new}
-use Rattle.wasi_p1.specs.Request.{Opened}
+use Rattle.wasi_resolve.specs.PathRequest.{Opened}
 use Rattle.wasi_p1.specs.Row.{Row, give}
 use Rattle.wasi_p1.specs.Rows.{directory_in, file_in, new_place, place_for, opened_among}
 use Rattle.wasi_p1.specs.Stems.{HasPerms}

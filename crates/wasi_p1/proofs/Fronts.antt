@@ -2,30 +2,31 @@
 use Rattle.std.proofs.Common.{ℕ, ◌≡◌, refl, List, slice_get, slice_set, Ok}
 use Rattle.wasi_p1.specs.CallParts.{filled_at}
 use Rattle.wasi_p1.specs.Guest.{Guest, OpenDirectory, OpenFile}
-use Rattle.wasi_p1.specs.OpenHow.{open_how, may_open, options_of}
-use Rattle.wasi_p1.specs.Request.{Open, Read, Write}
+use Rattle.wasi_p1.specs.OpenHow.{open_how, may_open}
+use Rattle.wasi_p1.specs.Request.{Read, Write}
 use Rattle.wasi_p1.specs.Row.{Row, Program, give, ask}
 use Rattle.wasi_host.specs.Steps.{◌>>=◌}
-use Rattle.wasi_p1.specs.Rows.{path_open, fd_read, fd_write, text_in, one_name, directory_in, file_in, buffer_in, range, opened_among, held_by, may_write, moved}
+use Rattle.wasi_p1.specs.Rows.{path_open, fd_read, fd_write, text_in, directory_in, file_in, buffer_in, range, opened_among, held_by, may_write, moved}
 use Rattle.wasi_p1.specs.declared.open_how.OpenHow.{OpenHow}
 use Rattle.wasi_guest.specs.declared.iovec.Iovec.{Iovec}
 use Rattle.wasi_guest.specs.declared.answer.Value.{Value}
 use Rattle.wasi_guest.specs.declared.answer.Value.TheVariants.{Number}
 use Rattle.wasi_p1.proofs.Changing.{with_places}
+use Rattle.wasi_p1.proofs.Near.{opens}
 
 -- what `path_open` asks
 abbrev pub opens_at : Guest → OpenDirectory → List ℕ → OpenHow → Row (Program (Value × Guest))
-opens_at g d name how = ask (Open d.node name (options_of how))
+opens_at g d text how = ask (opens d text how)
     (λ found. opened_among g.places d.perms how.directory found >>= (λ new. give (with_places g new)))
 
 pub path_open_asks : (g : Guest) (fd dirflags path len oflags base inheriting fdflags : ℕ) {how : OpenHow}
-    {text name : List ℕ} {d : OpenDirectory}
+    {text : List ℕ} {d : OpenDirectory}
     → Ok how ≡ open_how dirflags oflags base inheriting fdflags → Ok text ≡ text_in g.memory path len
-    → Ok d ≡ directory_in (slice_get g.places fd) → Ok tt ≡ may_open how d.perms → Ok name ≡ one_name text
-    → opens_at g d name how ≡ path_open g fd dirflags path len oflags base inheriting fdflags
+    → Ok d ≡ directory_in (slice_get g.places fd) → Ok tt ≡ may_open how d.perms
+    → opens_at g d text how ≡ path_open g fd dirflags path len oflags base inheriting fdflags
 unfolding path_open
-path_open_asks g fd dirflags path len oflags base inheriting fdflags known found within may named =
-    rw (← known, ← found, ← within, ← may, ← named) refl
+path_open_asks g fd dirflags path len oflags base inheriting fdflags known found within may =
+    rw (← known, ← found, ← within, ← may) refl
 
 -- a number beside the memory after it, as an answer: the file's position is behind what was read
 abbrev pub with_memory : ℕ → OpenFile → Guest → ℕ × List ℕ → Value × Guest

@@ -1,5 +1,5 @@
 -- Opens that leave the tree.
-use Rattle.std.proofs.Common.{ℕ, ◌≡◌, true, false, cond, Bool, ◌&&◌, not, List, refl, ap, arith, Option, Some, None, Ok, Err}
+use Rattle.std.proofs.Common.{ℕ, ◌≡◌, true, false, cond, Bool, ◌&&◌, not, List, refl, ap, ◌∙◌, subst, arith, Option, Some, None, Result, Ok, Err}
 use Rattle.wasi_fs.specs.declared.perms.FsPerms.TheVariants.{ReadOnly}
 use Rattle.wasi_fs.specs.declared.perms.FsPerms.{FsPerms}
 use Rattle.wasi_host.specs.Options.{Options, creates}
@@ -8,18 +8,24 @@ use Rattle.wasi_host.specs.HostCall.{OpenAt}
 use Rattle.wasi_host.specs.Refusal.{refusal}
 use Rattle.wasi_host.specs.Step.{open_step, opened_step, is_cut, file_cut}
 use Rattle.wasi_host.proofs.Chain.{free}
-use Rattle.std.specs.Prelude.{OnErr}
+use Rattle.std.specs.Prelude.{OnErr, codes}
+use Rattle.wasi_host.specs.declared.errors.ErrorCode.{ErrorCode}
+use Rattle.wasi_host.specs.declared.errors.ErrorCode.TheVariants.{IsDirectory}
 use Rattle.wasi_host.specs.Steps.{◌>>=◌}
 use Rattle.wasi_guest.specs.declared.answer.Value.{Value}
 use Rattle.wasi_guest.specs.declared.errno.Errno.TheVariants as errnos
-use Rattle.wasi_p1.specs.Guest.{Guest, Place, new_number, with_place}
+use Rattle.wasi_p1.specs.Guest.{Guest, Place, OpenDirectory, new_number, with_place}
 use Rattle.wasi_p1.specs.OpenHow.{may_open, options_of}
-use Rattle.wasi_p1.specs.Request.{Open, Opened, reply_of, after as tree_after}
+use Rattle.wasi_resolve.specs.Walk.{Open, Outcome, Stop, Name, Dot, walk, last_options}
+use Rattle.wasi_resolve.specs.Paths.{Opening, opening_of, opening, step_of}
+use Rattle.wasi_resolve.specs.PathRequest.{Opened, answer_at}
+use Rattle.wasi_p1.specs.Request.{reply_of, after as tree_after}
 use Rattle.wasi_p1.specs.Row.{Row, give}
 use Rattle.wasi_p1.specs.Rows.{new_place, place_for, opened_among, may_write}
 use Rattle.wasi_p1.specs.declared.error.P1Error.TheVariants.{Errno}
 use Rattle.wasi_p1.specs.declared.open_how.OpenHow.{OpenHow}
 use Rattle.wasi_p1.proofs.Changing.{with_places}
+use Rattle.wasi_p1.proofs.Near.{opens}
 
 -- ---- an open that neither makes nor cuts
 
@@ -47,11 +53,45 @@ pub record AsksNothing (how : OpenHow) : Type 0 where
   pub makes_not : how.create ≡ false
   pub cuts_not : how.truncate ≡ false
 
-pub open_keeps : (t : Tree) (d : ℕ) (name : List ℕ) (how : OpenHow) {found : Opened} → AsksNothing how
-    → reply_of t (Open d name (options_of how)) ≡ Ok found → open_step t d name (options_of how) ≡ t
-open_keeps t d name how nothing answered =
-    let makes_not : creates (options_of how) ≡ false = rw nothing.makes_not refl in
-    step_keeps t d name (options_of how) makes_not nothing.cuts_not (free _ _ _ answered)
+-- as much is made and cut by one as by the other
+abbrev ChangesAlike : Options → Options → Type 0
+ChangesAlike o o' = (creates o' ≡ creates o) × (o'.truncate ≡ o.truncate)
+
+-- where a path ends, what the path asks for is asked for
+opening_asks : (t : Tree) (s : ℕ) (text : List ℕ) (o : Options) (follow : Bool) {e : Opening}
+    → opening t s text o follow ≡ Ok e → ChangesAlike o e.options
+unfolding opening
+opening_asks t s text o follow {e} is = by (walk t s text (Open o) follow).outcome is
+  where
+    dot : (d : ℕ) (w : Bool)
+        → cond w (Err IsDirectory) (Ok (record { directory = d; name = codes "."; options = o })) ≡ Ok e
+        → ChangesAlike o e.options
+    dot d true at = absurd (cc)
+    dot d false at =
+        let same : (let x : Opening = record { directory = d; name = codes "."; options = o } in x) ≡ e = (cc) in
+        subst (λ (x : Opening). ChangesAlike o x.options) same (refl, refl)
+
+    by : (outcome : Outcome) → opening_of o outcome ≡ Ok e → ChangesAlike o e.options
+    by (Stop code) at = absurd (cc)
+    by (Name d name slash) at =
+        let same : (let x : Opening = record { directory = d; name = name; options = last_options o slash } in x) ≡ e =
+        (cc) in
+        subst (λ (x : Opening). ChangesAlike o x.options) same (refl, refl)
+    by (Dot d) at = dot d o.write at
+
+pub open_keeps : (t : Tree) (d : OpenDirectory) (text : List ℕ) (how : OpenHow) {found : Opened} → AsksNothing how
+    → reply_of t (opens d text how) ≡ Ok found → tree_after t (opens d text how) ≡ t
+open_keeps t d text how {found} nothing answered = by (opening t d.node text (options_of how) how.follow) refl answered
+  where
+    makes_not : creates (options_of how) ≡ false
+    makes_not = rw nothing.makes_not refl
+
+    by : (m : Result Opening ErrorCode) → opening t d.node text (options_of how) how.follow ≡ m
+        → (m >>= answer_at t) ≡ Ok found → step_of t m ≡ t
+    by (Ok e) at is =
+        let asks = opening_asks t d.node text (options_of how) how.follow at in
+        step_keeps t e.directory e.name e.options (asks.0 ∙ makes_not) (asks.1 ∙ nothing.cuts_not) (free _ _ _ is)
+    by (Err code) at is = refl
 
 -- ---- an open that is let through
 
@@ -76,14 +116,14 @@ no_write perms may is = absurd (cc)
 -- ---- an open whose answer is refused
 
 -- it made no step
-pub opened_ends : {u : Unit {0}} (g : Guest) (t : Tree) (d : ℕ) (name : List ℕ) (how : OpenHow) (perms : FsPerms)
-    (found : Opened)
-    → may_open how perms ≡ Ok u → reply_of t (Open d name (options_of how)) ≡ Ok found
+pub opened_ends : {u : Unit {0}} (g : Guest) (t : Tree) (d : OpenDirectory) (text : List ℕ) (how : OpenHow)
+    (perms : FsPerms) (found : Opened)
+    → may_open how perms ≡ Ok u → reply_of t (opens d text how) ≡ Ok found
     → OnErr (opened_among g.places perms how.directory found >>= (λ new. give (with_places g new)))
-    (tree_after t (Open d name (options_of how)) ≡ t)
+    (tree_after t (opens d text how) ≡ t)
 unfolding place_for
-opened_ends g t d name how perms found may answered = by how.directory found.is_dir (λ on.
-    open_keeps t d name how (directory_kept how perms may on) answered)
+opened_ends g t d text how perms found may answered = by how.directory found.is_dir (λ on.
+    open_keeps t d text how (directory_kept how perms may on) answered)
   where
     among : Row Place → Row (Value × Guest)
     among m =

@@ -16,6 +16,7 @@ mod Turns
 mod Taking
 mod Fronts
 mod Telling
+mod Resolving
 mod Reading
 mod Counting
 mod Owning

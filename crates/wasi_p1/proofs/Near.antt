@@ -2,9 +2,8 @@
 -- but from the reply, and no permissions but from the descriptor that it stems from; it makes no step where a
 -- descriptor that its call names is under read-only permissions; it isn't refused after a step, nor before it asks
 -- because memory was wanted; and it leaves bytes in memory.
-use Rattle.std.specs.Prelude.{ℕ, ◌≡◌, ◌⊎◌, List, [], ◌∷◌, Contains, IsTrue, Option, Ok, Err, OnErr}
+use Rattle.std.specs.Prelude.{ℕ, ◌≡◌, ◌⊎◌, List, [], Contains, IsTrue, IsUtf8, Option, Ok, Err, OnErr}
 use Rattle.wasi_fs.specs.declared.perms.FsPerms.{FsPerms}
-use Rattle.wasi_host.specs.HostCall.{HostCall, CanBeAsked, OpenAt, Pread, Pwrite}
 use Rattle.wasi_host.specs.Tree.{Tree}
 use Rattle.wasi_host.specs.ValidTree.{are_bytes}
 use Rattle.wasi_guest.specs.declared.answer.Answer.TheVariants as answers
@@ -12,31 +11,43 @@ use Rattle.wasi_guest.specs.declared.answer.Value.{Value}
 use Rattle.wasi_guest.specs.declared.call.Call.{Call}
 use Rattle.wasi_p1.specs.CallParts.{NotMemory}
 use Rattle.wasi_p1.specs.CallTurn.{NamesReadOnly}
-use Rattle.wasi_p1.specs.Guest.{Guest, nodes_of}
-use Rattle.wasi_p1.specs.Request.{Request, Reply, Open, Read, Write, reply_of, after, starts_at}
+use Rattle.wasi_p1.specs.Guest.{Guest, OpenDirectory, nodes_of}
+use Rattle.wasi_p1.specs.OpenHow.{options_of}
+use Rattle.wasi_p1.specs.Request.{Request, Reply, Path, Read, Write, reply_of, after, starts_at}
 use Rattle.wasi_p1.specs.Row.{Row, Program, done, asking}
+use Rattle.wasi_p1.specs.declared.open_how.OpenHow.{OpenHow}
 use Rattle.wasi_p1.specs.Stems.{opened_through, stems_through, HasPerms}
+use Rattle.wasi_resolve.specs.PathRequest.{PathRequest, OpenPath, LookPath, path_gives}
 
 -- ---- of each kind of request
 
--- the host call that stands for it
-abbrev pub asked_as : Request → HostCall
-asked_as (Open d name o) = OpenAt d name o
-asked_as (Read f offset n) = Pread f offset n
-asked_as (Write f offset piece) = Pwrite f offset piece
+-- the request of an open below a directory
+abbrev pub opens : OpenDirectory → List ℕ → OpenHow → Request
+opens d text how = Path (OpenPath d.node text (options_of how) how.follow)
 
 -- the nodes that an answer gives
 abbrev pub given_by : (r : Request) → Reply r → List ℕ
-given_by (Open d name o) found = found.held.node ∷ []
+given_by (Path p) found = path_gives p found
 given_by (Read f offset n) bytes = []
 given_by (Write f offset piece) count = []
 
 abbrev pub AreBytes : List ℕ → Type 0
 AreBytes bytes = IsTrue (are_bytes bytes)
 
+-- the text of a path
+abbrev pub path_text : PathRequest → List ℕ
+path_text (OpenPath s text o follow) = text
+path_text (LookPath s text follow) = text
+
+-- what the types of the calls that make it give of every request: a path is a text, and what is written are bytes
+abbrev pub MayBeAsked : Request → Type 0
+MayBeAsked (Path p) = IsUtf8 (path_text p)
+MayBeAsked (Read f offset n) = Unit {0}
+MayBeAsked (Write f offset piece) = AreBytes piece
+
 -- what is read are bytes
 abbrev pub GivesBytes : (r : Request) → Reply r → Type 0
-GivesBytes (Open d name o) found = Unit {0}
+GivesBytes (Path p) found = Unit {0}
 GivesBytes (Read f offset n) bytes = AreBytes bytes
 GivesBytes (Write f offset piece) count = Unit {0}
 
@@ -69,7 +80,7 @@ pub record AsksNear (g : Guest) (call : Call) (r : Request) (next : Reply r → 
   pub places : (reply : Reply r) → KeepsPlaces g (opened_through call) (given_by r reply) (next reply)
   pub ends : (t : Tree) (reply : Reply r) → reply_of t r ≡ Ok reply → OnErr (next reply) (after t r ≡ t)
   pub permits : NamesReadOnly g call → (t : Tree) (reply : Reply r) → reply_of t r ≡ Ok reply → after t r ≡ t
-  pub asked : AreBytes g.memory → CanBeAsked (asked_as r)
+  pub asked : AreBytes g.memory → MayBeAsked r
   pub bytes : AreBytes g.memory → (reply : Reply r) → GivesBytes r reply → KeepsBytes (next reply)
 
 pub record AnswersNear (g : Guest) (call : Call) (p : Value × Guest) : Type 0 where

@@ -10,13 +10,13 @@ use Rattle.wasi_guest.specs.declared.call.Call.TheVariants.{PathOpen, FdRead, Fd
 use Rattle.wasi_p1.specs.Guest.{Guest, perms_in}
 use Rattle.wasi_p1.specs.OpenHow.{open_how, may_open}
 use Rattle.wasi_p1.specs.Row.{Row, Program}
-use Rattle.wasi_p1.specs.Rows.{path_open, fd_read, fd_write, fd_close, row, text_in, one_name, live_in, directory_in, file_in, buffer_in, range, may_write}
+use Rattle.wasi_p1.specs.Rows.{path_open, fd_read, fd_write, fd_close, row, text_in, live_in, directory_in, file_in, buffer_in, range, may_write}
 use Rattle.wasi_host.proofs.Agreeing.{one}
-use Rattle.wasi_p1.proofs.Bytes.{put_bytes, range_bytes, text_utf8, is_name}
+use Rattle.wasi_p1.proofs.Bytes.{put_bytes, range_bytes, text_utf8}
 use Rattle.wasi_p1.proofs.Changing.{named_directory, named_file, directory_perms, file_perms, put_back, put_closed, put_opened, opened_bytes}
 use Rattle.wasi_p1.proofs.Keeping.{open_keeps, opened_ends, read_only_kept, no_write}
 use Rattle.wasi_p1.proofs.Near.{IsNear}
-use Rattle.wasi_p1.proofs.Wanting.{Never, how_never, text_never, directory_never, open_never, name_never, buffer_never, file_never, range_never, write_never, live_never}
+use Rattle.wasi_p1.proofs.Wanting.{Never, how_never, text_never, directory_never, open_never, buffer_never, file_never, range_never, write_never, live_never}
 
 -- a part of a row, and what follows it
 pub then : {A : Type 0} (g : Guest) (call : Call) (m : Row A) (next : A → Row (Program (Value × Guest))) → Never m
@@ -42,16 +42,15 @@ path_open_near g fd dirflags path len oflags base inheriting fdflags =
     (λ how _. then g call (text_in g.memory path len) _ (text_never g.memory path len) (λ text read.
     then g call (directory_in (slice_get g.places fd)) _ (directory_never (slice_get g.places fd)) (λ d is.
     then g call (may_open how d.perms) _ (open_never how d.perms) (λ _ may.
-    then g call (one_name text) _ (name_never text) (λ name named.
     let perms = directory_perms (slice_get g.places fd) is in record {
       starts = λ n has. named_directory g fd n is has;
       places = λ found. put_opened g fd d.perms how.directory found perms;
-      ends = λ t found answered. opened_ends g t d.node name how d.perms found may answered;
-      permits = λ names t found answered. open_keeps t d.node name how
+      ends = λ t found answered. opened_ends g t d text how d.perms found may answered;
+      permits = λ names t found answered. open_keeps t d text how
           (read_only_kept how may (read_only (only_named g fd names.fd names.named names.perms) perms)) answered;
-      asked = λ _. is_name text (text_utf8 (range g.memory path len) read) named;
+      asked = λ _. text_utf8 (range g.memory path len) read;
       bytes = λ are found _. opened_bytes g d.perms how.directory found are;
-    })))))
+    }))))
 
 fd_read_near : (g : Guest) (fd iovs n : ℕ) → IsNear g (FdRead fd iovs n) (fd_read g fd iovs n)
 unfolding fd_read

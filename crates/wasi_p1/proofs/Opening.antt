@@ -1,20 +1,17 @@
--- Opening a name over a told host.
-use Rattle.std.proofs.Common.{◌≡◌, inl, inr, ℕ, Bool, true, false, List, [], ◌∷◌, None, Result, Ok, Err, refl, sym, ap, subst, ◌∙◌, arith, ◌≤◌}
-use Rattle.std.specs.Prelude.{Contains}
+-- Opening a path over a told host.
+use Rattle.std.proofs.Common.{◌≡◌, inl, inr, ℕ, Bool, true, false, List, [], ◌∷◌, Result, Ok, Err, refl, sym, ap, subst, ◌∙◌, arith, ◌≤◌}
 use Rattle.std.specs.FinMap as map
 use Rattle.std.specs.Result.{result_map_both}
 use Rattle.wasi_fs.specs.declared.perms.FsPerms.{FsPerms}
 use Rattle.std.specs.FinSet.{contains, insert, members}
-use Rattle.std.proofs.lemmas.List.Elements.{All-contains, Contains-push}
 use Rattle.std.proofs.lemmas.Bool.Decides.{nat_tests}
 use Rattle.wasi_host.specs.Agree.{Touches}
 use Rattle.wasi_host.specs.Tree.{Tree, node_at, is_directory, Content, File, Directory, Link}
-use Rattle.wasi_host.specs.HostCall.{OpenAt, Stat, Close}
+use Rattle.wasi_host.specs.HostCall.{Stat, Close}
 use Rattle.wasi_host.specs.Refusal.{refusal}
-use Rattle.wasi_host.specs.Step.{open_step, with_nodes}
-use Rattle.wasi_host.specs.Answer.{kind_of, reached, stat_answer, metadata_of, unless}
+use Rattle.wasi_host.specs.Step.{with_nodes}
+use Rattle.wasi_host.specs.Answer.{kind_of, stat_answer, metadata_of}
 use Rattle.wasi_host.specs.Meaning.{Rose, World, Handles, Told, AfterErr, hosted, answered}
-use Rattle.wasi_host.proofs.Chain.{free}
 use Rattle.wasi_host.specs.declared.errors.ErrorCode.{ErrorCode}
 use Rattle.wasi_host.specs.declared.errors.ErrorCode.TheVariants.{Io}
 use Rattle.wasi_host.specs.declared.errors.HostError.{HostError}
@@ -24,7 +21,10 @@ use Rattle.wasi_host.specs.declared.file_type.FileType.TheVariants as types
 use Rattle.wasi_host.specs.declared.metadata.Metadata.{Metadata}
 use Rattle.wasi_host.specs.declared.held.Held.{Held}
 use Rattle.wasi_p1.specs.Errnos.{errno_of, error_of}
-use Rattle.wasi_p1.specs.Request.{Request, Reply, Open, Opened, opened_at, starts_at, ends_at}
+use Rattle.wasi_resolve.specs.Meanings.{opens_at}
+use Rattle.wasi_resolve.specs.Resolved.{Resolved}
+use Rattle.wasi_resolve.specs.PathRequest.{Opened}
+use Rattle.wasi_p1.specs.Request.{Request, Reply, reply_of, after, starts_at, ends_at}
 use Rattle.wasi_p1.specs.Rows.{place_for}
 use Rattle.wasi_p1.specs.Row.{Row}
 use Rattle.wasi_p1.specs.OpenHow.{options_of}
@@ -35,9 +35,11 @@ use Rattle.wasi_p1.specs.declared.context.Slot.{Slot}
 use Rattle.wasi_p1.specs.declared.error.P1Error.{P1Error}
 use Rattle.wasi_p1.specs.declared.error.P1Error.TheVariants.{Errno}
 use Rattle.wasi_p1.specs.declared.open_how.OpenHow.{OpenHow}
-use Rattle.wasi_host.proofs.Agreeing.{unless_value, one}
-use Rattle.wasi_p1.proofs.Touching.{NearOrMade, touches_then, no_ends}
-use Rattle.wasi_p1.proofs.Telling.{comes_to, open_stands, open_ends, asked_of_ok, asked_of_err, both_near}
+use Rattle.wasi_p1.proofs.Agreeing.{given_near}
+use Rattle.wasi_p1.proofs.Near.{opens}
+use Rattle.wasi_resolve.proofs.Touching.{no_ends}
+use Rattle.wasi_p1.proofs.Touching.{NearOrMade, touches_then}
+use Rattle.wasi_p1.proofs.Resolving.{opened_in, how_meant, resolved_reply, resolved_ok, resolved_err}
 
 -- a count that rose in between rose
 pub rose_within : (a b c d : ℕ) → a ≤ b → Rose b c → c ≤ d → Rose a d
@@ -104,22 +106,22 @@ stat_given t n refused = (cc)
 -- ---- the open
 
 -- it didn't answer
-pub opening_err : {rose : Type 0} {old new : Handles} {w v : World} {name : List ℕ} (d : OpenDirectory) (how : OpenHow)
-    (e : HostError) → new ≡ old
+pub opening_err : {rose : Type 0} {old : Handles} {w v : World} {text : List ℕ} (d : OpenDirectory) (how : OpenHow)
+    (e : HostError)
     → ((let r : Result ℕ HostError = Err e in r) ≡ Err (Code Io) → rose)
-    → Told {A = ℕ} old new w v (OpenAt d.node name (options_of how)) v.held (Err e)
-    → OpensSlot rose old w v d name how (Err (error_of e))
-opening_err {w = w} {name = name} d how e same io told = record {
-  keeps = λ q is. told.keeps q is (subst (λ s. contains s q ≡ true) (sym same) is);
-  does = inl (asked_of_err (open_stands w.tree d.node name (options_of how)) e (λ x. io (ap Err x)) told);
+    → Resolved {A = ℕ} old w v (opens_at w.tree d.node text (options_of how)) v.held (Err e)
+    → OpensSlot rose old w v d text how (Err (error_of e))
+opening_err {w = w} {text = text} d how e io did = record {
+  keeps = did.keeps;
+  does = inl (resolved_err (how_meant w.tree d text how) e (λ x. io (ap Err x)) did);
 }
 
 -- it answered: h is the new handle, u the world after it
-pub record Opening (old mid : Handles) (w u : World) (d : OpenDirectory) (name : List ℕ) (how : OpenHow)
+pub record Opening (old mid : Handles) (w u : World) (d : OpenDirectory) (text : List ℕ) (how : OpenHow)
     (h : ℕ) : Type 0 where
   pub fresh : contains old h ≡ false
   pub live : mid ≡ insert old h
-  pub told : Told {A = ℕ} old mid w u (OpenAt d.node name (options_of how)) u.held (Ok h)
+  pub did : Resolved {A = ℕ} old w u (opens_at w.tree d.node text (options_of how)) u.held (Ok h)
 
 -- a request over a world in which nothing was done since
 asked_still : {rose : Type 0} {w u v : World} {r : Request} {reply : Reply r} → v.tree ≡ u.tree
@@ -131,17 +133,14 @@ asked_still {w = w} {u = u} {v = v} {r = r} tree touched asked = record {
       (subst (Touches w.tree u.tree (starts_at r) (ends_at w.tree r) w.touched) (sym touched) asked.touched);
 }
 
-module _ (d : OpenDirectory) (how : OpenHow) {old mid : Handles} {w u : World} {name : List ℕ} {h : ℕ}
-    (is : Opening old mid w u d name how h) where
-  -- what was opened
-  abbrev found : Opened
-  found = opened_at w.tree d.node name (options_of how)
-
+module _ (d : OpenDirectory) (how : OpenHow) {old mid : Handles} {w u : World} {text : List ℕ} {h : ℕ}
+    (is : Opening old mid w u d text how h) where
+  -- the tree after it, and what was opened
   abbrev stepped : Tree
-  stepped = open_step w.tree d.node name (options_of how)
+  stepped = after w.tree (opens d text how)
 
-  none : refusal w.tree (OpenAt d.node name (options_of how)) ≡ None
-  none = free _ _ _ is.told.meaning
+  abbrev found : Opened
+  found = opened_in stepped (u.held h)
 
   mid_live : (q : ℕ) → contains old q ≡ true → contains mid q ≡ true
   mid_live q live = subst (λ s. contains s q ≡ true) (sym is.live) (grind (arith, members, nat_tests))
@@ -149,31 +148,18 @@ module _ (d : OpenDirectory) (how : OpenHow) {old mid : Handles} {w u : World} {
   got : contains mid h ≡ true
   got = subst (λ s. contains s h ≡ true) (sym is.live) (grind (arith, members, nat_tests))
 
-  held_is : found.held ≡ u.held h
-  held_is = unless_value _ is.told.meaning
+  replied : reply_of w.tree (opens d text how) ≡ Ok found
+  replied = resolved_reply (how_meant w.tree d text how) is.did
 
-  asked : (rose : Type 0) → Asked rose w u (Open d.node name (options_of how)) (Ok found)
-  asked rose =
-      asked_of_ok (open_stands w.tree d.node name (options_of how)) (ap (λ c. unless c found) none) is.told.after
-      (open_ends w.tree d.node name (options_of how))
-
-  -- the new handle's node is near, or was made
-  met : (n : ℕ) → Contains ((u.held h).node ∷ []) n → NearOrMade w.tree stepped (d.node ∷ []) n
-  met n has =
-      let same : reached w.tree d.node name ≡ n = ap (λ (x : Held). x.node) held_is ∙ one has in
-      let comes = All-contains (Contains (comes_to w.tree (OpenAt d.node name (options_of how))))
-      (reached w.tree d.node name ∷ []) (reached w.tree d.node name)
-      (open_ends w.tree d.node name (options_of how)) (Contains-push [] (reached w.tree d.node name)) in
-      both_near (open_stands w.tree d.node name (options_of how)) n
-      (subst (Contains (comes_to w.tree (OpenAt d.node name (options_of how)))) same comes)
+  asked : (rose : Type 0) → Asked rose w u (opens d text how) (Ok found)
+  asked rose = resolved_ok (how_meant w.tree d text how) is.did
 
   -- a call after it keeps what the handles before it stand for
   keeps_through : (new : Handles) (v : World) → new ≡ mid
       → ((q : ℕ) → contains mid q ≡ true → contains new q ≡ true → v.held q ≡ u.held q)
       → (q : ℕ) → contains old q ≡ true → v.held q ≡ w.held q
   keeps_through new v same keeps q live =
-      keeps q (mid_live q live) (subst (λ s. contains s q ≡ true) (sym same) (mid_live q live))
-      ∙ is.told.keeps q live (mid_live q live)
+      keeps q (mid_live q live) (subst (λ s. contains s q ≡ true) (sym same) (mid_live q live)) ∙ is.did.keeps q live
 
   -- and closing the new handle again does too
   keeps_closed : {new last : Handles} (v z : World) → new ≡ mid → last ≡ old
@@ -185,19 +171,20 @@ module _ (d : OpenDirectory) (how : OpenHow) {old mid : Handles} {w u : World} {
       (subst (λ s. contains s q ≡ true) (sym ended) live)
       ∙ keeps_through new v same keeps q live
 
-  -- a look at the new handle's metadata comes to nothing more
+  -- a look at the new handle's metadata comes to nothing more: its node is near, or was made
   looked_too : (v : World) (ends : List ℕ) → v.tree ≡ u.tree → v.touched ≡ with_nodes u.touched ((u.held h).node ∷ [])
       → Touches w.tree u.tree (d.node ∷ []) ends w.touched u.touched
       → Touches w.tree v.tree (d.node ∷ []) ends w.touched v.touched
   looked_too v ends tree with first =
       touches_then ((u.held h).node ∷ [])
       (subst (λ t. Touches w.tree t (d.node ∷ []) ends w.touched u.touched) (sym tree) first) with
-      (λ n has. subst (λ t. NearOrMade w.tree t (d.node ∷ []) n) (sym (tree ∙ is.told.after.tree)) (met n has))
+      (λ n has. subst (λ t. NearOrMade w.tree t (d.node ∷ []) n) (sym (tree ∙ (asked (Unit {0})).tree))
+      (given_near w.tree (opens d text how) replied n has))
 
   -- the metadata of the new handle was given
   module _ {new : Handles} {v : World} {metadata : Metadata} (same : new ≡ mid)
       (told : Told {A = Metadata} mid new u v (Stat (u.held h).node) (λ m. m) (Ok metadata)) where
-    asked_then : (rose : Type 0) → Asked rose w v (Open d.node name (options_of how)) (Ok found)
+    asked_then : (rose : Type 0) → Asked rose w v (opens d text how) (Ok found)
     asked_then rose = record {
       reply = (asked rose).reply;
       tree = told.after.tree ∙ (asked rose).tree;
@@ -205,19 +192,18 @@ module _ (d : OpenDirectory) (how : OpenHow) {old mid : Handles} {w u : World} {
     }
 
     content_is : is_directory (node_at u.tree (u.held h).node).content ≡ found.is_dir
-    content_is = ap (λ t. is_directory (node_at t (u.held h).node).content) is.told.after.tree
-        ∙ ap (λ (x : Held). is_directory (node_at stepped x.node).content) (sym held_is)
+    content_is = ap (λ t. is_directory (node_at t (u.held h).node).content) (asked (Unit {0})).tree
 
     placed : place_for d.perms how.directory found ≡ shown u.held (slot_for d.perms how.directory metadata.kind h)
     placed =
         (λ i. place_for d.perms how.directory
-        (let o : Opened = record { held = held_is i; is_dir = sym content_is i } in o))
+        (let o : Opened = record { held = u.held h; is_dir = sym content_is i } in o))
         ∙ slot_content d.perms how.directory (node_at u.tree (u.held h).node).content u.held h
         ∙ ap (λ k. shown u.held (slot_for d.perms how.directory k h))
         (sym (kind_known u.tree (u.held h).node told.meaning))
 
     pub opening_ok : {rose : Type 0} {slot : Slot} → slot_for d.perms how.directory metadata.kind h ≡ Ok slot
-        → OpensSlot rose old w v d name how (Ok slot)
+        → OpensSlot rose old w v d text how (Ok slot)
     opening_ok {rose} {slot} at = record {
       keeps = keeps_through new v same told.keeps;
       does = (
@@ -234,7 +220,7 @@ module _ (d : OpenDirectory) (how : OpenHow) {old mid : Handles} {w u : World} {
     pub opening_refused : {rose : Type 0} {last : Handles} {z : World} {e : P1Error} → last ≡ old
         → slot_for d.perms how.directory metadata.kind h ≡ Err e
         → Told {A = Unit {0}} new last v z Close (λ x. x) answered
-        → OpensSlot rose old w z d name how (Err e)
+        → OpensSlot rose old w z d text how (Err e)
     opening_refused {rose} {z = z} ended at closed = record {
       keeps = keeps_closed v z same ended told.keeps closed.keeps;
       does = inr (
@@ -249,7 +235,7 @@ module _ (d : OpenDirectory) (how : OpenHow) {old mid : Handles} {w u : World} {
       → (hosted {A = Metadata} (Err code) ≡ Err (Code Io) → rose)
       → Told {A = Metadata} mid new u v (Stat (u.held h).node) (λ m. m) (hosted (Err code))
       → Told {A = Unit {0}} new last v z Close (λ x. x) answered
-      → OpensSlot rose old w z d name how (Err (Errno (errno_of code)))
+      → OpensSlot rose old w z d text how (Err (Errno (errno_of code)))
   opening_undone {rose} {new} {last} {v} {z} Io same ended io told closed =
       let seen = looked told.after in record {
         keeps = keeps_closed v z same ended told.keeps closed.keeps;
@@ -259,7 +245,7 @@ module _ (d : OpenDirectory) (how : OpenHow) {old mid : Handles} {w u : World} {
             refl,
             record {
               reply = found;
-              answered = ap (λ c. unless c found) none;
+              answered = replied;
               stepped = closed.after.tree ∙ seen.0 ∙ (asked rose).tree;
             },
           );

@@ -9,16 +9,16 @@ use Rattle.wasi_p1.specs.Slots.{is_closed_slot}
 use Rattle.wasi_p1.specs.Guest.{Place, OpenDirectory, place_of, places_of, is_closed, new_number, with_place, directory, file}
 use Rattle.wasi_p1.specs.Owners.{handle_in, handles, uses_in, uses, without, Owned}
 use Rattle.wasi_p1.specs.CallParts.{OpensSlot, OpensInto, IsReplied, Rests, Stays}
-use Rattle.wasi_p1.specs.Request.{Open, Opened}
+use Rattle.wasi_resolve.specs.PathRequest.{Opened}
 use Rattle.wasi_p1.specs.Row.{give}
 use Rattle.wasi_p1.specs.Rows.{place_for, opened_among}
 use Rattle.wasi_host.specs.Steps.{◌>>=◌}
 use Rattle.wasi_fs.specs.declared.perms.FsPerms.{FsPerms}
-use Rattle.wasi_p1.specs.OpenHow.{options_of}
 use Rattle.wasi_p1.specs.declared.error.P1Error.{P1Error}
 use Rattle.wasi_p1.specs.declared.open_how.OpenHow.{OpenHow}
 use Rattle.wasi_p1.specs.declared.context.Slot.{Slot}
 use Rattle.wasi_p1.specs.declared.context.Slot.TheVariants as slots
+use Rattle.wasi_p1.proofs.Near.{opens}
 use Rattle.wasi_p1.proofs.Numbers.{free_number-map, with_new-map}
 use Rattle.wasi_p1.proofs.Counting.{uses-cons, uses_itself, handles-cons}
 use Rattle.wasi_p1.proofs.Owning.{used_live, without_live, owns_closed}
@@ -114,9 +114,9 @@ refused_among perms required found places is =
 
 module _ (d : OpenDirectory) (how : OpenHow) where
   -- over a told host
-  pub opened_new : {rose : Type 0} {live : Handles} {w v : World} {name : List ℕ} (table : List Slot) (slot : Slot)
-      → Owned live (handles table) → OpensSlot rose live w v d name how (Ok slot)
-      → OpensInto rose w v d name how (places_of w.held table) (places_of v.held (with_new is_closed_slot table slot))
+  pub opened_new : {rose : Type 0} {live : Handles} {w v : World} {text : List ℕ} (table : List Slot) (slot : Slot)
+      → Owned live (handles table) → OpensSlot rose live w v d text how (Ok slot)
+      → OpensInto rose w v d text how (places_of w.held table) (places_of v.held (with_new is_closed_slot table slot))
       (Ok (free_number is_closed_slot table))
   opened_new {v = v} table slot owned opens =
       let (found, asked, is) = opens.does in (
@@ -126,26 +126,26 @@ module _ (d : OpenDirectory) (how : OpenHow) where
       )
 
   -- one that was refused
-  pub opened_not : {rose : Type 0} {live : Handles} {w v : World} {name : List ℕ} {e : P1Error}
+  pub opened_not : {rose : Type 0} {live : Handles} {w v : World} {text : List ℕ} {e : P1Error}
       (places : List Place)
-      → OpensSlot rose live w v d name how (Err e) → OpensInto rose w v d name how places places (Err e)
+      → OpensSlot rose live w v d text how (Err e) → OpensInto rose w v d text how places places (Err e)
   opened_not places opens = elim opens.does [
     | inl asked ↦ inl asked
     | inr (found, asked, is) ↦ inr (found, asked, refused_among d.perms how.directory found places is)
   ]
 
   -- the same over every host
-  pub opens_new : (name : List ℕ) (held : ℕ → Held) (table : List Slot) (slot : Slot)
-      → IsReplied (Open d.node name (options_of how)) (place_for d.perms how.directory) (Ok (place_of held slot))
-      → IsReplied (Open d.node name (options_of how)) (opened_among (places_of held table) d.perms how.directory)
+  pub opens_new : (text : List ℕ) (held : ℕ → Held) (table : List Slot) (slot : Slot)
+      → IsReplied (opens d text how) (place_for d.perms how.directory) (Ok (place_of held slot))
+      → IsReplied (opens d text how) (opened_among (places_of held table) d.perms how.directory)
       (Ok (free_number is_closed_slot table, places_of held (with_new is_closed_slot table slot)))
-  opens_new name held table slot (found, may, is) =
+  opens_new text held table slot (found, may, is) =
       (found, may, opened_placed d.perms how.directory found held table slot refl is)
 
-  pub opens_not : (name : List ℕ) {e : P1Error} (places : List Place)
-      → IsReplied (Open d.node name (options_of how)) (place_for d.perms how.directory) (Err e)
-      → IsReplied (Open d.node name (options_of how)) (opened_among places d.perms how.directory) (Err e)
-  opens_not name places replied = elim replied [
+  pub opens_not : (text : List ℕ) {e : P1Error} (places : List Place)
+      → IsReplied (opens d text how) (place_for d.perms how.directory) (Err e)
+      → IsReplied (opens d text how) (opened_among places d.perms how.directory) (Err e)
+  opens_not text places replied = elim replied [
     | inl from ↦ inl from
     | inr (found, may, is) ↦ inr (found, may, refused_among d.perms how.directory found places is)
   ]

@@ -18,7 +18,7 @@ use Rattle.wasi_p1.specs.declared.error.P1Error.{P1Error}
 use Rattle.wasi_p1.specs.declared.error.P1Error.TheVariants.{Errno, Memory}
 use Rattle.wasi_guest.specs.declared.answer.Value.{Value}
 use Rattle.wasi_p1.proofs.Near.{IsNear, AsksNear}
-use Rattle.wasi_p1.proofs.Touching.{touches_same, no_ends}
+use Rattle.wasi_resolve.proofs.Touching.{touches_same, no_ends}
 use Rattle.wasi_p1.proofs.Alike.{over, replied, ended}
 use Rattle.wasi_p1.proofs.Nearness.{row_near}
 

@@ -1,6 +1,6 @@
 -- A turn from a valid state leads to one.
-use Rattle.std.proofs.Common.{ℕ, ◌≡◌, inl, inr, true, false, Bool, List, [], ◌∷◌, refl, ap, sym, ◌∙◌, subst, Result, Ok, Err}
-use Rattle.std.specs.Prelude.{MatchBool}
+use Rattle.std.proofs.Common.{ℕ, ◌≡◌, inl, inr, true, false, Bool, List, [], ◌∷◌, refl, ap, sym, subst, Result, Ok, Err}
+use Rattle.std.specs.Prelude.{MatchBool, IsUtf8}
 use Rattle.wasi_guest.specs.declared.answer.Value.{Value}
 use Rattle.wasi_guest.specs.declared.call.Call.{Call}
 use Rattle.wasi_host.specs.Meaning.{World}
@@ -10,7 +10,13 @@ use Rattle.wasi_host.proofs.Changes.{node_at-past}
 use Rattle.wasi_host.proofs.ValidSteps.{valid-step}
 use Rattle.wasi_p1.specs.CallTurn.{Turns, in_world}
 use Rattle.wasi_p1.specs.Guest.{Guest, State}
-use Rattle.wasi_p1.specs.Request.{Request, Reply, Open, Read, Write, reply_of}
+use Rattle.wasi_host.specs.HostCall.{OpenAt, Pwrite}
+use Rattle.wasi_host.specs.Steps.{◌>>=◌}
+use Rattle.wasi_host.specs.declared.errors.ErrorCode.{ErrorCode}
+use Rattle.wasi_host.proofs.Chain.{free}
+use Rattle.wasi_resolve.specs.Paths.{Opening, opening, step_of}
+use Rattle.wasi_resolve.specs.PathRequest.{PathRequest, OpenPath, LookPath, PathReply, answer_at, path_reply, path_after}
+use Rattle.wasi_p1.specs.Request.{Request, Reply, Path, Read, Write, reply_of, after}
 use Rattle.wasi_p1.specs.Row.{Row, Program, done, asking}
 use Rattle.wasi_p1.specs.Rows.{row, turn}
 use Rattle.wasi_p1.specs.Run.{Turned, Run, ends}
@@ -21,9 +27,9 @@ use Rattle.wasi_host.proofs.Agreeing.{unless_value, below_or}
 use Rattle.wasi_p1.proofs.Alike.{ended}
 use Rattle.wasi_p1.proofs.Bytes.{cut}
 use Rattle.wasi_p1.proofs.Moving.{Moves, turn_moves, turned_moves, turned_by, over_tree, over_guest, replied_by}
-use Rattle.wasi_p1.proofs.Near.{AreBytes, GivesBytes, KeepsBytes, IsNear, asked_as}
+use Rattle.wasi_p1.proofs.Near.{AreBytes, GivesBytes, KeepsBytes, MayBeAsked, IsNear, path_text}
 use Rattle.wasi_p1.proofs.Nearness.{row_near}
-use Rattle.wasi_p1.proofs.Telling.{stands_for, unrefused}
+use Rattle.wasi_resolve.proofs.Asking.{opening_asked}
 
 -- ---- what is read of a valid tree
 
@@ -39,11 +45,32 @@ content_bytes t n valid = elim (below_or n (next_of t)) [
     by (Link text links) is = refl
 
 gives_bytes : (t : Tree) (r : Request) (reply : Reply r) → IsValidTree t → reply_of t r ≡ Ok reply → GivesBytes r reply
-gives_bytes t (Open d name o) found valid is = tt
+gives_bytes t (Path p) found valid is = tt
 gives_bytes t (Read f offset n) bytes valid is =
     let whole = content_bytes t f.node valid in
     subst AreBytes (unless_value _ is) (cut n _ (cut offset (bytes_of (node_at t f.node).content) whole).1).0
 gives_bytes t (Write f offset piece) count valid is = tt
+
+-- ---- a request
+
+-- where a path ends an open may be asked
+path_valid : (t : Tree) (p : PathRequest) {reply : PathReply p} → IsValidTree t → IsUtf8 (path_text p)
+    → path_reply t p ≡ Ok reply → IsValidTree (path_after t p)
+path_valid t (OpenPath s text o follow) {reply} valid utf8 answered = by (opening t s text o follow) refl answered
+  where
+    by : (m : Result Opening ErrorCode) → opening t s text o follow ≡ m → (m >>= answer_at t) ≡ Ok reply
+        → IsValidTree (step_of t m)
+    by (Ok e) at is =
+        let asked = opening_asked s text o follow valid utf8 at in
+        valid-step t (OpenAt e.directory e.name e.options) valid asked (free _ _ _ is)
+    by (Err code) at is = valid
+path_valid t (LookPath s text follow) valid utf8 answered = valid
+
+request_valid : (t : Tree) (r : Request) {reply : Reply r} → IsValidTree t → MayBeAsked r → reply_of t r ≡ Ok reply
+    → IsValidTree (after t r)
+request_valid t (Path p) valid may is = path_valid t p valid may is
+request_valid t (Read f offset n) valid may is = valid
+request_valid t (Write f offset piece) valid may is = valid-step t (Pwrite f offset piece) valid may (free _ _ _ is)
 
 -- ---- a turn
 
@@ -55,10 +82,9 @@ ended_valid s call (Ok (done q)) p valid near is = record {
 }
 ended_valid s call (Ok (asking r next)) p valid near is =
     let did = replied_by s.tree r next is in
-    let stands = stands_for s.tree r in
-    let stepped = valid-step s.tree (asked_as r) valid.tree (near.asked valid.memory) (unrefused stands did.is) in
+    let stepped = request_valid s.tree r valid.tree (near.asked valid.memory) did.is in
     let read = gives_bytes s.tree r did.reply valid.tree did.is in record {
-      tree = subst IsValidTree (stands.steps ∙ sym did.tree) stepped;
+      tree = subst IsValidTree (sym did.tree) stepped;
       memory = subst KeepsBytes did.gives (near.bytes valid.memory did.reply read);
     }
 ended_valid s call (Err e) p valid near is = absurd (cc)

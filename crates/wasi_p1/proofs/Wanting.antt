@@ -1,7 +1,6 @@
 -- No part of a row is refused because memory was wanted.
 use Rattle.std.proofs.Common.{ℕ, true, false, cond, Bool, List, [], ◌∷◌, Option, Some, None, Ok, Err}
 use Rattle.std.specs.Str.{is_utf8}
-use Rattle.wasi_paths.specs.Text.{is_plain}
 use Rattle.wasi_fs.specs.Perms.{is_read_only}
 use Rattle.wasi_fs.specs.declared.perms.FsPerms.{FsPerms}
 use Rattle.wasi_guest.specs.Flags.{flags_in, known_lookupflags, known_oflags, known_fdflags, known_rights}
@@ -16,7 +15,7 @@ use Rattle.wasi_p1.specs.CallParts.{NotMemory}
 use Rattle.wasi_p1.specs.Guest.{Place, closed, stream, directory, file}
 use Rattle.wasi_p1.specs.OpenHow.{or_inval, open_how, none_of, open_rows, may_open}
 use Rattle.wasi_p1.specs.Row.{Row}
-use Rattle.wasi_p1.specs.Rows.{text_in, utf8_text, one_name, live_in, directory_in, file_in, or_trap, buffer_in, range, may_write}
+use Rattle.wasi_p1.specs.Rows.{text_in, utf8_text, live_in, directory_in, file_in, or_trap, buffer_in, range, may_write}
 use Rattle.wasi_p1.specs.declared.error.P1Error.{P1Error}
 use Rattle.wasi_p1.specs.declared.error.P1Error.TheVariants.{Errno, Trap}
 use Rattle.wasi_p1.specs.declared.open_how.OpenHow.{OpenHow}
@@ -45,10 +44,6 @@ range_never memory at n = when (in_memory memory at n) _ trapped
 pub text_never : (memory : List ℕ) (at n : ℕ) → Never (text_in memory at n)
 text_never memory at n =
     after (range memory at n) utf8_text (range_never memory at n) (λ bytes. when (is_utf8 bytes) _ number)
-
-pub name_never : (text : List ℕ) → Never (one_name text)
-unfolding one_name
-name_never text = when (is_plain text) _ number
 
 inval_never : (flags : Option ℕ) → Never (or_inval flags)
 inval_never (Some set) = tt

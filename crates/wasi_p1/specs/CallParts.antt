@@ -11,7 +11,8 @@ use Rattle.wasi_host.specs.declared.held.Held.{Held}
 use Rattle.wasi_p1.specs.Asked.{Does}
 use Rattle.wasi_p1.specs.Errnos.{error_of}
 use Rattle.wasi_p1.specs.OpenHow.{options_of}
-use Rattle.wasi_p1.specs.Request.{Request, Reply, MayReply, Open, Read, Write}
+use Rattle.wasi_p1.specs.Request.{Request, Reply, MayReply, Path, Read, Write}
+use Rattle.wasi_resolve.specs.PathRequest.{OpenPath}
 use Rattle.wasi_p1.specs.Owners.{handle_in, Got}
 use Rattle.wasi_p1.specs.Row.{Row, give}
 use Rattle.wasi_p1.specs.Rows.{place_for, opened_among}
@@ -62,16 +63,16 @@ with_after (Err e) after = Err e
 -- an open into a descriptor
 abbrev pub OpensSlot : Type 0 → Handles → World → World → OpenDirectory → List ℕ → OpenHow → Result Slot P1Error
     → Type 0
-OpensSlot rose old w v d name how result =
-    Makes rose old w v (Open d.node name (options_of how)) (place_for d.perms how.directory)
+OpensSlot rose old w v d text how result =
+    Makes rose old w v (Path (OpenPath d.node text (options_of how) how.follow)) (place_for d.perms how.directory)
     (result_map_both (place_of v.held) (λ e. e) result)
 
 -- an open into the descriptors
 abbrev pub OpensInto : Type 0 → World → World → OpenDirectory → List ℕ → OpenHow → List Place → List Place → Row ℕ
     → Type 0
-OpensInto rose w v d name how before after result =
-    Does rose w v (Open d.node name (options_of how)) (opened_among before d.perms how.directory)
-    (with_after result after)
+OpensInto rose w v d text how before after result =
+    Does rose w v (Path (OpenPath d.node text (options_of how) how.follow))
+    (opened_among before d.perms how.directory) (with_after result after)
 
 -- a number beside the memory after it: bytes were read into a buffer
 abbrev pub filled_at : List ℕ → ℕ → List ℕ → Row (ℕ × List ℕ)

@@ -5,12 +5,12 @@ use Rattle.wasi_fs.specs.Perms.{is_read_only}
 use Rattle.wasi_fs.specs.declared.perms.FsPerms.{FsPerms}
 use Rattle.wasi_host.specs.Tree.{Tree}
 use Rattle.wasi_host.specs.declared.held.Held.{Held}
-use Rattle.wasi_paths.specs.Text.{is_plain}
 use Rattle.wasi_guest.specs.Range.{in_memory, with_bytes}
 use Rattle.wasi_guest.specs.Iovec.{first_buffer}
 use Rattle.wasi_p1.specs.Guest.{Guest, State, Place, closed, stream, directory, file, OpenDirectory, OpenFile, new_number, with_place}
 use Rattle.wasi_p1.specs.OpenHow.{open_how, may_open, options_of}
-use Rattle.wasi_p1.specs.Request.{Open, Read, Write, Opened}
+use Rattle.wasi_resolve.specs.PathRequest.{OpenPath, Opened}
+use Rattle.wasi_p1.specs.Request.{Path, Read, Write}
 use Rattle.wasi_p1.specs.Row.{Row, give, Program, answer, ask, run_on}
 use Rattle.wasi_host.specs.Steps.{◌>>=◌}
 use Rattle.wasi_guest.specs.declared.iovec.Iovec.{Iovec}
@@ -31,10 +31,6 @@ range memory at n = if in_memory memory at n then Ok (slice_range memory at (at 
 -- bytes that are a text
 abbrev pub utf8_text : List ℕ → Row (List ℕ)
 utf8_text bytes = if is_utf8 bytes then Ok bytes else Err (Errno errnos.Ilseq)
-
--- a path of one plain name; no other path is walked yet
-unfoldable pub one_name : List ℕ → Row (List ℕ)
-one_name text = if is_plain text then Ok text else Err (Errno errnos.Notsup)
 
 -- the text in a range of memory
 abbrev pub text_in : List ℕ → ℕ → ℕ → Row (List ℕ)
@@ -103,8 +99,8 @@ moved f n = file (record f { position = f.position + n })
 -- ---- rows
 
 -- An unknown bit is refused `inval`. A range that leaves the memory traps; bytes that aren't a text are refused
--- `ilseq`; then a number that isn't a directory's; then what may not be asked of it; then a text that isn't one name,
--- `notsup`; then as the host refuses; then what isn't a directory and should be, `notdir`. The answer is the new
+-- `ilseq`; then a number that isn't a directory's; then what may not be asked of it; then as the walk of the text
+-- refuses, and the host where it ends; then what isn't a directory and should be, `notdir`. The answer is the new
 -- descriptor's number
 unfoldable pub path_open : Guest → ℕ → ℕ → ℕ → ℕ → ℕ → ℕ → ℕ → ℕ → Row (Program (Value × Guest))
 path_open g fd dirflags path len oflags base inheriting fdflags = do
@@ -112,11 +108,11 @@ path_open g fd dirflags path len oflags base inheriting fdflags = do
   text ← text_in g.memory path len
   d ← directory_in (slice_get g.places fd)
   _ ← may_open how d.perms
-  name ← one_name text
-  ask (Open d.node name (options_of how)) (λ found. opened_among g.places d.perms how.directory found >>= (λ new. give (
-    Number new.0,
-    record g { places = new.1 },
-  )))
+  ask (Path (OpenPath d.node text (options_of how) how.follow)) (λ found.
+      opened_among g.places d.perms how.directory found >>= (λ new. give (
+        Number new.0,
+        record g { places = new.1 },
+      )))
 
 -- A record that isn't aligned or leaves the memory traps; then a number that isn't a file's is refused; then a buffer
 -- that leaves the memory traps; then as the host refuses. The answer is the number of bytes, and the position is behind

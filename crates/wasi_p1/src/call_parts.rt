@@ -2,15 +2,15 @@
 ghost use Rattle.std.specs.Prelude.{◌≡◌, ◌≤◌, ◌<◌, ◌+◌, ◌^◌, ℕ, true, false, IsTrue, length, slice_get, slice_set, Ok, Err, IfOk, IfErr, OnOk, OnErr, Some, None};
 ghost use Rattle.std.specs.Result.{result_map_both};
 ghost use Rattle.std.specs.FinSet.{contains};
-ghost use Rattle.wasi_paths.specs.Name.{name_bytes};
 ghost use Rattle.wasi_host.specs.Meaning.{Rose};
 ghost use Rattle.wasi_host.specs.Lineage.{Traced, Only, Nothing};
 ghost use Rattle.wasi_p1.specs.CallTurn.{Causes};
 ghost use Rattle.wasi_p1.specs.Owners.{handle_in, handles, without, Owned, Owns, SlotsTraced, MadeBy};
 ghost use Rattle.wasi_p1.specs.Guest.{place_of, places_of};
-ghost use Rattle.wasi_p1.specs.Request.{Open, Read, Write};
+ghost use Rattle.wasi_resolve.specs.PathRequest.{OpenPath};
+ghost use Rattle.wasi_p1.specs.Request.{Path, Read, Write};
 ghost use Rattle.wasi_p1.specs.OpenHow.{options_of};
-ghost use Rattle.wasi_p1.specs.Rows.{range, text_in, one_name, buffer_in, live_in, directory_in, file_in, may_write, place_for, opened_among};
+ghost use Rattle.wasi_p1.specs.Rows.{range, text_in, buffer_in, live_in, directory_in, file_in, may_write, place_for, opened_among};
 ghost use Rattle.wasi_p1.specs.Slots.{is_closed_slot};
 ghost use Rattle.wasi_guest.specs.Range.{IsInMemory};
 ghost use Rattle.wasi_p1.specs.CallParts.{open_directory_of, open_file_of, slot_for, SlotGot, OpensSlot, ReadsInto, WritesPiece, OpensInto, filled_at, with_after, Rests, Stays, IsLive, IsReplied, NotMemory, is_failure};
@@ -20,10 +20,10 @@ use crate::context::Slot;
 use crate::descriptors::Descriptors;
 use crate::error::P1Error;
 use crate::open_how::OpenHow;
+use std::alloc::Global;
 use wasi_fs::FsPerms;
 use wasi_guest::{Errno, GuestMemory, Iovec, TrapKind};
 use wasi_host::{FileType, Handle, Host};
-use wasi_paths::Name;
 
 /// The bytes of a range of memory, or the trap.
 pub fn bytes_at(memory: &GuestMemory, ptr: u32, n: u32) -> Result<&[u8], P1Error>
@@ -45,18 +45,6 @@ pub fn text_at(memory: &GuestMemory, ptr: u32, n: u32) -> Result<&str, P1Error>
         Ok(text) => Ok(text),
         Err(_) => Err(P1Error::Errno(Errno::Ilseq)),
     }
-}
-
-/// A path of one plain name, as that name.
-#[tactic(auto, unfolding(crate::specs::Rows::one_name))]
-pub fn name_of(text: &str) -> Result<Name<'_>, P1Error>
-    ensures row { result_map_both name_bytes (λ e. e) result ≡ one_name text.now }
-    ensures refusal { IfErr result (λ e. is_failure e ≡ false) }
-{
-    let Some(name) = Name::plain(text) else {
-        return Err(P1Error::Errno(Errno::Notsup));
-    };
-    Ok(name)
 }
 
 /// What a live number stands for.
@@ -185,13 +173,14 @@ fn slot_for(perms: FsPerms, required: bool, kind: FileType, handle: Handle) -> R
     }
 }
 
-/// Opens a name in a directory, and gives its descriptor, which has the directory's permissions. Where the host fails
+/// Opens a path from a directory, and gives its descriptor, which has the directory's permissions. Where the host fails
 /// at the new handle's metadata, or it is no directory and should be, the handle is closed again.
 #[tactic(auto, using(wasi_host::proofs::Chain::live_rules))]
 pub fn open_slot<H: Host>(
+    alloc: Global,
     host: &mut H,
     directory: DirectoryPlace,
-    name: Name<'_>,
+    text: &str,
     how: OpenHow,
 ) -> Result<Slot, P1Error>
     requires { contains (H.live host.old) directory.handle ≡ true }
@@ -200,14 +189,14 @@ pub fn open_slot<H: Host>(
     ensures lineage { Traced (Only directory.handle) Nothing (MadeBy result)
         (H.lookups host.old) (H.lookups host.new) }
     ensures front { IsReplied
-        (Open (open_directory_of (H.world host.old).held directory).node (name_bytes name.entry) (options_of how))
+        (Path (OpenPath ((H.world host.old).held directory.handle).node text.now (options_of how) how.follow))
         (place_for directory.perms how.directory)
         (result_map_both (place_of (H.world host.old).held) (λ e. e) result) }
     ensures told { IsTrue H.told → OpensSlot (Rose (H.faults host.old) (H.faults host.new)) (H.live host.old)
         (H.world host.old) (H.world host.new) (open_directory_of (H.world host.old).held directory)
-        (name_bytes name.entry) how result }
+        text.now how result }
 {
-    let handle = host.open_at(directory.handle, name, &how.options())?;
+    let handle = wasi_resolve::open(alloc, host, directory.handle, text, &how.options())?;
     let metadata = match host.stat(handle) {
         Ok(metadata) => metadata,
         Err(code) => {
@@ -299,12 +288,13 @@ pub fn put_file(descriptors: &mut Descriptors, fd: u32, file: FilePlace, positio
     );
 }
 
-/// Opens a name into the descriptors, and gives the new one's number. Its room is taken before the host is called.
+/// Opens a path into the descriptors, and gives the new one's number. Its room is taken before the host is called.
 pub fn open_into<H: Host>(
+    alloc: Global,
     host: &mut H,
     descriptors: &mut Descriptors,
     directory: DirectoryPlace,
-    name: Name<'_>,
+    text: &str,
     how: OpenHow,
 ) -> Result<u64, P1Error>
     requires live { contains (H.live host.old) directory.handle ≡ true }
@@ -320,7 +310,7 @@ pub fn open_into<H: Host>(
 
     // The row, over every host and over one that tells its world.
     ensures front { IsReplied
-        (Open (open_directory_of (H.world host.old).held directory).node (name_bytes name.entry) (options_of how))
+        (Path (OpenPath ((H.world host.old).held directory.handle).node text.now (options_of how) how.follow))
         (opened_among (places_of (H.world host.old).held descriptors.old.slots) directory.perms how.directory)
         (with_after result (places_of (H.world host.old).held descriptors.new.slots)) }
     ensures stays { IsTrue H.told → OnErr result
@@ -328,12 +318,12 @@ pub fn open_into<H: Host>(
         ≡ places_of (H.world host.old).held descriptors.old.slots) }
     ensures told { IsTrue H.told → OpensInto (Rose (H.faults host.old) (H.faults host.new))
         (H.world host.old) (H.world host.new)
-        (open_directory_of (H.world host.old).held directory) (name_bytes name.entry) how
+        (open_directory_of (H.world host.old).held directory) text.now how
         (places_of (H.world host.old).held descriptors.old.slots)
         (places_of (H.world host.new).held descriptors.new.slots) result }
 {
     descriptors.reserve()?;
-    let slot = open_slot(host, directory, name, how)?;
+    let slot = open_slot(alloc, host, directory, text, how)?;
     Ok(descriptors.put(slot))
 }
 

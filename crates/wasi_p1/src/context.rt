@@ -4,8 +4,8 @@ ghost use Rattle.std.specs.FinSet.{contains};
 ghost use Rattle.wasi_guest.specs.declared.call.Call.TheVariants.{PathOpen, FdRead, FdWrite, FdClose};
 
 use crate::call_parts::{
-    buffer_at, bytes_at, check_write, close_slot, directory_at, file_at, live_at, name_of,
-    open_into, put_file, read_into, text_at, write_piece,
+    buffer_at, bytes_at, check_write, close_slot, directory_at, file_at, live_at, open_into,
+    put_file, read_into, text_at, write_piece,
 };
 use crate::descriptors::Descriptors;
 use crate::error::P1Error;
@@ -49,10 +49,12 @@ pub struct P1Preopen {
     pub name: String,
 }
 
-/// The calls of one guest over a host, with its descriptors and what it wrote to the standard streams: the crate's
-/// `WasiP1Ctx` of `preview1.rs`. A method has the name and the rule of the call in `wasi_snapshot_preview1`.
+/// The calls of one guest over a host, with its descriptors, what it wrote to the standard streams, and the allocator
+/// that walks take memory from: the crate's `WasiP1Ctx` of `preview1.rs`. A method has the name and the rule of the
+/// call in `wasi_snapshot_preview1`.
 #[derive(Drop)]
 pub struct WasiP1Ctx<H: Host> {
+    alloc: Global,
     host: H,
     descriptors: Descriptors,
     stdout: Vec<u8>,
@@ -116,6 +118,7 @@ impl<H: Host> WasiP1Ctx<H> {
             return Err(CtxRefused { host });
         };
         Ok(WasiP1Ctx {
+            alloc,
             host,
             descriptors,
             stdout: Vec::new(alloc),
@@ -144,19 +147,25 @@ impl<H: Host> WasiP1Ctx<H> {
     }
 
     #[tactic(auto, using(crate::proofs::Taking::refused), unfolding(crate::specs::Rows::path_open))]
-    /// Opens the name in a range of memory in the directory of a descriptor, and answers the number of the new
-    /// descriptor, which has the directory's permissions and, of a file, position 0.
+    /// Opens the path in a range of memory from the directory of a descriptor, and answers the number of the new
+    /// descriptor, which has that directory's permissions and, of a file, position 0.
+    ///
+    /// A path is walked part by part, and never out of its start directory: `.` stays, `..` goes back to the directory
+    /// before, and a name that isn't the last must be a directory's. A link among them is read, and the parts of its
+    /// text are walked in its place, 40 links at most; a link under the last name is followed only where dirflags ask
+    /// for SYMLINK_FOLLOW, or where a slash stands behind it, which asks for a directory too.
     ///
     /// Creat makes a missing file, and with excl refuses one that is there; trunc cuts a file to no bytes; FD_READ and
-    /// FD_WRITE open for reading and writing. That a link is followed does nothing, as no tree has links yet; append,
-    /// nonblock and all other rights do nothing either.
+    /// FD_WRITE open for reading and writing. Append, nonblock and all other rights do nothing.
     ///
     /// Refusals, in this order: Inval where a flag or right is none of preview1's; trap Pointer where the range leaves
     /// the memory; Ilseq where its bytes aren't UTF-8; Badf where the number isn't a directory's or file's, Notdir
     /// where it is a file's; Notsup of dsync, rsync and sync; Inval of DIRECTORY beside another of its flags; Perm of
-    /// creat, trunc and FD_WRITE under read-only permissions; Notsup where the text isn't one plain name, as no other
-    /// path is walked yet; then the host's, which are those of POSIX's `openat`; Notdir where DIRECTORY is asked for
-    /// and no directory was opened.
+    /// creat, trunc and FD_WRITE under read-only permissions; then those of the walk, at the part where it stops: Noent
+    /// of an empty text, Perm of a leading slash, in a link's text too, and of `..` at the start directory, Acces of
+    /// `..` where a directory may not be searched, Loop of a link past the 40th, Isdir of a path that ends in `.` or
+    /// `..` where creat, trunc or FD_WRITE is asked for, and at each name the host's, which are those of POSIX's
+    /// `openat`; Notdir where DIRECTORY is asked for and no directory was opened.
     pub fn path_open(
         &mut self,
         memory: &mut GuestMemory,
@@ -180,8 +189,14 @@ impl<H: Host> WasiP1Ctx<H> {
         let text = text_at(memory, path, path_len)?;
         let directory = directory_at(&self.host, &self.descriptors, fd)?;
         how.check(directory.perms)?;
-        let name = name_of(text)?;
-        let number = open_into(&mut self.host, &mut self.descriptors, directory, name, how)?;
+        let number = open_into(
+            self.alloc,
+            &mut self.host,
+            &mut self.descriptors,
+            directory,
+            text,
+            how,
+        )?;
         Ok(Value::Number(number))
     }
 

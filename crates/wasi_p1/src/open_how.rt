@@ -1,6 +1,6 @@
 //! How a path is opened.
 ghost use Rattle.std.specs.Prelude.{◌≡◌, false, IfErr};
-ghost use Rattle.wasi_p1.specs.OpenHow.{open_how, may_open, options_of};
+ghost use Rattle.wasi_p1.specs.OpenHow.{open_how, may_open, follow_of, options_of};
 ghost use Rattle.wasi_p1.specs.CallParts.{is_failure};
 
 use crate::error::P1Error;
@@ -9,10 +9,12 @@ use wasi_fs::FsPerms;
 use wasi_guest::{Errno, FdFlags, LookupFlags, OFlags, Rights};
 use wasi_host::{FollowSymlinks, OpenOptions};
 
-/// What the flags and rights of `path_open` ask for. Its names are those of preview1's `oflags`; `read` and `write` are
-/// the rights FD_READ and FD_WRITE, and `sync` is any of the flags dsync, rsync and sync.
+/// What the flags and rights of `path_open` ask for. `follow` is the lookup flag SYMLINK_FOLLOW; the names after it are
+/// those of preview1's `oflags`; `read` and `write` are the rights FD_READ and FD_WRITE, and `sync` is any of the flags
+/// dsync, rsync and sync.
 #[derive(Clone, Copy, Debug, PartialEq, Eq)]
 pub struct OpenHow {
+    pub follow: bool,
     pub create: bool,
     pub directory: bool,
     pub exclusive: bool,
@@ -23,9 +25,8 @@ pub struct OpenHow {
 }
 
 impl OpenHow {
-    /// What these raw numbers ask for. Refusal: Inval where one of them has a bit that preview1 doesn't know. That a
-    /// link is to be followed asks for nothing, as no tree has links yet; nor do the other rights, and append and
-    /// nonblock.
+    /// What these raw numbers ask for. Refusal: Inval where one of them has a bit that preview1 doesn't know. The other
+    /// rights, append and nonblock ask for nothing.
     #[tactic(auto, unfolding(crate::specs::OpenHow::open_how))]
     pub fn of(
         dirflags: u32,
@@ -39,12 +40,13 @@ impl OpenHow {
     {
         const UNKNOWN: P1Error = P1Error::Errno(Errno::Inval);
 
-        LookupFlags::from_bits(dirflags).ok_or(UNKNOWN)?;
+        let lookups = LookupFlags::from_bits(dirflags).ok_or(UNKNOWN)?;
         let oflags = OFlags::from_bits(oflags).ok_or(UNKNOWN)?;
         let rights = Rights::from_bits(base).ok_or(UNKNOWN)?;
         Rights::from_bits(inheriting).ok_or(UNKNOWN)?;
         let fdflags = FdFlags::from_bits(fdflags).ok_or(UNKNOWN)?;
         Ok(OpenHow {
+            follow: lookups.contains(LookupFlags::SYMLINK_FOLLOW),
             create: oflags.contains(OFlags::CREAT),
             directory: oflags.contains(OFlags::DIRECTORY),
             exclusive: oflags.contains(OFlags::EXCL),
@@ -76,7 +78,18 @@ impl OpenHow {
         Ok(())
     }
 
-    /// The options of the host's open.
+    /// Whether a link under the last name is followed.
+    fn follow_symlinks(&self) -> FollowSymlinks
+        ensures follow { result ≡ follow_of self.now.follow }
+    {
+        if self.follow {
+            FollowSymlinks::Yes
+        } else {
+            FollowSymlinks::No
+        }
+    }
+
+    /// The options of the path's open. That a directory is asked for is none of them: it is looked at after the open.
     pub fn options(&self) -> OpenOptions
         ensures options { result ≡ options_of self.now }
     {
@@ -87,7 +100,7 @@ impl OpenHow {
             .truncate(self.truncate)
             .create(self.create && !self.exclusive)
             .create_new(self.create && self.exclusive)
-            .follow(FollowSymlinks::No);
+            .follow(self.follow_symlinks());
         options
     }
 }

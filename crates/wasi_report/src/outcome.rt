@@ -123,21 +123,20 @@ mod tests {
     use std::test::Fail;
     use wasi_guest::{Answer, Errno, TrapKind, Value};
     use wasi_host::Limits;
-    use wasi_tree::{NewContent, NewEntry, NewNode, TreeError, is_first_tree};
+    use wasi_tree::{NewContent, NewEntry, NewNode, are_fit};
 
     const LIMITS: Limits = Limits { nodes: 8, links: 8 };
 
-    fn tree_of(alloc: Global, nodes: Vec<NewNode>) -> Result<MemTree, TreeError> {
-        if !is_first_tree(alloc, &nodes, LIMITS)? {
-            return Err(TreeError::Invalid(0));
-        }
-        MemTree::new(alloc, nodes, LIMITS)
-    }
+    const SMALLEST: &str =
+        "{\"answers\":[],\"memory\":[],\"stderr\":\"\",\"stdout\":\"\",\"touched\":[],\"tree\":[{\"bits\":\"rwx\",\"dir\":{},\"times\":[[0,0],[0,0],[0,0]]}]}\n";
+
+    const EVERY_PART: &str =
+        "{\"answers\":[{\"ok\":4},{\"ok\":null},{\"errno\":\"noent\"},{\"trap\":\"pointer\"}],\"memory\":[\"ab01\"],\"stderr\":\"69\",\"stdout\":\"68\",\"touched\":[0,2],\"tree\":[{\"bits\":\"rwx\",\"dir\":{\"a\\\"\":2,\"f\":1},\"times\":[[0,0],[0,0],[0,0]]},{\"bits\":\"rw-\",\"file\":\"00ff\",\"times\":[[0,0],[0,0],[0,0]]},{\"bits\":\"rwx\",\"dir\":{},\"times\":[[0,0],[0,0],[0,0]]}]}\n";
 
     #[test]
-    fn smallest(rt: HostRuntime) -> Result<(), Fail> {
+    fn reports(rt: HostRuntime) -> Result<(), Fail> {
         let alloc = rt.alloc();
-        let outcome = Outcome {
+        let nothing = Outcome {
             answers: Answers::with_room(alloc, 0)?,
             shown: Vec::new(alloc),
             stdout: Vec::new(alloc),
@@ -145,45 +144,41 @@ mod tests {
             touched: Vec::new(alloc),
         };
         let root = NewNode::new(NewContent::Dir(Vec::new(alloc)));
-        let tree = tree_of(alloc, vec![in alloc; root]?)?;
-        let want =
-            "{\"answers\":[],\"memory\":[],\"stderr\":\"\",\"stdout\":\"\",\"touched\":[],\"tree\":[{\"bits\":\"rwx\",\"dir\":{},\"times\":[[0,0],[0,0],[0,0]]}]}\n";
-        assert_eq!(rt; report(alloc, &outcome, &tree)?.as_slice(), want.as_bytes());
-        Ok(())
-    }
-
-    #[test]
-    fn every_part(rt: HostRuntime) -> Result<(), Fail> {
-        let alloc = rt.alloc();
         let mut answers = Answers::with_room(alloc, 4)?;
         answers.push(Answer::Ok(Value::Number(4)));
         answers.push(Answer::Ok(Value::Unit));
         answers.push(Answer::Errno(Errno::Noent));
         answers.push(Answer::Trap(TrapKind::Pointer));
-        let mut entries = Vec::new(alloc);
-        entries.push(NewEntry {
-            name: String::from_str(alloc, "f")?,
-            node: 1,
-        })?;
-        entries.push(NewEntry {
-            name: String::from_str(alloc, "a\"")?,
-            node: 2,
-        })?;
-        let mut nodes = Vec::new(alloc);
-        nodes.push(NewNode::new(NewContent::Dir(entries)))?;
-        nodes.push(NewNode::new(NewContent::File(vec![in alloc; 0u8, 255]?)))?;
-        nodes.push(NewNode::new(NewContent::Dir(Vec::new(alloc))))?;
-        let outcome = Outcome {
+        let each_part = Outcome {
             answers,
             shown: vec![in alloc; vec![in alloc; 171u8, 1]?]?,
             stdout: vec![in alloc; 104u8]?,
             stderr: vec![in alloc; 105u8]?,
             touched: vec![in alloc; 0u64, 2]?,
         };
-        let tree = tree_of(alloc, nodes)?;
-        let want =
-            "{\"answers\":[{\"ok\":4},{\"ok\":null},{\"errno\":\"noent\"},{\"trap\":\"pointer\"}],\"memory\":[\"ab01\"],\"stderr\":\"69\",\"stdout\":\"68\",\"touched\":[0,2],\"tree\":[{\"bits\":\"rwx\",\"dir\":{\"a\\\"\":2,\"f\":1},\"times\":[[0,0],[0,0],[0,0]]},{\"bits\":\"rw-\",\"file\":\"00ff\",\"times\":[[0,0],[0,0],[0,0]]},{\"bits\":\"rwx\",\"dir\":{},\"times\":[[0,0],[0,0],[0,0]]}]}\n";
-        assert_eq!(rt; report(alloc, &outcome, &tree)?.as_slice(), want.as_bytes());
+        let entries = vec![in alloc;
+            NewEntry {
+                name: String::from_str(alloc, "f")?,
+                node: 1,
+            },
+            NewEntry {
+                name: String::from_str(alloc, "a\"")?,
+                node: 2,
+            },
+        ]?;
+        let nodes = vec![in alloc;
+            NewNode::new(NewContent::Dir(entries)),
+            NewNode::new(NewContent::File(vec![in alloc; 0u8, 255]?)),
+            NewNode::new(NewContent::Dir(Vec::new(alloc))),
+        ]?;
+        for (outcome, nodes, want) in [
+            (nothing, vec![in alloc; root]?, SMALLEST),
+            (each_part, nodes, EVERY_PART),
+        ] {
+            assert!(rt; are_fit(alloc, nodes.as_slice(), LIMITS)?);
+            let tree = MemTree::new(alloc, nodes, LIMITS)?;
+            assert_eq!(rt; report(alloc, &outcome, &tree)?.as_slice(), want.as_bytes());
+        }
         Ok(())
     }
 }

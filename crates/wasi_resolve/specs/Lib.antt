@@ -6,3 +6,9 @@ pub mod Laws
 pub mod Resolved
 pub mod Meanings
 pub mod PathRequest
+pub mod NameText
+pub mod Left
+pub mod Stack
+pub mod Finding
+pub mod WalkSteps
+pub mod Parents

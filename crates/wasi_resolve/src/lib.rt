@@ -1,9 +1,19 @@
 //! The walk along the parts of a path, which never leaves the directory that it starts from.
 #![tactic(auto)]
 
+mod found;
 mod laws;
+mod left;
+mod name_left;
+mod names;
+mod parent;
+mod resolver;
+mod stack;
+mod walk;
 
 pub use laws::{paths_agree, paths_stay_in_reach, walks_have_one_end, walks_read_few_links};
+pub use parent::{MaybeOwned, Parent, open_parent};
+pub use resolver::{open, open_dir, stat};
 
 /// How many links one walk reads at most: the crate's constant of that name.
 pub const MAX_SYMLINK_EXPANSIONS: u8 = 40;

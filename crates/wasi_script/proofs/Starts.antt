@@ -17,12 +17,10 @@ use Rattle.wasi_host.specs.declared.held.AccessMode.TheVariants.{PathOnly}
 use Rattle.wasi_host.specs.declared.held.Held.{Held}
 use Rattle.wasi_host.specs.declared.limits.Limits.{Limits}
 use Rattle.wasi_tree.specs.Given.{Given, GivenContent, file, directory, link, content_from, nodes_from, tree_of}
-use Rattle.wasi_host.specs.ValidTree.{AreLimits}
 use Rattle.wasi_tree.specs.declared.errors.TreeError.TheVariants.{Invalid}
-use Rattle.wasi_tree.specs.Fit.{IsTreeCause}
-use Rattle.wasi_tree.proofs.FirstTreeValid.{first_is_fit}
+use Rattle.wasi_tree.specs.Fit.{AreFit, IsTreeCause}
 use Rattle.wasi_form.specs.Built.{default_limits}
-use Rattle.wasi_tree.specs.FirstTree.{is_dir_content, is_first_tree}
+use Rattle.wasi_tree.specs.GivenTests.{is_dir_content}
 use Rattle.wasi_tree.specs.MemState.{HeldMap, MemState, live_of, held_in, world_of}
 use Rattle.wasi_guest.specs.Range.{with_bytes}
 use Rattle.wasi_p1.specs.Reach.{Confined}
@@ -46,15 +44,10 @@ passes_at p xs i d within all = elim (cases_Bool (p (get_or xs i d))) [
 pub given_is_live : (before now : Handles) (h : ℕ) → now ≡ insert before h → contains now h ≡ true
 given_is_live before now h is = rw is (grind (arith, members, nat_tests))
 
--- the limits of a script that doesn't set them
-default_are_limits : AreLimits default_limits
-default_are_limits =
-    record { some_nodes = omega arith; most_nodes = omega arith; some_links = omega arith; most_links = omega arith }
-
--- a first tree has no number that breaks the rules
-pub never_unfit : (nodes : List Given) (n : ℕ) → is_first_tree default_limits nodes ≡ true
+-- no number of nodes that are fit breaks the rules
+pub never_unfit : (nodes : List Given) (n : ℕ) → AreFit default_limits nodes
     → IsTreeCause default_limits nodes (Invalid n) → ⊥
-never_unfit nodes n first lowest = lowest.breaks (first_is_fit default_limits nodes first default_are_limits n)
+never_unfit nodes n fit lowest = lowest.breaks (fit n)
 
 directory_from : (all : List Given) (k : ℕ) (content : GivenContent) → is_dir_content content ≡ true → is_directory (content_from all k content) ≡ true
 directory_from all k (file bytes) is = absurd (cc)

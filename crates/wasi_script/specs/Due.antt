@@ -4,9 +4,9 @@ use Rattle.std.specs.Str.{bytes_eq}
 use Rattle.wasi_ends.specs.Ends.{TookFront}
 use Rattle.wasi_script.specs.Headline.{Reports}
 use Rattle.wasi_form.specs.Plan.{Plan, plan}
-use Rattle.wasi_form.specs.Verdict.{most_script, verdict_of}
+use Rattle.wasi_form.specs.Verdict.{most_script, IsVerdict}
 use Rattle.wasi_form.specs.declared.verdict.Refusal.{Refusal}
-use Rattle.wasi_form.specs.declared.verdict.Refusal.TheVariants.{Long, Json, Shape, Later, Limit}
+use Rattle.wasi_form.specs.declared.verdict.Refusal.TheVariants.{Long, Json, Shape, Later, Tree, Limit}
 use Rattle.wasi_form.specs.declared.script.Script.{Script}
 use Rattle.wasi_script.specs.declared.status.Status.{Status}
 use Rattle.wasi_script.specs.declared.status.Status.TheVariants as statuses
@@ -29,6 +29,7 @@ refusal_line Long = codes "refused: long" ++ 10 ∷ []
 refusal_line Json = codes "refused: json" ++ 10 ∷ []
 refusal_line Shape = codes "refused: shape" ++ 10 ∷ []
 refusal_line Later = codes "refused: later" ++ 10 ∷ []
+refusal_line Tree = codes "refused: tree" ++ 10 ∷ []
 refusal_line Limit = codes "refused: limit" ++ 10 ∷ []
 
 -- what has to be written
@@ -37,14 +38,15 @@ pub data Due : Type 0 where
   the_refusal : Refusal → Due
   the_report : Plan → Due
 
-abbrev pub due_of : Result Plan Refusal → Due
-due_of (Ok plan) = the_report plan
-due_of (Err refusal) = the_refusal refusal
-
--- by whether the words are `run`, and the bytes that the source has left
-abbrev pub due : Bool → List ℕ → Due
-due true left = due_of (verdict_of left)
-due false left = the_usage
+-- This is due, by whether the words are `run`, and by the bytes that the source has left: the usage line, or what the
+-- verdict on the bytes says.
+abbrev pub IsOwed : Bool → List ℕ → Due → Type 0
+IsOwed true left the_usage = ⊥
+IsOwed true left (the_refusal refusal) = IsVerdict left (Err refusal)
+IsOwed true left (the_report plan) = IsVerdict left (Ok plan)
+IsOwed false left the_usage = ⊤
+IsOwed false left (the_refusal refusal) = ⊥
+IsOwed false left (the_report plan) = ⊥
 
 -- the text is what is due
 abbrev pub IsText : Due → List ℕ → Type 0
@@ -66,6 +68,16 @@ IsDue (statuses.Refused refusal) d = statuses.Refused refusal ≡ status_of d
 IsDue statuses.ReadFault d = ⊤
 IsDue statuses.WriteFault d = ⊤
 IsDue statuses.NoMemory d = ⊤
+
+-- This holds of what is due. After a fault of reading, or want of memory, the verdict may not have been found, and it
+-- holds whatever is due.
+abbrev pub OfDue : Status → Bool → List ℕ → (Due → Type 0) → Type 0
+OfDue statuses.Done runs left Holds = (d : Due) × IsOwed runs left d × Holds d
+OfDue statuses.Usage runs left Holds = (d : Due) × IsOwed runs left d × Holds d
+OfDue (statuses.Refused refusal) runs left Holds = (d : Due) × IsOwed runs left d × Holds d
+OfDue statuses.WriteFault runs left Holds = (d : Due) × IsOwed runs left d × Holds d
+OfDue statuses.ReadFault runs left Holds = (d : Due) → Holds d
+OfDue statuses.NoMemory runs left Holds = (d : Due) → Holds d
 
 -- the sink took the text that is due, and no other byte
 pub record Wrote (d : Due) (taken now : List ℕ) : Type 0 where
@@ -122,9 +134,9 @@ EndsReading statuses.WriteFault = ⊥
 
 -- reading to the end gave the script, or a refusal; a fault and want of memory are free
 abbrev pub NotRead : Status → List ℕ → List ℕ → Type 0
-NotRead (statuses.Refused refusal) left rest = (verdict_of left ≡ Err refusal) × (rest ≡ left_unread left)
+NotRead (statuses.Refused refusal) left rest = IsVerdict left (Err refusal) × (rest ≡ left_unread left)
 NotRead status left rest = ⊤
 
 abbrev pub ReadsScript : Result Script Status → List ℕ → List ℕ → Type 0
-ReadsScript (Ok script) left rest = (verdict_of left ≡ Ok (plan script)) × (rest ≡ left_unread left)
+ReadsScript (Ok script) left rest = IsVerdict left (Ok (plan script)) × (rest ≡ left_unread left)
 ReadsScript (Err status) left rest = NotRead status left rest

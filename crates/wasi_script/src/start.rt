@@ -3,7 +3,7 @@ ghost use Rattle.std.specs.Prelude.{◌≡◌, ℕ, true, length, map, replicate
 ghost use Rattle.std.specs.List.{list_all};
 ghost use Rattle.wasi_host.specs.Tree.{node_at, is_directory};
 ghost use Rattle.wasi_tree.specs.Given.{given, tree_of};
-ghost use Rattle.wasi_tree.specs.FirstTree.{is_first_tree};
+ghost use Rattle.wasi_tree.specs.Fit.{AreFit};
 ghost use Rattle.wasi_tree.specs.MemState.{world_of};
 ghost use Rattle.wasi_form.specs.Plan.{planned_piece, planned_preopen};
 ghost use Rattle.wasi_form.specs.Built.{default_limits, are_preopens_directories, is_piece_within, is_shown_within};
@@ -45,13 +45,13 @@ fn given_handles(
     Ok(given)
 }
 
-/// A context over a tree of these nodes, in which the guest is given these directories.
+/// A context over the tree of these nodes, in which the guest is given these directories.
 pub fn first_context(
     alloc: Global,
     nodes: Vec<NewNode>,
     preopens: &[ScriptPreopen],
 ) -> Result<WasiP1Ctx<MemTree>, AllocError>
-    requires first { is_first_tree default_limits (map given nodes.items) ≡ true }
+    requires fit { AreFit default_limits (map given nodes.items) }
     requires directories { are_preopens_directories (map given nodes.items) (map planned_preopen preopens.now) ≡ true }
     ensures begun { IfOk result (λ c. IsBegun world_of c (tree_of (map given nodes.items) default_limits)
         (map planned_preopen preopens.now)) }

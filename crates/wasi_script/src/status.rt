@@ -69,6 +69,9 @@ fn why_refused(refusal: Refusal) -> &'static str {
         Refusal::Later => {
             "wasirun: the script has a form that isn't built; docs/SCRIPT.md says what is built"
         }
+        Refusal::Tree => {
+            "wasirun: the nodes of the script are no tree; docs/SCRIPT.md says what a tree is"
+        }
         Refusal::Limit => "wasirun: the script passes a limit; docs/SCRIPT.md says which there are",
     }
 }

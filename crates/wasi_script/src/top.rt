@@ -3,9 +3,11 @@ ghost use Rattle.std.specs.Prelude.{◌≡◌, ◌≤◌, ◌↔◌, ◌⊎◌, 
 ghost use Rattle.std.specs.String.{string_bytes};
 ghost use Rattle.wasi_host.specs.Meaning.{Rose};
 ghost use Rattle.wasi_form.specs.Plan.{plan};
-ghost use Rattle.wasi_form.specs.Built.{is_built_script};
+ghost use Rattle.wasi_tree.specs.Given.{given};
+ghost use Rattle.wasi_tree.specs.Fit.{AreFit};
+ghost use Rattle.wasi_form.specs.Built.{default_limits, is_built_script};
 ghost use Rattle.wasi_script.specs.Headline.{Reports};
-ghost use Rattle.wasi_script.specs.Due.{is_run, due, the_usage, due_of, refusal_line, IsDue, Writes, LeavesBytes, KeepsSink, EndsReading, ReadsScript, Written};
+ghost use Rattle.wasi_script.specs.Due.{is_run, the_usage, refusal_line, OfDue, IsDue, Writes, LeavesBytes, KeepsSink, EndsReading, ReadsScript, Written};
 
 use crate::start::{first_context, first_memory, shown};
 use crate::status::Status;
@@ -34,6 +36,7 @@ fn refusal_line(refusal: Refusal) -> &'static str
         Refusal::Json => "refused: json\n",
         Refusal::Shape => "refused: shape\n",
         Refusal::Later => "refused: later\n",
+        Refusal::Tree => "refused: tree\n",
         Refusal::Limit => "refused: limit\n",
     }
 }
@@ -44,6 +47,7 @@ fn read_from<S: Source>(alloc: Global, source: &mut S) -> Result<Script, Status>
     ensures cause { result ≡ Err Status.ReadFault → Rose (S.faults source.old) (S.faults source.new) }
     ensures ends { IfErr result EndsReading }
     ensures built { IfOk result (λ script. is_built_script (plan script) ≡ true) }
+    ensures fit { IfOk result (λ script. AreFit default_limits (map given script.nodes.items)) }
     ensures read { IsTrue S.told → ReadsScript result (S.left source.old) (S.left source.new) }
 {
     let bytes = read_all(alloc, source)?;
@@ -51,7 +55,8 @@ fn read_from<S: Source>(alloc: Global, source: &mut S) -> Result<Script, Status>
 }
 
 fn report_of(alloc: Global, script: Script) -> Result<Vec<u8>, AllocError>
-    requires { is_built_script (plan script) ≡ true }
+    requires built { is_built_script (plan script) ≡ true }
+    requires fit { AreFit default_limits (map given script.nodes.items) }
     ensures { IfOk result (λ text. Reports (plan script) text.items) }
 {
     let mut memory = first_memory(alloc, script.size, script.pieces.as_slice())?;
@@ -103,14 +108,16 @@ pub fn run_script<S: Source, K: Sink>(
     ensures usage { result ≡ Status.Usage → is_run (map string_bytes words.now.items) ≡ false }
     ensures other_words { is_run (map string_bytes words.now.items) ≡ false
         → ((result ≡ Status.Usage) ⊎ (result ≡ Status.WriteFault)) × (source.new ≡ source.old) }
-    ensures exact { IsTrue S.told → IsDue result (due (is_run (map string_bytes words.now.items)) (S.left source.old)) }
+    ensures exact { IsTrue S.told
+        → OfDue result (is_run (map string_bytes words.now.items)) (S.left source.old) (IsDue result) }
     ensures left { IsTrue S.told → is_run (map string_bytes words.now.items) ≡ true
         → LeavesBytes result (S.left source.old) (S.left source.new) }
     ensures usage_line { IsTrue K.told → is_run (map string_bytes words.now.items) ≡ false
         → Writes result the_usage (K.taken sink.old) (K.taken sink.new) }
     ensures nothing { IsTrue K.told → KeepsSink result (K.taken sink.old) (K.taken sink.new) }
     ensures writes { IsTrue S.told → IsTrue K.told
-        → Writes result (due (is_run (map string_bytes words.now.items)) (S.left source.old)) (K.taken sink.old) (K.taken sink.new) }
+        → OfDue result (is_run (map string_bytes words.now.items)) (S.left source.old)
+        (λ due. Writes result due (K.taken sink.old) (K.taken sink.new)) }
 {
     if !is_run(words.as_slice()) {
         return written(sink, USAGE.as_bytes(), Status::Usage);
@@ -134,3 +141,5 @@ pub fn run_script<S: Source, K: Sink>(
 
 #[cfg(test)]
 mod tests;
+#[cfg(test)]
+mod walks;

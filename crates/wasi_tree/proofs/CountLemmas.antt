@@ -1,7 +1,7 @@
 -- Counting how many entries give each number.
-use Rattle.std.proofs.Common.{◌≡◌, ℕ, zero, suc, ◌+◌, ◌<◌, ◌≤◌, true, List, [], ◌∷◌, ◌++◌, map, take, length, nat_eq, cond, count_by, slice_index_or, slice_set, refl, sym, ap, ◌∙◌, subst, arith, ⊎_elim, zero-add}
+use Rattle.std.proofs.Common.{◌≡◌, ℕ, zero, suc, ◌+◌, ◌<◌, ◌≤◌, List, [], ◌∷◌, ◌++◌, map, take, length, nat_eq, cond, slice_index_or, slice_set, count_by, refl, sym, ap, ◌∙◌, subst, arith, ⊎_elim, zero-add}
 use Rattle.std.proofs.Math.ListN.{replicate}
-use Rattle.std.proofs.lemmas.Bool.{cases_eq, ne_eqb}
+use Rattle.std.proofs.lemmas.Bool.{cases_eq, eq-eqb, ne_eqb}
 use Rattle.std.proofs.lemmas.List.{take_more, take_all, map_push, append-nil, append_assoc, length-map, length-set, get_or-set_same, get_or-set_other, get_or-replicate, length-replicate}
 use Rattle.std.proofs.lemmas.List.Sums.{sum_by-cons, sum_by-append}
 use Rattle.wasi_host.proofs.EntryLemmas.{times, once, times-cons}
@@ -10,13 +10,9 @@ use Rattle.wasi_tree.specs.declared.node.NewNode.{NewNode}
 use Rattle.wasi_tree.specs.Given.{Given, pair_of, given, given_content, given_entries, entry_count}
 use Rattle.wasi_tree.specs.GivenTests.{numbers_from}
 use Rattle.wasi_tree.specs.Fit.{name_counts}
-use Rattle.wasi_tree.specs.EntryNumbers.{entry_numbers, content_numbers, all_numbers}
-use Rattle.wasi_tree.specs.FitTests.{AreCounted}
+use Rattle.wasi_tree.specs.FitTests.{entry_numbers, content_numbers, all_numbers, AreCounted}
 
-pub nat_eq-refl : (n : ℕ) → nat_eq n n ≡ true
-nat_eq-refl n = grind arith
-
--- how often a number stands in the entries
+-- how often a number stands among entries, and among those of all nodes
 pub times-numbers : (n : ℕ) (entries : List (List ℕ × ℕ))
     → count_by (λ e. nat_eq e.1 n) entries ≡ times n (map (λ e. e.1) entries)
 times-numbers n [] = refl
@@ -25,7 +21,7 @@ times-numbers n (e ∷ entries) =
     ∙ ap (λ k. cond (nat_eq e.1 n) 1 0 + k) (times-numbers n entries)
     ∙ sym (sum_by-cons (λ k. cond (nat_eq k n) 1 0) e.1 (map (λ f. f.1) entries))
 
-pub entry_count-times : (n : ℕ) (nodes : List Given) → entry_count n nodes ≡ times n (all_numbers nodes)
+entry_count-times : (n : ℕ) (nodes : List Given) → entry_count n nodes ≡ times n (all_numbers nodes)
 entry_count-times n [] = refl
 entry_count-times n (g ∷ gs) =
     sum_by-cons (λ (h : Given). count_by (λ e. nat_eq e.1 n) (given_entries h.content)) g gs
@@ -71,7 +67,7 @@ counted_one counts n within = record {
   len = length-set counts n (slice_index_or counts n 0 + 1);
   each = λ k h. ⊎_elim
       (λ (e : n ≡ k). subst (λ m. slice_index_or (slice_set counts n (slice_index_or counts n 0 + 1)) m 0 ≡ slice_index_or counts m 0 + times m (n ∷ [])) e
-      (rw (get_or-set_same counts n (slice_index_or counts n 0 + 1) 0 within) (omega (arith, times-cons n n [], ap once (nat_eq-refl n)))))
+      (rw (get_or-set_same counts n (slice_index_or counts n 0 + 1) 0 within) (omega (arith, times-cons n n [], ap once (eq-eqb n n refl)))))
       (λ (e : n ≡ k → ⊥). rw (get_or-set_other counts n k (slice_index_or counts n 0 + 1) 0 (λ q. e (sym q))) (omega (arith, times-cons k n [], ap once (ne_eqb n k e))))
       (cases_eq n k);
 }

@@ -1,5 +1,5 @@
 -- The tree of fit nodes is valid.
-use Rattle.std.proofs.Common.{◌≡◌, ℕ, zero, suc, ◌+◌, ◌-◌, ◌<◌, ◌≤◌, true, false, not, ◌&&◌, inl, inr, ⊎_elim, List, [], ◌∷◌, length, slice_get, slice_index_or, nat_eq, nat_lt, nat_le, sum_by, count_by, Option, Some, None, refl, sym, ap, ◌∙◌, subst, arith, zero-add, add-zero}
+use Rattle.std.proofs.Common.{◌≡◌, ℕ, zero, suc, ◌+◌, ◌-◌, ◌<◌, ◌≤◌, Bool, true, false, not, ◌&&◌, inl, inr, ⊎_elim, List, [], ◌∷◌, length, slice_get, slice_index_or, nat_eq, nat_lt, nat_le, sum_by, count_by, Option, Some, None, refl, sym, ap, ◌∙◌, subst, arith, zero-add, add-zero}
 use Rattle.std.specs.List.{All, Contains, list_all}
 use Rattle.std.specs.Option.{ForSome}
 use Rattle.std.specs.Str.{is_utf8}
@@ -7,7 +7,7 @@ use Rattle.std.specs.FinMap as maps
 use Rattle.std.proofs.lemmas.Str.{IsUtf8-from_is_utf8}
 use Rattle.std.specs.Cmp.Lexicographic.{nat_list_cmp_total}
 use Rattle.std.proofs.Math.Bool.{and-false}
-use Rattle.std.proofs.lemmas.Bool.{and_parts, ltb-true, leb-true, ne_eqb}
+use Rattle.std.proofs.lemmas.Bool.{and_parts, not-true, ltb-true, leb-true, ne_eqb}
 use Rattle.std.proofs.lemmas.List.Elements.{All-nil, All-cons}
 use Rattle.std.proofs.lemmas.List.Sums.{sum_by-cons}
 use Rattle.std.proofs.lemmas.Option.{slice_get-get_or}
@@ -19,9 +19,9 @@ use Rattle.wasi_host.specs.declared.limits.Limits.{Limits}
 use Rattle.wasi_host.specs.declared.limits.TheConstants.{FILE_MAX, LINK_MAX}
 use Rattle.wasi_tree.specs.Given.{Given, GivenContent, file, directory, link, given_entries, entry_count, content_from, node_from, nodes_from, tree_of}
 use Rattle.wasi_tree.specs.GivenTests.{is_dir_content, are_distinct, starts_with_directory}
-use Rattle.wasi_tree.specs.Fit.{is_fit_entry, IsFound, root, held, entries_held, HasPlace, IsFitContent, AreFit}
+use Rattle.wasi_tree.specs.Fit.{is_fit_entry, IsFound, root, held, entries_at, entries_held, HasPlace, IsFitContent, AreFit}
 use Rattle.wasi_tree.proofs.CountLemmas.{times-numbers}
-use Rattle.wasi_tree.proofs.GivenNames.{not_true, texts, names_from, times-from, All-from, find_held}
+use Rattle.wasi_tree.proofs.GivenNames.{texts, names_from, times-from, All-from, find_held}
 
 -- the nodes of the tree
 nodes_at : (all : List Given) (k : ℕ) (gs : List Given) (n : ℕ) (s : Node) (g : Given) → slice_get gs n ≡ Some g
@@ -166,7 +166,7 @@ content_valid limits nodes n (link text) are is fit =
       ltb-true 0 (length text) sizes.0,
       leb-true (length text) LINK_MAX sizes.1,
       IsUtf8-from_is_utf8 text third.1,
-      not_true (has_nul text) last.1,
+      not-true (has_nul text) last.1,
       sym (count_is limits nodes n are),
       links,
     )

@@ -3,16 +3,12 @@ use Rattle.std.specs.List.{All, Contains, list_any}
 use Rattle.std.specs.Cmp.Lexicographic.{nat_list_cmp_total}
 use Rattle.std.specs.FinMap as maps
 use Rattle.std.specs.Str.{bytes_eq}
-use Rattle.std.proofs.lemmas.Bool.{and_parts}
+use Rattle.std.proofs.lemmas.Bool.{and_parts, not-true}
 use Rattle.std.proofs.lemmas.Map.Text.{is_eq-slice_cmp}
 use Rattle.std.proofs.lemmas.Slice.Eq.{bytes_eq-Decides}
 use Rattle.wasi_host.specs.Tree.{Names}
 use Rattle.wasi_tree.specs.GivenTests.{are_distinct}
 use Rattle.wasi_host.proofs.EntryLemmas.{times, once, times-cons, numbers, find_in, put_in, times-put, All-put_in, entries-no_names, entries-inserted}
-
-pub not_true : (b : Bool) → not b ≡ true → b ≡ false
-not_true true is = sym is
-not_true false is = refl
 
 abbrev pub texts : List (List ℕ × ℕ) → List (List ℕ)
 texts es = map (λ e. e.0) es
@@ -42,7 +38,7 @@ distinct-parts : (e : List ℕ × ℕ) (es : List (List ℕ × ℕ)) → are_dis
     → (list_any (bytes_eq e.0) (texts es) ≡ false) × (are_distinct (texts es) ≡ true)
 distinct-parts e es is =
     let parts = and_parts (not (list_any (bytes_eq e.0) (texts es))) (are_distinct (texts es)) is in
-    (not_true (list_any (bytes_eq e.0) (texts es)) parts.0, parts.1)
+    (not-true (list_any (bytes_eq e.0) (texts es)) parts.0, parts.1)
 
 -- distinct names: the map holds a node as often as the list
 pub times-from : (n : ℕ) (es : List (List ℕ × ℕ)) → are_distinct (texts es) ≡ true

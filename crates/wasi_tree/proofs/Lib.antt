@@ -2,13 +2,9 @@ pub mod DistinctLemmas
 pub mod FitLemmas
 pub mod CountLemmas
 pub mod FoundLemmas
-pub mod FirstTreeLemmas
-pub mod FirstTreeMarks
-pub mod FirstTreeOnce
 pub mod GivenNames
 pub mod FitDecides
 pub mod FitValid
-pub mod FirstTreeValid
 pub mod SlotLemmas
 pub mod MarkLemmas
 pub mod NameLemmas

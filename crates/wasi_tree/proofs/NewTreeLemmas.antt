@@ -15,7 +15,7 @@ use Rattle.wasi_host.specs.Tree.{Tree, Node, Nodes, node_at, stray, names_of, te
 use Rattle.wasi_host.specs.declared.limits.Limits.{Limits}
 use Rattle.wasi_host.specs.declared.limits.TheConstants.{LINK_MAX}
 use Rattle.wasi_tree.specs.Given.{Given, GivenContent, file, directory, link, entry_count, content_from, node_from, nodes_from, tree_of}
-use Rattle.wasi_tree.specs.FirstTree.{numbers_from}
+use Rattle.wasi_tree.specs.GivenTests.{numbers_from}
 use Rattle.wasi_tree.specs.Fit.{is_fit_entry, IsFitContent, IsFit, AreFit, name_counts}
 use Rattle.wasi_tree.specs.StoredTree.{stored_node, stored_tree}
 use Rattle.wasi_tree.specs.Sound.{IsSound, IsSoundNode, IsSoundText}

@@ -1,12 +1,26 @@
 -- What the test of fit nodes is made of: counts of names, marks of what is found, and what both decide of one node.
-use Rattle.std.specs.Prelude.{◌≡◌, ◌⊎◌, ℕ, ◌+◌, ◌<◌, Bool, true, false, not, ◌&&◌, ◌||◌, nat_eq, nat_lt, nat_le, List, map, length, slice_index_or, count_by, Contains}
+use Rattle.std.specs.Prelude.{◌≡◌, ◌⊎◌, ℕ, zero, suc, ◌+◌, ◌<◌, Bool, true, false, not, ◌&&◌, ◌||◌, nat_eq, nat_lt, nat_le, List, [], ◌∷◌, ◌++◌, map, length, slice_index_or, count_by, Contains}
 use Rattle.std.specs.Bool.{Decides}
 use Rattle.std.specs.List.{list_all}
 use Rattle.wasi_host.specs.declared.limits.Limits.{Limits}
-use Rattle.wasi_tree.specs.Given.{Given, GivenContent, file, directory, link}
+use Rattle.wasi_tree.specs.declared.node.NewEntry.{NewEntry}
+use Rattle.wasi_tree.specs.Given.{Given, GivenContent, file, directory, link, pair_of, given_entries}
 use Rattle.wasi_tree.specs.GivenTests.{are_distinct}
 use Rattle.wasi_tree.specs.Fit.{is_fit_file, is_fit_entry, is_fit_text, IsFound}
 use Rattle.wasi_tree.specs.declared.fit.Place.{Place}
+
+-- the numbers of entries
+abbrev pub entry_numbers : List NewEntry → List ℕ
+entry_numbers entries = map (λ e. e.1) (map pair_of entries)
+
+-- the numbers of the entries of one node
+abbrev pub content_numbers : GivenContent → List ℕ
+content_numbers content = map (λ e. e.1) (given_entries content)
+
+-- the numbers of all entries
+abbrev pub all_numbers : List Given → List ℕ
+all_numbers [] = []
+all_numbers (g ∷ gs) = content_numbers g.content ++ all_numbers gs
 
 -- each count grew by how often its number stands in a list; a number out of range has no count
 pub record AreCounted (numbers old new : List ℕ) : Type 0 where

@@ -1,5 +1,6 @@
 //! Which lists of nodes a tree can be made of.
 ghost use Rattle.std.specs.Prelude.{◌≡◌, ◌+◌, ◌<◌, ◌≤◌, ◌&&◌, not, [], ◌∷◌, List, map, length, slice_index_or, slice_set, IfOk, IfErr, OnOk, false, true};
+ghost use Rattle.std.specs.Bool.{Decides};
 ghost use Rattle.std.specs.List.{list_all};
 ghost use Rattle.std.specs.Vec.{vec_len, vec_capacity};
 ghost use Rattle.std.specs.Str.{is_utf8};
@@ -9,8 +10,7 @@ ghost use Rattle.wasi_host.specs.declared.limits.Limits.{Limits};
 ghost use Rattle.wasi_tree.specs.Given.{Given, given, given_content, given_entries, pair_of, tree_of};
 ghost use Rattle.wasi_tree.specs.GivenTests.{is_dir_content, are_distinct, starts_with_directory};
 ghost use Rattle.wasi_tree.specs.Fit.{is_fit_file, is_fit_text, is_fit_entry, entries_at, AreFit, IsTreeCause, name_counts};
-ghost use Rattle.wasi_tree.specs.EntryNumbers.{entry_numbers};
-ghost use Rattle.wasi_tree.specs.FitTests.{AreCounted, AreMarked, TellFound, unmarked_count, has_place, is_fit_content, is_fit};
+ghost use Rattle.wasi_tree.specs.FitTests.{entry_numbers, AreCounted, AreMarked, TellFound, unmarked_count, has_place, is_fit_content, is_fit};
 
 use crate::{NewContent, NewEntry, NewNode, TreeError};
 use std::alloc::{AllocError, Global};
@@ -53,6 +53,18 @@ pub fn counted_names(
     let found = found_nodes(alloc, nodes)?;
     check_nodes(alloc, nodes, limits, &counts, &found)?;
     Ok(counts)
+}
+
+/// Whether a tree can be made of a list of nodes within these limits: whether `MemTree::new` takes it. An `Err` is want of
+/// memory alone.
+pub fn are_fit(alloc: Global, nodes: &[NewNode], limits: Limits) -> Result<bool, AllocError>
+    ensures test { IfOk result (λ is. Decides is (AreFit limits (map given nodes.now))) }
+{
+    match counted_names(alloc, nodes, limits) {
+        Ok(_) => Ok(true),
+        Err(TreeError::Invalid(_)) => Ok(false),
+        Err(TreeError::Memory) => Err(AllocError),
+    }
 }
 
 /// Whether each node keeps the rules, of nodes that start with a directory.
@@ -146,7 +158,7 @@ fn has_place(place: Place, entries: &[NewEntry]) -> bool
     place.names == 1 && place.is_found
 }
 
-pub fn starts_with_directory(nodes: &[NewNode]) -> bool
+fn starts_with_directory(nodes: &[NewNode]) -> bool
     ensures test { result ≡ starts_with_directory (map given nodes.now) }
 {
     match nodes.first() {
@@ -155,7 +167,7 @@ pub fn starts_with_directory(nodes: &[NewNode]) -> bool
     }
 }
 
-pub fn is_dir_content(content: &NewContent) -> bool
+fn is_dir_content(content: &NewContent) -> bool
     ensures test { result ≡ is_dir_content (given_content content.now) }
 {
     match content {
@@ -166,7 +178,7 @@ pub fn is_dir_content(content: &NewContent) -> bool
 }
 
 #[tactic(auto, using(crate::proofs::FitLemmas::type_rules))]
-pub fn is_fit_file(bytes: &[u8]) -> bool
+fn is_fit_file(bytes: &[u8]) -> bool
     ensures test { result ≡ is_fit_file bytes.now }
 {
     bytes.len() <= FILE_MAX
@@ -181,7 +193,7 @@ fn is_fit_text(text: &str) -> bool
 
 /// Whether a directory may hold the name.
 #[tactic(auto, using(crate::proofs::FitLemmas::type_rules))]
-pub fn is_fit_name(name: &str) -> bool
+fn is_fit_name(name: &str) -> bool
     ensures test { result ≡ (is_entry_name name.now && is_utf8 name.now) }
 {
     match Name::plain(name) {
@@ -204,7 +216,7 @@ fn is_fit_entry(count: u64, entry: &NewEntry) -> bool
 
 /// Whether no name stands twice.
 #[tactic(auto, using(crate::proofs::DistinctLemmas::seen_rules))]
-pub fn are_distinct(alloc: Global, entries: &[NewEntry]) -> Result<bool, AllocError>
+fn are_distinct(alloc: Global, entries: &[NewEntry]) -> Result<bool, AllocError>
     ensures test { IfOk result (λ is. is ≡ are_distinct (map (λ e. e.0) (map pair_of entries.now))) }
 {
     let mut seen = BTreeSet::new(alloc);
@@ -311,7 +323,7 @@ fn find(marks: &mut Vec<bool>, work: &mut Vec<u64>, number: u64)
 }
 
 /// Marks a number. Whether it had no mark before.
-pub fn mark(marks: &mut Vec<bool>, number: u64) -> bool
+fn mark(marks: &mut Vec<bool>, number: u64) -> bool
     requires within { number < vec_len marks.old }
     ensures unmarked { result ≡ not (slice_index_or marks.old.items number false) }
     ensures marked { marks.new.items ≡ slice_set marks.old.items number true }

@@ -2,7 +2,6 @@
 #![tactic(auto)]
 
 mod errors;
-mod first_tree;
 mod fit;
 #[cfg(test)]
 mod listed;
@@ -15,8 +14,7 @@ mod store;
 mod touched_tree;
 
 pub use errors::{HandleError, TreeError};
-pub use first_tree::{first_trees_are_fit, first_trees_are_valid, is_first_tree};
-pub use fit::fit_trees_are_valid;
+pub use fit::{are_fit, fit_trees_are_valid};
 pub use mem_tree::MemTree;
 pub use node::{LentContent, LentNode, NewContent, NewEntry, NewNode};
 pub use wasi_host::{Bits, Limits};

@@ -50,15 +50,15 @@ impl Model for MemTree {
 
 #[tactic(auto, using(crate::proofs::MemLemmas::mem_rules))]
 impl MemTree {
-    /// A tree of these nodes, whose numbers are their places in the list. It has no live handle, no node is touched, and
-    /// there is no look-up. Bits and times are as given. Every entry counts as a name of the node that it gives: a file
-    /// or a link has as many links as names, and a directory but node 0 that has no name is removed.
+    /// A tree of these nodes, whose numbers are their places in the list. It has no live handle, no node is touched,
+    /// and there is no look-up. Bits and times are as given. Every entry counts as a name of the node that it gives: a
+    /// file or a link has as many links as names, and a directory but node 0 that has no name is removed.
     ///
     /// The rules: Node 0 is a directory without a name. Each other directory has exactly one name and is found from
     /// node 0, or it is removed: it has no name and no entries. A name has 1 to 255 bytes, no NUL and no `/`, and isn't
-    /// `.` or `..`; a directory holds it once, and gives it the number of a node. A link's text has 1 to 4,095 bytes and
-    /// no NUL. No file has more than 2^30 bytes, no file or link more than `limits.links` names, and no number is at or
-    /// above `limits.nodes`.
+    /// `.` or `..`; a directory holds it once, and gives it the number of a node. A link's text has 1 to 4,095 bytes
+    /// and no NUL. No file has more than 2^30 bytes, no file or link more than `limits.links` names, and no number is
+    /// at or above `limits.nodes`.
     ///
     /// `Invalid` comes exactly where a number breaks the rules, with the lowest one that does. A bad name, a name that
     /// stands twice, or an entry whose number is no node's counts for the directory that holds it. A wrong number of

@@ -6,7 +6,7 @@ ghost use Rattle.wasi_host.specs.HostCall.{OpenAt, StatAt, ReadLinkAt, Access, S
 ghost use Rattle.wasi_host.specs.Refusal.{refusal, first_row, name_rows};
 ghost use Rattle.wasi_host.specs.Step.{is_cut, file_cut, file_made, bytes_put, write_step};
 ghost use Rattle.wasi_host.specs.Answer.{metadata_of, stat_at_answer, link_answer, access_answer, bytes_read, bytes_taken};
-ghost use Rattle.wasi_host.specs.declared.limits.TheConstants.{FILE_MAX, LINK_MAX};
+ghost use Rattle.wasi_host.specs.declared.limits.TheConstants.{FILE_MAX};
 ghost use Rattle.std.specs.Option.{ForSome};
 ghost use Rattle.wasi_tree.specs.Given.{given, given_of, nodes_from, tree_of};
 ghost use Rattle.wasi_tree.specs.Fit.{AreFit, IsTreeCause, name_counts};

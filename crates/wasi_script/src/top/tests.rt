@@ -108,6 +108,22 @@ fn refusals(rt: HostRuntime) -> Result<(), Fail> {
         ),
         (
             Parts {
+                nodes: r#"{"dir":{}},{"dir":{"a":2}},{"dir":{"b":1}}"#,
+                ..FIRST
+            },
+            Refusal::Tree,
+            "refused: tree\n",
+        ),
+        (
+            Parts {
+                nodes: r#"{"dir":{"a":1,"b":1}},{"dir":{}}"#,
+                ..FIRST
+            },
+            Refusal::Tree,
+            "refused: tree\n",
+        ),
+        (
+            Parts {
                 path: "a text that doesn't fit in a memory of so few bytes as this one has",
                 ..FIRST
             },
@@ -135,7 +151,7 @@ fn reads(rt: HostRuntime) -> Result<(), Fail> {
                 calls: r#"["path_open",3,0,0,0,0,2,0,0],["fd_read",4,8,1]"#,
                 ..FIRST
             },
-            r#"{"answers":[{"errno":"notsup"},{"errno":"badf"}],"#,
+            r#"{"answers":[{"errno":"noent"},{"errno":"badf"}],"#,
             "\n",
         ),
         (
@@ -219,6 +235,21 @@ fn read_only(rt: HostRuntime) -> Result<(), Fail> {
     ] {
         assert!(rt; ends_so(alloc, parts, Status::Done, front, kept)?);
     }
+    Ok(())
+}
+
+// A link, bits, and a directory that is removed stand in the report as they stood in the script.
+#[test]
+fn nodes_again(rt: HostRuntime) -> Result<(), Fail> {
+    let alloc = rt.alloc();
+    let parts = Parts {
+        nodes: r#"{"dir":{"l":2,"f":3},"bits":"r-x"},{"dir":{},"bits":"-w-"},{"link":"../a","bits":"---"},{"file":"00"}"#,
+        ..EMPTY
+    };
+    let tree =
+        "\"tree\":[{\"bits\":\"r-x\",\"dir\":{\"f\":3,\"l\":2},\"times\":[[0,0],[0,0],[0,0]]},{\"bits\":\"-w-\",\"dir\":{},\"times\":[[0,0],[0,0],[0,0]]},{\"bits\":\"---\",\"link\":\"../a\",\"times\":[[0,0],[0,0],[0,0]]},{\"bits\":\"rw-\",\"file\":\"00\",\"times\":[[0,0],[0,0],[0,0]]}]}\n";
+    let front = r#"{"answers":[],"memory":["00000000"],"#;
+    assert!(rt; ends_so(alloc, parts, Status::Done, front, tree)?);
     Ok(())
 }
 

@@ -1,5 +1,4 @@
 use Rattle.std.proofs.lemmas.Result.{err_from_is_err_and}
-use Rattle.wasi_paths.specs.Name.{name_bytes}
 use Rattle.wasi_p1.specs.CallParts.{open_directory_of}
 use Rattle.wasi_p1.specs.Guest.{places_of}
 use Rattle.wasi_p1.proofs.Placing.{opened_new, opened_not, opens_new, opens_not, places_stay}
@@ -22,7 +21,7 @@ pub returns-clause-front : goal.returns-clause-front
 returns-clause-front g c =
     rw (c.put.ensures.number, c.put.ensures.slots, c.reserve.ensures.slots)
     (opens_new (open_directory_of (g.H.Host.world c.args.host.now).held c.args.directory) c.args.how
-    (name_bytes c.args.name) _ _ _ c.in_ok-slot.ensures.front)
+    c.args.text.now _ _ _ c.in_ok-slot.ensures.front)
 
 pub returns-clause-told : goal.returns-clause-told
 returns-clause-told g c = λ told. rw (c.put.ensures.number, c.put.ensures.slots, c.reserve.ensures.slots)
@@ -40,7 +39,7 @@ pub returns-in_err-slot-clause-front : goal.returns-in_err-slot-clause-front
 returns-in_err-slot-clause-front g c =
     let error = err_from_is_err_and c.from_residual-in_err-slot.result c.from_residual-in_err-slot.ensures.1 in
     rw (error.1, error.2) (opens_not (open_directory_of (g.H.Host.world c.args.host.now).held c.args.directory)
-    c.args.how (name_bytes c.args.name) (places_of (g.H.Host.world c.args.host.now).held c.args.descriptors.now.slots)
+    c.args.how c.args.text.now (places_of (g.H.Host.world c.args.host.now).held c.args.descriptors.now.slots)
     c.in_err-slot.ensures.front)
 
 pub returns-in_err-slot-clause-lineage : goal.returns-in_err-slot-clause-lineage

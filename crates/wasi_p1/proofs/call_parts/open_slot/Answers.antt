@@ -11,7 +11,7 @@ pub returns-in_err-handle-clause-told : goal.returns-in_err-handle-clause-told
 returns-in_err-handle-clause-told g c = λ told.
     let d = open_directory_of (g.H.Host.world c.args.host.now).held c.args.directory in
     let error = err_from_is_err_and c.from_residual.result c.from_residual.ensures.1 in
-    rw (error.1, error.2) (opening_err d c.args.how _ c.in_err-handle.ensures.live c.in_err-handle.ensures.cause.io
+    rw (error.1, error.2) (opening_err d c.args.how _ c.in_err-handle.ensures.cause.io
     (rw c.options.ensures.options at (c.in_err-handle.ensures.told told)))
 
 pub returns-in-Err-clause-front : goal.returns-in-Err-clause-front
@@ -23,7 +23,7 @@ returns-in-Err-clause-told g c = λ told.
     rw c.from.ensures (opening_undone d c.args.how (record {
       fresh = c.in_ok-handle.ensures.live.0;
       live = c.in_ok-handle.ensures.live.1;
-      told = rw c.options.ensures.options at (c.in_ok-handle.ensures.told told);
+      did = rw c.options.ensures.options at (c.in_ok-handle.ensures.told told);
     }) _ c.stat.ensures.live
     (c.close.ensures.live
     ∙ ap (λ s. remove s c.in_ok-handle.handle) (c.stat.ensures.live ∙ c.in_ok-handle.ensures.live.1)
@@ -40,7 +40,7 @@ returns-in-Ok-slot_for-clause-told g c = λ told.
     opening_ok d c.args.how (record {
       fresh = c.in_ok-handle.ensures.live.0;
       live = c.in_ok-handle.ensures.live.1;
-      told = rw c.options.ensures.options at (c.in_ok-handle.ensures.told told);
+      did = rw c.options.ensures.options at (c.in_ok-handle.ensures.told told);
     }) c.stat.ensures.live (c.in-Ok.ensures.told told) (sym c.in-Ok-slot_for.ensures)
 
 pub returns-in-Err-slot_for-clause-front : goal.returns-in-Err-slot_for-clause-front
@@ -53,7 +53,7 @@ returns-in-Err-slot_for-clause-told g c = λ told.
     opening_refused d c.args.how (record {
       fresh = c.in_ok-handle.ensures.live.0;
       live = c.in_ok-handle.ensures.live.1;
-      told = rw c.options.ensures.options at (c.in_ok-handle.ensures.told told);
+      did = rw c.options.ensures.options at (c.in_ok-handle.ensures.told told);
     }) c.stat.ensures.live (c.in-Ok.ensures.told told)
     (c.close-in-Err-slot_for.ensures.live
     ∙ ap (λ s. remove s c.in_ok-handle.handle) (c.stat.ensures.live ∙ c.in_ok-handle.ensures.live.1)

@@ -6,18 +6,15 @@ use Rattle.wasi_script.proofs.Headlines.{begun_at, RanPlan, reports}
 use Rattle.wasi_script.proofs.top.report_of.Goals as goal
 
 pub first_memory-requires : goal.first_memory-requires
-first_memory-requires c = rw c.as_slice.ensures.value (built_parts (plan c.args.script) c.requires).pieces
-
-pub first_context-requires-clause-first : goal.first_context-requires-clause-first
-first_context-requires-clause-first c = (built_parts (plan c.args.script) c.requires).tree
+first_memory-requires c = rw c.as_slice.ensures.value (built_parts (plan c.args.script) c.requires.built).pieces
 
 pub first_context-requires-clause-directories : goal.first_context-requires-clause-directories
 first_context-requires-clause-directories c =
-    rw c.as_slice-2.ensures.value (built_parts (plan c.args.script) c.requires).preopens
+    rw c.as_slice-2.ensures.value (built_parts (plan c.args.script) c.requires.built).preopens
 
 pub shown-requires : goal.shown-requires
 shown-requires c =
-    let parts = built_parts (plan c.args.script) c.requires in
+    let parts = built_parts (plan c.args.script) c.requires.built in
     rw (c.as_slice-3.ensures.value, c.run_calls.ensures.size, c.in_ok-memory.ensures.size) parts.show
 
 pub returns : goal.returns

@@ -1,6 +1,5 @@
 use Rattle.std.proofs.Common.{take}
-use Rattle.wasi_tree.specs.EntryNumbers.{entry_numbers}
-use Rattle.wasi_tree.specs.FitTests.{AreCounted}
+use Rattle.wasi_tree.specs.FitTests.{entry_numbers, AreCounted}
 use Rattle.wasi_tree.proofs.fit.count_entries.Given as goal
 
 abbrev pub invariant-loop-entry : goal.invariant-loop-entry

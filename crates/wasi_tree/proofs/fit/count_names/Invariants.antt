@@ -1,7 +1,6 @@
 use Rattle.std.proofs.Common.{map, take}
 use Rattle.wasi_tree.specs.Given.{given}
-use Rattle.wasi_tree.specs.EntryNumbers.{all_numbers}
-use Rattle.wasi_tree.specs.FitTests.{AreCounted}
+use Rattle.wasi_tree.specs.FitTests.{all_numbers, AreCounted}
 use Rattle.wasi_tree.proofs.fit.count_names.Given as goal
 
 abbrev pub invariant-loop-node : goal.invariant-loop-node

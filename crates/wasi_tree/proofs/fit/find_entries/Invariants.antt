@@ -1,6 +1,5 @@
 use Rattle.std.proofs.Common.{◌≡◌, take, vec_capacity}
-use Rattle.wasi_tree.specs.EntryNumbers.{entry_numbers}
-use Rattle.wasi_tree.specs.FitTests.{AreMarked}
+use Rattle.wasi_tree.specs.FitTests.{entry_numbers, AreMarked}
 use Rattle.wasi_tree.proofs.fit.find_entries.Given as goal
 
 abbrev pub invariant-loop-entry : goal.invariant-loop-entry

@@ -17,7 +17,7 @@ returns-in_err-number-clause-turn g c =
     rw (error.1, error.2, ← c.self.view_is) (does_err
     (opened_among _ c.in_ok-directory.directory.perms c.in_ok-how.how.directory) with_places
     (path_open_asks _ _ _ _ _ _ _ _ _ c.in_ok-how.ensures.row c.in_ok-text.ensures c.in_ok-directory.ensures.row
-    c.in_ok-check.ensures.row c.in_ok-name.ensures.row)
+    c.in_ok-check.ensures.row)
     c.in_err-number.ensures.front
     (λ _. refl)
     (record { slots = c.in_err-number.ensures.kept; stdout = refl; stderr = refl; memory = refl })
@@ -32,7 +32,7 @@ pub returns-clause-turn : goal.returns-clause-turn
 returns-clause-turn g c = rw (← c.self.view_is) (does_ok
     (opened_among _ c.in_ok-directory.directory.perms c.in_ok-how.how.directory) with_places
     (path_open_asks _ _ _ _ _ _ _ _ _ c.in_ok-how.ensures.row c.in_ok-text.ensures c.in_ok-directory.ensures.row
-    c.in_ok-check.ensures.row c.in_ok-name.ensures.row)
+    c.in_ok-check.ensures.row)
     refl
     c.in_ok-number.ensures.front
     refl

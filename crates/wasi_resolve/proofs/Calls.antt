@@ -1,0 +1,234 @@
+-- A call of a told host by itself, and behind others that leave the tree.
+use Rattle.std.proofs.Common.{ℕ, ◌≡◌, inl, inr, true, List, [], ◌∷◌, ◌++◌, Option, None, Result, Ok, Err, refl, sym, ap, subst, ◌∙◌, arith}
+use Rattle.std.specs.Prelude.{All, Contains, is_ok, if◌then◌else◌}
+use Rattle.std.specs.FinSet.{contains, insert, members}
+use Rattle.std.proofs.lemmas.List.Elements.{All-nil, Contains-append_cases}
+use Rattle.std.proofs.lemmas.Bool.Decides.{nat_tests}
+use Rattle.wasi_host.specs.Tree.{Tree}
+use Rattle.wasi_host.specs.ValidTree.{Reached}
+use Rattle.wasi_host.specs.Agree.{Touches, OrMade}
+use Rattle.wasi_host.specs.HostCall.{HostCall, OpenAt, StatAt, ReadLinkAt, Access, Stat, Pread, Pwrite, Dup, Close}
+use Rattle.wasi_host.specs.Refusal.{refusal}
+use Rattle.wasi_host.specs.Answer.{HostAnswer, host_answer, unless}
+use Rattle.wasi_host.specs.Step.{step, found_by, made_by}
+use Rattle.wasi_host.specs.Meaning.{World, Handles, Told, Stepped, AfterErr, answered, Means, MeansErr}
+use Rattle.wasi_host.specs.declared.errors.ErrorCode.{ErrorCode}
+use Rattle.wasi_host.specs.declared.errors.ErrorCode.TheVariants.{Io}
+use Rattle.wasi_host.specs.declared.errors.HostError.{HostError}
+use Rattle.wasi_host.specs.declared.errors.HostError.TheVariants.{Code, Memory}
+use Rattle.wasi_resolve.specs.Resolved.{Meant, Resolved, TreeAfter}
+use Rattle.wasi_resolve.specs.WalkSteps.{Looks, Stayed, IsFault}
+use Rattle.wasi_resolve.proofs.Touching.{touches_with, touches_same, no_ends, touches_on, from_node, found_near, made_new}
+
+-- ---- a call by itself
+
+-- what a call of the host means
+abbrev pub call_meant : Tree → (call : HostCall) → List ℕ → Meant (HostAnswer call)
+call_meant t call ends =
+    record { start = from_node call; answer = host_answer t call; stepped = step t call; ends = ends }
+
+given : {B : Type 0} {refused : Option ErrorCode} (b : B) → refused ≡ None → is_ok (unless refused b) ≡ true
+given b is = ap (λ o. is_ok (unless o b)) is
+
+-- a call that isn't refused is answered
+answers : (t : Tree) (call : HostCall) → refusal t call ≡ None → is_ok (host_answer t call) ≡ true
+answers t (OpenAt d name o) is = given _ is
+answers t (StatAt d name) is = given _ is
+answers t (ReadLinkAt d name) is = given _ is
+answers t (Access d) is = given _ is
+answers t (Stat n) is = given _ is
+answers t (Pread file offset n) is = given _ is
+answers t (Pwrite file offset piece) is = given _ is
+answers t (Dup stands) is = refl
+answers t Close is = refl
+
+tree_err : (A : Type 0) (w v : World) (call : HostCall) (e : HostError) → AfterErr w call e v
+    → TreeAfter {A = A} w.tree (step w.tree call) v.tree (host_answer w.tree call) (Err e)
+tree_err A w v call Memory after = elim after [ inl stayed ↦ stayed.tree | inr looked ↦ looked.tree ]
+tree_err A w v call (Code Io) after = elim after [
+  | inl stayed ↦ inl stayed.tree
+  | inr (inl looked) ↦ inl looked.tree
+  | inr (inr stepped) ↦ inr (answers w.tree call stepped.0, stepped.1.tree)
+]
+tree_err A w v call (Code code) after = after.tree
+
+near_or_made : (t : Tree) (call : HostCall) (n : ℕ) → Contains (found_by t call ++ made_by t call) n
+    → OrMade (Reached t (from_node call ∷ [])) t (step t call) n
+near_or_made t call n has = elim (Contains-append_cases (found_by t call) (made_by t call) n has) [
+  | inl found ↦ inl (found_near t call n found)
+  | inr made ↦ inr (made_new t call n made)
+]
+
+touched_ok : {w v : World} {call : HostCall} {ends : List ℕ}
+    → All (Contains (found_by w.tree call ++ made_by w.tree call)) ends
+    → Stepped w call v
+    → Touches w.tree v.tree (from_node call ∷ []) ends w.touched v.touched
+touched_ok {w} {v} {call} {ends} asked stepped =
+    subst (λ t. Touches w.tree t (from_node call ∷ []) ends w.touched v.touched) (sym stepped.tree)
+    (touches_with (found_by w.tree call ++ made_by w.tree call) stepped.touched (near_or_made w.tree call) asked)
+
+touched_err : (w v : World) (call : HostCall) (e : HostError) → AfterErr w call e v
+    → Touches w.tree v.tree (from_node call ∷ []) [] w.touched v.touched
+touched_err w v call Memory after = elim after [
+  | inl stayed ↦ touches_same stayed.touched
+  | inr looked ↦ touches_with (found_by w.tree call) looked.touched (λ n has. inl (found_near w.tree call n has)) (All-nil _)
+]
+touched_err w v call (Code Io) after = elim after [
+  | inl stayed ↦ touches_same stayed.touched
+  | inr (inl looked) ↦ touches_with (found_by w.tree call) looked.touched (λ n has. inl (found_near w.tree call n has)) (All-nil _)
+  | inr (inr stepped) ↦ touched_ok (All-nil _) stepped.1
+]
+touched_err w v call (Code code) after =
+    touches_with (found_by w.tree call) after.touched (λ n has. inl (found_near w.tree call n has)) (All-nil _)
+
+module _ {A : Type 0} {old new : Handles} {w v : World} {call : HostCall} {shown : A → HostAnswer call} where
+  -- it means what the table says
+  pub call_ok : {a : A} (ends : List ℕ) → All (Contains (found_by w.tree call ++ made_by w.tree call)) ends
+      → ((h : ℕ) → contains old h ≡ true → contains new h ≡ true) → Told old new w v call shown (Ok a)
+      → Resolved old w v (call_meant w.tree call ends) shown (Ok a)
+  call_ok ends asked stays told = record {
+    answer = told.meaning;
+    tree = told.after.tree;
+    touched = touched_ok asked told.after;
+    keeps = λ h live. told.keeps h live (stays h live);
+  }
+
+  pub call_err : (e : HostError) (ends : List ℕ) → new ≡ old → Told old new w v call shown (Err e)
+      → Resolved old w v (call_meant w.tree call ends) shown (Err e)
+  call_err e ends same told = record {
+    answer = told.meaning;
+    tree = tree_err A w v call e told.after;
+    touched = touched_err w v call e told.after;
+    keeps = λ h live. told.keeps h live (subst (λ s. contains s h ≡ true) (sym same) live);
+  }
+
+-- what was live is live with a new handle
+pub still_live : (old : Handles) {new : Handles} (h : ℕ) → new ≡ insert old h → (q : ℕ) → contains old q ≡ true
+    → contains new q ≡ true
+still_live old h got q live = subst (λ s. contains s q ≡ true) (sym got) (grind (arith, members, nat_tests))
+
+pub same_live : {old new : Handles} → new ≡ old → (q : ℕ) → contains old q ≡ true → contains new q ≡ true
+same_live same q live = subst (λ s. contains s q ≡ true) (sym same) live
+
+-- the handle is closed
+pub close_stays : {live old new : Handles} {w v : World} → Told old new w v Close (λ unit. unit) answered
+    → ((q : ℕ) → contains live q ≡ true → (contains old q ≡ true) × (contains new q ≡ true))
+    → Stayed live w v
+close_stays told within = record {
+  tree = told.after.tree;
+  touched = told.after.touched;
+  keeps = λ q live. told.keeps q (within q live).0 (within q live).1;
+}
+
+-- ---- a call that leaves the tree
+
+tree_same : {A B : Type 0} {t stepped t' : Tree} (meant : Result B ErrorCode) (shown : A → B) (r : Result A HostError)
+    → (is_ok meant ≡ true → stepped ≡ t) → Means shown meant r
+    → TreeAfter t stepped t' meant r → t' ≡ t
+tree_same meant shown (Ok a) leaves means after = after ∙ leaves (ap is_ok means)
+tree_same meant shown (Err Memory) leaves means after = after
+tree_same meant shown (Err (Code Io)) leaves means after = elim after [ inl same ↦ same | inr stepped ↦ stepped.1 ∙ leaves stepped.0 ]
+tree_same meant shown (Err (Code code)) leaves means after = after
+
+pub looks_still : {A B : Type 0} {live : Handles} {w v : World} {m : Meant B} {shown : A → B} {r : Result A HostError}
+    → v.tree ≡ w.tree → Resolved live w v m shown r → Looks live w v m.start
+looks_still {w = w} {v = v} {m = m} same resolved = record {
+  tree = same;
+  touched = subst (λ t. Touches w.tree t (m.start ∷ []) [] w.touched v.touched) same (no_ends resolved.touched);
+  keeps = resolved.keeps;
+}
+
+pub looks_of : {A B : Type 0} {live : Handles} {w v : World} {m : Meant B} {shown : A → B} (r : Result A HostError)
+    → (is_ok m.answer ≡ true → m.stepped ≡ w.tree) → Resolved live w v m shown r → Looks live w v m.start
+looks_of {m = m} {shown = shown} r leaves resolved =
+    looks_still (tree_same m.answer shown r leaves resolved.answer resolved.tree) resolved
+
+-- a refusal, or a failure, of what left the tree
+pub resolved_err : {A B : Type 0} {live : Handles} {w v : World} {s : ℕ} (m : Meant B) (shown : A → B) (e : HostError)
+    → m.start ≡ s → MeansErr m.answer e → Looks live w v s → Resolved live w v m shown (Err e)
+resolved_err {A} {w = w} {v = v} {s = s} m shown e at means looks = record {
+  answer = means;
+  tree = still e;
+  touched = subst (λ t. Touches w.tree t (m.start ∷ []) [] w.touched v.touched) (sym looks.tree)
+      (subst (λ n. Touches w.tree w.tree (n ∷ []) [] w.touched v.touched) (sym at) looks.touched);
+  keeps = looks.keeps;
+}
+  where
+    still : (x : HostError) → TreeAfter {A = A} w.tree m.stepped v.tree m.answer (Err x)
+    still Memory = looks.tree
+    still (Code Io) = inl looks.tree
+    still (Code code) = looks.tree
+
+-- a code that is meant
+pub err_means : {B : Type 0} (meant : Result B ErrorCode) (code : ErrorCode) → meant ≡ Err code
+    → MeansErr meant (Code code)
+err_means meant Io is = tt
+err_means meant code is = is
+
+-- a fault, which says nothing of what is meant
+pub fault_means : {B : Type 0} (meant : Result B ErrorCode) {e : HostError} → IsFault e → MeansErr meant e
+fault_means meant (inl is) = subst (MeansErr meant) (sym is) tt
+fault_means meant (inr is) = subst (MeansErr meant) (sym is) tt
+
+-- ---- one behind another
+
+module _ {first live : Handles} {w v u : World} {s d : ℕ} (so_far : Looks first w v s) (near : Reached w.tree
+    (s ∷ []) d)
+    (within : (h : ℕ) → contains first h ≡ true → contains live h ≡ true) where
+  pub looks_then : Looks live v u d → Looks first w u s
+  looks_then next = record {
+    tree = next.tree ∙ so_far.tree;
+    touched =
+        touches_on so_far.touched near
+        (subst (λ t. Touches t t (d ∷ []) [] v.touched u.touched) so_far.tree next.touched);
+    keeps = λ h is. next.keeps h (within h is) ∙ so_far.keeps h is;
+  }
+
+  -- from a node that is reached, as from the start
+  pub resolved_then : {A B : Type 0} {m : Meant B} {shown : A → B} {r : Result A HostError} → m.start ≡ d
+      → Resolved live v u m shown r → Resolved first w u (record m { start = s }) shown r
+  resolved_then {m = m} {r = r} at next = record {
+    answer = next.answer;
+    tree = subst (λ t. TreeAfter t m.stepped u.tree m.answer r) so_far.tree next.tree;
+    touched =
+        touches_on so_far.touched near
+        (subst (λ n. Touches w.tree u.tree (n ∷ []) (if is_ok r then m.ends else []) v.touched u.touched) at
+        (subst (λ t. Touches t u.tree (m.start ∷ [])
+        (if is_ok r then m.ends else []) v.touched u.touched) so_far.tree next.touched));
+    keeps = λ h is. next.keeps h (within h is) ∙ so_far.keeps h is;
+  }
+
+pub looks_stay : {first : Handles} {w v u : World} {s : ℕ} → Looks first w v s → Stayed first v u → Looks first w u s
+looks_stay {w = w} {s = s} looks stayed = record {
+  tree = stayed.tree ∙ looks.tree;
+  touched = subst (Touches w.tree w.tree (s ∷ []) [] w.touched) (sym stayed.touched) looks.touched;
+  keeps = λ h is. stayed.keeps h is ∙ looks.keeps h is;
+}
+
+pub resolved_stay : {A B : Type 0} {first : Handles} {w v u : World} {m : Meant B} {shown : A
+    → B} {r : Result A HostError}
+    → Resolved first w v m shown r → Stayed first v u → Resolved first w u m shown r
+resolved_stay {w = w} {v = v} {u = u} {m = m} {r = r} resolved stayed = record {
+  answer = resolved.answer;
+  tree = subst (λ t. TreeAfter w.tree m.stepped t m.answer r) (sym stayed.tree) resolved.tree;
+  touched =
+      subst (λ t. Touches w.tree t (m.start ∷ []) (if is_ok r then m.ends else []) w.touched u.touched)
+      (sym stayed.tree)
+      (subst (Touches w.tree v.tree (m.start ∷ []) (if is_ok r then m.ends else []) w.touched)
+      (sym stayed.touched) resolved.touched);
+  keeps = λ h is. stayed.keeps h is ∙ resolved.keeps h is;
+}
+
+-- nothing was asked
+pub looks_none : (first : Handles) (w : World) (s : ℕ) → Looks first w w s
+looks_none first w s = record { tree = refl; touched = touches_same refl; keeps = λ h is. refl }
+
+pub stayed_then : {live : Handles} {w v u : World} → Stayed live w v → Stayed live v u → Stayed live w u
+stayed_then first second = record {
+  tree = second.tree ∙ first.tree;
+  touched = second.touched ∙ first.touched;
+  keeps = λ h is. second.keeps h is ∙ first.keeps h is;
+}
+
+pub stayed_none : (live : Handles) (w : World) → Stayed live w w
+stayed_none live w = record { tree = refl; touched = refl; keeps = λ h is. refl }

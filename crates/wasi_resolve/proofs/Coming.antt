@@ -1,0 +1,235 @@
+-- The whole walk: a link in each turn, and then its end.
+use Rattle.std.proofs.Common.{◌≡◌, ℕ, zero, suc, ◌+◌, ◌*◌, ◌≤◌, Bool, true, false, cond, ◌||◌, List, [], ◌++◌, length, Result, Err, refl, sym, ap, subst, ◌∙◌, arith}
+use Rattle.wasi_host.specs.Tree.{Tree}
+use Rattle.wasi_host.specs.Meaning.{World, Handles}
+use Rattle.wasi_host.specs.declared.errors.ErrorCode.TheVariants.{Loop, NoEntry}
+use Rattle.wasi_host.specs.declared.errors.HostError.{HostError}
+use Rattle.wasi_host.specs.declared.errors.HostError.TheVariants.{Code}
+use Rattle.wasi_host.specs.declared.lookup.Lookup.{Lookup}
+use Rattle.wasi_paths.specs.Parts as texts
+use Rattle.wasi_paths.specs.Parts.{Component, trailing_slash, is_empty}
+use Rattle.wasi_resolve.specs.Walk.{Aim, Outcome, Stop, Leg, Ended, Linked, adds_slash, resume, Walk, ended, one_link_more, walk_from, walk}
+use Rattle.wasi_resolve.specs.ByNodes.{leg_nodes, walk_nodes}
+use Rattle.wasi_resolve.specs.Resolved.{Resolved}
+use Rattle.wasi_resolve.specs.Stack.{nodes_under}
+use Rattle.wasi_resolve.specs.WalkSteps.{Walked, ReachesLink, EndsPast, LinkPast, FailsPast, Comes, whole_walk, meant_at, shown_found, taken_by}
+use Rattle.wasi_resolve.specs.declared.found.Found.{Found}
+use Rattle.wasi_resolve.proofs.Calls.{resolved_err, fault_means, looks_none}
+use Rattle.wasi_resolve.proofs.Legs.{taken_most}
+use Rattle.wasi_resolve.proofs.Reaching.{start_is, stop_resolved}
+use Rattle.wasi_resolve.proofs.Simulation.{walk-by_nodes}
+
+-- ---- by nodes
+
+-- two walks end alike, though their numbers of links may differ
+pub record SameEnd (a b : Walk) : Type 0 where
+  pub outcome : a.outcome ≡ b.outcome
+  pub parts : a.parts ≡ b.parts
+
+abbrev last_turn : Bool → ℕ → List Component → List ℕ → Walk
+last_turn slash m left stack = ended m (Stop Loop)
+
+module _ (t : Tree) (s : ℕ) (aim : Aim) (follow : Bool) where
+  abbrev next_turn : ℕ → Bool → ℕ → List Component → List ℕ → Walk
+  next_turn links slash m left stack = one_link_more (walk_nodes t s aim follow links slash m left stack)
+
+  walk_ended : (links : ℕ) (slash : Bool) (m taken : ℕ) (parts : List Component) (nodes : List ℕ) (outcome : Outcome)
+      → leg_nodes t s aim follow slash m parts nodes ≡ Ended taken outcome
+      → walk_nodes t s aim follow links slash m parts nodes ≡ ended taken outcome
+  walk_ended zero slash m taken parts nodes outcome is = ap (resume last_turn slash) is
+  walk_ended (suc links) slash m taken parts nodes outcome is = ap (resume (next_turn links) slash) is
+
+  walk_turned : (links : ℕ) (slash : Bool) (m taken : ℕ) (parts behind : List Component) (nodes after text : List ℕ)
+      → leg_nodes t s aim follow slash m parts nodes ≡ Linked taken after text behind
+      → SameEnd (walk_nodes t s aim follow (suc links) slash m parts nodes)
+      (walk_nodes t s aim follow links (slash || adds_slash text behind) taken (texts.parts text ++ behind) after)
+  walk_turned links slash m taken parts behind nodes after text is = record {
+    outcome = ap (λ l. (resume (next_turn links) slash l).outcome) is;
+    parts = ap (λ l. (resume (next_turn links) slash l).parts) is;
+  }
+
+  walk_looped : (slash : Bool) (m taken : ℕ) (parts behind : List Component) (nodes after text : List ℕ)
+      → leg_nodes t s aim follow slash m parts nodes ≡ Linked taken after text behind
+      → walk_nodes t s aim follow zero slash m parts nodes ≡ ended taken (Stop Loop)
+  walk_looped slash m taken parts behind nodes after text is = ap (resume last_turn slash) is
+
+  -- a walk takes the parts up to its first link at least
+  leg_most : (links : ℕ) (slash : Bool) (m n : ℕ) (l : Leg (List ℕ)) → n ≤ taken_by l
+      → ((slash : Bool) (m : ℕ) (left : List Component) (stack : List ℕ)
+      → m ≤ (walk_nodes t s aim follow links slash m left stack).parts)
+      → n ≤ (resume (next_turn links) slash l).parts
+  leg_most links slash m n (Ended taken outcome) within rest = within
+  leg_most links slash m n (Linked taken position text left) within rest =
+      omega (arith, within, rest (slash || adds_slash text left) taken (texts.parts text ++ left) position)
+
+  last_most : (slash : Bool) (n : ℕ) (l : Leg (List ℕ)) → n ≤ taken_by l → n ≤ (resume last_turn slash l).parts
+  last_most slash n (Ended taken outcome) within = within
+  last_most slash n (Linked taken position text left) within = within
+
+  walk_most : (links : ℕ) (slash : Bool) (m : ℕ) (left : List Component) (stack : List ℕ)
+      → m ≤ (walk_nodes t s aim follow links slash m left stack).parts
+  walk_most zero slash m left stack =
+      last_most slash m (leg_nodes t s aim follow slash m left stack) (taken_most t s aim follow slash m left stack)
+  walk_most (suc links) slash m left stack =
+      leg_most links slash m m (leg_nodes t s aim follow slash m left stack)
+      (taken_most t s aim follow slash m left stack) (walk_most links)
+
+  pub parts_most : (links : ℕ) (slash : Bool) (m : ℕ) (left : List Component) (stack : List ℕ)
+      → taken_by (leg_nodes t s aim follow slash m left stack) ≤
+      (walk_nodes t s aim follow links slash m left stack).parts
+  parts_most zero slash m left stack =
+      last_most slash _ (leg_nodes t s aim follow slash m left stack) (omega arith)
+  parts_most (suc links) slash m left stack =
+      leg_most links slash m _ (leg_nodes t s aim follow slash m left stack) (omega arith) (walk_most links)
+
+-- the walk of a text, by nodes
+pub walk_whole : (t : Tree) (s : ℕ) (text : List ℕ) (aim : Aim) (follow : Bool) → is_empty text ≡ false
+    → walk t s text aim follow ≡ whole_walk t s aim follow (trailing_slash text) (texts.parts text) []
+unfolding walk whole_walk
+walk_whole t s text aim follow some =
+    ap (λ b. cond b (ended 0 (Stop NoEntry)) (walk_from t s aim follow 40 (trailing_slash text) 0
+    (texts.parts text) [])) some
+    ∙ walk-by_nodes t s aim follow 40 (trailing_slash text) 0 (texts.parts text) []
+
+pub walk_empty : (t : Tree) (s : ℕ) (text : List ℕ) (aim : Aim) (follow : Bool) → is_empty text ≡ true
+    → walk t s text aim follow ≡ ended 0 (Stop NoEntry)
+unfolding walk
+walk_empty t s text aim follow none =
+    ap (λ b. cond b (ended 0 (Stop NoEntry)) (walk_from t s aim follow 40 (trailing_slash text) 0
+    (texts.parts text) [])) none
+
+-- ---- a turn
+
+-- how far the walk has come: with so many links that may still be read, it ends as the whole does
+pub record SoFar (first : Handles) (w v0 v : World) (start : ℕ) (aim : Aim) (follow slash : Bool)
+    (parts : List Component)
+    (before : List ℕ) (links : ℕ) (slash_now : Bool) (left : List Component) (stack : List ℕ)
+    (old now : List Lookup) : Type 0 where
+  pub walked : Walked first w v start stack
+  pub taken : ℕ
+  pub same : SameEnd (whole_walk w.tree (w.held start).node aim follow slash parts (nodes_under v0.held before))
+      (walk_nodes w.tree (w.held start).node aim follow links slash_now taken left (nodes_under v.held stack))
+  pub few : length now ≤ length old + 3 * taken
+
+pub so_starts : {first : Handles} {w v : World} {start : ℕ} {stack : List ℕ} (aim : Aim) (follow slash : Bool)
+    (parts : List Component)
+    (old : List Lookup) → Walked first w v start stack
+    → SoFar first w v v start aim follow slash parts stack 40 slash parts stack old old
+unfolding whole_walk
+so_starts aim follow slash parts old walked =
+    record { walked = walked; taken = 0; same = record { outcome = refl; parts = refl }; few = omega arith }
+
+module _ {first : Handles} {w v0 v : World} {start : ℕ} {aim : Aim} {follow slash : Bool} {parts : List Component}
+    {before : List ℕ}
+    {slash_now : Bool} {left : List Component} {stack : List ℕ} {old mid : List Lookup} where
+  pub so_turns : {now : ℕ} (links : ℕ) {u : World} {left' : List Component} {after : List ℕ} {new : List Lookup}
+      {slash' : Bool}
+      (so : SoFar first w v0 v start aim follow slash parts before now slash_now left stack old mid) → now ≡ suc links
+      → LinkPast first w v u start aim follow slash_now so.taken left stack left' after mid new slash'
+      → SoFar first w v0 u start aim follow slash parts before links slash' left' after old new
+  so_turns links {u} {left'} {after} {new} {slash'} so at past =
+      let turned =
+      walk_turned w.tree (w.held start).node aim follow links slash_now so.taken past.taken left past.behind
+      (nodes_under v.held stack) (nodes_under u.held after) past.text past.linked in
+      let same : walk_nodes w.tree (w.held start).node aim follow links
+      (slash_now || adds_slash past.text past.behind) past.taken (texts.parts past.text ++ past.behind)
+      (nodes_under u.held after)
+      ≡ walk_nodes w.tree (w.held start).node aim follow links slash' past.taken left' (nodes_under u.held after) =
+      ap (λ b. walk_nodes w.tree (w.held start).node aim follow links b past.taken
+      (texts.parts past.text ++ past.behind) (nodes_under u.held after)) (sym past.now)
+      ∙ ap (λ l. walk_nodes w.tree (w.held start).node aim follow links slash' past.taken l
+      (nodes_under u.held after)) (sym past.put) in
+      record {
+        walked = past.walked;
+        taken = past.taken;
+        same = record {
+          outcome =
+              so.same.outcome ∙ ap (λ k. (walk_nodes w.tree (w.held start).node aim follow k slash_now so.taken left
+              (nodes_under v.held stack)).outcome) at ∙ turned.outcome ∙ ap (λ x. x.outcome) same;
+          parts =
+              so.same.parts ∙ ap (λ k. (walk_nodes w.tree (w.held start).node aim follow k slash_now so.taken left
+              (nodes_under v.held stack)).parts) at ∙ turned.parts ∙ ap (λ x. x.parts) same;
+        };
+        few = omega (arith, so.few, past.few);
+      }
+
+  pub so_ends : {links : ℕ} {u : World} {new : List Lookup} (r : Result Found HostError)
+      (so : SoFar first w v0 v start aim follow slash parts before links slash_now left stack old mid)
+      → EndsPast first w v u start aim follow slash_now so.taken left stack mid new r
+      → Comes first w v0 u start aim follow slash parts before old new r
+  so_ends {links} {u} r so ends =
+      let is =
+      walk_ended w.tree (w.held start).node aim follow links slash_now so.taken ends.taken left
+      (nodes_under v.held stack) ends.outcome ends.ends in
+      record {
+        resolved =
+            subst (λ o. Resolved first w u (meant_at w.tree aim (w.held start).node o) (shown_found u.held) r)
+            (sym (so.same.outcome ∙ ap (λ x. x.outcome) is)) ends.resolved;
+        bound = let number = so.same.parts ∙ ap (λ x. x.parts) is in omega (arith, number, so.few, ends.few);
+      }
+
+  pub so_fails : {links : ℕ} {u : World} {new : List Lookup} (e : HostError)
+      (so : SoFar first w v0 v start aim follow slash parts before links slash_now left stack old mid)
+      → FailsPast first w v u start aim follow slash_now so.taken left stack mid new e
+      → Comes first w v0 u start aim follow slash parts before old new (Err e)
+  so_fails {links} {u} e so fails = record {
+    resolved =
+        resolved_err (meant_at w.tree aim (w.held start).node _) (shown_found u.held) e (start_is w.tree aim
+        (w.held start).node _)
+        (fault_means _ fails.fault) fails.looks;
+    bound =
+        let most =
+        parts_most w.tree (w.held start).node aim follow links slash_now so.taken left
+        (nodes_under v.held stack) in
+        omega (arith, so.same.parts, so.few, fails.few, most);
+  }
+
+  -- one link too many
+  pub so_loops : {now : ℕ} {u : World} {left' : List Component} {after : List ℕ} {name : List ℕ} {new : List Lookup}
+      (so : SoFar first w v0 v start aim follow slash parts before now slash_now left stack old mid) → now ≡ zero
+      → (link : ReachesLink first w v u start aim follow slash_now so.taken left stack left' after name)
+      → length new + 3 * so.taken ≤ length mid + 3 * link.taken
+      → Comes first w v0 u start aim follow slash parts before old new (Err (Code Loop))
+  so_loops {u = u} {left' = left'} {after = after} so at link few =
+      let is =
+      ap (λ k. walk_nodes w.tree (w.held start).node aim follow k slash_now so.taken left
+      (nodes_under v.held stack)) at
+      ∙ walk_looped w.tree (w.held start).node aim follow slash_now so.taken link.taken left left'
+      (nodes_under v.held stack) (nodes_under u.held after) _ link.linked in
+      record {
+        resolved =
+            subst (λ o. Resolved first w u (meant_at w.tree aim (w.held start).node o) (shown_found u.held) (Err
+            (Code Loop)))
+            (sym (so.same.outcome ∙ ap (λ x. x.outcome) is)) (stop_resolved aim Loop refl link.walked.looks);
+        bound = let number = so.same.parts ∙ ap (λ x. x.parts) is in omega (arith, number, so.few, few);
+      }
+
+-- ---- the walk of a text
+
+-- it starts with an empty stack
+pub walks_start : {live : Handles} {w : World} {start : ℕ} {items : List ℕ} → items ≡ [] → Walked live w w start items
+walks_start {live} {w} {start} none =
+    subst (Walked live w w start) (sym none) (record { looks = looks_none live w (w.held start).node; near = tt })
+
+-- and ends as the walk of the text
+module _ {live : Handles} {w u : World} {start : ℕ} {aim : Aim} {follow : Bool} (text : List ℕ) {parts : List Component}
+    {items : List ℕ} {old new : List Lookup} {r : Result Found HostError} (some : is_empty text ≡ false)
+    (parts_are : parts ≡ texts.parts text) (none : items ≡ [])
+    (comes : Comes live w w u start aim follow (trailing_slash text) parts items old new r) where
+  whole_is : whole_walk w.tree (w.held start).node aim follow (trailing_slash text) parts (nodes_under w.held items)
+      ≡ walk w.tree (w.held start).node text aim follow
+  whole_is =
+      ap (λ l. whole_walk w.tree (w.held start).node aim follow (trailing_slash text) l
+      (nodes_under w.held items)) parts_are
+      ∙ ap (λ l. whole_walk w.tree (w.held start).node aim follow (trailing_slash text) (texts.parts text)
+      (nodes_under w.held l)) none
+      ∙ sym (walk_whole w.tree (w.held start).node text aim follow some)
+
+  pub comes_resolved : Resolved live w u (meant_at w.tree aim (w.held start).node (walk w.tree
+      (w.held start).node text aim follow).outcome) (shown_found u.held) r
+  comes_resolved =
+      subst (λ x. Resolved live w u (meant_at w.tree aim (w.held start).node x.outcome)
+      (shown_found u.held) r) whole_is comes.resolved
+
+  pub comes_bound : length new ≤ length old + (3 * (walk w.tree (w.held start).node text aim follow).parts + 4)
+  comes_bound = subst (λ x. length new ≤ length old + (3 * x.parts + 4)) whole_is comes.bound

@@ -1,0 +1,174 @@
+-- A name that is opened, which may be a link that is to be read.
+use Rattle.std.proofs.Common.{◌≡◌, ◌⊎◌, inl, inr, ℕ, Bool, true, false, List, [], ◌∷◌, Option, Some, None, Result, Ok, Err, IsTrue, refl, sym, ap, subst, ◌∙◌, ◌&&◌}
+use Rattle.std.specs.Prelude.{is_ok}
+use Rattle.std.specs.FinSet.{contains, insert}
+use Rattle.std.proofs.lemmas.List.Elements.{All-nil}
+use Rattle.wasi_paths.specs.Text.{is_plain}
+use Rattle.wasi_host.specs.Options.{Options}
+use Rattle.wasi_host.specs.Tree.{is_link}
+use Rattle.wasi_host.specs.HostCall.{OpenAt, StatAt}
+use Rattle.wasi_host.specs.Refusal.{refusal, holds}
+use Rattle.wasi_host.specs.Answer.{unless, reached, open_answer, stat_at_answer}
+use Rattle.wasi_host.specs.Meaning.{World, Handles, Told, MeansErr, AfterErr}
+use Rattle.wasi_host.proofs.Chain.{free}
+use Rattle.wasi_host.specs.declared.errors.ErrorCode.{ErrorCode}
+use Rattle.wasi_host.specs.declared.errors.ErrorCode.TheVariants.{Io}
+use Rattle.wasi_host.specs.declared.errors.HostError.{HostError}
+use Rattle.wasi_host.specs.declared.errors.HostError.TheVariants.{Code, Memory}
+use Rattle.wasi_host.specs.declared.held.Held.{Held}
+use Rattle.wasi_host.specs.declared.metadata.Metadata.{Metadata}
+use Rattle.wasi_resolve.specs.Walk.{is_link_code}
+use Rattle.wasi_resolve.specs.Resolved.{Resolved}
+use Rattle.wasi_resolve.specs.Finding.{has_link_code, is_link_kind}
+use Rattle.wasi_resolve.specs.WalkSteps.{Looks, IsFault, OpensUnread, MeetsLink, open_meant}
+use Rattle.wasi_resolve.proofs.Touching.{open_ends, at_root}
+use Rattle.wasi_resolve.proofs.Calls.{call_ok, call_err, looks_of, looks_still, looks_then, resolved_err, err_means, same_live, still_live}
+use Rattle.wasi_resolve.proofs.Tables.{refused_by, looked_link, unmet_code, unmet_rule, unmet_unlooked}
+
+pub ok_free : {B : Type 0} (r : Option ErrorCode) (b : B) → is_ok (unless r b) ≡ true → r ≡ None
+ok_free None b is = refl
+ok_free (Some code) b is = absurd (cc)
+
+-- it is opened
+pub enters_ok : {old new : Handles} {w u : World} {d : ℕ} {name : List ℕ} {o : Options} {h : ℕ} (may_read : Bool)
+    → new ≡ insert old h → Told {A = ℕ} old new w u (OpenAt d name o) u.held (Ok h)
+    → OpensUnread old w u d name o may_read (Ok h)
+enters_ok {old} {w = w} {u = u} {d = d} {name = name} {o = o} {h = h} may_read got told = record {
+  unread = unmet_code w.tree d name o may_read None (free _ _ _ told.meaning) refl;
+  resolved =
+      call_ok {call = OpenAt d name o} {shown = u.held} (reached w.tree d name ∷ []) (open_ends w.tree d name o)
+      (still_live old h got) told;
+}
+
+module _ {old mid : Handles} {w v : World} {d : ℕ} {name : List ℕ} {o : Options} (may_read : Bool)
+    (same : mid ≡ old) where
+  -- no link is read, whatever the code
+  pub enters_refused : (e : HostError) → may_read ≡ false → Told {A = ℕ} old mid w v (OpenAt d name o) v.held (Err e)
+      → (Looks old w v d × IsFault e) ⊎ OpensUnread old w v d name o may_read (Err e)
+  enters_refused e rule told = inr (record {
+    unread = unmet_rule w.tree d name o may_read rule;
+    resolved = call_err {call = OpenAt d name o} {shown = v.held} e (reached w.tree d name ∷ []) same told;
+  })
+
+  -- the code isn't one that a link has
+  pub enters_other : (e : HostError) → has_link_code e ≡ false
+      → Told {A = ℕ} old mid w v (OpenAt d name o) v.held (Err e)
+      → (Looks old w v d × IsFault e) ⊎ OpensUnread old w v d name o may_read (Err e)
+  enters_other Memory other told =
+      let resolved : Resolved old w v (open_meant w.tree d name o) v.held (Err Memory) =
+      call_err {call = OpenAt d name o} {shown = v.held} Memory (reached w.tree d name ∷ []) same told in
+      inl (looks_still resolved.tree resolved, inl refl)
+  enters_other (Code Io) other told =
+      let resolved : Resolved old w v (open_meant w.tree d name o) v.held (Err (Code Io)) =
+      call_err {call = OpenAt d name o} {shown = v.held} (Code Io) (reached w.tree d name ∷ []) same told in
+      elim resolved.tree [
+        | inl still ↦ inl (looks_still still resolved, inr refl)
+        | inr stepped ↦ inr (record {
+          unread =
+              unmet_code w.tree d name o may_read None (ok_free (refusal w.tree (OpenAt d name o)) _ stepped.0) refl;
+          resolved = resolved;
+        })
+      ]
+  enters_other (Code code) other told = inr (record {
+    unread = unmet_code w.tree d name o may_read (Some code) (refused_by _ _ told.meaning) other;
+    resolved = call_err {call = OpenAt d name o} {shown = v.held} (Code code) (reached w.tree d name ∷ []) same told;
+  })
+
+-- ---- a look behind it
+
+-- the code of an open that may have met a link
+link_code : {B : Type 0} {meant : Result B ErrorCode} (e : HostError) → has_link_code e ≡ true → MeansErr meant e
+    → (code : ErrorCode) × (e ≡ Code code) × (is_link_code (Some code) ≡ true) × (meant ≡ Err code)
+link_code Memory may means = absurd (cc)
+link_code (Code Io) may means = absurd (cc)
+link_code (Code code) may means = (code, refl, may, means)
+
+link_tree : (w v : World) (d : ℕ) (name : List ℕ) (o : Options) (e : HostError) → has_link_code e ≡ true
+    → AfterErr w (OpenAt d name o) e v
+    → v.tree ≡ w.tree
+link_tree w v d name o Memory may after = absurd (cc)
+link_tree w v d name o (Code Io) may after = absurd (cc)
+link_tree w v d name o (Code code) may after = after.tree
+
+module _ {old mid : Handles} {w v : World} (here : ℕ) {name : List ℕ} {o : Options} (may_read : Bool)
+    (plain : IsTrue (is_plain name)) (refused : HostError) (may : has_link_code refused ≡ true) (same : mid ≡ old)
+    (here_live : contains old here ≡ true)
+    (opens : Told {A = ℕ} old mid w v (OpenAt (w.held here).node name o) v.held (Err refused)) where
+  abbrev d : ℕ
+  d = (w.held here).node
+
+  first : Looks old w v d
+  first =
+      let resolved : Resolved old w v (open_meant w.tree d name o) v.held (Err refused) =
+      call_err {call = OpenAt d name o} {shown = v.held} refused (reached w.tree d name ∷ []) same opens in
+      looks_still (link_tree w v d name o refused may opens.after) resolved
+
+  here_same : (v.held here).node ≡ d
+  here_same = ap (λ (h : Held). h.node) (first.keeps here here_live)
+
+  both : {u : World} → Looks mid v u (v.held here).node → Looks old w u d
+  both {u} second = looks_then first (at_root w.tree d) (same_live same) (subst (Looks mid v u) here_same second)
+
+  -- what is looked at is the same as before
+  as_before : stat_at_answer v.tree (v.held here).node name ≡ stat_at_answer w.tree d name
+  as_before =
+      ap (λ t. stat_at_answer t (v.held here).node name) first.tree ∙ ap (λ n. stat_at_answer w.tree n name) here_same
+
+  found : (code : ErrorCode) × (refused ≡ Code code) × (is_link_code (Some code) ≡ true) ×
+      (open_answer w.tree d name o ≡ Err code)
+  found = link_code refused may opens.meaning
+
+  refusal_is : refusal w.tree (OpenAt d name o) ≡ Some found.0
+  refusal_is = refused_by _ _ found.3
+
+  module _ {new : Handles} {u : World} (still : new ≡ mid) where
+    -- the look is refused
+    pub enters_unlooked : (e : HostError)
+        → Told {A = Metadata} mid new v u (StatAt (v.held here).node name) (λ m. m) (Err e)
+        → (Looks old w u d × IsFault e) ⊎ OpensUnread old w u d name o may_read (Err e)
+    enters_unlooked e looks = by e (subst (λ r. MeansErr r e) as_before looks.meaning)
+      where
+        seen : Looks old w u d
+        seen = both (looks_of (Err e) (λ is. refl) (call_err {call = StatAt (v.held here).node name} e [] still looks))
+
+        by : (x : HostError) → MeansErr (stat_at_answer w.tree d name) x
+            → (Looks old w u d × IsFault x) ⊎ OpensUnread old w u d name o may_read (Err x)
+        by Memory means = inl (seen, inl refl)
+        by (Code Io) means = inl (seen, inr refl)
+        by (Code code) means =
+            let alike =
+            unmet_unlooked w.tree d name o may_read found.0 code plain refusal_is found.2
+            (refused_by _ _ means) in
+            inr (record {
+              unread = alike.0;
+              resolved = resolved_err (open_meant w.tree d name o) u.held (Code code) refl
+                  (err_means (open_answer w.tree d name o) code (found.3 ∙ ap (λ c. let r : Result Held ErrorCode =
+                  Err c in r) (sym alike.1))) seen;
+            })
+
+    module _ {m : Metadata} (looks : Told {A =
+        Metadata} mid new v u (StatAt (v.held here).node name) (λ m. m) (Ok m)) where
+      seen : Looks old w u d
+      seen =
+          both (looks_of (Ok m) (λ is. refl) (call_ok {call = StatAt (v.held here).node name} [] (All-nil _)
+          (same_live still) looks))
+
+      kind : holds w.tree d name (λ n. is_link n.content) ≡ is_link_kind m.kind
+      kind = looked_link w.tree d name m (sym as_before ∙ looks.meaning)
+
+      -- it says that there is no link
+      pub enters_no_link : is_link_kind m.kind ≡ false
+          → (Looks old w u d × IsFault refused) ⊎ OpensUnread old w u d name o may_read (Err refused)
+      enters_no_link other = inr (record {
+        unread = ap (λ b. b && (may_read && is_link_code (refusal w.tree (OpenAt d name o)))) (kind ∙ other);
+        resolved = resolved_err (open_meant w.tree d name o) u.held refused refl opens.meaning seen;
+      })
+
+      -- it says that there is one
+      pub enters_link : may_read ≡ true → is_link_kind m.kind ≡ true → MeetsLink old w u d name o may_read
+      enters_link rule is = record {
+        reads = ap (λ b. b && (may_read && is_link_code (refusal w.tree (OpenAt d name o)))) (kind ∙ is)
+            ∙ ap (λ b. true && (b && is_link_code (refusal w.tree (OpenAt d name o)))) rule
+            ∙ ap (λ r. true && (true && is_link_code r)) refusal_is ∙ found.2;
+        looks = seen;
+      }

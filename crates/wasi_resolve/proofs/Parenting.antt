@@ -1,0 +1,153 @@
+-- The place that a path names.
+use Rattle.std.proofs.Common.{◌≡◌, ℕ, true, false, List, [], ◌∷◌, Option, Some, None, Result, Ok, Err, refl, sym, ap, subst, ◌∙◌}
+use Rattle.std.specs.Prelude.{is_ok, codes}
+use Rattle.wasi_host.specs.Agree.{Touches}
+use Rattle.wasi_host.specs.Options.{creates}
+use Rattle.wasi_host.specs.Tree.{Tree}
+use Rattle.wasi_host.specs.HostCall.{OpenAt}
+use Rattle.wasi_host.specs.Refusal.{refusal}
+use Rattle.wasi_host.specs.Steps.{◌>>=◌}
+use Rattle.wasi_host.specs.Meaning.{World, Handles, MeansErr}
+use Rattle.wasi_host.specs.declared.errors.ErrorCode.{ErrorCode}
+use Rattle.wasi_host.specs.declared.errors.ErrorCode.TheVariants.{Io, NoEntry}
+use Rattle.wasi_host.specs.declared.errors.HostError.{HostError}
+use Rattle.wasi_host.specs.declared.errors.HostError.TheVariants.{Code, Memory}
+use Rattle.wasi_host.specs.declared.held.Held.{Held}
+use Rattle.wasi_paths.specs.Name.{name_bytes}
+use Rattle.wasi_paths.specs.Parts.{Component, split, is_empty}
+use Rattle.wasi_paths.specs.declared.name.Name.{Name}
+use Rattle.wasi_resolve.specs.Walk.{Outcome, Stop, Name as NameEnd, Dot, Open, walk, last_options}
+use Rattle.wasi_resolve.specs.Paths.{Opening, Place, opening, opening_of, opened_by, step_of, opened, after_open, directory_options, parent, place, place_at, part_text}
+use Rattle.wasi_resolve.specs.Meanings.{opens_at}
+use Rattle.wasi_resolve.specs.Resolved.{Resolved}
+use Rattle.wasi_resolve.specs.Parents.{shown_place, places_at}
+use Rattle.wasi_resolve.specs.declared.parent.MaybeOwned.TheVariants.{Borrowed, Owned}
+use Rattle.wasi_resolve.proofs.Touching.{touches_same}
+use Rattle.wasi_resolve.proofs.Calls.{looks_of, looks_none, resolved_err}
+use Rattle.wasi_resolve.proofs.Tables.{open_leaves}
+use Rattle.wasi_resolve.proofs.Entering.{ok_free}
+
+-- ---- a directory is opened without a step
+
+plain_opening : (outcome : Outcome) (e : Opening) → opening_of directory_options outcome ≡ Ok e
+    → (creates e.options ≡ false) × (e.options.truncate ≡ false)
+plain_opening (Stop code) e is = absurd (cc)
+plain_opening (NameEnd d name slash) e is =
+    let made : Opening = record { directory = d; name = name; options = last_options directory_options slash } in
+    let same : made ≡ e = (cc) in
+    subst (λ (x : Opening). (creates x.options ≡ false) × (x.options.truncate ≡ false)) same (refl, refl)
+plain_opening (Dot d) e is =
+    let made : Opening = record { directory = d; name = codes "."; options = directory_options } in
+    let same : made ≡ e = (cc) in
+    subst (λ (x : Opening). (creates x.options ≡ false) × (x.options.truncate ≡ false)) same (refl, refl)
+
+step_none : (t : Tree) (r : Result Opening ErrorCode)
+    → ((e : Opening) → r ≡ Ok e → (creates e.options ≡ false) × (e.options.truncate ≡ false))
+    → is_ok (r >>= opened_by t) ≡ true
+    → step_of t r ≡ t
+step_none t (Err code) plain is = refl
+step_none t (Ok e) plain is =
+    let options = plain e refl in
+    open_leaves t e.directory e.name e.options (ok_free (refusal t
+    (OpenAt e.directory e.name e.options)) _ is) options.0 options.1
+
+dir_leaves : (t : Tree) (s : ℕ) (text : List ℕ) → is_ok (opened t s text directory_options true) ≡ true
+    → after_open t s text directory_options true ≡ t
+unfolding opening
+dir_leaves t s text is =
+    step_none t (opening_of directory_options (walk t s text (Open directory_options) true).outcome)
+    (plain_opening (walk t s text (Open directory_options) true).outcome) is
+
+-- ---- the place
+
+module _ (t : Tree) (s : ℕ) (path text : List ℕ) (part : Component) (is : split path ≡ Some (text, part)) where
+  abbrev place_in : ℕ → Result Place ErrorCode
+  place_in d = Ok (record { directory = d; name = part_text part })
+
+  -- in a directory that is opened
+  place_opened : is_empty text ≡ false
+      → place t s path ≡ opened t s text directory_options true >>= (λ held. Ok held.node) >>= place_in
+  unfolding place
+  place_opened some = ap (place_at t s) is ∙ by text some
+    where
+      by : (l : List ℕ) → is_empty l ≡ false
+          → parent t s l >>= place_in ≡ opened t s l directory_options true >>= (λ held. Ok held.node) >>= place_in
+      by [] wrong = absurd (cc)
+      by (b ∷ l) right = refl
+
+  -- in the start
+  place_start : is_empty text ≡ true → place t s path ≡ place_in s
+  unfolding place
+  place_start none = ap (place_at t s) is ∙ by text none
+    where
+      by : (l : List ℕ) → is_empty l ≡ true → parent t s l >>= place_in ≡ place_in s
+      by [] right = refl
+      by (b ∷ l) wrong = absurd (cc)
+
+place_none : (t : Tree) (s : ℕ) (path : List ℕ) → split path ≡ None → place t s path ≡ Err NoEntry
+unfolding place
+place_none t s path is = ap (place_at t s) is
+
+-- ---- over a told host
+
+pub placed_none : (live : Handles) (w : World) (s : ℕ) (path : List ℕ) → split path ≡ None
+    → Resolved live w w (places_at w.tree s path) (shown_place w.held) (Err (Code NoEntry))
+placed_none live w s path is =
+    resolved_err (places_at w.tree s path) (shown_place w.held) (Code NoEntry) refl (place_none w.tree s path is)
+    (looks_none live w s)
+
+pub placed_start : (live : Handles) (w : World) (start : ℕ) (path : List ℕ) {text : List ℕ} {part : Component}
+    (name : Name)
+    → split path ≡ Some (text, part) → is_empty text ≡ true → name_bytes name ≡ part_text part
+    → Resolved live w w (places_at w.tree (w.held start).node path) (shown_place w.held) (Ok (record {
+      directory =
+          Borrowed start;
+      name = name;
+    }))
+placed_start live w start path {text} {part} name is none named = record {
+  answer = place_start w.tree (w.held start).node path text part is none
+      ∙ ap (λ n. let r : Result Place ErrorCode =
+      Ok (record { directory = (w.held start).node; name = n }) in r) (sym named);
+  tree = refl;
+  touched = touches_same refl;
+  keeps = λ h within. refl;
+}
+
+means_on : (part : Component) (r : Result Held ErrorCode) (e : HostError) → MeansErr r e
+    → MeansErr (r >>= (λ held. Ok held.node) >>= (λ d. let p : Result Place ErrorCode =
+    Ok (record { directory = d; name = part_text part }) in p)) e
+means_on part r Memory means = tt
+means_on part r (Code Io) means = tt
+means_on part r (Code code) means =
+    ap (λ x. x >>= (λ (held : Held). Ok held.node) >>= (λ d. let p : Result Place ErrorCode =
+    Ok (record { directory = d; name = part_text part }) in p)) means
+
+module _ {live : Handles} {w u : World} (s : ℕ) (path text : List ℕ) (part : Component) (is : split path ≡ Some
+    (text, part))
+    (some : is_empty text ≡ false) where
+  pub placed_ok : (h : ℕ) (name : Name) → name_bytes name ≡ part_text part
+      → Resolved live w u (opens_at w.tree s text directory_options) u.held (Ok h)
+      → Resolved live w u (places_at w.tree s path) (shown_place u.held) (Ok (record {
+        directory =
+            Owned h;
+        name = name;
+      }))
+  placed_ok h name named resolved =
+      let looks = looks_of (Ok h) (dir_leaves w.tree s text) resolved in record {
+        answer = place_opened w.tree s path text part is some
+            ∙ ap (λ x. x >>= (λ (held : Held). Ok held.node) >>= (λ d. let p : Result Place ErrorCode =
+            Ok (record { directory = d; name = part_text part }) in p)) resolved.answer
+            ∙ ap (λ n. let r : Result Place ErrorCode =
+            Ok (record { directory = (u.held h).node; name = n }) in r) (sym named);
+        tree = looks.tree;
+        touched = subst (λ t. Touches w.tree t (s ∷ []) [] w.touched u.touched) (sym looks.tree) looks.touched;
+        keeps = looks.keeps;
+      }
+
+  pub placed_err : (e : HostError) → Resolved live w u (opens_at w.tree s text directory_options) u.held (Err e)
+      → Resolved live w u (places_at w.tree s path) (shown_place u.held) (Err e)
+  placed_err e resolved =
+      resolved_err (places_at w.tree s path) (shown_place u.held) e refl
+      (subst (λ r. MeansErr r e) (sym (place_opened w.tree s path text part is some)) (means_on part
+      (opened w.tree s text directory_options true) e resolved.answer))
+      (looks_of (Err e) (dir_leaves w.tree s text) resolved)

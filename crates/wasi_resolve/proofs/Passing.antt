@@ -1,0 +1,165 @@
+-- Past a link: its text is read, and its parts are put before those that are left.
+use Rattle.std.proofs.Common.{◌≡◌, inl, inr, ℕ, ◌+◌, ◌*◌, ◌≤◌, Bool, ◌||◌, ◌&&◌, List, [], ◌∷◌, ◌++◌, length, None, Result, Ok, Err, refl, sym, ap, subst, ◌∙◌, arith}
+use Rattle.std.specs.Prelude.{◌==◌}
+use Rattle.std.proofs.lemmas.List.Elements.{All-nil}
+use Rattle.wasi_host.specs.HostCall.{ReadLinkAt}
+use Rattle.wasi_host.specs.Refusal.{refusal}
+use Rattle.wasi_host.specs.Answer.{link_text, link_answer, unless}
+use Rattle.wasi_host.specs.Meaning.{World, Handles, Told, MeansErr}
+use Rattle.wasi_host.proofs.Chain.{free}
+use Rattle.wasi_host.specs.declared.errors.ErrorCode.TheVariants.{Io}
+use Rattle.wasi_host.specs.declared.errors.HostError.{HostError}
+use Rattle.wasi_host.specs.declared.errors.HostError.TheVariants.{Code, Memory}
+use Rattle.wasi_host.specs.declared.lookup.Lookup.{Lookup}
+use Rattle.wasi_paths.specs.Parts as texts
+use Rattle.wasi_paths.specs.Parts.{Component, trailing_slash}
+use Rattle.wasi_resolve.specs.Walk.{Aim, Leg, Linked, adds_slash}
+use Rattle.wasi_resolve.specs.ByNodes.{top, leg_nodes}
+use Rattle.wasi_resolve.specs.Left.{parts_left, is_nil}
+use Rattle.wasi_resolve.specs.Stack.{nodes_under}
+use Rattle.wasi_resolve.specs.Finding.{FewUntil, FewToEnd, FewReads}
+use Rattle.wasi_resolve.specs.WalkSteps.{Looks, IsFault, ReachesEnd, ReachesLink, ReachFails, ReadsText, ReadFails, EndsPast, LinkPast, FailsPast, taken_by}
+use Rattle.wasi_resolve.specs.declared.found.Found.{Found}
+use Rattle.wasi_resolve.specs.declared.left.PartLeft.{PartLeft}
+use Rattle.wasi_resolve.proofs.Calls.{call_ok, call_err, looks_of, same_live}
+use Rattle.wasi_resolve.proofs.Legs.{taken_most}
+use Rattle.wasi_resolve.proofs.Putting.{length-parts}
+use Rattle.wasi_resolve.proofs.Going.{OnTop, node_is, looks_on, kept_on, walked_on, nil_left}
+
+-- ---- the text
+
+adds_by : (text : List ℕ) (parts : List Component) → adds_slash text parts ≡ (is_nil parts && trailing_slash text)
+adds_by text [] = refl
+adds_by text (part ∷ parts) = refl
+
+pub adds_is : (text : List ℕ) (items : List PartLeft)
+    → adds_slash text (parts_left items) ≡ ((length items == 0) && trailing_slash text)
+adds_is text items = adds_by text (parts_left items) ∙ ap (λ b. b && trailing_slash text) (nil_left items)
+
+module _ {A : Type 0} {old new : Handles} {w u : World} {d : ℕ} {name : List ℕ} {shown : A
+    → List ℕ} (same : new ≡ old) where
+  pub read_looks : {text : A} → Told {A = A} old new w u (ReadLinkAt d name) shown (Ok text) → Looks old w u d
+  read_looks {text} told =
+      looks_of (Ok text) (λ is. refl) (call_ok {call = ReadLinkAt d name} [] (All-nil _) (same_live same) told)
+
+  pub read_text : {text : A} → Told {A = A} old new w u (ReadLinkAt d name) shown (Ok text)
+      → link_text w.tree d name ≡ shown text
+  read_text {text} told =
+      let none : refusal w.tree (ReadLinkAt d name) ≡ None = free _ _ _ told.meaning in
+      let given : link_answer w.tree d name ≡ Ok (shown text) = told.meaning in
+      let at : unless None (link_text w.tree d name) ≡ Ok (shown text) =
+      ap (λ r. unless r (link_text w.tree d name)) (sym none) ∙ given in
+      (cc)
+
+  pub read_fails : (e : HostError) → Told {A = A} old new w u (ReadLinkAt d name) shown (Err e)
+      → ReadFails old w u d name e
+  read_fails e told = record {
+    looks = looks_of (Err e) (λ is. refl) (call_err {call = ReadLinkAt d name} e [] same told);
+    fault = λ none. by e (subst (λ r. MeansErr (unless r (link_text w.tree d name)) e) none told.meaning);
+  }
+    where
+      by : (x : HostError) → MeansErr (unless None (link_text w.tree d name)) x → IsFault x
+      by Memory means = inl refl
+      by (Code Io) means = inr refl
+      by (Code code) means = absurd (cc)
+
+  -- it was read, and its parts were put
+  pub reads_now : {text : A} {left : List Component} {slash slash' was_last : Bool} (items : List PartLeft)
+      → Told {A = A} old new w u (ReadLinkAt d name) shown (Ok text)
+      → left ≡ texts.parts (shown text) ++ parts_left items → was_last ≡ (length items == 0)
+      → slash' ≡ (slash || (was_last && trailing_slash (shown text)))
+      → ReadsText old w u d name slash (parts_left items) left slash'
+  reads_now {text} {slash = slash} items told put last now = record {
+    looks = read_looks told;
+    put = put ∙ ap (λ t. texts.parts t ++ parts_left items) (sym (read_text told));
+    now =
+        now ∙ ap (λ b. slash || (b && trailing_slash (shown text))) last
+        ∙ ap (λ b. slash || b) (sym (adds_is (shown text) items))
+        ∙ ap (λ t. slash || adds_slash t (parts_left items)) (sym (read_text told));
+  }
+
+  -- it was read, and memory was wanted for its parts
+  pub reads_wants : {text : A} {e : HostError} → Told {A = A} old new w u (ReadLinkAt d name) shown (Ok text)
+      → e ≡ Memory
+      → ReadFails old w u d name e
+  reads_wants told is = record { looks = read_looks told; fault = λ none. inl is }
+
+-- ---- the parts up to it, and then it
+
+module _ {first : Handles} {w v u : World} {start : ℕ} {aim : Aim} {follow slash : Bool} {m : ℕ} {before : List ℕ}
+    (items left : List PartLeft) {old mid : List Lookup} where
+  pub ends_past : (r : Result Found HostError)
+      → ReachesEnd first w v u start aim follow slash m (parts_left items) before (parts_left left) r
+      → FewToEnd items left old mid → EndsPast first w v u start aim follow slash m (parts_left items) before old mid r
+  ends_past r ends few = record {
+    taken = ends.taken;
+    outcome = ends.outcome;
+    ends = ends.ends;
+    resolved = ends.resolved;
+    few =
+        let most : m ≤ ends.taken =
+        subst (λ l. m ≤ taken_by l) ends.ends (taken_most w.tree (w.held start).node aim follow slash m
+        (parts_left items) (nodes_under v.held before)) in
+        omega (arith, few.calls, ends.count, length-parts items, length-parts left);
+  }
+
+  pub fails_past : (e : HostError)
+      → ReachFails first w v u start aim follow slash m (parts_left items) before (parts_left left) e
+      → FewToEnd items left old mid → FailsPast first w v u start aim follow slash m (parts_left items) before old mid e
+  fails_past e fails few = record {
+    looks = fails.looks;
+    fault = fails.fault;
+    few =
+        let most =
+        taken_most w.tree (w.held start).node aim follow slash m (parts_left items) (nodes_under v.held before) in
+        omega (arith, few.calls, fails.count, fails.most, most, length-parts items, length-parts left);
+  }
+
+  -- what the parts up to a link cost
+  pub link_few : {after : List ℕ} {name : List ℕ}
+      (link : ReachesLink first w v u start aim follow slash m (parts_left items) before (parts_left left) after name)
+      → FewUntil items left old mid → length mid + 3 * m ≤ length old + 3 * link.taken
+  link_few link few = omega (arith, few.calls, link.count, link.more, length-parts items, length-parts left)
+
+  module _ {now : Handles} {stack : List ℕ} {here : ℕ} {name : List ℕ} (on : OnTop first now w u start stack here)
+      (link : ReachesLink first w v u start aim follow slash m (parts_left items) before (parts_left left) stack name)
+      (few : FewUntil items left old mid) {new : List Lookup} (more : FewReads 1 1 mid new) where
+    abbrev d : ℕ
+    d = top (w.held start).node (nodes_under u.held stack)
+
+    pub link_past : {z : World} {behind : List Component} (slash' : Bool)
+        → ReadsText now u z (u.held here).node name slash (parts_left left) behind slash'
+        → LinkPast first w v z start aim follow slash m (parts_left items) before behind stack old new slash'
+    link_past slash' reads =
+        let text : link_text u.tree (u.held here).node name ≡ link_text w.tree d name =
+        ap (λ t. link_text t (u.held here).node name) on.walked.looks.tree
+        ∙ ap (λ n. link_text w.tree n name) (node_is on) in
+        record {
+          walked = walked_on on reads.looks;
+          taken = link.taken;
+          text = link_text w.tree d name;
+          behind = parts_left left;
+          linked = link.linked
+              ∙ ap (λ ns. let l : Leg (List ℕ) =
+              Linked link.taken ns (link_text w.tree d name) (parts_left left) in l) (sym
+              (kept_on on reads.looks));
+          put = reads.put ∙ ap (λ t. texts.parts t ++ parts_left left) text;
+          now = reads.now ∙ ap (λ t. slash || adds_slash t (parts_left left)) text;
+          few = omega (arith, few.calls, more.calls, link.count, link.more, length-parts items, length-parts left);
+        }
+
+    pub link_fails : {z : World} (e : HostError) → ReadFails now u z (u.held here).node name e
+        → FailsPast first w v z start aim follow slash m (parts_left items) before old new e
+    link_fails e fails = record {
+      looks = looks_on on fails.looks;
+      fault = fails.fault (back link.free);
+      few =
+          let most : link.taken ≤ taken_by (leg_nodes w.tree (w.held start).node aim follow slash m
+          (parts_left items) (nodes_under v.held before)) =
+          subst (λ l. link.taken ≤ taken_by l) (sym link.linked) (omega arith) in
+          omega (arith, few.calls, more.calls, link.count, link.more, most, length-parts items, length-parts left);
+    }
+      where
+        back : refusal w.tree (ReadLinkAt d name) ≡ None → refusal u.tree (ReadLinkAt (u.held here).node name) ≡ None
+        back is = ap (λ t. refusal t (ReadLinkAt (u.held here).node name)) on.walked.looks.tree
+            ∙ ap (λ n. refusal w.tree (ReadLinkAt n name)) (node_is on) ∙ is

@@ -1,0 +1,263 @@
+-- The parts up to the next link, and what they end at.
+use Rattle.std.proofs.Common.{◌≡◌, ◌⊎◌, inl, inr, ℕ, suc, ◌+◌, ◌≤◌, Bool, true, false, List, [], ◌∷◌, length, None, Result, Ok, Err, refl, sym, ap, subst, ◌∙◌, arith}
+use Rattle.wasi_host.specs.Tree.{Tree}
+use Rattle.wasi_host.specs.HostCall.{ReadLinkAt}
+use Rattle.wasi_host.specs.Refusal.{refusal}
+use Rattle.wasi_host.specs.Answer.{link_text}
+use Rattle.wasi_host.specs.Lineage.{Traced, Only, Nothing}
+use Rattle.wasi_host.specs.Meaning.{World, Handles, MeansErr}
+use Rattle.wasi_host.specs.declared.errors.ErrorCode.{ErrorCode}
+use Rattle.wasi_host.specs.declared.errors.HostError.{HostError}
+use Rattle.wasi_host.specs.declared.errors.HostError.TheVariants.{Code}
+use Rattle.wasi_host.specs.declared.lookup.Lookup.{Lookup}
+use Rattle.wasi_paths.specs.Parts.{Component, Normal}
+use Rattle.wasi_resolve.specs.Walk.{Aim, Open, Look, Outcome, Stop, Name, Dot, Leg, Linked, is_to_be_read}
+use Rattle.wasi_resolve.specs.ByNodes.{top, leg_nodes}
+use Rattle.wasi_resolve.specs.NameText.{left_bytes}
+use Rattle.wasi_resolve.specs.Resolved.{Resolved}
+use Rattle.wasi_resolve.specs.Stack.{Stands, Among, top_handle, nodes_under}
+use Rattle.wasi_resolve.specs.Finding.{LiveFound, LiveReached, StandsFound, StandsReached, ReachedBy, ReachTraced, FewReads, FewBefore, FewOrEnds}
+use Rattle.wasi_resolve.specs.WalkSteps.{Looks, GoesOn, AtLast, AtLink, Fails, EndsInDirectory, EndsUnread, EndsAtName, ReachesEnd, ReachesLink, ReachFails, Reaches, meant_at, shown_found, taken_by}
+use Rattle.wasi_resolve.specs.declared.found.Found.{Found}
+use Rattle.wasi_resolve.specs.declared.found.Found.TheVariants as found
+use Rattle.wasi_resolve.specs.declared.found.Reach.{Reach}
+use Rattle.wasi_resolve.specs.declared.found.Reach.TheVariants as reach
+use Rattle.wasi_resolve.specs.declared.left.PartLeft.{PartLeft}
+use Rattle.wasi_resolve.proofs.Calls.{resolved_err, resolved_then, err_means}
+use Rattle.wasi_resolve.proofs.Stacks.{first_live, stands_same, stands_below}
+use Rattle.wasi_resolve.proofs.Lookups.{traced_last, traced_top, traced_stays}
+use Rattle.wasi_host.proofs.Tracing.{traced_then}
+use Rattle.wasi_resolve.proofs.Legs.{last_ended, last_linked, taken_more}
+use Rattle.wasi_resolve.proofs.Going.{OnTop, node_is, here_near, looks_on, kept_on, walked_on}
+
+-- ---- what is meant
+
+pub start_is : (t : Tree) (aim : Aim) (s : ℕ) (outcome : Outcome) → (meant_at t aim s outcome).start ≡ s
+start_is t (Open o) s outcome = refl
+start_is t Look s outcome = refl
+
+-- the same from another start
+meant_start : (t : Tree) (aim : Aim) (d s : ℕ) (outcome : Outcome)
+    → record (meant_at t aim d outcome) { start = s } ≡ meant_at t aim s outcome
+meant_start t (Open o) d s outcome = refl
+meant_start t Look d s outcome = refl
+
+answer_stop : (t : Tree) (aim : Aim) (s : ℕ) (code : ErrorCode) → (meant_at t aim s (Stop code)).answer ≡ Err code
+answer_stop t (Open o) s code = refl
+answer_stop t Look s code = refl
+
+-- a refusal of the walk itself
+pub stop_resolved : {first : Handles} {w u : World} {s : ℕ} (aim : Aim) (code : ErrorCode) {e : HostError}
+    → e ≡ Code code
+    → Looks first w u s
+    → Resolved first w u (meant_at w.tree aim s (Stop code)) (shown_found u.held) (Err e)
+stop_resolved {w = w} {u = u} {s = s} aim code is looks =
+    resolved_err (meant_at w.tree aim s (Stop code)) (shown_found u.held) _ (start_is w.tree aim s (Stop code))
+    (subst (MeansErr (meant_at w.tree aim s (Stop code)).answer) (sym is) (err_means _ code
+    (answer_stop w.tree aim s code))) looks
+
+-- ---- a part fails
+
+pub reach_fails : {first : Handles} {w v u : World} {start : ℕ} {parts left : List Component} {before : List ℕ}
+    (e : HostError)
+    (aim : Aim) (follow slash : Bool) (m : ℕ) → Fails first w v u start parts before left e
+    → ReachFails first w v u start aim follow slash m parts before left e
+    ⊎ ReachesEnd first w v u start aim follow slash m parts before left (Err e)
+reach_fails {w = w} {start = start} {left = left} e aim follow slash m fails =
+    let at = fails.same.at aim follow slash m in
+    elim fails.refused [
+      | inl fault ↦ inl (record {
+        looks = fails.looks;
+        fault = fault;
+        taken = suc at.taken;
+        count = omega (arith, at.count);
+        most = subst (λ l. suc at.taken ≤ taken_by l) (sym at.same)
+            (taken_more w.tree (w.held start).node aim follow slash at.taken fails.part left fails.nodes);
+      })
+      | inr refused ↦ inr (record {
+        taken = suc at.taken;
+        count = omega (arith, at.count);
+        outcome = Stop refused.code;
+        ends = at.same ∙ refused.ends aim follow slash at.taken;
+        resolved = stop_resolved aim refused.code refused.is fails.looks;
+      })
+    ]
+
+-- ---- a link takes a part at least
+
+pub link_more : (t : Tree) (s : ℕ) (aim : Aim) (follow slash : Bool) (m : ℕ) (parts : List Component) (nodes : List ℕ)
+    {taken : ℕ} {after text : List ℕ} {left : List Component}
+    → leg_nodes t s aim follow slash m parts nodes ≡ Linked taken after text left
+    → suc m ≤ taken
+link_more t s aim follow slash m [] nodes is = absurd (cc)
+link_more t s aim follow slash m (part ∷ parts) nodes is =
+    subst (λ l. suc m ≤ taken_by l) is (taken_more t s aim follow slash m part parts nodes)
+
+pub reach_link : {first : Handles} {w v u : World} {start : ℕ} {parts left : List Component} {before after : List ℕ}
+    (name : List ℕ)
+    (aim : Aim) (follow slash : Bool) (m : ℕ) → AtLink first w v u start parts before left after name
+    → ReachesLink first w v u start aim follow slash m parts before left after name
+reach_link {w =
+    w} {v = v} {u = u} {start = start} {parts = parts} {left = left} {before = before} {after = after} name aim
+    follow slash m link =
+    let at = link.same.at aim follow slash m in
+    let is : leg_nodes w.tree (w.held start).node aim follow slash m parts (nodes_under v.held before)
+    ≡ Linked (suc at.taken) (nodes_under u.held after) (link_text w.tree (top (w.held start).node
+    (nodes_under u.held after)) name) left =
+    at.same ∙ link.linked aim follow slash at.taken in
+    record {
+      walked = link.walked;
+      taken = suc at.taken;
+      count = omega (arith, at.count);
+      linked = is;
+      more = link_more w.tree (w.held start).node aim follow slash m parts (nodes_under v.held before) is;
+      free = link.free;
+    }
+
+-- ---- a directory, or a last name
+
+module _ {first now : Handles} {w v : World} {start : ℕ} {stack : List ℕ} {here : ℕ}
+    (on : OnTop first now w v start stack here) where
+  abbrev nodes : List ℕ
+  nodes = nodes_under v.held stack
+
+  abbrev d : ℕ
+  d = top (w.held start).node nodes
+
+  to_start : (P : Tree → ℕ → Type 0) → P v.tree (v.held here).node → P w.tree d
+  to_start P p = subst (λ t. P t d) on.walked.looks.tree (subst (P v.tree) (node_is on) p)
+
+  -- what is meant from the node on top, as from the start
+  ends_from : {u : World} {r : Result Found HostError} (aim : Aim) (outcome : ℕ → Outcome)
+      → Resolved now v u (meant_at v.tree aim (v.held here).node (outcome (v.held here).node)) (shown_found u.held) r
+      → Resolved first w u (meant_at w.tree aim (w.held start).node (outcome d)) (shown_found u.held) r
+  ends_from {u} {r} aim outcome resolved =
+      subst (λ k. Resolved first w u (meant_at w.tree aim (w.held start).node (outcome k)) (shown_found u.held) r)
+      (node_is on)
+      (subst (λ x. Resolved first w u x (shown_found u.held) r) (meant_start w.tree aim (v.held here).node
+      (w.held start).node (outcome (v.held here).node))
+      (resolved_then on.walked.looks (here_near on) (first_live on.stands) (start_is w.tree aim (v.held here).node
+      (outcome (v.held here).node))
+      (subst (λ t. Resolved now v u (meant_at t aim (v.held here).node (outcome (v.held here).node))
+      (shown_found u.held) r) on.walked.looks.tree resolved)))
+
+  pub reach_dot : {v0 u : World} {parts left : List Component} {before : List ℕ} (aim : Aim) (follow slash : Bool)
+      (m : ℕ)
+      (r : Result Found HostError) → GoesOn first w v0 v start parts before left stack → left ≡ []
+      → EndsInDirectory now v u (v.held here).node aim r
+      → ReachesEnd first w v0 u start aim follow slash m parts before left r
+  reach_dot aim follow slash m r goes none ends =
+      let at = goes.same.at aim follow slash m in record {
+        taken = at.taken;
+        count = at.count;
+        outcome = Dot d;
+        ends = at.same ∙ ap (λ l. leg_nodes w.tree (w.held start).node aim follow slash at.taken l nodes) none;
+        resolved = ends_from aim Dot ends;
+      }
+
+  module _ {v0 : World} {parts left : List Component} {before : List ℕ} (aim : Aim) (follow slash : Bool)
+      (m : ℕ) {name : List ℕ}
+      (last : AtLast first w v0 v start parts before left stack name) where
+    abbrev taken : ℕ
+    taken = (last.same.at aim follow slash m).taken
+
+    count_is : suc taken + length left ≡ m + length parts
+    count_is = omega (arith, (last.same.at aim follow slash m).count)
+
+    leg_is : leg_nodes w.tree (w.held start).node aim follow slash m parts (nodes_under v0.held before)
+        ≡ leg_nodes w.tree (w.held start).node aim follow slash taken (Normal name ∷ []) nodes
+    leg_is = (last.same.at aim follow slash m).same
+        ∙ ap (λ l. leg_nodes w.tree (w.held start).node aim follow slash taken (Normal name ∷ l) nodes) last.none
+
+    unread_end : {u : World} (r : Result Found HostError)
+        → EndsUnread now v u (v.held here).node aim follow slash name r
+        → ReachesEnd first w v0 u start aim follow slash m parts before left r
+    unread_end r ends = record {
+      taken = suc taken;
+      count = count_is;
+      outcome = Name d name slash;
+      ends = leg_is ∙ last_ended w.tree (w.held start).node aim follow slash taken name nodes
+          (to_start (λ t n. is_to_be_read t aim follow slash true n name ≡ false) ends.unread);
+      resolved = ends_from aim (λ n. Name n name slash) ends.resolved;
+    }
+
+    pub reach_last : (u : World) (r : Result Reach HostError)
+        → EndsAtName now v u (v.held here).node aim follow slash name r
+        → Reaches first w v0 u start aim follow slash m parts before left stack r
+    reach_last u (Ok (reach.Found it)) ends = unread_end (Ok it) ends
+    reach_last u (Ok (reach.Link other)) ends =
+        let kept = kept_on on ends.looks in
+        let is : leg_nodes w.tree (w.held start).node aim follow slash m parts (nodes_under v0.held before)
+        ≡ Linked (suc taken) (nodes_under u.held stack) (link_text w.tree (top (w.held start).node
+        (nodes_under u.held stack)) (left_bytes other.text)) left =
+        leg_is
+        ∙ last_linked w.tree (w.held start).node aim follow slash taken name nodes (to_start
+        (λ t n. is_to_be_read t aim follow slash true n name ≡ true) ends.reads)
+        ∙ ap (λ l. let r : Leg (List ℕ) = Linked (suc taken) nodes (link_text w.tree d name) l in r) (sym last.none)
+        ∙ ap (λ n. let r : Leg (List ℕ) = Linked (suc taken) nodes (link_text w.tree d n) left in r) (sym ends.same)
+        ∙ ap (λ ns. let r : Leg (List ℕ) =
+        Linked (suc taken) ns (link_text w.tree (top (w.held start).node ns) (left_bytes other.text)) left in r)
+        (sym kept) in
+        record {
+          walked = walked_on on ends.looks;
+          taken = suc taken;
+          count = count_is;
+          linked = is;
+          more = link_more w.tree (w.held start).node aim follow slash m parts (nodes_under v0.held before) is;
+          free =
+              subst (λ ns. refusal w.tree (ReadLinkAt (top (w.held start).node ns) (left_bytes other.text)) ≡ None)
+              (sym kept)
+              (subst (λ n. refusal w.tree (ReadLinkAt d n) ≡ None) (sym ends.same) (to_start (λ t n. refusal t
+              (ReadLinkAt n name) ≡ None) ends.free));
+        }
+    reach_last u (Err e) ends = elim ends [
+      | inl fault ↦ inl (record {
+        looks = looks_on on fault.0;
+        fault = fault.1;
+        taken = suc taken;
+        count = count_is;
+        most = subst (λ l. suc taken ≤ taken_by l) (sym leg_is)
+            (taken_more w.tree (w.held start).node aim follow slash taken (Normal name) [] nodes);
+      })
+      | inr end ↦ inr (unread_end (Err e) end)
+    ]
+
+-- ---- over every host
+
+pub stands_found : {first now : Handles} (next : Handles) {start : ℕ} {stack : List ℕ} (r : Result Found HostError)
+    → Stands first now start stack → LiveFound now r next
+    → StandsFound first next start stack r
+stands_found next (Ok (found.Handle h)) stands got = stands_below h stands got.0 got.1
+stands_found next (Ok (found.Metadata metadata)) stands same = stands_same stands same
+stands_found next (Err e) stands same = stands_same stands same
+
+pub stands_reached : {first now : Handles} (next : Handles) {start : ℕ} {stack : List ℕ} (r : Result Reach HostError)
+    → Stands first now start stack → LiveReached now r next
+    → StandsReached first next start stack r
+stands_reached next (Ok (reach.Found it)) stands live = stands_found next (Ok it) stands live
+stands_reached next (Ok (reach.Link name)) stands same = stands_same stands same
+stands_reached next (Err e) stands same = stands_same stands same
+
+module _ {a b c : List Lookup} {here : ℕ} (start : ℕ) (before after : List ℕ) (at : here ≡ top_handle start after)
+    (first : Traced (Among start before) (Among start before) (Among start after) a b) where
+  pub found_traced : {Made : ℕ → Type 0} → Traced (Only here) Nothing Made b c
+      → Traced (Among start before) Nothing Made a c
+  found_traced second = traced_last (λ h has. has) first (traced_top start after at second)
+
+  pub reach_traced : (r : Result Reach HostError) → Traced (Only here) Nothing (ReachedBy r) b c
+      → ReachTraced start before after r a c
+  reach_traced (Ok (reach.Found it)) second = found_traced second
+  reach_traced (Ok (reach.Link name)) second =
+      traced_then (λ h has. has) (λ h has. has) first (traced_top start after at (traced_stays start after second))
+  reach_traced (Err e) second = found_traced second
+
+pub few_last : {before after : List PartLeft} {a b c : List Lookup} (r : Result Reach HostError)
+    → FewBefore before after a b
+    → FewReads 2 0 b c
+    → FewOrEnds before after a c r
+few_last (Ok (reach.Found it)) first second =
+    record { calls = omega (arith, first.calls, second.calls); links = omega (arith, first.links, second.links) }
+few_last (Ok (reach.Link name)) first second =
+    record { calls = omega (arith, first.calls, second.calls); links = omega (arith, first.links, second.links) }
+few_last (Err e) first second =
+    record { calls = omega (arith, first.calls, second.calls); links = omega (arith, first.links, second.links) }

@@ -1,0 +1,79 @@
+use Rattle.std.proofs.Common.{◌∙◌, sym, ap, [], ◌∷◌, length, refl, arith, length-append}
+use Rattle.std.specs.Prelude.{◌==◌}
+use Rattle.wasi_host.proofs.Tracing.{traced_none, traced_then}
+use Rattle.wasi_resolve.specs.Left.{parts_left}
+use Rattle.wasi_resolve.proofs.Legs.{same_here}
+use Rattle.wasi_resolve.proofs.Putting.{popped_parts}
+use Rattle.wasi_resolve.proofs.Going.{goes_then, fails_then, stops_then, goes_dot, nil_left}
+use Rattle.wasi_resolve.proofs.walk.leg.Goals as goal
+
+pub loop-part-init : goal.loop-part-init
+loop-part-init g c = record {
+  later = omega arith;
+  stands = λ first stands. stands;
+  lineage = traced_none _ _ _ _ _ refl (λ q has. has);
+  reads = record { calls = omega arith; links = omega arith };
+  told = λ told first w stands walked. record { walked = walked; same = same_here _ _ _ _ };
+}
+
+pub step-requires : goal.step-requires
+step-requires g c = (c.requires.0, c.loop-part.invariant.stands _ c.requires.1)
+
+pub returns-in-Err-clause-lineage : goal.returns-in-Err-clause-lineage
+returns-in-Err-clause-lineage g c =
+    traced_then (λ q has. has) (λ q has. has) c.loop-part.invariant.lineage c.in-Err.ensures.lineage
+
+pub returns-in-Some-stopped-clause-lineage : goal.returns-in-Some-stopped-clause-lineage
+returns-in-Some-stopped-clause-lineage g c =
+    traced_then (λ q has. has) (λ q has. has) c.loop-part.invariant.lineage c.in-Ok.ensures.lineage
+
+pub returns-in-Err-clause-told : goal.returns-in-Err-clause-told
+returns-in-Err-clause-told g c told first w stands walked =
+    let so_far = c.loop-part.invariant.told told first w stands walked in
+    fails_then _ so_far (popped_parts _ c.in-Some.part c.in-Some.ensures.items) c.in-Err.e
+    (c.in-Err.ensures.told told first w (parts_left c.pop.new.self.items) (nil_left c.pop.new.self.items
+    ∙ sym (c.is_empty-is_last.ensures ∙ ap (λ l. length l == 0) c.as_slice.ensures.value))
+    (c.loop-part.invariant.stands first stands) so_far.walked)
+
+pub returns-in-Some-stopped-clause-told : goal.returns-in-Some-stopped-clause-told
+returns-in-Some-stopped-clause-told g c told first w stands walked =
+    let so_far = c.loop-part.invariant.told told first w stands walked in
+    stops_then _ so_far (popped_parts _ c.in-Some.part c.in-Some.ensures.items) (g.H.Host.world c.step.new.host)
+    (parts_left c.pop.new.self.items) c.step.new.stack.items c.in-Some-stopped.stop
+    (rw c.in-Some-stopped.is at (c.in-Ok.ensures.told told first w (parts_left c.pop.new.self.items)
+    (nil_left c.pop.new.self.items ∙ sym (c.is_empty-is_last.ensures
+    ∙ ap (λ l. length l == 0) c.as_slice.ensures.value))
+    (c.loop-part.invariant.stands first stands) so_far.walked))
+
+pub loop-part-preserved : goal.loop-part-preserved
+loop-part-preserved g c = record {
+  later = omega (arith, c.in-Ok.ensures.cause.later, c.loop-part.invariant.later);
+  stands = λ first stands. c.in-Ok.ensures.stands first (c.loop-part.invariant.stands first stands);
+  lineage = traced_then (λ q has. has) (λ q has. has) c.loop-part.invariant.lineage c.in-Ok.ensures.lineage;
+  reads =
+      let reads = rw c.in_default-stopped.is at c.in-Ok.ensures.reads in
+      record {
+        calls =
+            omega (
+              arith,
+              reads.calls,
+              c.loop-part.invariant.reads.calls,
+              ap length c.in-Some.ensures.items,
+              length-append c.pop.new.self.items (c.in-Some.part ∷ []),
+            );
+        links = omega (arith, reads.links, c.loop-part.invariant.reads.links);
+      };
+  told = λ told first w stands walked.
+      let so_far = c.loop-part.invariant.told told first w stands walked in
+      goes_then _ so_far (popped_parts _ c.in-Some.part c.in-Some.ensures.items)
+      (rw c.in_default-stopped.is at (c.in-Ok.ensures.told told first w (parts_left c.pop.new.self.items)
+      (nil_left c.pop.new.self.items ∙ sym (c.is_empty-is_last.ensures
+      ∙ ap (λ l. length l == 0) c.as_slice.ensures.value))
+      (c.loop-part.invariant.stands first stands) so_far.walked));
+}
+
+pub returns-clause-told : goal.returns-clause-told
+returns-clause-told g c told first w stands walked =
+    goes_dot c.loop-part.left.items c.pop.new.self.items (c.loop-part.invariant.told told first w stands walked)
+    (omega (arith, c.loop-part.left.ok.0, c.in_default.ensures.cases.0))
+    (omega (arith, c.pop.new.self.ok.0, c.in_default.ensures.cases.1))

@@ -1,0 +1,70 @@
+use Rattle.std.proofs.Common.{Ok, Err, inr}
+use Rattle.wasi_resolve.proofs.Stacks.{top_live}
+use Rattle.wasi_resolve.proofs.Going.{OnTop}
+use Rattle.wasi_resolve.proofs.Reaching.{reach_fails, reach_link, reach_dot, reach_last, stands_found, stands_reached, found_traced, reach_traced, few_last}
+use Rattle.wasi_resolve.proofs.walk.reach.Goals as goal
+
+pub returns-in-Err-clause-told : goal.returns-in-Err-clause-told
+returns-in-Err-clause-told g c told first w m stands walked =
+    reach_fails c.in-Err.e _ _ c.args.slash m (c.in-Err.ensures.told told first w stands walked)
+
+pub at_dot-requires : goal.at_dot-requires
+at_dot-requires g c = rw c.top_of-here.ensures (top_live (c.leg.ensures.stands _ c.requires.1))
+
+pub at_last-requires : goal.at_last-requires
+at_last-requires g c = rw c.top_of-here.ensures (top_live (c.leg.ensures.stands _ c.requires.1))
+
+pub returns-in-Ok-at_dot-clause-stands : goal.returns-in-Ok-at_dot-clause-stands
+returns-in-Ok-at_dot-clause-stands g c first stands =
+    stands_found _ (Ok c.in-Ok-at_dot.found) (c.leg.ensures.stands first stands) c.in-Ok-at_dot.ensures.live
+
+pub returns-in-Last-clause-stands : goal.returns-in-Last-clause-stands
+returns-in-Last-clause-stands g c first stands =
+    stands_reached (g.H.Host.live c.at_last.new.host) c.at_last.result
+    (c.leg.ensures.stands first stands) c.at_last.ensures.live
+
+pub returns-in-Ok-at_dot-clause-lineage : goal.returns-in-Ok-at_dot-clause-lineage
+returns-in-Ok-at_dot-clause-lineage g c =
+    found_traced c.args.start c.args.stack.now.items _ c.top_of-here.ensures c.leg.ensures.lineage
+    c.in-Ok-at_dot.ensures.lineage
+
+pub returns-in-Err-at_dot-clause-lineage : goal.returns-in-Err-at_dot-clause-lineage
+returns-in-Err-at_dot-clause-lineage g c =
+    found_traced c.args.start c.args.stack.now.items _ c.top_of-here.ensures c.leg.ensures.lineage
+    c.in-Err-at_dot.ensures.lineage
+
+pub returns-in-Last-clause-lineage : goal.returns-in-Last-clause-lineage
+returns-in-Last-clause-lineage g c =
+    reach_traced c.args.start c.args.stack.now.items _ c.top_of-here.ensures c.leg.ensures.lineage c.at_last.result
+    c.at_last.ensures.lineage
+
+pub returns-in-Last-clause-reads : goal.returns-in-Last-clause-reads
+returns-in-Last-clause-reads g c =
+    few_last c.at_last.result (rw c.in-Last.is at c.in-Ok.ensures.reads) c.at_last.ensures.reads
+
+pub returns-in-Ok-at_dot-clause-told : goal.returns-in-Ok-at_dot-clause-told
+returns-in-Ok-at_dot-clause-told g c told first w m stands walked =
+    let stopped = rw c.in-Dot.is at (c.in-Ok.ensures.told told first w stands walked) in
+    let on : OnTop first _ w (g.H.Host.world c.leg.new.host) c.args.start c.leg.new.stack.items c.top_of-here.result =
+    record { stands = c.leg.ensures.stands first stands; walked = stopped.0.walked; at = c.top_of-here.ensures } in
+    reach_dot on _ _ c.args.slash m (Ok c.in-Ok-at_dot.found) stopped.0 stopped.1 (c.in-Ok-at_dot.ensures.told told)
+
+pub returns-in-Err-at_dot-clause-told : goal.returns-in-Err-at_dot-clause-told
+returns-in-Err-at_dot-clause-told g c told first w m stands walked =
+    let stopped = rw c.in-Dot.is at (c.in-Ok.ensures.told told first w stands walked) in
+    let on : OnTop first _ w (g.H.Host.world c.leg.new.host) c.args.start c.leg.new.stack.items c.top_of-here.result =
+    record { stands = c.leg.ensures.stands first stands; walked = stopped.0.walked; at = c.top_of-here.ensures } in
+    inr (reach_dot on _ _ c.args.slash m (Err c.in-Err-at_dot.e) stopped.0 stopped.1
+    (c.in-Err-at_dot.ensures.told told))
+
+pub returns-in-Last-clause-told : goal.returns-in-Last-clause-told
+returns-in-Last-clause-told g c told first w m stands walked =
+    let last = rw c.in-Last.is at (c.in-Ok.ensures.told told first w stands walked) in
+    let on : OnTop first _ w (g.H.Host.world c.leg.new.host) c.args.start c.leg.new.stack.items c.top_of-here.result =
+    record { stands = c.leg.ensures.stands first stands; walked = last.walked; at = c.top_of-here.ensures } in
+    reach_last on _ _ c.args.slash m last (g.H.Host.world c.at_last.new.host) c.at_last.result
+    (c.at_last.ensures.told told)
+
+pub returns-in-Link-clause-told : goal.returns-in-Link-clause-told
+returns-in-Link-clause-told g c told first w m stands walked =
+    reach_link _ _ _ c.args.slash m (rw c.in-Link.is at (c.in-Ok.ensures.told told first w stands walked))

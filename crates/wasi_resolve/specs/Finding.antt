@@ -1,0 +1,176 @@
+-- What a walk is for and what it finds, and what a part of it does over every host: to the handles and to the look-ups.
+use Rattle.std.specs.Prelude.{◌≡◌, ◌≤◌, ◌+◌, ◌*◌, ℕ, Bool, true, false, List, length, Option, Some, None, Result, Ok, Err}
+use Rattle.std.specs.FinSet.{contains, insert}
+use Rattle.wasi_host.specs.Lineage.{Traced, Nothing}
+use Rattle.wasi_host.specs.Meaning.{Handles}
+use Rattle.wasi_host.specs.declared.errors.HostError.{HostError}
+use Rattle.wasi_host.specs.declared.errors.HostError.TheVariants.{Code, Memory}
+use Rattle.wasi_host.specs.declared.file_type.FileType.{FileType}
+use Rattle.wasi_host.specs.declared.file_type.FileType.TheVariants as kinds
+use Rattle.wasi_host.specs.declared.lookup.Lookup.{Lookup}
+use Rattle.wasi_resolve.specs.Walk as walk
+use Rattle.wasi_resolve.specs.Walk.{is_link_code}
+use Rattle.wasi_resolve.specs.Resolved.{links_read}
+use Rattle.wasi_resolve.specs.Meanings.{follows}
+use Rattle.wasi_resolve.specs.Stack.{Stands, Among}
+use Rattle.wasi_resolve.specs.declared.found.Aim.{Aim}
+use Rattle.wasi_resolve.specs.declared.found.Aim.TheVariants as aims
+use Rattle.wasi_resolve.specs.declared.found.Found.{Found}
+use Rattle.wasi_resolve.specs.declared.found.Found.TheVariants as found
+use Rattle.wasi_resolve.specs.declared.found.Reach.{Reach}
+use Rattle.wasi_resolve.specs.declared.found.Reach.TheVariants as reach
+use Rattle.wasi_resolve.specs.declared.found.Past.{Past}
+use Rattle.wasi_resolve.specs.declared.found.Past.TheVariants as past
+use Rattle.wasi_resolve.specs.declared.found.Stop as stopping
+use Rattle.wasi_resolve.specs.declared.found.Stop.TheVariants as stops
+use Rattle.wasi_resolve.specs.declared.left.PartLeft.{PartLeft}
+
+-- ---- the aim
+
+abbrev pub aim_of : Aim → walk.Aim
+aim_of (aims.Open options) = walk.Open options
+aim_of (aims.Look follow) = walk.Look
+
+abbrev pub follow_of : Aim → Bool
+follow_of (aims.Open options) = follows options.follow
+follow_of (aims.Look follow) = follows follow
+
+-- an open finds a handle, a look metadata
+abbrev pub IsFor : Aim → Found → Type 0
+IsFor (aims.Open options) (found.Handle h) = Unit {0}
+IsFor (aims.Open options) (found.Metadata metadata) = ⊥
+IsFor (aims.Look follow) (found.Handle h) = ⊥
+IsFor (aims.Look follow) (found.Metadata metadata) = Unit {0}
+
+abbrev pub FoundOf : Aim → Result Found HostError → Type 0
+FoundOf aim (Ok it) = IsFor aim it
+FoundOf aim (Err e) = Unit {0}
+
+abbrev pub FoundAs : Aim → Result Reach HostError → Type 0
+FoundAs aim (Ok (reach.Found it)) = IsFor aim it
+FoundAs aim (Ok (reach.Link name)) = Unit {0}
+FoundAs aim (Err e) = Unit {0}
+
+abbrev pub PastFor : Aim → Result Past HostError → Type 0
+PastFor aim (Ok (past.Found it)) = IsFor aim it
+PastFor aim (Ok (past.Link slash)) = Unit {0}
+PastFor aim (Err e) = Unit {0}
+
+abbrev pub is_link_kind : FileType → Bool
+is_link_kind kinds.SymbolicLink = true
+is_link_kind kind = false
+
+abbrev pub is_directory_kind : FileType → Bool
+is_directory_kind kinds.Directory = true
+is_directory_kind kind = false
+
+abbrev pub has_link_code : HostError → Bool
+has_link_code Memory = false
+has_link_code (Code code) = is_link_code (Some code)
+
+-- ---- what is live afterwards: the new handle too, where one was found
+
+abbrev pub LiveEntered : Handles → Result (Option ℕ) HostError → Handles → Type 0
+LiveEntered old (Ok (Some h)) new = (contains old h ≡ false) × (new ≡ insert old h)
+LiveEntered old (Ok None) new = new ≡ old
+LiveEntered old (Err e) new = new ≡ old
+
+abbrev pub LiveFound : Handles → Result Found HostError → Handles → Type 0
+LiveFound old (Ok (found.Handle h)) new = (contains old h ≡ false) × (new ≡ insert old h)
+LiveFound old (Ok (found.Metadata metadata)) new = new ≡ old
+LiveFound old (Err e) new = new ≡ old
+
+abbrev pub LiveReached : Handles → Result Reach HostError → Handles → Type 0
+LiveReached old (Ok (reach.Found it)) new = LiveFound old (Ok it) new
+LiveReached old (Ok (reach.Link name)) new = new ≡ old
+LiveReached old (Err e) new = new ≡ old
+
+-- what is live is what was live, the stack, and the new handle
+abbrev pub StandsFound : Handles → Handles → ℕ → List ℕ → Result Found HostError → Type 0
+StandsFound first now start stack (Ok (found.Handle h)) =
+    (contains first h ≡ false) × Stands (insert first h) now start stack
+StandsFound first now start stack (Ok (found.Metadata metadata)) = Stands first now start stack
+StandsFound first now start stack (Err e) = Stands first now start stack
+
+abbrev pub StandsReached : Handles → Handles → ℕ → List ℕ → Result Reach HostError → Type 0
+StandsReached first now start stack (Ok (reach.Found it)) = StandsFound first now start stack (Ok it)
+StandsReached first now start stack (Ok (reach.Link name)) = Stands first now start stack
+StandsReached first now start stack (Err e) = Stands first now start stack
+
+abbrev pub StandsPast : Handles → Handles → ℕ → List ℕ → Result Past HostError → Type 0
+StandsPast first now start stack (Ok (past.Found it)) = StandsFound first now start stack (Ok it)
+StandsPast first now start stack (Ok (past.Link slash)) = Stands first now start stack
+StandsPast first now start stack (Err e) = Stands first now start stack
+
+-- ---- the handles that were got
+
+abbrev pub EnteredBy : Result (Option ℕ) HostError → ℕ → Type 0
+EnteredBy (Ok (Some h)) q = q ≡ h
+EnteredBy (Ok None) q = ⊥
+EnteredBy (Err e) q = ⊥
+
+abbrev pub FoundBy : Result Found HostError → ℕ → Type 0
+FoundBy (Ok (found.Handle h)) q = q ≡ h
+FoundBy (Ok (found.Metadata metadata)) q = ⊥
+FoundBy (Err e) q = ⊥
+
+abbrev pub ReachedBy : Result Reach HostError → ℕ → Type 0
+ReachedBy (Ok (reach.Found it)) q = FoundBy (Ok it) q
+ReachedBy (Ok (reach.Link name)) q = ⊥
+ReachedBy (Err e) q = ⊥
+
+-- up to a link the stack was got, and else what was found
+abbrev pub ReachTraced : ℕ → List ℕ → List ℕ → Result Reach HostError → List Lookup → List Lookup → Type 0
+ReachTraced start before after (Ok (reach.Link name)) old new =
+    Traced (Among start before) (Among start before) (Among start after) old new
+ReachTraced start before after (Ok (reach.Found it)) old new =
+    Traced (Among start before) Nothing (FoundBy (Ok it)) old new
+ReachTraced start before after (Err e) old new = Traced (Among start before) Nothing Nothing old new
+
+abbrev pub PastTraced : ℕ → List ℕ → List ℕ → Result Past HostError → List Lookup → List Lookup → Type 0
+PastTraced start before after (Ok (past.Link slash)) old new =
+    Traced (Among start before) (Among start before) (Among start after) old new
+PastTraced start before after (Ok (past.Found it)) old new =
+    Traced (Among start before) Nothing (FoundBy (Ok it)) old new
+PastTraced start before after (Err e) old new = Traced (Among start before) Nothing Nothing old new
+
+-- ---- how many look-ups were made
+
+-- at most so many look-ups more, of which so many at most read a link
+pub record FewReads (most most_links : ℕ) (old new : List Lookup) : Type 0 where
+  pub calls : length new ≤ length old + most
+  pub links : links_read new ≤ links_read old + most_links
+
+-- at most two for each part that was taken, none of which reads a link
+pub record FewUntil (before after : List PartLeft) (old new : List Lookup) : Type 0 where
+  pub calls : length new + 2 * length after ≤ length old + 2 * length before
+  pub links : links_read new ≤ links_read old
+
+-- two less, where the last part that was taken is a name of which nothing was asked
+pub record FewBefore (before after : List PartLeft) (old new : List Lookup) : Type 0 where
+  pub calls : length new + 2 * length after + 2 ≤ length old + 2 * length before
+  pub links : links_read new ≤ links_read old
+
+-- of a last name nothing is asked
+abbrev pub ReadsBy : List Lookup → List Lookup → Result (Option stopping.Stop) HostError → Type 0
+ReadsBy old new (Ok None) = FewReads 2 0 old new
+ReadsBy old new (Ok (Some stops.Dot)) = FewReads 2 0 old new
+ReadsBy old new (Ok (Some (stops.Last name))) = FewReads 0 0 old new
+ReadsBy old new (Ok (Some (stops.Link name))) = FewReads 2 0 old new
+ReadsBy old new (Err e) = FewReads 2 0 old new
+
+abbrev pub ReadsTo : List PartLeft → List PartLeft → List Lookup → List Lookup → Result stopping.Stop HostError → Type 0
+ReadsTo before after old new (Ok stops.Dot) = FewUntil before after old new
+ReadsTo before after old new (Ok (stops.Last name)) = FewBefore before after old new
+ReadsTo before after old new (Ok (stops.Link name)) = FewUntil before after old new
+ReadsTo before after old new (Err e) = FewUntil before after old new
+
+-- and two more at an end
+pub record FewToEnd (before after : List PartLeft) (old new : List Lookup) : Type 0 where
+  pub calls : length new + 2 * length after ≤ length old + 2 * length before + 2
+  pub links : links_read new ≤ links_read old
+
+abbrev pub FewOrEnds : List PartLeft → List PartLeft → List Lookup → List Lookup → Result Reach HostError → Type 0
+FewOrEnds before after old new (Ok (reach.Link name)) = FewUntil before after old new
+FewOrEnds before after old new (Ok (reach.Found it)) = FewToEnd before after old new
+FewOrEnds before after old new (Err e) = FewToEnd before after old new

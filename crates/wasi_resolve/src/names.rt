@@ -1,0 +1,256 @@
+//! One name in a directory, as a walk meets it.
+ghost use Rattle.std.specs.Prelude.{◌≡◌, ◌∷◌, ◌&&◌, ◌||◌, not, true, false, IsTrue, List};
+ghost use Rattle.std.specs.FinSet.{contains};
+ghost use Rattle.wasi_host.specs.Meaning.{HasCause, World};
+ghost use Rattle.wasi_host.specs.Lineage.{Traced, Only, Nothing};
+ghost use Rattle.wasi_host.specs.Tree.{is_link};
+ghost use Rattle.wasi_paths.specs.Text.{is_plain};
+ghost use Rattle.wasi_paths.specs.Name.{name_bytes};
+ghost use Rattle.wasi_paths.specs.Parts.{Component, Normal};
+ghost use Rattle.wasi_resolve.specs.Walk.{Open, Look, middle_options, last_options};
+ghost use Rattle.wasi_resolve.specs.Meanings.{follows};
+ghost use Rattle.wasi_resolve.specs.NameText.{left_bytes};
+ghost use Rattle.wasi_resolve.specs.Stack.{Stands, Among};
+ghost use Rattle.wasi_resolve.specs.Finding.{follow_of, aim_of, LiveEntered, EnteredBy, LiveReached, ReachedBy, FewReads, ReadsBy, has_link_code, is_link_kind, is_directory_kind, FoundAs};
+ghost use Rattle.wasi_resolve.specs.WalkSteps.{Walked, Enters, Goes, EndsAtName};
+
+use crate::found::{Aim, Found, Reach, Stop};
+use crate::name_left::NameLeft;
+use crate::stack::top_of;
+use wasi_host::{
+    ErrorCode, FileType, FollowSymlinks, Handle, Host, HostError, OpenOptions, dir_options,
+};
+use wasi_paths::Name;
+
+/// Whether an open was refused as that of a link may be.
+fn may_be_link(refused: HostError) -> bool
+    ensures { result ≡ has_link_code refused }
+{
+    match refused {
+        HostError::Code(ErrorCode::Loop) => true,
+        HostError::Code(ErrorCode::NotDirectory) => true,
+        HostError::Code(_) => false,
+        HostError::Memory => false,
+    }
+}
+
+/// Whether links are followed.
+fn is_follow(follow: FollowSymlinks) -> bool
+    ensures { result ≡ follows follow }
+{
+    match follow {
+        FollowSymlinks::Yes => true,
+        FollowSymlinks::No => false,
+    }
+}
+
+/// Whether a last name that is a link is read.
+fn reads_links(follow: FollowSymlinks, slash: bool) -> bool
+    ensures { result ≡ (follows follow || slash) }
+{
+    is_follow(follow) || slash
+}
+
+fn is_link_kind(kind: FileType) -> bool
+    ensures { result ≡ is_link_kind kind }
+{
+    kind.is_symlink()
+}
+
+fn is_directory_kind(kind: FileType) -> bool
+    ensures { result ≡ is_directory_kind kind }
+{
+    kind.is_dir()
+}
+
+/// Whether what is looked at is a link that is to be read.
+fn is_read(kind: FileType, may_read: bool) -> bool
+    ensures { result ≡ (is_link_kind kind && may_read) }
+{
+    is_link_kind(kind) && may_read
+}
+
+/// Whether what is looked at isn't the directory that a slash behind it requires.
+fn is_no_directory(kind: FileType, slash: bool) -> bool
+    ensures { result ≡ (slash && not (is_directory_kind kind)) }
+{
+    slash && !is_directory_kind(kind)
+}
+
+/// Opens a name. `None` is a link that is to be read, where links may be: the open was refused as that of a link is, and
+/// a look says that it is one. Where the look fails, that is the answer.
+pub(crate) fn open_or_link<H: Host>(
+    host: &mut H,
+    here: Handle,
+    name: Name<'_>,
+    options: &OpenOptions,
+    may_read: bool,
+) -> Result<Option<Handle>, HostError>
+    requires live { contains (H.live host.old) here ≡ true }
+    requires plain { IsTrue (is_plain (name_bytes name)) }
+    ensures cause { HasCause (H.faults host.old) (H.faults host.new) result }
+    ensures live { LiveEntered (H.live host.old) result (H.live host.new) }
+    ensures lineage { Traced (Only here) Nothing (EnteredBy result) (H.lookups host.old) (H.lookups host.new) }
+    ensures reads { FewReads 2 0 (H.lookups host.old) (H.lookups host.new) }
+    ensures told { IsTrue H.told → Enters (H.live host.old) (H.world host.old) (H.world host.new)
+        ((H.world host.old).held here).node (name_bytes name.entry) options.now may_read result }
+{
+    let refused = match host.open_at(here, name, options) {
+        Ok(handle) => return Ok(Some(handle)),
+        Err(refused) => refused,
+    };
+    if !may_read {
+        return Err(refused);
+    }
+    if !may_be_link(refused) {
+        return Err(refused);
+    }
+    let metadata = match host.stat_at(here, name) {
+        Ok(metadata) => metadata,
+        Err(other) => return Err(other),
+    };
+    if !is_link_kind(metadata.kind) {
+        return Err(refused);
+    }
+    Ok(None)
+}
+
+/// What a name that isn't the last part is opened with: a directory for its path alone, and links not followed.
+fn middle_options() -> OpenOptions
+    ensures { result ≡ middle_options }
+{
+    let mut options = dir_options();
+    options.follow(FollowSymlinks::No);
+    options
+}
+
+/// What a last name is opened with: a directory is required behind a slash, and links aren't followed.
+fn last_options(options: &OpenOptions, slash: bool) -> OpenOptions
+    ensures { result ≡ last_options options.now slash }
+{
+    let mut last = *options;
+    last.dir_required(options.is_dir_required() || slash);
+    last.follow(FollowSymlinks::No);
+    last
+}
+
+/// A name that isn't the last part: the walk goes down into its directory, or stops at a link. Room for the handle is
+/// taken before the host is asked.
+pub(crate) fn go_down<'p, H: Host>(
+    host: &mut H,
+    start: Handle,
+    stack: &mut Vec<Handle>,
+    name: NameLeft<'p>,
+) -> Result<Option<Stop<'p>>, HostError>
+    requires { (first : _) × Stands first (H.live host.old) start stack.old.items }
+    ensures cause { HasCause (H.faults host.old) (H.faults host.new) result }
+    ensures stands { (first : _) → Stands first (H.live host.old) start stack.old.items
+        → Stands first (H.live host.new) start stack.new.items }
+    ensures lineage { Traced (Among start stack.old.items) (Among start stack.old.items) (Among start stack.new.items)
+        (H.lookups host.old) (H.lookups host.new) }
+    ensures reads { ReadsBy (H.lookups host.old) (H.lookups host.new) result }
+    ensures told { IsTrue H.told → (first : _) (w : World) (next : Component) (rest : List Component)
+        → Stands first (H.live host.old) start stack.old.items
+        → Walked first w (H.world host.old) start stack.old.items
+        → Goes first w (H.world host.old) (H.world host.new) start
+        (Normal (left_bytes name.entry.text) ∷ next ∷ rest) stack.old.items (next ∷ rest) stack.new.items result }
+{
+    stack.reserve(1)?;
+    let here = top_of(start, stack);
+    match open_or_link(host, here, name.name(), &middle_options(), true) {
+        Ok(Some(handle)) => {
+            stack.push_reserved(handle);
+            Ok(None)
+        }
+        Ok(None) => Ok(Some(Stop::Link(name))),
+        Err(e) => Err(e),
+    }
+}
+
+/// The last name, of which an open or a look is asked.
+pub(crate) fn at_last<'p, H: Host>(
+    host: &mut H,
+    here: Handle,
+    name: NameLeft<'p>,
+    aim: &Aim,
+    slash: bool,
+) -> Result<Reach<'p>, HostError>
+    requires { contains (H.live host.old) here ≡ true }
+    ensures cause { HasCause (H.faults host.old) (H.faults host.new) result }
+    ensures live { LiveReached (H.live host.old) result (H.live host.new) }
+    ensures for_aim { FoundAs aim.now result }
+    ensures lineage { Traced (Only here) Nothing (ReachedBy result) (H.lookups host.old) (H.lookups host.new) }
+    ensures reads { FewReads 2 0 (H.lookups host.old) (H.lookups host.new) }
+    ensures told { IsTrue H.told → EndsAtName (H.live host.old) (H.world host.old) (H.world host.new)
+        ((H.world host.old).held here).node (aim_of aim.now) (follow_of aim.now) slash (left_bytes name.entry.text)
+        result }
+{
+    match aim {
+        Aim::Open(options) => open_last(host, here, name, options, slash),
+        Aim::Look(follow) => look_last(host, here, name, *follow, slash),
+    }
+}
+
+/// The last name of an open.
+fn open_last<'p, H: Host>(
+    host: &mut H,
+    here: Handle,
+    name: NameLeft<'p>,
+    options: &OpenOptions,
+    slash: bool,
+) -> Result<Reach<'p>, HostError>
+    requires { contains (H.live host.old) here ≡ true }
+    ensures cause { HasCause (H.faults host.old) (H.faults host.new) result }
+    ensures live { LiveReached (H.live host.old) result (H.live host.new) }
+    ensures for_aim { FoundAs (Aim.Open options.now) result }
+    ensures lineage { Traced (Only here) Nothing (ReachedBy result) (H.lookups host.old) (H.lookups host.new) }
+    ensures reads { FewReads 2 0 (H.lookups host.old) (H.lookups host.new) }
+    ensures told { IsTrue H.told → EndsAtName (H.live host.old) (H.world host.old) (H.world host.new)
+        ((H.world host.old).held here).node (Open options.now)
+        (follows options.now.follow) slash (left_bytes name.entry.text) result }
+{
+    let may_read = reads_links(options.is_follow(), slash);
+    match open_or_link(
+        host,
+        here,
+        name.name(),
+        &last_options(options, slash),
+        may_read,
+    ) {
+        Ok(Some(handle)) => Ok(Reach::Found(Found::Handle(handle))),
+        Ok(None) => Ok(Reach::Link(name)),
+        Err(e) => Err(e),
+    }
+}
+
+/// The last name of a look.
+fn look_last<'p, H: Host>(
+    host: &mut H,
+    here: Handle,
+    name: NameLeft<'p>,
+    follow: FollowSymlinks,
+    slash: bool,
+) -> Result<Reach<'p>, HostError>
+    requires { contains (H.live host.old) here ≡ true }
+    ensures cause { HasCause (H.faults host.old) (H.faults host.new) result }
+    ensures live { LiveReached (H.live host.old) result (H.live host.new) }
+    ensures for_aim { FoundAs (Aim.Look follow) result }
+    ensures lineage { Traced (Only here) Nothing (ReachedBy result) (H.lookups host.old) (H.lookups host.new) }
+    ensures reads { FewReads 1 0 (H.lookups host.old) (H.lookups host.new) }
+    ensures told { IsTrue H.told → EndsAtName (H.live host.old) (H.world host.old) (H.world host.new)
+        ((H.world host.old).held here).node Look
+        (follows follow) slash (left_bytes name.entry.text) result }
+{
+    let metadata = match host.stat_at(here, name.name()) {
+        Ok(metadata) => metadata,
+        Err(e) => return Err(e),
+    };
+    let may_read = reads_links(follow, slash);
+    if is_read(metadata.kind, may_read) {
+        return Ok(Reach::Link(name));
+    }
+    if is_no_directory(metadata.kind, slash) {
+        return Err(HostError::Code(ErrorCode::NotDirectory));
+    }
+    Ok(Reach::Found(Found::Metadata(metadata)))
+}

@@ -1,0 +1,102 @@
+//! A name in the directory that a path leads to.
+ghost use Rattle.std.specs.Prelude.{◌≡◌, ◌≤◌, ◌+◌, ◌*◌, true, IsTrue, length};
+ghost use Rattle.std.specs.FinSet.{contains};
+ghost use Rattle.wasi_host.specs.Meaning.{HasCause};
+ghost use Rattle.wasi_host.specs.Lineage.{Traced, Only, Nothing};
+ghost use Rattle.wasi_paths.specs.Name.{name_bytes};
+ghost use Rattle.wasi_paths.specs.Part.{component};
+ghost use Rattle.wasi_paths.specs.TextLaws.{IsLastPart};
+ghost use Rattle.wasi_resolve.specs.Walk.{Open, walk};
+ghost use Rattle.wasi_resolve.specs.Paths.{directory_options, part_text};
+ghost use Rattle.wasi_resolve.specs.Resolved.{links_read, Resolved};
+ghost use Rattle.wasi_resolve.specs.Parents.{directory_of, parent_text, places_at, shown_place, GotParent, LiveParent};
+
+use crate::resolver::open_dir;
+use crate::walk::is_empty;
+use std::alloc::Global;
+use wasi_host::{ErrorCode, Handle, Host, HostError};
+use wasi_paths::{Name, Part, split_parent, texts_have_one_split};
+
+/// A directory's handle that is the caller's already, or one that was opened, which is the caller's to close. It stands
+/// for the crate's `MaybeOwnedFile`.
+#[derive(Clone, Copy, Debug, PartialEq, Eq)]
+pub enum MaybeOwned {
+    Borrowed(Handle),
+    Owned(Handle),
+}
+
+impl MaybeOwned {
+    /// The handle.
+    pub fn handle(self) -> Handle
+        ensures handle { result ≡ directory_of self }
+    {
+        match self {
+            MaybeOwned::Borrowed(handle) => handle,
+            MaybeOwned::Owned(handle) => handle,
+        }
+    }
+}
+
+/// A name in a directory.
+#[derive(Clone, Copy, Debug)]
+pub struct Parent<'p> {
+    pub directory: MaybeOwned,
+    pub name: Name<'p>,
+}
+
+/// The last part of a split, as a name.
+fn last_name<'p>(last: Part<'p>) -> Name<'p>
+    requires { IsLastPart (component last) }
+    ensures { name_bytes result ≡ part_text (component last.entry) }
+{
+    match last {
+        Part::CurDir => Name::dot(),
+        Part::Normal(text) => match Name::plain(text) {
+            Some(name) => name,
+            None => unreachable!(),
+        },
+        Part::Root => unreachable!(),
+        Part::ParentDir => unreachable!(),
+    }
+}
+
+/// The place that a path names below a start directory: its last part, a plain name or `.`, in the directory that its
+/// parent text opens, or in the start itself: the crate's `open_parent`. The name is not looked up. NoEntry of the empty
+/// path; else refused as the open of the parent is.
+pub fn open_parent<'p, H: Host>(
+    alloc: Global,
+    host: &mut H,
+    start: Handle,
+    path: &'p str,
+) -> Result<Parent<'p>, HostError>
+    requires live { contains (H.live host.old) start ≡ true }
+    ensures cause { HasCause (H.faults host.old) (H.faults host.new) result }
+    ensures live { LiveParent start (H.live host.old) result (H.live host.new) }
+    ensures lineage { Traced (Only start) Nothing (GotParent result) (H.lookups host.old) (H.lookups host.new) }
+    ensures links { links_read (H.lookups host.new) ≤ links_read (H.lookups host.old) + 40 }
+    ensures told { IsTrue H.told → Resolved (H.live host.old) (H.world host.old) (H.world host.new)
+        (places_at (H.world host.old).tree ((H.world host.old).held start).node path.entry.now)
+        (shown_place (H.world host.new).held) result }
+    ensures bound { IsTrue H.told → length (H.lookups host.new) ≤ length (H.lookups host.old) + (3 *
+        (walk (H.world host.old).tree ((H.world host.old).held start).node (parent_text path.entry.now)
+        (Open directory_options) true).parts + 4) }
+{
+    texts_have_one_split();
+    let Some((parent, last)) = split_parent(path) else {
+        return Err(HostError::Code(ErrorCode::NoEntry));
+    };
+    let name = last_name(last);
+    if is_empty(parent) {
+        return Ok(Parent {
+            directory: MaybeOwned::Borrowed(start),
+            name,
+        });
+    }
+    match open_dir(alloc, host, start, parent) {
+        Ok(handle) => Ok(Parent {
+            directory: MaybeOwned::Owned(handle),
+            name,
+        }),
+        Err(e) => Err(e),
+    }
+}

@@ -1,0 +1,63 @@
+//! The stack of handles of the directories that a walk has gone down into, the last one on top.
+ghost use Rattle.std.specs.Prelude.{◌≡◌, ◌∷◌, IsTrue, List};
+ghost use Rattle.wasi_host.specs.Meaning.{HasCause, World};
+ghost use Rattle.wasi_host.specs.Lineage.{Traced};
+ghost use Rattle.wasi_paths.specs.Parts.{Component, ParentDir};
+ghost use Rattle.wasi_resolve.specs.Stack.{Stands, top_handle, Among};
+ghost use Rattle.wasi_resolve.specs.WalkSteps.{Stayed, Walked, Leaves};
+
+use wasi_host::{ErrorCode, Handle, Host, HostError};
+
+/// The handle on top of the stack, or the start.
+pub(crate) fn top_of(start: Handle, stack: &Vec<Handle>) -> Handle
+    ensures { result ≡ top_handle start stack.now.items }
+{
+    match stack.as_slice() {
+        [] => start,
+        [.., last] => *last,
+    }
+}
+
+/// A `..`: the directory on top is left, which must have its search bit.
+pub(crate) fn leave<H: Host>(
+    host: &mut H,
+    start: Handle,
+    stack: &mut Vec<Handle>,
+) -> Result<(), HostError>
+    requires { (first : _) × Stands first (H.live host.old) start stack.old.items }
+    ensures cause { HasCause (H.faults host.old) (H.faults host.new) result }
+    ensures stands { (first : _) → Stands first (H.live host.old) start stack.old.items
+        → Stands first (H.live host.new) start stack.new.items }
+    ensures lineage { Traced (Among start stack.old.items) (Among start stack.old.items) (Among start stack.new.items)
+        (H.lookups host.old) (H.lookups host.new) }
+    ensures logged { H.lookups host.new ≡ H.lookups host.old }
+    ensures told { IsTrue H.told → (first : _) (w : World) (rest : List Component)
+        → Stands first (H.live host.old) start stack.old.items
+        → Walked first w (H.world host.old) start stack.old.items
+        → Leaves first w (H.world host.old) (H.world host.new) start (ParentDir ∷ rest) stack.old.items
+        rest stack.new.items result }
+{
+    let Some(here) = stack.pop() else {
+        return Err(HostError::Code(ErrorCode::NotPermitted));
+    };
+    let allowed = host.access(here);
+    host.close(here);
+    match allowed {
+        Ok(()) => Ok(()),
+        Err(code) => Err(HostError::Code(code)),
+    }
+}
+
+/// Closes the handles of a stack.
+pub(crate) fn close_all<H: Host>(host: &mut H, start: Handle, mut stack: Vec<Handle>)
+    requires { (first : _) × Stands first (H.live host.old) start stack.items }
+    ensures faults { H.faults host.new ≡ H.faults host.old }
+    ensures live { (first : _) → Stands first (H.live host.old) start stack.items → H.live host.new ≡ first }
+    ensures logged { H.lookups host.new ≡ H.lookups host.old }
+    ensures told { IsTrue H.told → (first : _) → Stands first (H.live host.old) start stack.items
+        → Stayed first (H.world host.old) (H.world host.new) }
+{
+    while let Some(handle) = stack.pop() {
+        host.close(handle);
+    }
+}
