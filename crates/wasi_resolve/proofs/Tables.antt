@@ -1,4 +1,5 @@
--- What the host's table says of a name: whether it holds a link, and what an open, a look and a read of it say together.
+-- What the host's table says of a name: whether it holds a link, and what an open, a look and a read of it say
+-- together.
 use Rattle.std.proofs.Common.{◌≡◌, ◌⊎◌, inl, inr, ℕ, Bool, true, false, cond, not, ◌&&◌, ◌||◌, List, [], ◌∷◌, Option, Some, None, Ok, Err, IsTrue, refl, sym, ap, ◌∙◌, arith}
 use Rattle.std.specs.Prelude.{is_none}
 use Rattle.std.specs.FinMap as map

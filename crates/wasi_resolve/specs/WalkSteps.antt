@@ -1,5 +1,5 @@
--- What a part of a walk does over a host that tells its world: w is the world in which the walk began, v that before the
--- part, u that behind it.
+-- What a part of a walk does over a host that tells its world: w is the world in which the walk began, v that before
+-- the part, u that behind it.
 use Rattle.std.specs.Prelude.{◌≡◌, ◌⊎◌, ◌≤◌, ◌+◌, ◌*◌, ℕ, suc, Bool, true, false, ◌&&◌, ◌||◌, List, [], ◌∷◌, ◌++◌, length, Option, Some, None, Result, Ok, Err}
 use Rattle.std.specs.FinSet.{contains}
 use Rattle.wasi_host.specs.Options.{Options}

@@ -77,8 +77,8 @@ fn is_no_directory(kind: FileType, slash: bool) -> bool
     slash && !is_directory_kind(kind)
 }
 
-/// Opens a name. `None` is a link that is to be read, where links may be: the open was refused as that of a link is, and
-/// a look says that it is one. Where the look fails, that is the answer.
+/// Opens a name. `None` is a link that is to be read, where links may be read: the open was refused as that of a link
+/// is, and a look says that it is one. Where the look fails, that is the answer.
 pub(crate) fn open_or_link<H: Host>(
     host: &mut H,
     here: Handle,

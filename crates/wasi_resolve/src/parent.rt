@@ -37,7 +37,7 @@ impl MaybeOwned {
     }
 }
 
-/// A name in a directory.
+/// A name in a directory, in which it may be missing.
 #[derive(Clone, Copy, Debug)]
 pub struct Parent<'p> {
     pub directory: MaybeOwned,
@@ -61,8 +61,8 @@ fn last_name<'p>(last: Part<'p>) -> Name<'p>
 }
 
 /// The place that a path names below a start directory: its last part, a plain name or `.`, in the directory that its
-/// parent text opens, or in the start itself: the crate's `open_parent`. The name is not looked up. NoEntry of the empty
-/// path; else refused as the open of the parent is.
+/// parent text opens, or in the start itself: the crate's `open_parent` in `open_parent.rs`. The name itself
+/// is not looked up. The empty path is refused NoEntry, and any other as the open of its parent is.
 pub fn open_parent<'p, H: Host>(
     alloc: Global,
     host: &mut H,

@@ -1,7 +1,6 @@
 //! The calls of the resolver.
 ghost use Rattle.std.specs.Prelude.{◌≡◌, ◌≤◌, ◌+◌, ◌*◌, true, IsTrue, length};
 ghost use Rattle.std.specs.FinSet.{contains};
-ghost use Rattle.wasi_host.specs.Options.{no_options};
 ghost use Rattle.wasi_host.specs.Meaning.{HasCause, LiveGot};
 ghost use Rattle.wasi_host.specs.Lineage.{Traced, Only, Nothing};
 ghost use Rattle.wasi_resolve.specs.Walk.{Open, Look, walk};
@@ -49,7 +48,8 @@ pub fn open<H: Host>(
     }
 }
 
-/// Opens a directory below a start directory, for its path alone; links are followed.
+/// Opens a directory below a start directory, for its path alone, so that it needs no read bit; links are followed. It
+/// is `open` with the options of `dir_options`.
 pub fn open_dir<H: Host>(
     alloc: Global,
     host: &mut H,
@@ -72,9 +72,9 @@ pub fn open_dir<H: Host>(
 }
 
 /// The metadata of the node that a path names below a start directory; a link under the last name is read where it is
-/// followed, or where a slash stands behind it: the crate's `stat` in `manually/open.rs`. It walks as `open` does. Where
-/// the path ends in a directory, that one needs its search bit; where a slash stands behind the last name, its node must
-/// be a directory.
+/// followed, or where a slash stands behind it: the crate's `stat` in `manually/open.rs`. It walks as `open` does, and
+/// takes memory as it does. Where the path ends in a directory, that one needs its search bit; where a slash stands
+/// behind the last name, its node must be a directory, or the answer is NotDirectory.
 pub fn stat<H: Host>(
     alloc: Global,
     host: &mut H,
