@@ -4,7 +4,7 @@ use Rattle.std.specs.Str.{bytes_eq}
 use Rattle.serde_json.specs.Data.{Data, Items, no_items, item}
 use Rattle.serde_json.specs.Find as find
 use Rattle.wasi_guest.specs.declared.call.Call.{Call}
-use Rattle.wasi_guest.specs.declared.call.Call.TheVariants.{PathOpen, FdRead, FdWrite, FdClose}
+use Rattle.wasi_guest.specs.declared.call.Call.TheVariants.{FdClose, FdRead, FdWrite, PathCreateDirectory, PathFilestatGet, PathOpen, PathReadlink, PathRemoveDirectory, PathUnlinkFile, PathSymlink}
 use Rattle.wasi_form.specs.declared.calls.Argument.{Argument}
 use Rattle.wasi_form.specs.declared.calls.Argument.TheVariants.{U32, U64, I64}
 use Rattle.wasi_form.specs.Lists.{◌>>=◌, only_if}
@@ -62,7 +62,7 @@ call_rows =
     ∷ []
 
 -- what stands at a name
-abbrev pub at_name : List (List ℕ × List Argument) → List ℕ → Option (List Argument)
+abbrev pub at_name : {A : Type 0} → List (List ℕ × A) → List ℕ → Option A
 at_name [] name = None
 at_name (row ∷ rows) name = if bytes_eq name row.0 then Some row.1 else at_name rows name
 
@@ -119,13 +119,72 @@ fd_close_of ds = do
   fd ← u32_at 0 ds
   Some (FdClose fd)
 
+unfoldable pub path_create_directory_of : Items → Option Call
+path_create_directory_of ds = do
+  fd ← u32_at 0 ds
+  path ← u32_at 1 ds
+  path_len ← u32_at 2 ds
+  Some (PathCreateDirectory fd path path_len)
+
+unfoldable pub path_filestat_get_of : Items → Option Call
+path_filestat_get_of ds = do
+  fd ← u32_at 0 ds
+  flags ← u32_at 1 ds
+  path ← u32_at 2 ds
+  path_len ← u32_at 3 ds
+  Some (PathFilestatGet fd flags path path_len)
+
+unfoldable pub path_readlink_of : Items → Option Call
+path_readlink_of ds = do
+  fd ← u32_at 0 ds
+  path ← u32_at 1 ds
+  path_len ← u32_at 2 ds
+  buf ← u32_at 3 ds
+  buf_len ← u32_at 4 ds
+  Some (PathReadlink fd path path_len buf buf_len)
+
+unfoldable pub path_remove_directory_of : Items → Option Call
+path_remove_directory_of ds = do
+  fd ← u32_at 0 ds
+  path ← u32_at 1 ds
+  path_len ← u32_at 2 ds
+  Some (PathRemoveDirectory fd path path_len)
+
+unfoldable pub path_unlink_file_of : Items → Option Call
+path_unlink_file_of ds = do
+  fd ← u32_at 0 ds
+  path ← u32_at 1 ds
+  path_len ← u32_at 2 ds
+  Some (PathUnlinkFile fd path path_len)
+
+-- the text of the link comes before where it is made
+unfoldable pub path_symlink_of : Items → Option Call
+path_symlink_of ds = do
+  old_path ← u32_at 0 ds
+  old_path_len ← u32_at 1 ds
+  fd ← u32_at 2 ds
+  new_path ← u32_at 3 ds
+  new_path_len ← u32_at 4 ds
+  Some (PathSymlink old_path old_path_len fd new_path new_path_len)
+
+-- the calls that are built, each with what its arguments make of it
+abbrev pub built_rows : List (List ℕ × (Items → Option Call))
+built_rows =
+    (codes "fd_close", fd_close_of)
+    ∷ (codes "fd_read", fd_read_of)
+    ∷ (codes "fd_write", fd_write_of)
+    ∷ (codes "path_create_directory", path_create_directory_of)
+    ∷ (codes "path_filestat_get", path_filestat_get_of)
+    ∷ (codes "path_open", path_open_of)
+    ∷ (codes "path_readlink", path_readlink_of)
+    ∷ (codes "path_remove_directory", path_remove_directory_of)
+    ∷ (codes "path_unlink_file", path_unlink_file_of)
+    ∷ (codes "path_symlink", path_symlink_of)
+    ∷ []
+
 -- the call of a name with these arguments; all other names wait
 abbrev pub call_named : List ℕ → Items → Option Call
-call_named name ds =
-    if bytes_eq name (codes "path_open") then path_open_of ds
-    else (if bytes_eq name (codes "fd_read") then fd_read_of ds
-    else (if bytes_eq name (codes "fd_write") then fd_write_of ds
-    else (if bytes_eq name (codes "fd_close") then fd_close_of ds else None)))
+call_named name ds = at_name built_rows name >>= (λ of. of ds)
 
 -- `[NAME, ARGUMENT ..]`
 abbrev pub call_in : Items → Option (Option Call)

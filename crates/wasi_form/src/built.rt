@@ -103,10 +103,16 @@ fn is_built_call(call: Call) -> bool
     ensures { result ≡ specs.is_built_call call }
 {
     match call {
-        Call::PathOpen { fdflags, .. } => fdflags == 0,
+        Call::FdClose { fd } => fd >= 3,
         Call::FdRead { fd, .. } => fd >= 3,
         Call::FdWrite { fd, .. } => fd >= 3,
-        Call::FdClose { fd } => fd >= 3,
+        Call::PathOpen { fdflags, .. } => fdflags == 0,
+        Call::PathCreateDirectory { .. }
+        | Call::PathFilestatGet { .. }
+        | Call::PathReadlink { .. }
+        | Call::PathRemoveDirectory { .. }
+        | Call::PathUnlinkFile { .. }
+        | Call::PathSymlink { .. } => true,
     }
 }
 

@@ -190,20 +190,93 @@ fn fd_close(arguments: &[Value]) -> Option<Call>
     })
 }
 
+#[tactic(auto, unfolding(crate::specs::CallForm::path_create_directory_of))]
+fn path_create_directory(arguments: &[Value]) -> Option<Call>
+    ensures { result ≡ specs.path_create_directory_of (items_view arguments.now) }
+{
+    Some(Call::PathCreateDirectory {
+        fd: u32_at(arguments, 0)?,
+        path: u32_at(arguments, 1)?,
+        path_len: u32_at(arguments, 2)?,
+    })
+}
+
+#[tactic(auto, unfolding(crate::specs::CallForm::path_filestat_get_of))]
+fn path_filestat_get(arguments: &[Value]) -> Option<Call>
+    ensures { result ≡ specs.path_filestat_get_of (items_view arguments.now) }
+{
+    Some(Call::PathFilestatGet {
+        fd: u32_at(arguments, 0)?,
+        flags: u32_at(arguments, 1)?,
+        path: u32_at(arguments, 2)?,
+        path_len: u32_at(arguments, 3)?,
+    })
+}
+
+#[tactic(auto, unfolding(crate::specs::CallForm::path_readlink_of))]
+fn path_readlink(arguments: &[Value]) -> Option<Call>
+    ensures { result ≡ specs.path_readlink_of (items_view arguments.now) }
+{
+    Some(Call::PathReadlink {
+        fd: u32_at(arguments, 0)?,
+        path: u32_at(arguments, 1)?,
+        path_len: u32_at(arguments, 2)?,
+        buf: u32_at(arguments, 3)?,
+        buf_len: u32_at(arguments, 4)?,
+    })
+}
+
+#[tactic(auto, unfolding(crate::specs::CallForm::path_remove_directory_of))]
+fn path_remove_directory(arguments: &[Value]) -> Option<Call>
+    ensures { result ≡ specs.path_remove_directory_of (items_view arguments.now) }
+{
+    Some(Call::PathRemoveDirectory {
+        fd: u32_at(arguments, 0)?,
+        path: u32_at(arguments, 1)?,
+        path_len: u32_at(arguments, 2)?,
+    })
+}
+
+#[tactic(auto, unfolding(crate::specs::CallForm::path_unlink_file_of))]
+fn path_unlink_file(arguments: &[Value]) -> Option<Call>
+    ensures { result ≡ specs.path_unlink_file_of (items_view arguments.now) }
+{
+    Some(Call::PathUnlinkFile {
+        fd: u32_at(arguments, 0)?,
+        path: u32_at(arguments, 1)?,
+        path_len: u32_at(arguments, 2)?,
+    })
+}
+
+#[tactic(auto, unfolding(crate::specs::CallForm::path_symlink_of))]
+fn path_symlink(arguments: &[Value]) -> Option<Call>
+    ensures { result ≡ specs.path_symlink_of (items_view arguments.now) }
+{
+    Some(Call::PathSymlink {
+        old_path: u32_at(arguments, 0)?,
+        old_path_len: u32_at(arguments, 1)?,
+        fd: u32_at(arguments, 2)?,
+        new_path: u32_at(arguments, 3)?,
+        new_path_len: u32_at(arguments, 4)?,
+    })
+}
+
 // The call of a name, `None` where it waits.
 fn call_named(name: &str, arguments: &[Value]) -> Option<Call>
     ensures { result ≡ specs.call_named name.now (items_view arguments.now) }
 {
-    if name == "path_open" {
-        path_open(arguments)
-    } else if name == "fd_read" {
-        fd_read(arguments)
-    } else if name == "fd_write" {
-        fd_write(arguments)
-    } else if name == "fd_close" {
-        fd_close(arguments)
-    } else {
-        None
+    match name {
+        "fd_close" => fd_close(arguments),
+        "fd_read" => fd_read(arguments),
+        "fd_write" => fd_write(arguments),
+        "path_create_directory" => path_create_directory(arguments),
+        "path_filestat_get" => path_filestat_get(arguments),
+        "path_open" => path_open(arguments),
+        "path_readlink" => path_readlink(arguments),
+        "path_remove_directory" => path_remove_directory(arguments),
+        "path_unlink_file" => path_unlink_file(arguments),
+        "path_symlink" => path_symlink(arguments),
+        _ => None,
     }
 }
 

@@ -5,3 +5,4 @@ pub mod Lending
 pub mod Iovec
 pub mod Room
 pub mod ErrnoName
+pub mod FiletypeNumber

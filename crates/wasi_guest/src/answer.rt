@@ -1,6 +1,7 @@
 //! What a call answers.
 
 use crate::errno::Errno;
+use crate::filestat::Filestat;
 
 /// Why a guest is stopped.
 #[derive(Clone, Copy, Debug, PartialEq, Eq)]
@@ -15,6 +16,8 @@ pub enum Value {
     /// Nothing but its success.
     Unit,
     Number(u64),
+    /// What is told of a node.
+    Filestat(Filestat),
 }
 
 /// The answer of a call.

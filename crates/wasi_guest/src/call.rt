@@ -1,17 +1,12 @@
 //! The calls of a guest.
 
-/// A call of preview1 with its arguments as raw numbers, in the order of `wasi_snapshot_preview1`.
+/// A call of preview1 with its arguments as raw numbers, in the order of `wasi_snapshot_preview1`. A pair of a name and
+/// that name with `_len`, as `path` and `path_len`, is the address and the length of a text or a buffer in the guest's
+/// memory.
 #[derive(Clone, Copy)]
 pub enum Call {
-    PathOpen {
+    FdClose {
         fd: u32,
-        dirflags: u32,
-        path: u32,
-        path_len: u32,
-        oflags: u32,
-        base: u64,
-        inheriting: u64,
-        fdflags: u32,
     },
     FdRead {
         fd: u32,
@@ -23,7 +18,50 @@ pub enum Call {
         iovs: u32,
         iovs_len: u32,
     },
-    FdClose {
+    PathCreateDirectory {
         fd: u32,
+        path: u32,
+        path_len: u32,
+    },
+    PathFilestatGet {
+        fd: u32,
+        flags: u32,
+        path: u32,
+        path_len: u32,
+    },
+    PathOpen {
+        fd: u32,
+        dirflags: u32,
+        path: u32,
+        path_len: u32,
+        oflags: u32,
+        base: u64,
+        inheriting: u64,
+        fdflags: u32,
+    },
+    PathReadlink {
+        fd: u32,
+        path: u32,
+        path_len: u32,
+        buf: u32,
+        buf_len: u32,
+    },
+    PathRemoveDirectory {
+        fd: u32,
+        path: u32,
+        path_len: u32,
+    },
+    PathUnlinkFile {
+        fd: u32,
+        path: u32,
+        path_len: u32,
+    },
+    /// The old path is the text that the new link gets.
+    PathSymlink {
+        old_path: u32,
+        old_path_len: u32,
+        fd: u32,
+        new_path: u32,
+        new_path_len: u32,
     },
 }

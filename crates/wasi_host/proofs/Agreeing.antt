@@ -6,12 +6,12 @@ use Rattle.std.proofs.lemmas.List.{length-set, get_or_push}
 use Rattle.std.proofs.lemmas.List.Elements.{Contains-push, Contains-push_cases}
 use Rattle.wasi_paths.specs.Text.{is_dot_text}
 use Rattle.wasi_host.specs.Options.{Options}
-use Rattle.wasi_host.specs.Tree.{Tree, Node, Nodes, node_at, next_of, child, is_link, stray}
+use Rattle.wasi_host.specs.Tree.{Tree, Node, Nodes, Content, node_at, next_of, child, is_link, is_directory, stray}
 use Rattle.wasi_host.specs.ValidTree.{Reached, root, held}
 use Rattle.wasi_host.specs.Agree.{IsClosed, AgreeOn, IsMade, OrMade}
-use Rattle.wasi_host.specs.HostCall.{HostCall, OpenAt, StatAt, ReadLinkAt, Access, Stat, Pread, Pwrite, Dup, Close}
-use Rattle.wasi_host.specs.Refusal.{refusal, holds}
-use Rattle.wasi_host.specs.Step.{step, open_step, opened_step, file_made, file_cut, is_cut, with_name, with_nodes, new_file, write_step}
+use Rattle.wasi_host.specs.HostCall.{HostCall, OpenAt, StatAt, ReadLinkAt, MakeDirAt, SymlinkAt, UnlinkAt, RemoveDirAt, Access, Stat, Pread, Pwrite, Dup, Close}
+use Rattle.wasi_host.specs.Refusal.{refusal, holds, is_bare}
+use Rattle.wasi_host.specs.Step.{step, open_step, opened_step, unlink_step, remove_step, dropped_step, node_made, file_cut, name_dropped, is_cut, with_name, without_name, with_nodes, new_file, new_directory, new_link, one_name_less, made_gone, write_step}
 use Rattle.wasi_host.specs.Answer.{reached, or_next, unless, text_held, link_text}
 use Rattle.wasi_host.specs.declared.errors.ErrorCode.{ErrorCode}
 use Rattle.wasi_host.proofs.Leaving.{named_in, no_name, made_next, next_is_made, emptied, put_into, node_put, starts_of, step_leaves}
@@ -77,13 +77,14 @@ module _ (Seen : ℕ → Type 0) (t u v : Tree) where
     | inr new ↦ inr (record { fresh = new; there = made.there })
   ]
 
--- the node that comes with a file, and no other
-node_made : (t : Tree) (d : ℕ) (name : List ℕ) → node_at (file_made t d name) (next_of t) ≡ new_file
+-- the node that is made, and no other
+made_node : (t : Tree) (d : ℕ) (name : List ℕ) (node : Node) → node_at (node_made t d name node) (next_of t) ≡ node
 unfolding node_at
-node_made t d name = get_or_push _ new_file stray (next_of t) (length-set t.nodes d _)
+made_node t d name node = get_or_push _ node stray (next_of t) (length-set t.nodes d _)
 
-only_next : (t : Tree) (d n : ℕ) (name : List ℕ) → IsMade t (file_made t d name) n → n ≡ next_of t
-only_next t d n name made = let fresh = made.fresh in let there = made.there in omega (arith, made_next t d name)
+only_next : (t : Tree) (d n : ℕ) (name : List ℕ) (node : Node) → IsMade t (node_made t d name node) n → n ≡ next_of t
+only_next t d n name node made =
+    let fresh = made.fresh in let there = made.there in omega (arith, made_next t d name node)
 
 pub unless_value : {B : Type 0} (refused : Option ErrorCode) {x y : B} → unless refused x ≡ Ok y → x ≡ y
 unless_value None is = cc
@@ -110,7 +111,7 @@ module _ {Seen : ℕ → Type 0} {t : Tree} (closed : IsClosed Seen t) where
   reached_seen d name o seen = by (child t d name) refl
     where
       by : (c : Option ℕ) → child t d name ≡ c → OrMade Seen t (opened_step t d name o c) (or_next c (next_of t))
-      by None is = inr (next_is_made t d name)
+      by None is = inr (next_is_made t d name new_file)
       by (Some n) is = inl (child_seen d n name seen is)
 
   pub reach_closed : {roots : List ℕ} → ((n : ℕ) → Contains roots n → Seen n) → (n : ℕ) → Reached t roots n → Seen n
@@ -174,6 +175,23 @@ module _ {Seen : ℕ → Type 0} {t u : Tree} (closed : IsClosed Seen t) (agree 
   refused_same (ReadLinkAt d name) from =
       let seen = from d (Contains-push [] d) in
       rw (holds_same d name (λ n. is_link n.content) seen, child_same d name seen, agree.nodes d seen) refl
+  refused_same (MakeDirAt d name) from =
+      let seen = from d (Contains-push [] d) in
+      rw (child_same d name seen, agree.nodes d seen, agree.next, agree.limits) refl
+  refused_same (SymlinkAt text d name) from =
+      let seen = from d (Contains-push [] d) in
+      rw (child_same d name seen, agree.nodes d seen, agree.next, agree.limits) refl
+  refused_same (UnlinkAt d name) from =
+      let seen = from d (Contains-push [] d) in
+      rw (holds_same d name (λ n. is_directory n.content) seen, child_same d name seen, agree.nodes d seen) refl
+  refused_same (RemoveDirAt d name) from =
+      let seen = from d (Contains-push [] d) in
+      rw (
+        holds_same d name (λ n. is_directory n.content) seen,
+        holds_same d name is_bare seen,
+        child_same d name seen,
+        agree.nodes d seen,
+      ) refl
   refused_same (Access d) from = rw (agree.nodes d (from d (Contains-push [] d))) refl
   refused_same (Stat n) from = refl
   refused_same (Pread file offset n) from = rw (agree.nodes file.node (from file.node (Contains-push [] file.node))) refl
@@ -199,28 +217,28 @@ module _ {Seen : ℕ → Type 0} {t u : Tree} (closed : IsClosed Seen t) (agree 
   pub same_agree : AgreeOn (OrMade Seen t t) t u
   same_agree = record { nodes = λ n has. agree.nodes n (none_made Seen has); next = agree.next; limits = agree.limits }
 
-  made_old : (d n : ℕ) (name : List ℕ) → Seen d → Seen n
-      → node_at (file_made t d name) n ≡ node_at (file_made u d name) n
+  made_old : (d n : ℕ) (name : List ℕ) (node : Node) → Seen d → Seen n
+      → node_at (node_made t d name node) n ≡ node_at (node_made u d name node) n
   unfolding node_at
-  made_old d n name seen has =
+  made_old d n name node seen has =
       let changed : Node = with_name (node_at t d) name (next_of t) in
       let same : changed ≡ with_name (node_at u d) name (next_of u) = rw (agree.nodes d seen, agree.next) refl in
       let long : length (slice_set t.nodes d changed) ≡ length (slice_set u.nodes d changed) =
       length-set t.nodes d changed ∙ agree.next ∙ sym (length-set u.nodes d changed) in
-      push_same (slice_set t.nodes d changed) (slice_set u.nodes d changed) n new_file stray long
+      push_same (slice_set t.nodes d changed) (slice_set u.nodes d changed) n node stray long
       (set_same t.nodes u.nodes d n changed stray agree.next (agree.nodes n has))
-      ∙ ap (λ x. slice_index_or (slice_set u.nodes d x ++ new_file ∷ []) n stray) same
+      ∙ ap (λ x. slice_index_or (slice_set u.nodes d x ++ node ∷ []) n stray) same
 
-  made_agree : (d : ℕ) (name : List ℕ) → Seen d
-      → AgreeOn (OrMade Seen t (file_made t d name)) (file_made t d name) (file_made u d name)
-  made_agree d name seen = record {
+  made_agree : (d : ℕ) (name : List ℕ) (node : Node) → Seen d
+      → AgreeOn (OrMade Seen t (node_made t d name node)) (node_made t d name node) (node_made u d name node)
+  made_agree d name node seen = record {
     nodes = λ n has. elim has [
-      | inl old ↦ made_old d n name seen old
-      | inr made ↦ let at = only_next t d n name made in
-          ap (node_at (file_made t d name)) at ∙ node_made t d name
-          ∙ sym (ap (node_at (file_made u d name)) (at ∙ agree.next) ∙ node_made u d name)
+      | inl old ↦ made_old d n name node seen old
+      | inr made ↦ let at = only_next t d n name node made in
+          ap (node_at (node_made t d name node)) at ∙ made_node t d name node
+          ∙ sym (ap (node_at (node_made u d name node)) (at ∙ agree.next) ∙ made_node u d name node)
     ];
-    next = made_next t d name ∙ ap (λ k. k + 1) agree.next ∙ sym (made_next u d name);
+    next = made_next t d name node ∙ ap (λ k. k + 1) agree.next ∙ sym (made_next u d name node);
     limits = agree.limits;
   }
 
@@ -263,7 +281,7 @@ module _ {Seen : ℕ → Type 0} {t u : Tree} (closed : IsClosed Seen t) (agree 
 
       by : (c : Option ℕ) → child t d name ≡ c
           → AgreeOn (OrMade Seen t (opened_step t d name o c)) (opened_step t d name o c) (opened_step u d name o c)
-      by None is = made_agree d name seen
+      by None is = made_agree d name new_file seen
       by (Some n) is =
           let has = child_seen closed d n name seen is in
           let step : Tree = opened_step t d name o (Some n) in
@@ -271,14 +289,58 @@ module _ {Seen : ℕ → Type 0} {t u : Tree} (closed : IsClosed Seen t) (agree 
           (agree.nodes n has)
           (cut_or n (is_cut o (node_at t n).content) has)
 
+  -- a name is dropped alike
+  drop_agree : (d n : ℕ) (name : List ℕ) (change : Content → Content) → Seen d → Seen n
+      → AgreeOn (OrMade Seen t (name_dropped t d name change n)) (name_dropped t d name change n)
+      (name_dropped u d name change n)
+  unfolding node_at
+  drop_agree d n name change seen has =
+      let bare : Node = without_name (node_at t d) name in
+      let left : Node = record (node_at t n) { content = change (node_at t n).content } in
+      let next : length (slice_set (slice_set t.nodes d bare) n left) ≡ next_of t =
+      length-set (slice_set t.nodes d bare) n left ∙ length-set t.nodes d bare in
+      let next' : next_of (name_dropped u d name change n) ≡ next_of u =
+      length-set (slice_set u.nodes d (without_name (node_at u d) name)) n _
+      ∙ length-set u.nodes d (without_name (node_at u d) name) in record {
+        nodes = λ k is. elim is [
+          | inl old ↦
+              set_same (slice_set t.nodes d bare) (slice_set u.nodes d bare) n k left stray
+              (length-set t.nodes d bare ∙ agree.next ∙ sym (length-set u.nodes d bare))
+              (set_same t.nodes u.nodes d k bare stray agree.next (agree.nodes k old))
+              ∙ ap (λ (x : Node). slice_index_or (slice_set (slice_set u.nodes d (without_name x name)) n left) k stray)
+              (agree.nodes d seen)
+              ∙ ap (λ (x : Node). slice_index_or (slice_set (slice_set u.nodes d (without_name (node_at u d) name)) n
+              (record x { content = change x.content })) k stray) (agree.nodes n has)
+          | inr made ↦ absurd (unmade next made)
+        ];
+        next = next ∙ agree.next ∙ sym next';
+        limits = agree.limits;
+      }
+
+  dropped_agree : (d : ℕ) (name : List ℕ) (change : Content → Content) → Seen d
+      → AgreeOn (OrMade Seen t (dropped_step t d name change (child t d name)))
+      (dropped_step t d name change (child t d name)) (dropped_step u d name change (child u d name))
+  dropped_agree d name change seen = rw (← child_same d name seen) (by (child t d name) refl)
+    where
+      by : (c : Option ℕ) → child t d name ≡ c
+          → AgreeOn (OrMade Seen t (dropped_step t d name change c)) (dropped_step t d name change c)
+          (dropped_step u d name change c)
+      by None is = same_agree
+      by (Some n) is = drop_agree d n name change seen (child_seen closed d n name seen is)
+
   -- ---- any call
 
   -- the trees after a call are again equal on the set and on what was made
   pub step_agree : (call : HostCall) → ((n : ℕ) → Contains (starts_of call) n → Seen n)
       → AgreeOn (OrMade Seen t (step t call)) (step t call) (step u call)
+  unfolding unlink_step remove_step
   step_agree (OpenAt d name o) from = opened_agree d name o (from d (Contains-push [] d))
   step_agree (StatAt d name) from = same_agree
   step_agree (ReadLinkAt d name) from = same_agree
+  step_agree (MakeDirAt d name) from = made_agree d name new_directory (from d (Contains-push [] d))
+  step_agree (SymlinkAt text d name) from = made_agree d name (new_link text) (from d (Contains-push [] d))
+  step_agree (UnlinkAt d name) from = dropped_agree d name one_name_less (from d (Contains-push [] d))
+  step_agree (RemoveDirAt d name) from = dropped_agree d name made_gone (from d (Contains-push [] d))
   step_agree (Access d) from = same_agree
   step_agree (Stat n) from = same_agree
   step_agree (Pread file offset n) from = same_agree

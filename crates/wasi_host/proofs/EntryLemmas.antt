@@ -1,12 +1,15 @@
--- Lemmas on the entries of a directory, as lists of names with the numbers that they hold.
-use Rattle.std.proofs.Common.{◌≡◌, ℕ, suc, ◌+◌, Bool, true, false, cond, List, [], ◌∷◌, map, length, nat_eq, count_by, Option, Some, None, refl, sym, ap, ◌∙◌, arith}
+-- Lemmas on the entries of a directory: as lists of names with the numbers that they hold, and as its names.
+use Rattle.std.proofs.Common.{◌≡◌, ◌≢◌, ◌⊎◌, ℕ, suc, ◌+◌, Bool, true, false, cond, List, [], ◌∷◌, map, length, nat_eq, count_by, Option, Some, None, inl, inr, refl, sym, ap, ◌∙◌, subst, arith}
 use Rattle.std.specs.List.{All}
-use Rattle.std.specs.Ordering.{nat_cmp, is_eq}
+use Rattle.std.specs.Ordering.{nat_cmp, is_eq, eq_by_cmp}
 use Rattle.std.specs.declared.cmp.Ordering.TheVariants.{Less, Equal, Greater}
 use Rattle.std.specs.Cmp.Lexicographic.{slice_cmp, nat_list_cmp_total}
 use Rattle.std.specs.FinMap as maps
+use Rattle.std.specs.Str.{bytes_eq}
 use Rattle.std.proofs.lemmas.List.Elements.{All-cons}
 use Rattle.std.proofs.lemmas.List.Sums.{sum_by-cons}
+use Rattle.std.proofs.lemmas.Map.Text.{is_eq-slice_cmp}
+use Rattle.std.proofs.lemmas.Slice.Eq.{bytes_eq-Decides}
 use Rattle.wasi_host.specs.Tree.{Names}
 
 -- how often a number stands in a list
@@ -21,6 +24,9 @@ pub times-cons : (n m : ℕ) (ns : List ℕ) → times n (m ∷ ns) ≡ once (na
 times-cons n m ns =
     sum_by-cons (λ k. cond (nat_eq k n) 1 0) m ns
     ∙ ap (λ k. k + times n ns) (elim (nat_eq m n) as (λ b. cond b 1 0 ≡ once b) [ true ↦ refl | false ↦ refl ])
+
+pub nat_eq-refl : (n : ℕ) → nat_eq n n ≡ true
+nat_eq-refl n = grind arith
 
 -- the numbers that entries hold
 abbrev pub numbers : List (List ℕ × ℕ) → List ℕ
@@ -43,7 +49,8 @@ times-put n name k (e ∷ es) none =
       | Less ↦ λ _. times-cons n k (e.1 ∷ numbers es)
       | Equal ↦ λ some. cc
       | Greater ↦ λ rest.
-          omega (arith, times-cons n e.1 (numbers (put_in name k es)), times-cons n e.1 (numbers es), times-put n name k es rest)
+          let shorter = times-put n name k es rest in
+          omega (arith, times-cons n e.1 (numbers (put_in name k es)), times-cons n e.1 (numbers es), shorter)
     ] none
 
 pub All-put_in : (P : List ℕ × ℕ → Type 0) (name : List ℕ) (k : ℕ) (es : List (List ℕ × ℕ)) → find_in name es ≡ None
@@ -59,16 +66,128 @@ All-put_in P name k (e ∷ es) none p all =
           All-cons P e (put_in name k es) (all 0 e (omega arith)) (All-put_in P name k es none' p rest)
     ] none
 
+-- what holds of the entries with a new one held of them without it
+All-put_out : (P : List ℕ × ℕ → Type 0) (name : List ℕ) (k : ℕ) (es : List (List ℕ × ℕ)) → find_in name es ≡ None
+    → All P (put_in name k es) → All P es
+All-put_out P name k [] none all = λ i d h. absurd (omega arith)
+All-put_out P name k (e ∷ es) none all =
+    elim (slice_cmp nat_cmp name e.0) as (λ r. cond (is_eq r) (Some e.1) (find_in name es) ≡ None
+    → All P (maps.Entries.by_order r ((name, k) ∷ e ∷ es) ((e.0, k) ∷ es) (e ∷ put_in name k es)) → All P (e ∷ es)) [
+      | Less ↦ λ _ more. λ i d h. more (suc i) d (omega arith)
+      | Equal ↦ λ some more. absurd (cc)
+      | Greater ↦ λ none' more.
+          let rest : All P (put_in name k es) = λ i d h. more (suc i) d (omega arith) in
+          All-cons P e es (more 0 e (omega arith)) (All-put_out P name k es none' rest)
+    ] none all
+
 no_length : (es : List (List ℕ × ℕ)) → length es ≡ 0 → es ≡ []
 no_length [] is = refl
 no_length (e ∷ es) is = absurd (omega arith)
+
+-- ---- the names of a directory
 
 abbrev pub no_names : Names
 no_names = maps.empty
 
 pub entries-no_names : maps.entries no_names ≡ []
-entries-no_names = no_length (maps.entries no_names) (sym (maps.len-entries no_names) ∙ maps.len-empty (slice_cmp nat_cmp) ℕ)
+entries-no_names =
+    no_length (maps.entries no_names) (sym (maps.len-entries no_names) ∙ maps.len-empty (slice_cmp nat_cmp) ℕ)
+
+pub All-no_names : (P : List ℕ × ℕ → Type 0) → All P (maps.entries no_names)
+All-no_names P = subst (All P) (sym entries-no_names) (λ i d h. absurd (omega arith))
 
 pub entries-inserted : (names : Names) (name : List ℕ) (k : ℕ)
     → maps.entries (maps.insert names name k) ≡ put_in name k (maps.entries names)
 entries-inserted names name k = maps.entries-insert nat_list_cmp_total names name k
+
+-- no name among none
+pub unnamed : (names : Names) (q : List ℕ) (n : ℕ) → names ≡ no_names → maps.get names q ≡ Some n → ⊥
+unnamed names q n bare is =
+    let none : maps.get no_names q ≡ None = maps.get-empty (slice_cmp nat_cmp) q in
+    let some : maps.get no_names q ≡ Some n = ap (λ m. maps.get m q) (sym bare) ∙ is in
+    absurd (cc)
+
+-- two names tie where they are one
+abbrev tie : List ℕ → List ℕ → Bool
+tie q name = eq_by_cmp (slice_cmp nat_cmp) q name
+
+ties : (q name : List ℕ) → ((q ≡ name) × (tie q name ≡ true)) ⊎ (tie q name ≡ false)
+ties q name = by (bytes_eq q name) refl
+  where
+    by : (b : Bool) → bytes_eq q name ≡ b → ((q ≡ name) × (tie q name ≡ true)) ⊎ (tie q name ≡ false)
+    by true same = inl ((bytes_eq-Decides q name).0 same, is_eq-slice_cmp q name ∙ same)
+    by false other = inr (is_eq-slice_cmp q name ∙ other)
+
+ties_itself : (name : List ℕ) → tie name name ≡ true
+ties_itself name = is_eq-slice_cmp name name ∙ (bytes_eq-Decides name name).1 refl
+
+-- a name more, which holds a number
+module _ (names : Names) (name : List ℕ) (k : ℕ) (none : maps.get names name ≡ None) where
+  abbrev more : Names
+  more = maps.insert names name k
+
+  not_found : find_in name (maps.entries names) ≡ None
+  not_found = sym (maps.get-entries names name) ∙ none
+
+  pub times-inserted : (n : ℕ) → times n (maps.values more) ≡ once (nat_eq k n) + times n (maps.values names)
+  times-inserted n =
+      ap (λ es. times n (numbers es)) (entries-inserted names name k)
+      ∙ times-put n name k (maps.entries names) not_found
+
+  pub All-inserted : (P : List ℕ × ℕ → Type 0) → P (name, k) → All P (maps.entries names) → All P (maps.entries more)
+  All-inserted P p all =
+      subst (All P) (sym (entries-inserted names name k)) (All-put_in P name k (maps.entries names) not_found p all)
+
+  All-before : (P : List ℕ × ℕ → Type 0) → All P (maps.entries more) → All P (maps.entries names)
+  All-before P all =
+      All-put_out P name k (maps.entries names) not_found (subst (All P) (entries-inserted names name k) all)
+
+  pub get-inserted : maps.get more name ≡ Some k
+  get-inserted =
+      maps.get-insert nat_list_cmp_total names name k name
+      ∙ ap (λ b. cond b (Some k) (maps.get names name)) (ties_itself name)
+
+  -- the others stay
+  pub get-kept : (q : List ℕ) (n : ℕ) → maps.get names q ≡ Some n → maps.get more q ≡ Some n
+  get-kept q n is = maps.get-insert nat_list_cmp_total names name k q ∙ elim (ties q name) [
+    | inl same ↦ let some : maps.get names name ≡ Some n = ap (maps.get names) (sym same.0) ∙ is in absurd (cc)
+    | inr other ↦ ap (λ b. cond b (Some k) (maps.get names q)) other ∙ is
+  ]
+
+-- a name less, which held a number
+module _ (names : Names) (name : List ℕ) (k : ℕ) (some : maps.get names name ≡ Some k) where
+  abbrev less : Names
+  less = maps.remove names name
+
+  get-removed : maps.get less name ≡ None
+  get-removed =
+      maps.get-remove nat_list_cmp_total names name name
+      ∙ ap (λ b. cond b None (maps.get names name)) (ties_itself name)
+
+  put_back : maps.insert less name k ≡ names
+  put_back =
+      maps.same_map nat_list_cmp_total (maps.slice_cmp-IsAntisymmetric maps.nat_cmp-IsAntisymmetric) _ names (λ q.
+      maps.get-insert nat_list_cmp_total less name k q ∙ elim (ties q name) [
+        | inl same ↦
+            ap (λ b. cond b (Some k) (maps.get less q)) same.1 ∙ sym (ap (maps.get names) same.0 ∙ some)
+        | inr other ↦
+            ap (λ b. cond b (Some k) (maps.get less q)) other ∙ maps.get-remove nat_list_cmp_total names name q
+            ∙ ap (λ b. cond b None (maps.get names q)) other
+      ])
+
+  pub times-removed : (n : ℕ) → times n (maps.values names) ≡ once (nat_eq k n) + times n (maps.values less)
+  times-removed n = ap (λ m. times n (maps.values m)) (sym put_back) ∙ times-inserted less name k get-removed n
+
+  pub All-removed : (P : List ℕ × ℕ → Type 0) → All P (maps.entries names) → All P (maps.entries less)
+  All-removed P all =
+      All-before less name k get-removed P (subst (λ (m : Names). All P (maps.entries m)) (sym put_back) all)
+
+  -- the names of other numbers stay
+  pub get-left : (q : List ℕ) (n : ℕ) → n ≢ k → maps.get names q ≡ Some n → maps.get less q ≡ Some n
+  get-left q n apart is = maps.get-remove nat_list_cmp_total names name q ∙ elim (ties q name) [
+    | inl same ↦
+        let both : Some n ≡ Some k = sym is ∙ ap (maps.get names) same.0 ∙ some in
+        let one : n ≡ k = (cc) in
+        absurd (apart one)
+    | inr other ↦ ap (λ b. cond b None (maps.get names q)) other ∙ is
+  ]

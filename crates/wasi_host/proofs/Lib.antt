@@ -3,8 +3,12 @@ pub mod Tracing
 pub mod Changes
 pub mod Pieces
 pub mod EntryLemmas
+pub mod Carrying
+pub mod Making
+pub mod Dropping
 pub mod ValidSteps
 pub mod Times
 pub mod Leaving
 pub mod Agreeing
 pub mod Refusals
+pub mod Touching

@@ -1,7 +1,7 @@
 -- A code of the table is a refusal.
 use Rattle.std.proofs.Common.{◌≡◌, Option, Some, None, Err}
 use Rattle.wasi_host.specs.Tree.{Tree}
-use Rattle.wasi_host.specs.HostCall.{HostCall, OpenAt, StatAt, ReadLinkAt, Access, Stat, Pread, Pwrite, Dup, Close}
+use Rattle.wasi_host.specs.HostCall.{HostCall, OpenAt, StatAt, ReadLinkAt, MakeDirAt, SymlinkAt, UnlinkAt, RemoveDirAt, Access, Stat, Pread, Pwrite, Dup, Close}
 use Rattle.wasi_host.specs.Refusal.{refusal}
 use Rattle.wasi_host.specs.Answer.{unless, host_answer}
 use Rattle.wasi_host.specs.declared.errors.ErrorCode.{ErrorCode}
@@ -17,6 +17,10 @@ pub refusal_of : (t : Tree) (call : HostCall) {code : ErrorCode} → host_answer
 refusal_of t (OpenAt d name o) is = unless-err (refusal t (OpenAt d name o)) _ is
 refusal_of t (StatAt d name) is = unless-err (refusal t (StatAt d name)) _ is
 refusal_of t (ReadLinkAt d name) is = unless-err (refusal t (ReadLinkAt d name)) _ is
+refusal_of t (MakeDirAt d name) is = unless-err (refusal t (MakeDirAt d name)) _ is
+refusal_of t (SymlinkAt text d name) is = unless-err (refusal t (SymlinkAt text d name)) _ is
+refusal_of t (UnlinkAt d name) is = unless-err (refusal t (UnlinkAt d name)) _ is
+refusal_of t (RemoveDirAt d name) is = unless-err (refusal t (RemoveDirAt d name)) _ is
 refusal_of t (Access d) is = unless-err (refusal t (Access d)) _ is
 refusal_of t (Stat n) is = unless-err (refusal t (Stat n)) _ is
 refusal_of t (Pread file offset n) is = unless-err (refusal t (Pread file offset n)) _ is

@@ -1,7 +1,7 @@
 -- Lemmas for callers of a host, on the look-ups that they add.
-use Rattle.std.proofs.Common.{◌≡◌, ◌⊎◌, inl, inr, ℕ, List, [], ◌∷◌, ◌++◌, Option, Some, None, refl, sym, ap, ◌∙◌, append_assoc}
+use Rattle.std.proofs.Common.{◌≡◌, ◌⊎◌, inl, inr, ℕ, List, [], ◌∷◌, ◌++◌, Option, Some, None, Result, Ok, Err, refl, sym, ap, ◌∙◌, append_assoc}
 use Rattle.std.proofs.lemmas.List.{append-nil}
-use Rattle.wasi_host.specs.Meaning.{LoggedErr, MaybeLogged}
+use Rattle.wasi_host.specs.Meaning.{Logged, LoggedErr, MaybeLogged, got_by}
 use Rattle.wasi_host.specs.Lineage.{OrGot, OrGotIn, HasLineage, Traced, Only, Nothing}
 use Rattle.wasi_host.specs.declared.errors.ErrorCode.TheVariants.{Io}
 use Rattle.wasi_host.specs.declared.errors.HostError.{HostError}
@@ -79,7 +79,8 @@ maybe_traced : (old new : List Lookup) (kind : LookKind) (from : ℕ) → MaybeL
     → Traced (Only from) Nothing Nothing old new
 maybe_traced old new kind from logged = elim logged [
   | inl same ↦ traced_none (Only from) Nothing Nothing old new same (λ q none. none)
-  | inr adds ↦ traced_one (Only from) Nothing Nothing old new (record { kind = kind; from = from; got = adds.0 }) refl adds.1 (λ q none. absurd none)
+  | inr adds ↦ traced_one (Only from) Nothing Nothing old new (record { kind = kind; from = from; got = got_by kind adds.0 }) refl
+      adds.1 (λ q none. absurd none)
 ]
 
 -- a call that failed
@@ -89,6 +90,17 @@ traced_err old new kind from Memory logged = maybe_traced old new kind from logg
 traced_err old new kind from (Code Io) logged = maybe_traced old new kind from logged
 traced_err old new kind from (Code code) logged =
     traced_one (Only from) Nothing Nothing old new (record { kind = kind; from = from; got = None }) refl logged (λ q none. absurd none)
+
+-- a call at a handle, which gets none
+pub traced_call : {A : Type 0} {old new : List Lookup} (kind : LookKind) (from : ℕ) (r : Result A HostError)
+    → Logged old kind from (λ a. None) r new → Traced (Only from) Nothing Nothing old new
+traced_call kind from (Ok a) logged = record {
+  piece = record { kind = kind; from = from; got = None } ∷ [];
+  adds = logged;
+  lineage = (refl, tt);
+  ends = λ h none. absurd none;
+}
+traced_call {old = old} {new = new} kind from (Err e) logged = traced_err old new kind from e logged
 
 -- ---- the same in other words
 
@@ -113,3 +125,29 @@ traced_kept Kept Kept' each traced = record {
   ends =
       λ h has. elim (each h has) [ inl kept ↦ in_still Kept traced.piece h kept | inr made ↦ got_in_more Nothing Kept (λ q none. absurd none) traced.piece h (traced.ends h made) ];
 }
+
+-- a last part, after which no handle is kept but what it made
+pub traced_last : {Given Given' Mid Made : ℕ → Type 0} {a b c : List Lookup} → ((h : ℕ) → Given' h → Mid h)
+    → Traced Given Given Mid a b → Traced Given' Nothing Made b c → Traced Given Nothing Made a c
+traced_last {Given} {Given'} {a = a} from first second = record {
+  piece = first.piece ++ second.piece;
+  adds = second.adds ∙ ap (λ l. l ++ second.piece) first.adds ∙ append_assoc a first.piece second.piece;
+  lineage = lineage-append Given first.piece second.piece first.lineage
+      (lineage_more Given' (OrGotIn Given first.piece) (λ h has. first.ends h
+      (from h has)) second.piece second.lineage);
+  ends =
+      λ h has. got_in-append Nothing first.piece second.piece h (got_in_more Nothing (OrGotIn Nothing first.piece)
+      (λ q none. absurd none) second.piece h (second.ends h has));
+}
+
+-- no handle is kept afterwards
+pub traced_less : {Given Kept Kept' : ℕ → Type 0} {old new : List Lookup} → Traced Given Kept Kept' old new
+    → Traced Given Nothing Nothing old new
+traced_less traced =
+    record { piece = traced.piece; adds = traced.adds; lineage = traced.lineage; ends = λ h none. absurd none }
+
+-- a second call from the same handle, the first of which made nothing
+pub traced_twice : {from : ℕ} {Made : ℕ → Type 0} {a b c : List Lookup} → Traced (Only from) Nothing Nothing a b
+    → Traced (Only from) Nothing Made b c → Traced (Only from) Nothing Made a c
+traced_twice {from} first second =
+    traced_last (λ h is. is) (traced_kept (Only from) (Only from) (λ h is. inl is) first) second

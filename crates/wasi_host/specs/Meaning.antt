@@ -10,6 +10,7 @@ use Rattle.wasi_host.specs.Step.{step, found_by, made_by, with_nodes}
 use Rattle.wasi_host.specs.declared.held.Held.{Held}
 use Rattle.wasi_host.specs.declared.lookup.Lookup.{Lookup}
 use Rattle.wasi_host.specs.declared.lookup.LookKind.{LookKind}
+use Rattle.wasi_host.specs.declared.lookup.LookKind.TheVariants.{Open, Stat, ReadLink, Make, MakeLink, Unlink, RemoveDir, Dup}
 use Rattle.wasi_host.specs.declared.errors.ErrorCode.{ErrorCode}
 use Rattle.wasi_host.specs.declared.errors.ErrorCode.TheVariants.{Io}
 use Rattle.wasi_host.specs.declared.errors.HostError.{HostError}
@@ -39,10 +40,21 @@ abbrev pub LiveGot : Handles → Result ℕ HostError → Handles → Type 0
 LiveGot old (Ok h) new = (contains old h ≡ false) × (new ≡ insert old h)
 LiveGot old (Err e) new = new ≡ old
 
--- after `Io` or want of memory: no entry, or one, whatever the call had got before it failed
+-- what a look-up of this kind may have got: a handle, if it makes one
+abbrev pub got_by : LookKind → Option ℕ → Option ℕ
+got_by Open got = got
+got_by Dup got = got
+got_by Stat got = None
+got_by ReadLink got = None
+got_by Make got = None
+got_by MakeLink got = None
+got_by Unlink got = None
+got_by RemoveDir got = None
+
+-- after `Io` or want of memory: no entry, or one, with whatever handle the call had got before it failed
 abbrev pub MaybeLogged : List Lookup → LookKind → ℕ → List Lookup → Type 0
 MaybeLogged old kind from new =
-    (new ≡ old) ⊎ ((got : Option ℕ) × (new ≡ old ++ record { kind = kind; from = from; got = got } ∷ []))
+    (new ≡ old) ⊎ ((got : Option ℕ) × (new ≡ old ++ record { kind = kind; from = from; got = got_by kind got } ∷ []))
 
 abbrev pub LoggedErr : List Lookup → LookKind → ℕ → HostError → List Lookup → Type 0
 LoggedErr old kind from Memory new = MaybeLogged old kind from new

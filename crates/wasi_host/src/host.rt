@@ -4,7 +4,7 @@ ghost use Rattle.std.specs.Ordering.{nat_cmp};
 ghost use Rattle.std.specs.String.{string_bytes};
 ghost use Rattle.std.specs.FinSet.{FinSet, contains, remove};
 ghost use Rattle.wasi_paths.specs.Name.{name_bytes};
-ghost use Rattle.wasi_host.specs.HostCall.{OpenAt, StatAt, ReadLinkAt, Access, Stat, Pread, Pwrite, Dup, Close};
+ghost use Rattle.wasi_host.specs.HostCall.{OpenAt, StatAt, ReadLinkAt, MakeDirAt, SymlinkAt, UnlinkAt, RemoveDirAt, Access, Stat, Pread, Pwrite, Dup, Close};
 ghost use Rattle.wasi_host.specs.Meaning.{World, AllHeld, HasCause, Rose, LiveGot, Told, Logged, hosted, answered};
 ghost use Rattle.wasi_host.specs.declared.limits.TheConstants.{LINK_MAX};
 ghost use Rattle.wasi_host.specs.declared.lookup.Lookup.{Lookup};
@@ -22,6 +22,10 @@ use wasi_paths::Name;
 /// touches the nodes that it comes to. `Io` comes only where the count of faults rose.
 ///
 /// The condition of every method is that its handles are live.
+///
+/// Each method that takes a name refuses NotDirectory before all else where its handle is no directory's, which no
+/// caller of this workspace asks. The rows for a name, first in each of these methods but where it says so: Invalid of
+/// a NUL in the name, NameTooLong of more than 255 bytes, Access where the directory may not be searched.
 pub trait Host {
     /// How often the host has failed by itself. It never falls, and stands still at 2^64 - 1.
     ghost faults: { Self → ℕ };
@@ -29,7 +33,7 @@ pub trait Host {
     /// The live handles.
     ghost live: { Self → FinSet nat_cmp };
 
-    /// The look-ups so far. Only `open_at`, `stat_at`, `read_link_at` and `dup` add to them, one a call.
+    /// The look-ups so far. The methods that take a name and `dup` add to them, one a call, and no others.
     ghost lookups: { Self → List Lookup };
 
     /// Whether the host tells its world.
@@ -84,6 +88,55 @@ pub trait Host {
         ensures told { IsTrue told → Told (live self.old) (live self.new) (world self.old) (world self.new)
             (ReadLinkAt ((world self.old).held start).node (name_bytes name.entry))
             (λ text. string_bytes text) result };
+
+    /// Makes an empty directory under a name in a directory. It may be read, written and searched, and has zero times.
+    /// Refusals: the rows for a name; Exist where the name is there, `.` among them; NoEntry where the directory is
+    /// removed; Access where it may not be written; InsufficientSpace where the tree has as many nodes as it may.
+    fn make_dir_at(&mut self, start: Handle, name: Name<'_>) -> Result<(), HostError>
+        requires { contains (live self.old) start ≡ true }
+        ensures cause { HasCause (faults self.old) (faults self.new) result }
+        ensures live { live self.new ≡ live self.old }
+        ensures logged { Logged (lookups self.old) LookKind.Make start (λ unit. None) result (lookups self.new) }
+        ensures told { IsTrue told → Told (live self.old) (live self.new) (world self.old) (world self.new)
+            (MakeDirAt ((world self.old).held start).node (name_bytes name.entry))
+            (λ unit. unit) result };
+
+    /// Makes a link of this text under a name in a directory; nothing need be where the text leads. Refusals, before
+    /// the rows for a name: NoEntry where the text is empty, Invalid where it has a NUL, NameTooLong where it has more
+    /// than 4,095 bytes; then those of `make_dir_at`.
+    fn symlink_at(&mut self, target: &str, start: Handle, name: Name<'_>) -> Result<(), HostError>
+        requires { contains (live self.old) start ≡ true }
+        ensures cause { HasCause (faults self.old) (faults self.new) result }
+        ensures live { live self.new ≡ live self.old }
+        ensures logged { Logged (lookups self.old) LookKind.MakeLink start (λ unit. None) result (lookups self.new) }
+        ensures told { IsTrue told → Told (live self.old) (live self.new) (world self.old) (world self.new)
+            (SymlinkAt target.now ((world self.old).held start).node (name_bytes name.entry))
+            (λ unit. unit) result };
+
+    /// Drops a name of a file or link, which stays while a handle stands for it. Refusals: the rows for a name;
+    /// IsDirectory of `.`; NoEntry where the name is missing; Access where the directory may not be written;
+    /// IsDirectory where the name holds a directory.
+    fn unlink_at(&mut self, start: Handle, name: Name<'_>) -> Result<(), HostError>
+        requires { contains (live self.old) start ≡ true }
+        ensures cause { HasCause (faults self.old) (faults self.new) result }
+        ensures live { live self.new ≡ live self.old }
+        ensures logged { Logged (lookups self.old) LookKind.Unlink start (λ unit. None) result (lookups self.new) }
+        ensures told { IsTrue told → Told (live self.old) (live self.new) (world self.old) (world self.new)
+            (UnlinkAt ((world self.old).held start).node (name_bytes name.entry))
+            (λ unit. unit) result };
+
+    /// Drops the name of an empty directory, which is removed from then on: a handle may still stand for it, but it
+    /// takes no name. Refusals: the rows for a name; Invalid of `.`; NoEntry where the name is missing; Access where
+    /// the directory that has the name may not be written; NotDirectory where it holds no directory; NotEmpty where
+    /// that has names.
+    fn remove_dir_at(&mut self, start: Handle, name: Name<'_>) -> Result<(), HostError>
+        requires { contains (live self.old) start ≡ true }
+        ensures cause { HasCause (faults self.old) (faults self.new) result }
+        ensures live { live self.new ≡ live self.old }
+        ensures logged { Logged (lookups self.old) LookKind.RemoveDir start (λ unit. None) result (lookups self.new) }
+        ensures told { IsTrue told → Told (live self.old) (live self.new) (world self.old) (world self.new)
+            (RemoveDirAt ((world self.old).held start).node (name_bytes name.entry))
+            (λ unit. unit) result };
 
     /// Another live handle of the same node and access.
     fn dup(&mut self, handle: Handle) -> Result<Handle, HostError>

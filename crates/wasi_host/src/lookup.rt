@@ -8,6 +8,10 @@ pub enum LookKind {
     Open,
     Stat,
     ReadLink,
+    Make,
+    MakeLink,
+    Unlink,
+    RemoveDir,
     Dup,
 }
 

@@ -9,12 +9,12 @@ use Rattle.wasi_host.specs.Steps.{◌>>=◌}
 use Rattle.wasi_p1.specs.Row.{Row, give, Program, done, asking, run_on, beside, from_host}
 use Rattle.wasi_p1.specs.Rows.{row, turn, with_tree}
 use Rattle.wasi_p1.proofs.Near.{given_by, KeepsPlaces, StaysNear, IsNear, AsksNear}
-use Rattle.wasi_p1.specs.Agree.{Alike, AnswerAlike}
+use Rattle.wasi_p1.specs.StatesAgree.{Alike, AnswerAlike}
 use Rattle.wasi_p1.specs.Stems.{opened_through}
 use Rattle.wasi_guest.specs.declared.call.Call.{Call}
 use Rattle.wasi_guest.specs.declared.answer.Value.{Value}
 use Rattle.wasi_host.proofs.Agreeing.{same_agree, still_closed}
-use Rattle.wasi_p1.proofs.Agreeing.{after_agree, reply_same, after_closed, given_seen}
+use Rattle.wasi_p1.proofs.RequestsAgree.{after_agree, reply_same, after_closed, given_seen}
 use Rattle.wasi_p1.proofs.Nearness.{row_near}
 
 -- an answer and a guest, beside the tree after them

@@ -12,7 +12,7 @@ use Rattle.wasi_host.specs.Steps.{◌>>=◌}
 use Rattle.wasi_guest.specs.declared.answer.TrapKind.TheVariants.{Pointer}
 use Rattle.wasi_guest.specs.declared.errno.Errno.TheVariants as errnos
 use Rattle.wasi_p1.specs.Row.{Row}
-use Rattle.wasi_p1.specs.Rows.{utf8_text, range}
+use Rattle.wasi_p1.specs.Rows.{utf8_text, range, text_in}
 use Rattle.wasi_p1.specs.declared.error.P1Error.TheVariants.{Errno, Trap}
 use Rattle.wasi_p1.proofs.Near.{AreBytes}
 
@@ -25,7 +25,7 @@ both false b is = absurd (cc)
 apart : (xs ys : List ℕ) → AreBytes (xs ++ ys) → AreBytes xs × AreBytes ys
 apart xs ys bytes = both (are_bytes xs) (are_bytes ys) (sym (list_all-append _ xs ys) ∙ bytes)
 
-joined : (xs ys : List ℕ) → AreBytes xs → AreBytes ys → AreBytes (xs ++ ys)
+pub joined : (xs ys : List ℕ) → AreBytes xs → AreBytes ys → AreBytes (xs ++ ys)
 joined xs ys first second = list_all-append _ xs ys ∙ rw (first, second) refl
 
 pub cut : (n : ℕ) (xs : List ℕ) → AreBytes xs → AreBytes (take n xs) × AreBytes (drop n xs)
@@ -80,6 +80,9 @@ utf8_of bytes {text} is = by (is_utf8 bytes) refl is
     by true at given = let same : bytes ≡ text = (cc) in subst IsUtf8 same (IsUtf8-from_is_utf8 bytes at)
     by false at given = absurd (cc)
 
-pub text_utf8 : (m : Row (List ℕ)) {text : List ℕ} → (m >>= utf8_text) ≡ Ok text → IsUtf8 text
-text_utf8 (Ok bytes) is = utf8_of bytes is
-text_utf8 (Err e) is = absurd (cc)
+pub text_utf8 : (memory : List ℕ) (path len : ℕ) {text : List ℕ} → text_in memory path len ≡ Ok text → IsUtf8 text
+text_utf8 memory path len = by (range memory path len)
+  where
+    by : (m : Row (List ℕ)) {text : List ℕ} → (m >>= utf8_text) ≡ Ok text → IsUtf8 text
+    by (Ok bytes) is = utf8_of bytes is
+    by (Err e) is = absurd (cc)

@@ -1,32 +1,41 @@
 -- What a call adds to the look-ups, and the descriptors after it.
-use Rattle.std.proofs.Common.{ℕ, ◌≡◌, inl, inr, List, ◌∷◌, Some, Ok, Err, arith, slice_get, slice_set, sym, ap, ◌∙◌, subst}
+use Rattle.std.proofs.Common.{ℕ, ◌≡◌, inl, inr, List, [], ◌∷◌, Some, Ok, refl, arith, slice_get, slice_set, sym, ap, ◌∙◌, subst}
 use Rattle.wasi_host.specs.Lineage.{Traced, Only, Nothing}
 use Rattle.wasi_host.proofs.Tracing.{traced_none, traced_then, traced_given, traced_kept}
 use Rattle.wasi_host.specs.declared.lookup.Lookup.{Lookup}
 use Rattle.wasi_p1.specs.Numbering.{with_new}
-use Rattle.wasi_p1.specs.Slots.{is_closed_slot}
-use Rattle.wasi_p1.specs.Owners.{handle_in, handles, uses, uses_in, IsHandle, under, MadeBy}
+use Rattle.wasi_fs.specs.Calls.{handle_of, GotOpened}
+use Rattle.wasi_fs.specs.declared.descriptor.Dir.{Dir}
+use Rattle.wasi_fs.specs.declared.descriptor.Descriptor.{Descriptor}
+use Rattle.wasi_fs.specs.declared.descriptor.Descriptor.TheVariants as descriptors
+use Rattle.wasi_p1.specs.Slots.{is_closed_slot, slot_of}
+use Rattle.wasi_p1.specs.Owners.{handle_in, handles, uses, uses_in, IsHandle, under}
 use Rattle.wasi_p1.specs.declared.context.Slot.{Slot}
-use Rattle.wasi_p1.specs.declared.context.Slot.TheVariants.{Closed}
-use Rattle.wasi_p1.specs.declared.error.P1Error.{P1Error}
+use Rattle.wasi_p1.specs.declared.context.Slot.TheVariants.{Closed, Directory}
 use Rattle.wasi_p1.proofs.Counting.{one_of, item_is, handle_at, named_is, is_named}
 use Rattle.wasi_p1.proofs.Owning.{uses-new, uses-closed}
 
--- a part of a call that gave a descriptor, which stands under its number
-pub traced_new : {Given : ℕ → Type 0} {old new : List Lookup} (table : List Slot) (slot : Slot)
-    → Traced Given Nothing (MadeBy (Ok slot)) old new
-    → Traced Given (IsHandle (handles table)) (IsHandle (handles (with_new is_closed_slot table slot))) old new
-traced_new table slot traced = traced_kept _ _ (λ q some.
+-- what was opened stands under its number
+pub traced_new : {Given : ℕ → Type 0} {old new : List Lookup} (table : List Slot) (descriptor : Descriptor)
+    → Traced Given Nothing (GotOpened (Ok descriptor)) old new
+    → Traced Given (IsHandle (handles table)) (IsHandle (handles (with_new is_closed_slot table (slot_of descriptor))))
+    old new
+traced_new table descriptor traced = traced_kept _ _ (λ q some.
+    let slot = slot_of descriptor in
     elim (one_of (uses (handles table) q) (uses_in (handle_in slot) q) (uses-new table slot q) some) [
       | inl was ↦ inl was
-      | inr made ↦ inr (item_is (handle_in slot) q made)
+      | inr made ↦ inr (got_handle descriptor (item_is (handle_in slot) q made))
     ]) traced
+  where
+    got_handle : {q : ℕ} (descriptor : Descriptor) → handle_in (slot_of descriptor) ≡ Some q → q ≡ handle_of descriptor
+    got_handle (descriptors.File f) is = cc
+    got_handle (descriptors.Dir dir) is = cc
 
--- one that was refused
-pub traced_refused : {Given Kept : ℕ → Type 0} {old new : List Lookup} (e : P1Error)
-    → Traced Given Nothing (MadeBy (Err e)) old new
+-- a call that opened nothing
+pub traced_refused : {Given Kept Made : ℕ → Type 0} {old new : List Lookup} → ((q : ℕ) → Made q → ⊥)
+    → Traced Given Nothing Made old new
     → Traced Given Kept Kept old new
-traced_refused {Kept = Kept} e traced = traced_kept Kept Kept (λ q has. inl has) traced
+traced_refused {Kept = Kept} none traced = traced_kept Kept Kept (λ q has. inl has) traced
 
 -- one that begins from the descriptor that the call names
 pub traced_at : {Kept Kept' : ℕ → Type 0} {old new : List Lookup} {slot : Slot} {h : ℕ} (table : List Slot) (fd : ℕ)
@@ -36,6 +45,18 @@ pub traced_at : {Kept Kept' : ℕ → Type 0} {old new : List Lookup} {slot : Sl
 traced_at {h = h} table fd fds is has traced =
     let named = is_named (handles table) fd h fds (handle_at table fd is ∙ ap Some has) in
     traced_given _ (λ q same. subst (IsHandle (under (handles table) (fd ∷ fds))) (sym same) named) traced
+
+-- one that begins from the directory that the call names
+pub traced_from : {Kept Kept' : ℕ → Type 0} {dir : Dir} {old new : List Lookup} (table : List Slot) (fd : ℕ)
+    → slice_get table fd ≡ Some (Directory dir) → Traced (Only dir.dir) Kept Kept' old new
+    → Traced (IsHandle (under (handles table) (fd ∷ []))) Kept Kept' old new
+traced_from table fd is traced = traced_at table fd [] is refl traced
+
+-- and opens nothing
+pub traced_below : {dir : Dir} {old new : List Lookup} (table : List Slot) (fd : ℕ)
+    → slice_get table fd ≡ Some (Directory dir) → Traced (Only dir.dir) Nothing Nothing old new
+    → Traced (IsHandle (under (handles table) (fd ∷ []))) (IsHandle (handles table)) (IsHandle (handles table)) old new
+traced_below table fd is traced = traced_from table fd is (traced_refused (λ q none. none) traced)
 
 -- one that closes a number
 pub traced_closed : {slot : Slot} {old new : List Lookup} (table : List Slot) (i : ℕ) → slice_get table i ≡ Some slot

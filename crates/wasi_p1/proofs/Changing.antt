@@ -1,23 +1,25 @@
 -- The nodes and the permissions of descriptors that change.
-use Rattle.std.proofs.Common.{ℕ, zero, suc, ◌==◌, ◌≡◌, ◌≢◌, ◌⊎◌, inl, inr, true, false, cond, Bool, List, [], ◌∷◌, ◌++◌, ◌&&◌, not, length, refl, ap, sym, ◌∙◌, subst, arith, slice_get, slice_set, Option, Some, None, Ok, Err, append_assoc, append-nil}
-use Rattle.std.specs.Prelude.{Contains, unwrap_or}
+use Rattle.std.proofs.Common.{ℕ, zero, suc, ◌==◌, ◌≡◌, ◌≢◌, ◌⊎◌, inl, inr, true, false, cond, Bool, List, [], ◌∷◌, ◌++◌, length, refl, ap, sym, ◌∙◌, subst, arith, slice_get, slice_set, Option, Some, None, Ok, Err, append_assoc, append-nil}
+use Rattle.std.specs.Prelude.{Contains, OnErr, unwrap_or}
 use Rattle.std.specs.Option.{option_map_or}
 use Rattle.std.proofs.lemmas.Bool.Decides.{nat_tests}
 use Rattle.std.proofs.lemmas.Option.{slice_get_past}
 use Rattle.std.proofs.lemmas.List.Elements.{Contains-append_cases, Contains-append_left, Contains-append_right}
+use Rattle.wasi_fs.specs.declared.open_mode.OpenMode.{OpenMode}
 use Rattle.wasi_fs.specs.declared.perms.FsPerms.{FsPerms}
 use Rattle.wasi_host.specs.Steps.{◌>>=◌}
 use Rattle.wasi_guest.specs.declared.answer.Value.{Value}
-use Rattle.wasi_guest.specs.declared.answer.Value.TheVariants.{Number}
-use Rattle.wasi_guest.specs.declared.errno.Errno.TheVariants as errnos
+use Rattle.wasi_guest.specs.declared.answer.Value.TheVariants.{Number, Filestat as Told}
+use Rattle.wasi_guest.specs.Range.{with_bytes}
+use Rattle.wasi_guest.specs.declared.filestat.Filestat.{Filestat}
 use Rattle.wasi_p1.specs.Guest.{Guest, Place, OpenDirectory, OpenFile, closed, stream, directory, file, is_closed, new_number, with_place, node_in, nodes_of, perms_in}
 use Rattle.wasi_p1.specs.Numbering.{last_where, free_number, put_at, with_new}
 use Rattle.wasi_resolve.specs.PathRequest.{Opened}
 use Rattle.wasi_p1.specs.Row.{Row, give}
-use Rattle.wasi_p1.specs.Rows.{directory_in, file_in, new_place, place_for, opened_among}
+use Rattle.wasi_p1.specs.Rows.{directory_in, start_in, file_in, new_place}
 use Rattle.wasi_p1.specs.Stems.{HasPerms}
-use Rattle.wasi_p1.specs.declared.error.P1Error.TheVariants.{Errno}
 use Rattle.wasi_p1.proofs.Near.{Has, KeepsPlaces, StaysNear, AreBytes, KeepsBytes}
+use Rattle.wasi_p1.proofs.Bytes.{put_bytes}
 use Rattle.wasi_p1.proofs.Numbers.{last_passes}
 
 -- a number beside the descriptors after it, as an answer
@@ -71,17 +73,12 @@ in_with : (places : List Place) (place : Place) (n : ℕ) → Contains (nodes_of
 unfolding with_new
 in_with places place n has = in_put (last_where is_closed places) places place n has
 
-node_for : (perms : FsPerms) (found : Opened) (n : ℕ) → Contains (node_in (Some (new_place perms found))) n
-    → Contains (found.held.node ∷ []) n
-node_for perms found n has = by found.is_dir has
+node_for : (perms : FsPerms) (mode : OpenMode) (found : Opened) (n : ℕ)
+    → Contains (node_in (Some (new_place perms mode found))) n → Contains (found.held.node ∷ []) n
+node_for perms mode found n has = by found.is_dir has
   where
-    dir : Place
-    dir = directory (record { node = found.held.node; perms = perms })
-
-    fil : Place
-    fil = file (record { node = found.held.node; mode = found.held.mode; perms = perms; position = 0 })
-
-    by : (b : Bool) → Contains (node_in (Some (cond b dir fil))) n → Contains (found.held.node ∷ []) n
+    by : (b : Bool) → Contains (node_in (Some (new_place perms mode (record found { is_dir = b })))) n
+        → Contains (found.held.node ∷ []) n
     by true is = is
     by false is = is
 
@@ -117,6 +114,14 @@ named_directory g fd n is has = slice_named g.places fd n (directory_named (slic
 pub named_file : {f : OpenFile} (g : Guest) (fd n : ℕ) → file_in (slice_get g.places fd) ≡ Ok f
     → Contains (f.node ∷ []) n → Has g n
 named_file g fd n is has = slice_named g.places fd n (file_named (slice_get g.places fd) n is has)
+
+-- a start is a directory
+pub start_is : {d : OpenDirectory} (p : Option Place) → start_in p ≡ Ok d → directory_in p ≡ Ok d
+start_is (Some (directory x)) is = is
+start_is (Some (file f)) is = absurd (cc)
+start_is (Some (stream s)) is = absurd (cc)
+start_is (Some closed) is = absurd (cc)
+start_is None is = absurd (cc)
 
 -- ---- their permissions
 
@@ -226,11 +231,11 @@ new_stems {perms} g fd n place same has = by (n == new_number g.places) refl (ne
     by false is (inr (at, new)) =
         absurd (let one : (n == new_number g.places) ≡ true = grind (arith, nat_tests) in cc)
 
-new_place_perms : (perms : FsPerms) (found : Opened) → perms_in (Some (new_place perms found)) ≡ Some perms
-new_place_perms perms found = by found.is_dir
+new_place_perms : (perms : FsPerms) (mode : OpenMode) (found : Opened)
+    → perms_in (Some (new_place perms mode found)) ≡ Some perms
+new_place_perms perms mode found = by found.is_dir
   where
-    by : (b : Bool) → perms_in (Some (cond b (directory (record { node = found.held.node; perms = perms }))
-        (file (record { node = found.held.node; mode = found.held.mode; perms = perms; position = 0 })))) ≡ Some perms
+    by : (b : Bool) → perms_in (Some (new_place perms mode (record found { is_dir = b }))) ≡ Some perms
     by true = refl
     by false = refl
 
@@ -260,40 +265,66 @@ put_closed g fd = record {
   perms = λ n perms has. elim (set_perms g.places fd n closed has) [ inl was ↦ was | inr (at, none) ↦ absurd (cc) ];
 }
 
--- a new one comes, where it may be given
-pub put_opened : (g : Guest) (fd : ℕ) (perms : FsPerms) (required : Bool) (found : Opened)
+-- a new one comes
+pub put_opened : (g : Guest) (fd : ℕ) (perms : FsPerms) (mode : OpenMode) (found : Opened)
     → perms_in (slice_get g.places fd) ≡ Some perms
-    → KeepsPlaces g (Some fd) (found.held.node ∷ [])
-    (opened_among g.places perms required found >>= (λ new. give (with_places g new)))
-unfolding place_for
-put_opened g fd perms required found is = by (required && not found.is_dir)
-  where
-    place : Place
-    place = new_place perms found
+    → StaysNear g (Some fd) (found.held.node ∷ [])
+    (with_places g (new_number g.places, with_place g.places (new_place perms mode found)))
+put_opened g fd perms mode found is = record {
+  nodes = λ n has. elim (in_with g.places (new_place perms mode found) n has) [
+    | inl was ↦ inl was
+    | inr new ↦ inr (node_for perms mode found n new)
+  ];
+  perms = λ n given has.
+      new_stems g fd n (new_place perms mode found) (new_place_perms perms mode found ∙ sym is) has;
+}
 
-    among : Row Place → Row (Value × Guest)
-    among m =
-        m >>= (λ place. give (new_number g.places, with_place g.places place)) >>= (λ new. give (with_places g new))
+-- nothing comes, and nothing goes
+pub put_nothing : {x : Value} {memory : List ℕ} (g : Guest) → StaysNear g None [] (x, record g { memory = memory })
+put_nothing g = record { nodes = λ n has. inl has; perms = λ n perms has. has }
 
-    by : (b : Bool)
-        → KeepsPlaces g (Some fd) (found.held.node ∷ []) (among (cond b (Err (Errno errnos.Notdir)) (Ok place)))
-    by true = tt
-    by false = record {
-      nodes = λ n has. elim (in_with g.places place n has) [
-        | inl was ↦ inl was
-        | inr new ↦ inr (node_for perms found n new)
-      ];
-      perms = λ n given has. new_stems g fd n place (new_place_perms perms found ∙ sym is) has;
-    }
+-- ---- what a row writes into memory, or tells
 
--- and memory stays
-pub opened_bytes : (g : Guest) (perms : FsPerms) (required : Bool) (found : Opened) → AreBytes g.memory
-    → KeepsBytes (opened_among g.places perms required found >>= (λ new. Ok (with_places g new)))
-unfolding place_for
-opened_bytes g perms required found bytes = by (required && not found.is_dir)
-  where
-    by : (b : Bool)
-        → KeepsBytes ((let m : Row Place = cond b (Err (Errno errnos.Notdir)) (Ok (new_place perms found)) in m)
-        >>= (λ place. Ok (new_number g.places, with_place g.places place)) >>= (λ new. Ok (with_places g new)))
-    by true = tt
-    by false = bytes
+-- a number beside the memory after it, as an answer
+abbrev pub with_text : Guest → ℕ × List ℕ → Value × Guest
+with_text g p = (Number p.0, record g { memory = p.1 })
+
+-- a row that writes bytes, where the range is this
+abbrev writes : Guest → ℕ → List ℕ → Row (List ℕ) → Row (Value × Guest)
+writes g buf bytes m =
+    m >>= (λ _. give (length bytes, with_bytes g.memory buf bytes)) >>= (λ p. give (with_text g p))
+
+pub written_places : (g : Guest) (buf : ℕ) (bytes : List ℕ) (m : Row (List ℕ))
+    → KeepsPlaces g None [] (writes g buf bytes m)
+written_places g buf bytes (Ok part) = put_nothing g
+written_places g buf bytes (Err e) = tt
+
+pub written_ends : {P : Type 0} (g : Guest) (buf : ℕ) (bytes : List ℕ) (m : Row (List ℕ)) → P
+    → OnErr (writes g buf bytes m) P
+written_ends g buf bytes (Ok part) is = tt
+written_ends g buf bytes (Err e) is = is
+
+pub written_bytes : (g : Guest) (buf : ℕ) (bytes : List ℕ) (m : Row (List ℕ)) → AreBytes g.memory → AreBytes bytes
+    → KeepsBytes (writes g buf bytes m)
+written_bytes g buf bytes (Ok part) are more = put_bytes g.memory bytes buf are more
+written_bytes g buf bytes (Err e) are more = tt
+
+-- a record as an answer
+abbrev pub with_filestat : Guest → Filestat → Value × Guest
+with_filestat g stat = (Told stat, g)
+
+-- a row that tells of a node
+abbrev tells : Guest → Row Filestat → Row (Value × Guest)
+tells g m = m >>= (λ stat. give (with_filestat g stat))
+
+pub stated_places : (g : Guest) (m : Row Filestat) → KeepsPlaces g None [] (tells g m)
+stated_places g (Ok stat) = put_nothing g
+stated_places g (Err e) = tt
+
+pub stated_ends : {P : Type 0} (g : Guest) (m : Row Filestat) → P → OnErr (tells g m) P
+stated_ends g (Ok stat) is = tt
+stated_ends g (Err e) is = is
+
+pub stated_bytes : (g : Guest) (m : Row Filestat) → AreBytes g.memory → KeepsBytes (tells g m)
+stated_bytes g (Ok stat) are = are
+stated_bytes g (Err e) are = tt

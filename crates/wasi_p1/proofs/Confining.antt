@@ -11,13 +11,13 @@ use Rattle.wasi_p1.specs.Row.{Row, Program, done, asking, from_host, starts}
 use Rattle.wasi_p1.specs.Rows.{row, turn, with_tree}
 use Rattle.wasi_p1.proofs.Near.{Has, IsNear}
 use Rattle.wasi_p1.specs.Turn.{IsTurn, StepTaken, ReachesHost}
-use Rattle.wasi_p1.specs.Agree.{Alike, AnswerAlike}
+use Rattle.wasi_p1.specs.StatesAgree.{Alike, AnswerAlike}
 use Rattle.wasi_p1.specs.CallTurn.{Turns, in_world}
 use Rattle.wasi_p1.specs.Reach.{Inside, InReach, Confined}
 use Rattle.wasi_guest.specs.declared.call.Call.{Call}
 use Rattle.wasi_p1.specs.declared.error.P1Error.{P1Error}
 use Rattle.wasi_guest.specs.declared.answer.Value.{Value}
-use Rattle.wasi_p1.proofs.Leaving.{request_leaves}
+use Rattle.wasi_p1.proofs.RequestsLeave.{request_leaves}
 use Rattle.wasi_host.proofs.Agreeing.{itself, still_closed, reach_closed, once, twice}
 use Rattle.wasi_p1.proofs.Nearness.{row_near}
 use Rattle.wasi_p1.proofs.Alike.{over, ended, turn_alike}

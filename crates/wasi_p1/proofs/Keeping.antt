@@ -1,5 +1,5 @@
 -- Opens that leave the tree.
-use Rattle.std.proofs.Common.{ℕ, ◌≡◌, true, false, cond, Bool, ◌&&◌, not, List, refl, ap, ◌∙◌, subst, arith, Option, Some, None, Result, Ok, Err}
+use Rattle.std.proofs.Common.{ℕ, ◌≡◌, true, false, cond, Bool, List, refl, ap, ◌∙◌, subst, arith, Option, Some, None, Result, Ok, Err}
 use Rattle.wasi_fs.specs.declared.perms.FsPerms.TheVariants.{ReadOnly}
 use Rattle.wasi_fs.specs.declared.perms.FsPerms.{FsPerms}
 use Rattle.wasi_host.specs.Options.{Options, creates}
@@ -8,24 +8,19 @@ use Rattle.wasi_host.specs.HostCall.{OpenAt}
 use Rattle.wasi_host.specs.Refusal.{refusal}
 use Rattle.wasi_host.specs.Step.{open_step, opened_step, is_cut, file_cut}
 use Rattle.wasi_host.proofs.Chain.{free}
-use Rattle.std.specs.Prelude.{OnErr, codes}
+use Rattle.std.specs.Prelude.{codes}
 use Rattle.wasi_host.specs.declared.errors.ErrorCode.{ErrorCode}
 use Rattle.wasi_host.specs.declared.errors.ErrorCode.TheVariants.{IsDirectory}
 use Rattle.wasi_host.specs.Steps.{◌>>=◌}
-use Rattle.wasi_guest.specs.declared.answer.Value.{Value}
-use Rattle.wasi_guest.specs.declared.errno.Errno.TheVariants as errnos
-use Rattle.wasi_p1.specs.Guest.{Guest, Place, OpenDirectory, new_number, with_place}
-use Rattle.wasi_p1.specs.OpenHow.{may_open, options_of}
+use Rattle.wasi_fs.specs.Calls.{may_change, may_link, opens}
+use Rattle.wasi_fs.specs.OpenHow.{OpenHow, may_open, options_of}
 use Rattle.wasi_resolve.specs.Walk.{Open, Outcome, Stop, Name, Dot, walk, last_options}
-use Rattle.wasi_resolve.specs.Paths.{Opening, opening_of, opening, step_of}
-use Rattle.wasi_resolve.specs.PathRequest.{Opened, answer_at}
-use Rattle.wasi_p1.specs.Request.{reply_of, after as tree_after}
-use Rattle.wasi_p1.specs.Row.{Row, give}
-use Rattle.wasi_p1.specs.Rows.{new_place, place_for, opened_among, may_write}
-use Rattle.wasi_p1.specs.declared.error.P1Error.TheVariants.{Errno}
-use Rattle.wasi_p1.specs.declared.open_how.OpenHow.{OpenHow}
-use Rattle.wasi_p1.proofs.Changing.{with_places}
-use Rattle.wasi_p1.proofs.Near.{opens}
+use Rattle.wasi_resolve.specs.AtPlace.{ReadLink, place_for, step_in}
+use Rattle.wasi_resolve.specs.Paths.{Opening, Place, opening_of, opening, step_of}
+use Rattle.wasi_resolve.specs.PathRequest.{AtPlace, Opened, answer_at, as_asked}
+use Rattle.wasi_resolve.proofs.Requests.{as_opened}
+use Rattle.wasi_p1.specs.Request.{Path, reply_of, after as tree_after}
+use Rattle.wasi_p1.specs.Rows.{permit, may_write}
 
 -- ---- an open that neither makes nor cuts
 
@@ -79,30 +74,26 @@ opening_asks t s text o follow {e} is = by (walk t s text (Open o) follow).outco
         subst (λ (x : Opening). ChangesAlike o x.options) same (refl, refl)
     by (Dot d) at = dot d o.write at
 
-pub open_keeps : (t : Tree) (d : OpenDirectory) (text : List ℕ) (how : OpenHow) {found : Opened} → AsksNothing how
-    → reply_of t (opens d text how) ≡ Ok found → tree_after t (opens d text how) ≡ t
-open_keeps t d text how {found} nothing answered = by (opening t d.node text (options_of how) how.follow) refl answered
+pub open_keeps : (t : Tree) (d : ℕ) (text : List ℕ) (how : OpenHow) {found : Opened} → AsksNothing how
+    → reply_of t (Path (opens d text how)) ≡ Ok found → tree_after t (Path (opens d text how)) ≡ t
+open_keeps t d text how {found} nothing answered = by (opening t d text (options_of how) how.follow) refl answered
   where
     makes_not : creates (options_of how) ≡ false
     makes_not = rw nothing.makes_not refl
 
-    by : (m : Result Opening ErrorCode) → opening t d.node text (options_of how) how.follow ≡ m
-        → (m >>= answer_at t) ≡ Ok found → step_of t m ≡ t
+    by : (m : Result Opening ErrorCode) → opening t d text (options_of how) how.follow ≡ m
+        → (m >>= answer_at t >>= as_asked how.directory) ≡ Ok found → step_of t m ≡ t
     by (Ok e) at is =
-        let asks = opening_asks t d.node text (options_of how) how.follow at in
-        step_keeps t e.directory e.name e.options (asks.0 ∙ makes_not) (asks.1 ∙ nothing.cuts_not) (free _ _ _ is)
+        let asks = opening_asks t d text (options_of how) how.follow at in
+        step_keeps t e.directory e.name e.options (asks.0 ∙ makes_not) (asks.1 ∙ nothing.cuts_not)
+        (free _ _ _ (as_opened how.directory (answer_at t e) is))
     by (Err code) at is = refl
 
--- ---- an open that is let through
+-- ---- what is permitted under read-only permissions
 
--- as a directory
-pub directory_kept : (how : OpenHow) (perms : FsPerms) {u : Unit {0}} → may_open how perms ≡ Ok u
-    → how.directory ≡ true → AsksNothing how
-unfolding may_open
-directory_kept how perms may on = record { makes_not = grind (arith); cuts_not = grind (arith) }
-
--- under read-only permissions
-pub read_only_kept : (how : OpenHow) {perms : FsPerms} {u : Unit {0}} → may_open how perms ≡ Ok u → perms ≡ ReadOnly
+-- an open that is let through
+pub read_only_kept : (how : OpenHow) {perms : FsPerms} {u : Unit {0}} → permit (may_open how perms) ≡ Ok u
+    → perms ≡ ReadOnly
     → AsksNothing how
 unfolding may_open
 read_only_kept how may is = record { makes_not = grind (arith); cuts_not = grind (arith) }
@@ -113,24 +104,25 @@ unfolding may_write
 no_write ReadOnly may is = absurd (cc)
 no_write perms may is = absurd (cc)
 
--- ---- an open whose answer is refused
+-- nor is a change
+pub no_change : (perms : FsPerms) {u : Unit {0}} → permit (may_change perms) ≡ Ok u → perms ≡ ReadOnly → ⊥
+unfolding may_change
+no_change ReadOnly may is = absurd (cc)
+no_change perms may is = absurd (cc)
 
--- it made no step
-pub opened_ends : {u : Unit {0}} (g : Guest) (t : Tree) (d : OpenDirectory) (text : List ℕ) (how : OpenHow)
-    (perms : FsPerms) (found : Opened)
-    → may_open how perms ≡ Ok u → reply_of t (opens d text how) ≡ Ok found
-    → OnErr (opened_among g.places perms how.directory found >>= (λ new. give (with_places g new)))
-    (tree_after t (opens d text how) ≡ t)
-unfolding place_for
-opened_ends g t d text how perms found may answered = by how.directory found.is_dir (λ on.
-    open_keeps t d text how (directory_kept how perms may on) answered)
+-- nor is a link made
+pub no_link : (perms : FsPerms) (target : List ℕ) {u : Unit {0}} → permit (may_link perms target) ≡ Ok u
+    → perms ≡ ReadOnly → ⊥
+unfolding may_link
+no_link ReadOnly target may is = absurd (cc)
+no_link perms target may is = absurd (cc)
+
+-- ---- the text of a link
+
+-- it is read without a step
+pub link_leaves : (t : Tree) (d : ℕ) (text : List ℕ) → tree_after t (Path (AtPlace d text ReadLink)) ≡ t
+link_leaves t d text = by (place_for t d text ReadLink)
   where
-    among : Row Place → Row (Value × Guest)
-    among m =
-        m >>= (λ place. give (new_number g.places, with_place g.places place)) >>= (λ new. give (with_places g new))
-
-    by : {P : Type 0} (required is_dir : Bool) → (required ≡ true → P)
-        → OnErr (among (cond (required && not is_dir) (Err (Errno errnos.Notdir)) (Ok (new_place perms found)))) P
-    by true true kept = tt
-    by true false kept = kept refl
-    by false is_dir kept = tt
+    by : (m : Result Place ErrorCode) → step_in t ReadLink m ≡ t
+    by (Ok p) = refl
+    by (Err code) = refl

@@ -11,19 +11,15 @@ use Rattle.wasi_guest.specs.declared.answer.Value.{Value}
 use Rattle.wasi_guest.specs.declared.call.Call.{Call}
 use Rattle.wasi_p1.specs.CallParts.{NotMemory}
 use Rattle.wasi_p1.specs.CallTurn.{NamesReadOnly}
-use Rattle.wasi_p1.specs.Guest.{Guest, OpenDirectory, nodes_of}
-use Rattle.wasi_p1.specs.OpenHow.{options_of}
+use Rattle.wasi_p1.specs.Guest.{Guest, nodes_of}
 use Rattle.wasi_p1.specs.Request.{Request, Reply, Path, Read, Write, reply_of, after, starts_at}
 use Rattle.wasi_p1.specs.Row.{Row, Program, done, asking}
-use Rattle.wasi_p1.specs.declared.open_how.OpenHow.{OpenHow}
 use Rattle.wasi_p1.specs.Stems.{opened_through, stems_through, HasPerms}
-use Rattle.wasi_resolve.specs.PathRequest.{PathRequest, OpenPath, LookPath, path_gives}
+use Rattle.wasi_resolve.specs.AtPlace.{CreateDir, RemoveFile, RemoveDir, Symlink, ReadLink}
+use Rattle.wasi_resolve.proofs.Asking.{HasUtf8Target}
+use Rattle.wasi_resolve.specs.PathRequest.{PathRequest, OpenPath, LookPath, AtPlace, PathReply, path_gives}
 
 -- ---- of each kind of request
-
--- the request of an open below a directory
-abbrev pub opens : OpenDirectory → List ℕ → OpenHow → Request
-opens d text how = Path (OpenPath d.node text (options_of how) how.follow)
 
 -- the nodes that an answer gives
 abbrev pub given_by : (r : Request) → Reply r → List ℕ
@@ -34,20 +30,31 @@ given_by (Write f offset piece) count = []
 abbrev pub AreBytes : List ℕ → Type 0
 AreBytes bytes = IsTrue (are_bytes bytes)
 
--- the text of a path
-abbrev pub path_text : PathRequest → List ℕ
-path_text (OpenPath s text o follow) = text
-path_text (LookPath s text follow) = text
+-- what the types of the calls that make it give of every request: a path is a text, as is that of a link, and what is
+-- written are bytes
+abbrev pub AreTexts : PathRequest → Type 0
+AreTexts (OpenPath s text o follow directory) = IsUtf8 text
+AreTexts (LookPath s text follow) = IsUtf8 text
+AreTexts (AtPlace s text what) = IsUtf8 text × HasUtf8Target what
 
--- what the types of the calls that make it give of every request: a path is a text, and what is written are bytes
 abbrev pub MayBeAsked : Request → Type 0
-MayBeAsked (Path p) = IsUtf8 (path_text p)
+MayBeAsked (Path p) = AreTexts p
 MayBeAsked (Read f offset n) = Unit {0}
 MayBeAsked (Write f offset piece) = AreBytes piece
 
+-- a link's text are bytes
+abbrev pub PathGivesBytes : (p : PathRequest) → PathReply p → Type 0
+PathGivesBytes (OpenPath s text o follow directory) found = Unit {0}
+PathGivesBytes (LookPath s text follow) metadata = Unit {0}
+PathGivesBytes (AtPlace s text CreateDir) answer = Unit {0}
+PathGivesBytes (AtPlace s text RemoveFile) answer = Unit {0}
+PathGivesBytes (AtPlace s text RemoveDir) answer = Unit {0}
+PathGivesBytes (AtPlace s text (Symlink target)) answer = Unit {0}
+PathGivesBytes (AtPlace s text ReadLink) link = AreBytes link
+
 -- what is read are bytes
 abbrev pub GivesBytes : (r : Request) → Reply r → Type 0
-GivesBytes (Path p) found = Unit {0}
+GivesBytes (Path p) found = PathGivesBytes p found
 GivesBytes (Read f offset n) bytes = AreBytes bytes
 GivesBytes (Write f offset piece) count = Unit {0}
 

@@ -1,22 +1,31 @@
 -- What holds of each row, part by part.
-use Rattle.std.proofs.Common.{ℕ, ◌≡◌, [], ◌∷◌, refl, ap, ◌∙◌, slice_get, Option, Some, Ok, Err}
+use Rattle.std.proofs.Common.{ℕ, ◌≡◌, length, [], ◌∷◌, refl, ap, sym, ◌∙◌, subst, take, slice_get, Option, Some, None, Ok, Err}
 use Rattle.std.specs.Prelude.{Contains}
 use Rattle.wasi_fs.specs.declared.perms.FsPerms.{FsPerms}
 use Rattle.wasi_fs.specs.declared.perms.FsPerms.TheVariants.{ReadOnly}
 use Rattle.wasi_host.specs.Steps.{◌>>=◌}
 use Rattle.wasi_guest.specs.declared.answer.Value.{Value}
 use Rattle.wasi_guest.specs.declared.call.Call.{Call}
-use Rattle.wasi_guest.specs.declared.call.Call.TheVariants.{PathOpen, FdRead, FdWrite, FdClose}
-use Rattle.wasi_p1.specs.Guest.{Guest, perms_in}
-use Rattle.wasi_p1.specs.OpenHow.{open_how, may_open}
+use Rattle.wasi_guest.specs.declared.call.Call.TheVariants.{FdClose, FdRead, FdWrite, PathCreateDirectory, PathFilestatGet, PathOpen, PathReadlink, PathRemoveDirectory, PathSymlink, PathUnlinkFile}
+use Rattle.wasi_p1.specs.Guest.{Guest, OpenDirectory, perms_in}
+use Rattle.wasi_fs.specs.Calls.{may_change, may_link}
+use Rattle.wasi_fs.specs.OpenHow.{may_open, mode_of}
+use Rattle.wasi_guest.specs.declared.answer.Value.TheVariants.{Unit as Nothing}
+use Rattle.wasi_resolve.specs.AtPlace.{PlaceCall, CreateDir, RemoveFile, RemoveDir}
+use Rattle.wasi_resolve.proofs.Asking.{HasUtf8Target}
+use Rattle.wasi_p1.specs.CallTurn.{NamesReadOnly}
+use Rattle.wasi_p1.specs.Filestats.{stat_both, filestat_in}
+use Rattle.wasi_p1.specs.RawFlags.{open_how, follow_asked}
+use Rattle.wasi_p1.specs.Owners.{descriptors_named}
+use Rattle.wasi_p1.specs.Stems.{opened_through}
 use Rattle.wasi_p1.specs.Row.{Row, Program}
-use Rattle.wasi_p1.specs.Rows.{path_open, fd_read, fd_write, fd_close, row, text_in, live_in, directory_in, file_in, buffer_in, range, may_write}
+use Rattle.wasi_p1.specs.Rows.{path_open, fd_read, fd_write, fd_close, done_at, path_create_directory, path_remove_directory, path_unlink_file, path_symlink, path_readlink, path_filestat_get, row, text_in, live_in, directory_in, start_in, file_in, buffer_in, range, may_write, permit}
 use Rattle.wasi_host.proofs.Agreeing.{one}
-use Rattle.wasi_p1.proofs.Bytes.{put_bytes, range_bytes, text_utf8}
-use Rattle.wasi_p1.proofs.Changing.{named_directory, named_file, directory_perms, file_perms, put_back, put_closed, put_opened, opened_bytes}
-use Rattle.wasi_p1.proofs.Keeping.{open_keeps, opened_ends, read_only_kept, no_write}
-use Rattle.wasi_p1.proofs.Near.{IsNear}
-use Rattle.wasi_p1.proofs.Wanting.{Never, how_never, text_never, directory_never, open_never, buffer_never, file_never, range_never, write_never, live_never}
+use Rattle.wasi_p1.proofs.Bytes.{put_bytes, range_bytes, text_utf8, cut}
+use Rattle.wasi_p1.proofs.Changing.{named_directory, named_file, start_is, directory_perms, file_perms, put_back, put_closed, put_opened, put_nothing, written_places, written_ends, written_bytes, stated_places, stated_ends, stated_bytes}
+use Rattle.wasi_p1.proofs.Keeping.{open_keeps, read_only_kept, no_write, no_change, no_link, link_leaves}
+use Rattle.wasi_p1.proofs.Near.{Has, StaysNear, IsNear}
+use Rattle.wasi_p1.proofs.Wanting.{Never, how_never, follow_never, text_never, directory_never, start_never, permit_never, buffer_never, file_never, range_never, write_never, live_never}
 
 -- a part of a row, and what follows it
 pub then : {A : Type 0} (g : Guest) (call : Call) (m : Row A) (next : A → Row (Program (Value × Guest))) → Never m
@@ -41,15 +50,15 @@ path_open_near g fd dirflags path len oflags base inheriting fdflags =
     then g call (open_how dirflags oflags base inheriting fdflags) _ (how_never dirflags oflags base inheriting fdflags)
     (λ how _. then g call (text_in g.memory path len) _ (text_never g.memory path len) (λ text read.
     then g call (directory_in (slice_get g.places fd)) _ (directory_never (slice_get g.places fd)) (λ d is.
-    then g call (may_open how d.perms) _ (open_never how d.perms) (λ _ may.
+    then g call (permit (may_open how d.perms)) _ (permit_never (may_open how d.perms)) (λ _ may.
     let perms = directory_perms (slice_get g.places fd) is in record {
       starts = λ n has. named_directory g fd n is has;
-      places = λ found. put_opened g fd d.perms how.directory found perms;
-      ends = λ t found answered. opened_ends g t d text how d.perms found may answered;
-      permits = λ names t found answered. open_keeps t d text how
+      places = λ found. put_opened g fd d.perms (mode_of how) found perms;
+      ends = λ t found answered. tt;
+      permits = λ names t found answered. open_keeps t d.node text how
           (read_only_kept how may (read_only (only_named g fd names.fd names.named names.perms) perms)) answered;
-      asked = λ _. text_utf8 (range g.memory path len) read;
-      bytes = λ are found _. opened_bytes g d.perms how.directory found are;
+      asked = λ _. text_utf8 g.memory path len read;
+      bytes = λ are found _. are;
     }))))
 
 fd_read_near : (g : Guest) (fd iovs n : ℕ) → IsNear g (FdRead fd iovs n) (fd_read g fd iovs n)
@@ -91,9 +100,112 @@ fd_close_near g fd =
     then g (FdClose fd) (live_in (slice_get g.places fd)) _ (live_never (slice_get g.places fd))
     (λ _ _. record { places = put_closed g fd; bytes = λ are. are })
 
+-- of a row that starts from a directory, and asks for something at a path
+pub starts_near : {d : OpenDirectory} (g : Guest) (fd n : ℕ) → start_in (slice_get g.places fd) ≡ Ok d
+    → Contains (d.node ∷ []) n → Has g n
+starts_near g fd n is has = named_directory g fd n (start_is (slice_get g.places fd) is) has
+
+-- of a row that changes something there
+changes_never : {d : OpenDirectory} {P : Type 0} (g : Guest) (call : Call) (fd : ℕ)
+    → descriptors_named g.memory call ≡ fd ∷ [] → start_in (slice_get g.places fd) ≡ Ok d
+    → (d.perms ≡ ReadOnly → ⊥) → NamesReadOnly g call → P
+changes_never g call fd named is never names = absurd (never (read_only
+    (only_named g fd names.fd (subst (λ fds. Contains fds names.fd) named names.named) names.perms)
+    (directory_perms (slice_get g.places fd) (start_is (slice_get g.places fd) is))))
+
+-- what is done at a place by its path alone
+done_near : (g : Guest) (call : Call) (fd path len : ℕ) (what : PlaceCall)
+    → descriptors_named g.memory call ≡ fd ∷ [] → opened_through call ≡ None
+    → HasUtf8Target what
+    → IsNear g call (done_at g fd path len what)
+done_near g call fd path len what named through target =
+    then g call (start_in (slice_get g.places fd)) _ (start_never (slice_get g.places fd)) (λ d is.
+    then g call (text_in g.memory path len) _ (text_never g.memory path len) (λ text read.
+    then g call (permit (may_change d.perms)) _ (permit_never (may_change d.perms)) (λ _ may. record {
+      starts = λ n has. starts_near g fd n is has;
+      places = λ _. subst (λ o. StaysNear g o [] (Nothing, g)) (sym through) (put_nothing g);
+      ends = λ _ _ _. tt;
+      permits = λ names. changes_never g call fd named is (no_change d.perms may) names;
+      asked = λ _. (text_utf8 g.memory path len read, target);
+      bytes = λ are _ _. are;
+    })))
+
+path_symlink_near : (g : Guest) (old_path old_len fd new_path new_len : ℕ)
+    → IsNear g (PathSymlink old_path old_len fd new_path new_len)
+    (path_symlink g old_path old_len fd new_path new_len)
+unfolding path_symlink
+path_symlink_near g old_path old_len fd new_path new_len =
+    let call = PathSymlink old_path old_len fd new_path new_len in
+    then g call (start_in (slice_get g.places fd)) _ (start_never (slice_get g.places fd)) (λ d is.
+    then g call (text_in g.memory old_path old_len) _ (text_never g.memory old_path old_len) (λ target told.
+    then g call (text_in g.memory new_path new_len) _ (text_never g.memory new_path new_len) (λ text read.
+    then g call (permit (may_link d.perms target)) _ (permit_never (may_link d.perms target)) (λ _ may. record {
+      starts = λ n has. starts_near g fd n is has;
+      places = λ _. put_nothing g;
+      ends = λ _ _ _. tt;
+      permits = λ names. changes_never g call fd refl is (no_link d.perms target may) names;
+      asked = λ _. (text_utf8 g.memory new_path new_len read, text_utf8 g.memory old_path old_len told);
+      bytes = λ are _ _. are;
+    }))))
+
+path_readlink_near : (g : Guest) (fd path len buf buf_len : ℕ)
+    → IsNear g (PathReadlink fd path len buf buf_len) (path_readlink g fd path len buf buf_len)
+unfolding path_readlink
+path_readlink_near g fd path len buf buf_len =
+    let call = PathReadlink fd path len buf buf_len in
+    then g call (start_in (slice_get g.places fd)) _ (start_never (slice_get g.places fd)) (λ d is.
+    then g call (text_in g.memory path len) _ (text_never g.memory path len) (λ text read. record {
+      starts = λ n has. starts_near g fd n is has;
+      places = λ link. written_places g buf (take buf_len link) (range g.memory buf (length (take buf_len link)));
+      ends = λ t link answered. written_ends g buf (take buf_len link)
+          (range g.memory buf (length (take buf_len link))) (link_leaves t d.node text);
+      permits = λ names t link answered. link_leaves t d.node text;
+      asked = λ _. (text_utf8 g.memory path len read, tt);
+      bytes = λ are link links. written_bytes g buf (take buf_len link)
+          (range g.memory buf (length (take buf_len link))) are (cut buf_len link links).0;
+    }))
+
+path_filestat_get_near : (g : Guest) (fd flags path len : ℕ)
+    → IsNear g (PathFilestatGet fd flags path len) (path_filestat_get g fd flags path len)
+unfolding path_filestat_get
+path_filestat_get_near g fd flags path len =
+    let call = PathFilestatGet fd flags path len in
+    then g call (follow_asked flags) _ (follow_never flags) (λ follow _.
+    then g call (start_in (slice_get g.places fd)) _ (start_never (slice_get g.places fd)) (λ d is.
+    then g call (text_in g.memory path len) _ (text_never g.memory path len) (λ text read. record {
+      starts = λ n has. starts_near g fd n is has;
+      places = λ metadata. stated_places g (filestat_in (stat_both metadata));
+      ends = λ t metadata answered. stated_ends g (filestat_in (stat_both metadata)) refl;
+      permits = λ _ _ _ _. refl;
+      asked = λ _. text_utf8 g.memory path len read;
+      bytes = λ are metadata _. stated_bytes g (filestat_in (stat_both metadata)) are;
+    })))
+
+path_create_directory_near : (g : Guest) (fd path len : ℕ)
+    → IsNear g (PathCreateDirectory fd path len) (path_create_directory g fd path len)
+unfolding path_create_directory
+path_create_directory_near g fd path len = done_near g _ fd path len CreateDir refl refl tt
+
+path_remove_directory_near : (g : Guest) (fd path len : ℕ)
+    → IsNear g (PathRemoveDirectory fd path len) (path_remove_directory g fd path len)
+unfolding path_remove_directory
+path_remove_directory_near g fd path len = done_near g _ fd path len RemoveDir refl refl tt
+
+path_unlink_file_near : (g : Guest) (fd path len : ℕ)
+    → IsNear g (PathUnlinkFile fd path len) (path_unlink_file g fd path len)
+unfolding path_unlink_file
+path_unlink_file_near g fd path len = done_near g _ fd path len RemoveFile refl refl tt
+
 pub row_near : (g : Guest) (call : Call) → IsNear g call (row g call)
 row_near g (PathOpen fd dirflags path path_len oflags base inheriting fdflags) =
     path_open_near g fd dirflags path path_len oflags base inheriting fdflags
 row_near g (FdRead fd iovs iovs_len) = fd_read_near g fd iovs iovs_len
 row_near g (FdWrite fd iovs iovs_len) = fd_write_near g fd iovs iovs_len
 row_near g (FdClose fd) = fd_close_near g fd
+row_near g (PathCreateDirectory fd path path_len) = path_create_directory_near g fd path path_len
+row_near g (PathFilestatGet fd flags path path_len) = path_filestat_get_near g fd flags path path_len
+row_near g (PathReadlink fd path path_len buf buf_len) = path_readlink_near g fd path path_len buf buf_len
+row_near g (PathRemoveDirectory fd path path_len) = path_remove_directory_near g fd path path_len
+row_near g (PathSymlink old_path old_path_len fd new_path new_path_len) =
+    path_symlink_near g old_path old_path_len fd new_path new_path_len
+row_near g (PathUnlinkFile fd path path_len) = path_unlink_file_near g fd path path_len

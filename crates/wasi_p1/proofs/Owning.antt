@@ -103,8 +103,8 @@ owns_more {live} {live'} {os} {os'} (Some h) (fresh, got) count owned = record {
 closed_slot : (slot : Slot) → is_closed_slot slot ≡ true → slot ≡ slots.Closed
 closed_slot slots.Closed is = refl
 closed_slot (slots.Stream s) is = absurd (cc)
-closed_slot (slots.Directory h perms) is = absurd (cc)
-closed_slot (slots.File h perms position) is = absurd (cc)
+closed_slot (slots.Directory dir) is = absurd (cc)
+closed_slot (slots.File f position) is = absurd (cc)
 
 pub closed_at : (table : List Slot) (i : ℕ) → last_where is_closed_slot table ≡ Some i
     → slice_get table i ≡ Some slots.Closed
@@ -133,13 +133,6 @@ pub owns_new : {live live' : Handles} (table : List Slot) (slot : Slot) → Got 
     → Owned live (handles table)
     → Owns live live' (handles table) (handles (with_new is_closed_slot table slot))
 owns_new table slot got owned = owns_more (handle_in slot) got (uses-new table slot) owned
-
--- it is in use
-pub got_in_use : (old new : Handles) (slot : Slot) → Got old (handle_in slot) new → is_closed_slot slot ≡ false
-got_in_use old new slots.Closed got = absurd got
-got_in_use old new (slots.Stream s) got = absurd got
-got_in_use old new (slots.Directory h perms) got = refl
-got_in_use old new (slots.File h perms position) got = refl
 
 -- ---- one handle less
 
@@ -209,8 +202,8 @@ owns_closed {slot = slot} table i is gone owned =
 
 pub live_slot : {live : Handles} {slot : Slot} (table : List Slot) (i : ℕ) → Owned live (handles table)
     → slice_get table i ≡ Some slot → IsLive live slot
-live_slot {slot = slots.Directory h perms} table i owned is = owned_live table i owned is refl
-live_slot {slot = slots.File h perms position} table i owned is = owned_live table i owned is refl
+live_slot {slot = slots.Directory dir} table i owned is = owned_live table i owned is refl
+live_slot {slot = slots.File f position} table i owned is = owned_live table i owned is refl
 live_slot {slot = slots.Stream s} table i owned is = tt
 live_slot {slot = slots.Closed} table i owned is = tt
 

@@ -1,24 +1,23 @@
 -- Descriptors seen without their handles.
-use Rattle.std.proofs.Common.{ℕ, ◌+◌, ◌≤◌, Bool, List, [], ◌∷◌, ◌≡◌, inl, inr, true, slice_get, slice_set, refl, ap, sym, subst, ◌∙◌, arith, Ok, Err, Some}
+use Rattle.std.proofs.Common.{ℕ, ◌+◌, ◌≤◌, List, [], ◌∷◌, ◌≡◌, true, slice_get, slice_set, refl, ap, sym, subst, ◌∙◌, arith, Ok, Some}
 use Rattle.std.proofs.lemmas.List.{map-set}
 use Rattle.std.specs.FinSet.{contains}
 use Rattle.wasi_host.specs.Meaning.{World, Handles}
 use Rattle.wasi_host.specs.declared.held.Held.{Held}
 use Rattle.wasi_p1.specs.Numbering.{free_number, with_new}
-use Rattle.wasi_p1.specs.Slots.{is_closed_slot}
-use Rattle.wasi_p1.specs.Guest.{Place, OpenDirectory, place_of, places_of, is_closed, new_number, with_place, directory, file}
+use Rattle.wasi_p1.specs.Slots.{is_closed_slot, slot_of}
+use Rattle.wasi_p1.specs.Guest.{Place, place_of, places_of, directory_by, file_by, is_closed, new_number, with_place, directory, file}
 use Rattle.wasi_p1.specs.Owners.{handle_in, handles, uses_in, uses, without, Owned}
-use Rattle.wasi_p1.specs.CallParts.{OpensSlot, OpensInto, IsReplied, Rests, Stays}
-use Rattle.wasi_resolve.specs.PathRequest.{Opened}
-use Rattle.wasi_p1.specs.Row.{give}
-use Rattle.wasi_p1.specs.Rows.{place_for, opened_among}
-use Rattle.wasi_host.specs.Steps.{◌>>=◌}
+use Rattle.wasi_p1.specs.CallParts.{Rests, Stays}
+use Rattle.wasi_p1.specs.Rows.{new_place, opened_among}
+use Rattle.wasi_fs.specs.Calls.{perms_of, open_mode_of, opened_of}
+use Rattle.wasi_fs.specs.declared.descriptor.Descriptor.{Descriptor}
+use Rattle.wasi_fs.specs.declared.descriptor.Descriptor.TheVariants as descriptors
+use Rattle.wasi_fs.specs.declared.descriptor.File.{File}
+use Rattle.wasi_fs.specs.declared.open_mode.OpenMode.{OpenMode}
 use Rattle.wasi_fs.specs.declared.perms.FsPerms.{FsPerms}
-use Rattle.wasi_p1.specs.declared.error.P1Error.{P1Error}
-use Rattle.wasi_p1.specs.declared.open_how.OpenHow.{OpenHow}
 use Rattle.wasi_p1.specs.declared.context.Slot.{Slot}
 use Rattle.wasi_p1.specs.declared.context.Slot.TheVariants as slots
-use Rattle.wasi_p1.proofs.Near.{opens}
 use Rattle.wasi_p1.proofs.Numbers.{free_number-map, with_new-map}
 use Rattle.wasi_p1.proofs.Counting.{uses-cons, uses_itself, handles-cons}
 use Rattle.wasi_p1.proofs.Owning.{used_live, without_live, owns_closed}
@@ -29,11 +28,10 @@ place_same : {held again : ℕ → Held} (slot : Slot) → ((h : ℕ) → 1 ≤ 
     → place_of again slot ≡ place_of held slot
 place_same slots.Closed same = refl
 place_same (slots.Stream s) same = refl
-place_same (slots.Directory h perms) same =
-    ap (λ x. directory (record { node = x.node; perms = perms })) (same h (omega (arith, uses_itself h)))
-place_same (slots.File h perms position) same =
-    let held_same = same h (omega (arith, uses_itself h)) in
-    ap (λ x. file (record { node = x.node; mode = x.mode; perms = perms; position = position })) held_same
+place_same (slots.Directory dir) same =
+    ap (λ x. directory (directory_by x dir)) (same dir.dir (omega (arith, uses_itself dir.dir)))
+place_same (slots.File f position) same =
+    ap (λ x. file (file_by x f position)) (same f.file (omega (arith, uses_itself f.file)))
 
 same_places : {held again : ℕ → Held} (table : List Slot) → ((h : ℕ) → 1 ≤ uses (handles table) h → again h ≡ held h)
     → places_of again table ≡ places_of held table
@@ -54,15 +52,13 @@ pub places_stay : {live : Handles} {held again : ℕ → Held} (table : List Slo
 places_stay table owned keeps = same_places table (λ h some. keeps h (used_live h owned some))
 
 -- a descriptor that was put back, by what its handle stood for before
-pub put_file_at : (stands again : ℕ → Held) (table now : List Slot) (fd h : ℕ) (perms : FsPerms) (position : ℕ)
-    → now ≡ slice_set table fd (slots.File h perms position) → again h ≡ stands h
+pub put_file_at : (stands again : ℕ → Held) (table now : List Slot) (fd : ℕ) (f : File) (position : ℕ)
+    → now ≡ slice_set table fd (slots.File f position) → again f.file ≡ stands f.file
     → places_of again table ≡ places_of stands table
-    → places_of again now ≡ slice_set (places_of stands table) fd
-    (file (record { node = (stands h).node; mode = (stands h).mode; perms = perms; position = position }))
-put_file_at stands again table now fd h perms position put e kept =
-    ap (places_of again) put ∙ map-set (place_of again) table fd (slots.File h perms position)
-    ∙ (λ i. slice_set (kept i) fd
-    (file (record { node = (e i).node; mode = (e i).mode; perms = perms; position = position })))
+    → places_of again now ≡ slice_set (places_of stands table) fd (file (file_by (stands f.file) f position))
+put_file_at stands again table now fd f position put e kept =
+    ap (places_of again) put ∙ map-set (place_of again) table fd (slots.File f position)
+    ∙ (λ i. slice_set (kept i) fd (file (file_by (e i) f position)))
 
 -- ---- a number that becomes closed
 
@@ -81,8 +77,8 @@ closed_stays {live} {slot = slot} table i is gone owned rests = record {
 closed_mapped : (held : ℕ → Held) (slot : Slot) → is_closed (place_of held slot) ≡ is_closed_slot slot
 closed_mapped held slots.Closed = refl
 closed_mapped held (slots.Stream s) = refl
-closed_mapped held (slots.Directory h perms) = refl
-closed_mapped held (slots.File h perms position) = refl
+closed_mapped held (slots.Directory dir) = refl
+closed_mapped held (slots.File f position) = refl
 
 -- its number is that of its place
 number_placed : (held : ℕ → Held) (table : List Slot)
@@ -94,58 +90,29 @@ with_placed : (held : ℕ → Held) (table : List Slot) (slot : Slot)
     ≡ with_place (places_of held table) (place_of held slot)
 with_placed held table slot = with_new-map (place_of held) is_closed_slot is_closed (closed_mapped held) table slot
 
--- what was opened stands under its number
-opened_placed : (perms : FsPerms) (required : Bool) (found : Opened) {places : List Place} (held : ℕ → Held)
-    (table : List Slot) (slot : Slot)
-    → places_of held table ≡ places → place_for perms required found ≡ Ok (place_of held slot)
-    → opened_among places perms required found
-    ≡ Ok (free_number is_closed_slot table, places_of held (with_new is_closed_slot table slot))
-opened_placed perms required found {places} held table slot same is =
-    ap (λ m. m >>= (λ place. give (new_number places, with_place places place))) is
-    ∙ (λ i. Ok (
-      (ap new_number (sym same) ∙ sym (number_placed held table)) i,
-      (ap (λ ps. with_place ps (place_of held slot)) (sym same) ∙ sym (with_placed held table slot)) i,
-    ))
+-- the place of what was opened
+place_opened : (held : ℕ → Held) (perms : FsPerms) (mode : OpenMode) (descriptor : Descriptor)
+    → perms_of descriptor ≡ perms → open_mode_of descriptor ≡ mode
+    → new_place perms mode (opened_of held descriptor) ≡ place_of held (slot_of descriptor)
+place_opened held perms mode (descriptors.File f) p m = λ i. file (record {
+  node = (held f.file).node;
+  mode = (held f.file).mode;
+  perms = sym p i;
+  open_mode = sym m i;
+  position = 0;
+})
+place_opened held perms mode (descriptors.Dir dir) p m =
+    λ i. directory (record { node = (held dir.dir).node; perms = sym p i; open_mode = sym m i })
 
-refused_among : (perms : FsPerms) (required : Bool) (found : Opened) {e : P1Error} (places : List Place)
-    → place_for perms required found ≡ Err e → opened_among places perms required found ≡ Err e
-refused_among perms required found places is =
-    ap (λ m. m >>= (λ place. give (new_number places, with_place places place))) is
-
-module _ (d : OpenDirectory) (how : OpenHow) where
-  -- over a told host
-  pub opened_new : {rose : Type 0} {live : Handles} {w v : World} {text : List ℕ} (table : List Slot) (slot : Slot)
-      → Owned live (handles table) → OpensSlot rose live w v d text how (Ok slot)
-      → OpensInto rose w v d text how (places_of w.held table) (places_of v.held (with_new is_closed_slot table slot))
-      (Ok (free_number is_closed_slot table))
-  opened_new {v = v} table slot owned opens =
-      let (found, asked, is) = opens.does in (
-        found,
-        asked,
-        opened_placed d.perms how.directory found v.held table slot (places_stay table owned opens.keeps) is,
-      )
-
-  -- one that was refused
-  pub opened_not : {rose : Type 0} {live : Handles} {w v : World} {text : List ℕ} {e : P1Error}
-      (places : List Place)
-      → OpensSlot rose live w v d text how (Err e) → OpensInto rose w v d text how places places (Err e)
-  opened_not places opens = elim opens.does [
-    | inl asked ↦ inl asked
-    | inr (found, asked, is) ↦ inr (found, asked, refused_among d.perms how.directory found places is)
-  ]
-
-  -- the same over every host
-  pub opens_new : (text : List ℕ) (held : ℕ → Held) (table : List Slot) (slot : Slot)
-      → IsReplied (opens d text how) (place_for d.perms how.directory) (Ok (place_of held slot))
-      → IsReplied (opens d text how) (opened_among (places_of held table) d.perms how.directory)
-      (Ok (free_number is_closed_slot table, places_of held (with_new is_closed_slot table slot)))
-  opens_new text held table slot (found, may, is) =
-      (found, may, opened_placed d.perms how.directory found held table slot refl is)
-
-  pub opens_not : (text : List ℕ) {e : P1Error} (places : List Place)
-      → IsReplied (opens d text how) (place_for d.perms how.directory) (Err e)
-      → IsReplied (opens d text how) (opened_among places d.perms how.directory) (Err e)
-  opens_not text places replied = elim replied [
-    | inl from ↦ inl from
-    | inr (found, may, is) ↦ inr (found, may, refused_among d.perms how.directory found places is)
-  ]
+-- it stands under its number
+pub opened_placed : {places : List Place} (held : ℕ → Held) (perms : FsPerms) (mode : OpenMode) (table : List Slot)
+    (descriptor : Descriptor)
+    → places_of held table ≡ places → perms_of descriptor ≡ perms → open_mode_of descriptor ≡ mode
+    → opened_among places perms mode (opened_of held descriptor)
+    ≡ Ok (free_number is_closed_slot table, places_of held (with_new is_closed_slot table (slot_of descriptor)))
+opened_placed {places} held perms mode table descriptor same p m = λ i. Ok (
+  (ap new_number (sym same) ∙ sym (number_placed held table)) i,
+  (ap (with_place places) (place_opened held perms mode descriptor p m)
+      ∙ ap (λ ps. with_place ps (place_of held (slot_of descriptor))) (sym same)
+      ∙ sym (with_placed held table (slot_of descriptor))) i,
+)

@@ -16,7 +16,7 @@ use Rattle.wasi_p1.specs.CallParts.{ReadsInto, WritesPiece, filled_at}
 use Rattle.wasi_p1.specs.declared.error.P1Error.TheVariants.{Errno}
 use Rattle.wasi_guest.proofs.Ranges.{with_filled}
 use Rattle.wasi_host.proofs.Agreeing.{unless_value}
-use Rattle.wasi_p1.proofs.Telling.{read_stands, write_stands, asked_of_ok, asked_of_err}
+use Rattle.wasi_p1.proofs.Standing.{read_stands, write_stands, asked_of_ok, asked_of_err}
 
 -- a read over a told host of so many bytes, into the front of a buffer
 abbrev pub ReadTold : Handles → Handles → World → World → Held → ℕ → List ℕ → Result ℕ ErrorCode → ℕ → Type 0

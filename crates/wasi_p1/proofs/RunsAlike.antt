@@ -5,7 +5,7 @@ use Rattle.wasi_host.specs.Tree.{next_of}
 use Rattle.wasi_p1.specs.Guest.{State}
 use Rattle.wasi_p1.specs.Row.{Row}
 use Rattle.wasi_p1.specs.Rows.{row, turn}
-use Rattle.wasi_p1.specs.Agree.{Alike, AnswerAlike, RunAlike}
+use Rattle.wasi_p1.specs.StatesAgree.{Alike, AnswerAlike, RunAlike}
 use Rattle.wasi_p1.specs.Run.{Turned, Run, Gives, ends, answer_of}
 use Rattle.wasi_guest.specs.declared.answer.Answer.{Answer}
 use Rattle.wasi_guest.specs.declared.answer.Answer.TheVariants as answers

@@ -22,6 +22,7 @@ use Rattle.wasi_guest.specs.declared.answer.Value.TheVariants.{Number}
 use Rattle.wasi_p1.specs.declared.call_parts.FilePlace.{FilePlace}
 use Rattle.wasi_p1.specs.declared.context.Slot.TheVariants.{File}
 use Rattle.wasi_p1.specs.declared.error.P1Error.TheVariants.{Memory}
+use Rattle.wasi_host.specs.declared.errors.HostError.TheVariants.{Memory as Wanted}
 use Rattle.wasi_p1.proofs.Near.{IsNear}
 use Rattle.wasi_p1.proofs.Nearness.{row_near}
 use Rattle.wasi_p1.proofs.Permitting.{turn_permits}
@@ -55,6 +56,27 @@ refused {world = world} {faults = faults} {lookups = lookups} {view = view} {mem
       permits = λ told names. refl;
     }
 
+-- memory was wanted before anything was asked
+pub wanted : {H : Type 0} {told : Bool} {world : H → World} {faults : H → ℕ} {lookups : H → List Lookup}
+    {view : View H} {memory : List ℕ} {call : Call} → IsTrue (may_want call)
+    → FollowsRow told world faults lookups view view memory memory call (Err Memory)
+wanted {world = world} {faults = faults} {lookups = lookups} {view = view} {memory = memory} {call = call} may =
+    record {
+      size = refl;
+      kept = record { slots = refl; stdout = refl; stderr = refl; memory = refl };
+      wants = λ _. may;
+      front = front (row (guest_of world view memory) call);
+      turn = λ told. turns.wants_memory;
+      permits = λ told names. refl;
+    }
+  where
+    front : (m : Row (Program (Value × Guest)))
+        → AtFront (Same view view memory memory) (Quiet faults lookups view view) (guest_of world view memory)
+        (Err Memory) m
+    front (Err e) = (inr refl, (refl, refl))
+    front (Ok (done p)) = (refl, (refl, refl))
+    front (Ok (asking r next)) = inl (Wanted, refl)
+
 -- the places stay: for a host that is told, where the handles stand for the same afterwards
 abbrev pub PlacesStay : {H : Type 0} → Bool → (H → World) → View H → View H → Type 0
 PlacesStay told world old new =
@@ -81,7 +103,7 @@ Turn world faults old new before after call result =
     TakesTurn world (Rose (faults old.host) (faults new.host)) old new before after call result
 
 -- what came of a request
-abbrev Did : {H A : Type 0} → (H → World) → (H → ℕ) → View H → View H → (r : Request) → (Reply r → Row A) → Row A
+abbrev pub Did : {H A : Type 0} → (H → World) → (H → ℕ) → View H → View H → (r : Request) → (Reply r → Row A) → Row A
     → Type 0
 Did world faults old new r next result =
     Does (Rose (faults old.host) (faults new.host)) (world old.host) (world new.host) r next result
@@ -94,7 +116,7 @@ Made world faults old new live r next result =
 
 -- a file's descriptor is put back further on
 pub record Moved {H : Type 0} (old new : View H) (fd : ℕ) (file : FilePlace) (n : ℕ) : Type 0 where
-  pub slots : new.slots ≡ slice_set old.slots fd (File file.handle file.perms (file.position + n))
+  pub slots : new.slots ≡ slice_set old.slots fd (File file.file (file.position + n))
   pub stdout : new.stdout ≡ old.stdout
   pub stderr : new.stderr ≡ old.stderr
 
@@ -184,25 +206,39 @@ module _ {H : Type 0} {told : Bool} {world : H → World} {faults : H → ℕ} {
           (λ told. ap (places_of (world new.host).held) kept.slots ∙ places_stay old.slots owned (makes told).keeps)
           (λ told. (makes told).does)
 
+      -- the descriptors stay
+      pub makes_ok : {y : Value} {x : A} → length after ≡ length before → Follows r next (Ok x)
+          → shown (guest_of world old before) x ≡ (y, guest_then world old new after) → new.slots ≡ old.slots
+          → (IsTrue told → Made world faults old new live r next (Ok x))
+          → FollowsRow told world faults lookups old new before after call (Ok y)
+      makes_ok {y} size follows shows same makes = does_ok size follows shows (λ told.
+          let made = makes told in
+          let stays : places_of (world new.host).held new.slots ≡ places_of (world old.host).held new.slots =
+          ap (places_of (world new.host).held) same ∙ places_stay old.slots owned made.keeps
+          ∙ ap (places_of (world old.host).held) (sym same) in (
+            made.does,
+            shows ∙ (λ i. (y, let g : Guest = record (guest_of world new after) { places = sym stays i } in g)),
+          ))
+
       -- a file's descriptor was put back further on
       pub moved_ok : {fd n : ℕ} {file : FilePlace} {x : A} → length after ≡ length before → Follows r next (Ok x)
           → shown (guest_of world old before) x ≡ (Number n, guest_moved (world old.host).held old fd file n after)
-          → Moved old new fd file n → contains live file.handle ≡ true
+          → Moved old new fd file n → contains live file.file.file ≡ true
           → (IsTrue told → Made world faults old new live r next (Ok x))
           → FollowsRow told world faults lookups old new before after call (Ok (Number n))
       moved_ok {fd} {n} {file} size follows shows moved held makes =
           does_ok size follows (shows ∙ again (world old.host).held refl refl) (λ told.
           let made = makes told in (
             made.does,
-            shows ∙ again (world new.host).held (made.keeps file.handle held) (places_stay old.slots owned made.keeps),
+            shows ∙ again (world new.host).held (made.keeps file.file.file held) (places_stay old.slots owned made.keeps),
           ))
         where
-          again : (stands : ℕ → Held) → stands file.handle ≡ (world old.host).held file.handle
+          again : (stands : ℕ → Held) → stands file.file.file ≡ (world old.host).held file.file.file
               → places_of stands old.slots ≡ places_of (world old.host).held old.slots
               → ◌≡◌ {A = Value × Guest} (Number n, guest_moved (world old.host).held old fd file n after)
               (Number n, guest_by stands new after)
           again stands same kept =
-              let placed = put_file_at (world old.host).held stands old.slots new.slots fd file.handle file.perms _
+              let placed = put_file_at (world old.host).held stands old.slots new.slots fd file.file _
               moved.slots same kept in
               λ i. (
                 Number n,

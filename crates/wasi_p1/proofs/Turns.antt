@@ -18,7 +18,7 @@ use Rattle.wasi_p1.specs.declared.error.P1Error.{P1Error}
 use Rattle.wasi_p1.specs.declared.error.P1Error.TheVariants.{Errno, Memory}
 use Rattle.wasi_guest.specs.declared.answer.Value.{Value}
 use Rattle.wasi_p1.proofs.Near.{IsNear, AsksNear}
-use Rattle.wasi_resolve.proofs.Touching.{touches_same, no_ends}
+use Rattle.wasi_host.proofs.Touching.{touches_same, no_ends}
 use Rattle.wasi_p1.proofs.Alike.{over, replied, ended}
 use Rattle.wasi_p1.proofs.Nearness.{row_near}
 
@@ -39,6 +39,11 @@ turns {rose} {w} {v} {g} {g'} {call} {result} m is both =
 pub refused : {rose : Type 0} {w : World} {g : Guest} {call : Call} {e : P1Error} → Err e ≡ row g call
     → Turns rose w w g g call (Err e)
 refused {e = e} is = turns (Err e) is (inl (record { stays = refl; row_is = refl }), touches_same refl)
+
+-- memory was wanted
+pub wants_memory : {rose : Type 0} {w : World} {g : Guest} {call : Call} → Turns rose w w g g call (Err Memory)
+wants_memory {g = g} {call = call} =
+    turns (row g call) refl (inr (inl (record { memory = refl; stays = refl })), touches_same refl)
 
 -- an answer without a request
 pub answered : {rose : Type 0} {w v : World} {g g' : Guest} {call : Call} {x : Value} → Ok (done (x, g')) ≡ row g call

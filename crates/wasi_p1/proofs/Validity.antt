@@ -1,6 +1,6 @@
 -- A turn from a valid state leads to one.
-use Rattle.std.proofs.Common.{ℕ, ◌≡◌, inl, inr, true, false, Bool, List, [], ◌∷◌, refl, ap, sym, subst, Result, Ok, Err}
-use Rattle.std.specs.Prelude.{MatchBool, IsUtf8}
+use Rattle.std.proofs.Common.{ℕ, ◌≡◌, inl, inr, true, false, cond, Bool, List, [], ◌∷◌, refl, ap, sym, subst, Option, Some, None, Result, Ok, Err}
+use Rattle.std.specs.Prelude.{MatchBool}
 use Rattle.wasi_guest.specs.declared.answer.Value.{Value}
 use Rattle.wasi_guest.specs.declared.call.Call.{Call}
 use Rattle.wasi_host.specs.Meaning.{World}
@@ -13,9 +13,13 @@ use Rattle.wasi_p1.specs.Guest.{Guest, State}
 use Rattle.wasi_host.specs.HostCall.{OpenAt, Pwrite}
 use Rattle.wasi_host.specs.Steps.{◌>>=◌}
 use Rattle.wasi_host.specs.declared.errors.ErrorCode.{ErrorCode}
+use Rattle.wasi_host.specs.Answer.{unless, link_text}
+use Rattle.wasi_host.specs.Refusal.{refusal}
 use Rattle.wasi_host.proofs.Chain.{free}
-use Rattle.wasi_resolve.specs.Paths.{Opening, opening, step_of}
-use Rattle.wasi_resolve.specs.PathRequest.{PathRequest, OpenPath, LookPath, PathReply, answer_at, path_reply, path_after}
+use Rattle.wasi_resolve.specs.AtPlace.{PlaceCall, PlaceAnswer, CreateDir, RemoveFile, RemoveDir, Symlink, ReadLink, call_at, unrooted, answer_in, place_for, step_in}
+use Rattle.wasi_resolve.specs.Paths.{Opening, Place, opening, step_of}
+use Rattle.wasi_resolve.specs.PathRequest.{PathRequest, OpenPath, LookPath, AtPlace, PathReply, answer_at, as_asked, path_reply, path_after}
+use Rattle.wasi_resolve.proofs.Requests.{as_opened}
 use Rattle.wasi_p1.specs.Request.{Request, Reply, Path, Read, Write, reply_of, after}
 use Rattle.wasi_p1.specs.Row.{Row, Program, done, asking}
 use Rattle.wasi_p1.specs.Rows.{row, turn}
@@ -25,11 +29,14 @@ use Rattle.wasi_p1.specs.Validity.{IsValidState}
 use Rattle.wasi_p1.specs.declared.error.P1Error.{P1Error}
 use Rattle.wasi_host.proofs.Agreeing.{unless_value, below_or}
 use Rattle.wasi_p1.proofs.Alike.{ended}
+use Rattle.wasi_paths.specs.Parts.{has_root}
+use Rattle.wasi_host.specs.declared.errors.ErrorCode.TheVariants.{NotPermitted}
 use Rattle.wasi_p1.proofs.Bytes.{cut}
+use Rattle.wasi_p1.proofs.Utf8.{text_bytes}
 use Rattle.wasi_p1.proofs.Moving.{Moves, turn_moves, turned_moves, turned_by, over_tree, over_guest, replied_by}
-use Rattle.wasi_p1.proofs.Near.{AreBytes, GivesBytes, KeepsBytes, MayBeAsked, IsNear, path_text}
+use Rattle.wasi_p1.proofs.Near.{AreBytes, AreTexts, PathGivesBytes, GivesBytes, KeepsBytes, MayBeAsked, IsNear}
 use Rattle.wasi_p1.proofs.Nearness.{row_near}
-use Rattle.wasi_resolve.proofs.Asking.{opening_asked}
+use Rattle.wasi_resolve.proofs.Asking.{opening_asked, place_asked, link_utf8}
 
 -- ---- what is read of a valid tree
 
@@ -44,8 +51,37 @@ content_bytes t n valid = elim (below_or n (next_of t)) [
     by (Directory names gone) is = refl
     by (Link text links) is = refl
 
+unrooted_is : (text : List ℕ) {reply : List ℕ} → unrooted text ≡ Ok reply → text ≡ reply
+unrooted_is text {reply} = by (has_root text)
+  where
+    by : (b : Bool) → (let r : Result (List ℕ) ErrorCode = cond b (Err NotPermitted) (Ok text) in r) ≡ Ok reply
+        → text ≡ reply
+    by true is = absurd (cc)
+    by false is = cc
+
+-- a link's text are bytes
+path_gives_bytes : (t : Tree) (p : PathRequest) (reply : PathReply p) → IsValidTree t → path_reply t p ≡ Ok reply
+    → PathGivesBytes p reply
+path_gives_bytes t (OpenPath s text o follow directory) reply valid is = tt
+path_gives_bytes t (LookPath s text follow) reply valid is = tt
+path_gives_bytes t (AtPlace s text CreateDir) reply valid is = tt
+path_gives_bytes t (AtPlace s text RemoveFile) reply valid is = tt
+path_gives_bytes t (AtPlace s text RemoveDir) reply valid is = tt
+path_gives_bytes t (AtPlace s text (Symlink target)) reply valid is = tt
+path_gives_bytes t (AtPlace s text ReadLink) reply valid is = by (place_for t s text ReadLink) is
+  where
+    given : (p : Place) (o : Option ErrorCode)
+        → (unless o (link_text t p.directory p.name) >>= unrooted) ≡ Ok reply → AreBytes reply
+    given p None same = subst AreBytes (unrooted_is (link_text t p.directory p.name) same)
+        (text_bytes (link_text t p.directory p.name) (link_utf8 valid p.directory p.name))
+    given p (Some code) same = absurd (cc)
+
+    by : (m : Result Place ErrorCode) → (m >>= answer_in t ReadLink) ≡ Ok reply → AreBytes reply
+    by (Ok p) same = given p (refusal t (call_at ReadLink p)) same
+    by (Err code) same = absurd (cc)
+
 gives_bytes : (t : Tree) (r : Request) (reply : Reply r) → IsValidTree t → reply_of t r ≡ Ok reply → GivesBytes r reply
-gives_bytes t (Path p) found valid is = tt
+gives_bytes t (Path p) reply valid is = path_gives_bytes t p reply valid is
 gives_bytes t (Read f offset n) bytes valid is =
     let whole = content_bytes t f.node valid in
     subst AreBytes (unless_value _ is) (cut n _ (cut offset (bytes_of (node_at t f.node).content) whole).1).0
@@ -53,18 +89,41 @@ gives_bytes t (Write f offset piece) count valid is = tt
 
 -- ---- a request
 
--- where a path ends an open may be asked
-path_valid : (t : Tree) (p : PathRequest) {reply : PathReply p} → IsValidTree t → IsUtf8 (path_text p)
-    → path_reply t p ≡ Ok reply → IsValidTree (path_after t p)
-path_valid t (OpenPath s text o follow) {reply} valid utf8 answered = by (opening t s text o follow) refl answered
+-- what is answered at a place wasn't refused there
+place_free : (t : Tree) (what : PlaceCall) (p : Place) {reply : PlaceAnswer what} → answer_in t what p ≡ Ok reply
+    → refusal t (call_at what p) ≡ None
+place_free t CreateDir p is = free _ _ _ is
+place_free t RemoveFile p is = free _ _ _ is
+place_free t RemoveDir p is = free _ _ _ is
+place_free t (Symlink target) p is = free _ _ _ is
+place_free t ReadLink p is = by (refusal t (call_at ReadLink p)) is
   where
-    by : (m : Result Opening ErrorCode) → opening t s text o follow ≡ m → (m >>= answer_at t) ≡ Ok reply
-        → IsValidTree (step_of t m)
+    by : (o : Option ErrorCode) {reply : List ℕ} → (unless o (link_text t p.directory p.name) >>= unrooted) ≡ Ok reply
+        → o ≡ None
+    by None is = refl
+    by (Some code) is = absurd (cc)
+
+-- where a path ends an open may be asked, and what is done at a place
+path_valid : (t : Tree) (p : PathRequest) {reply : PathReply p} → IsValidTree t → AreTexts p
+    → path_reply t p ≡ Ok reply → IsValidTree (path_after t p)
+path_valid t (OpenPath s text o follow directory) {reply} valid utf8 answered =
+    by (opening t s text o follow) refl answered
+  where
+    by : (m : Result Opening ErrorCode) → opening t s text o follow ≡ m
+        → (m >>= answer_at t >>= as_asked directory) ≡ Ok reply → IsValidTree (step_of t m)
     by (Ok e) at is =
         let asked = opening_asked s text o follow valid utf8 at in
-        valid-step t (OpenAt e.directory e.name e.options) valid asked (free _ _ _ is)
+        valid-step t (OpenAt e.directory e.name e.options) valid asked
+        (free _ _ _ (as_opened directory (answer_at t e) is))
     by (Err code) at is = valid
 path_valid t (LookPath s text follow) valid utf8 answered = valid
+path_valid t (AtPlace s text what) {reply} valid texts answered = by (place_for t s text what) refl answered
+  where
+    by : (m : Result Place ErrorCode) → place_for t s text what ≡ m → (m >>= answer_in t what) ≡ Ok reply
+        → IsValidTree (step_in t what m)
+    by (Ok p) at is = valid-step t (call_at what p) valid
+        (place_asked t s text what texts.0 texts.1 at) (place_free t what p is)
+    by (Err code) at is = valid
 
 request_valid : (t : Tree) (r : Request) {reply : Reply r} → IsValidTree t → MayBeAsked r → reply_of t r ≡ Ok reply
     → IsValidTree (after t r)

@@ -1,5 +1,5 @@
 -- No part of a row is refused because memory was wanted.
-use Rattle.std.proofs.Common.{ℕ, true, false, cond, Bool, List, [], ◌∷◌, Option, Some, None, Ok, Err}
+use Rattle.std.proofs.Common.{ℕ, true, false, cond, Bool, List, Option, Some, None, Ok, Err}
 use Rattle.std.specs.Str.{is_utf8}
 use Rattle.wasi_fs.specs.Perms.{is_read_only}
 use Rattle.wasi_fs.specs.declared.perms.FsPerms.{FsPerms}
@@ -8,17 +8,17 @@ use Rattle.wasi_guest.specs.Iovec.{first_buffer}
 use Rattle.wasi_guest.specs.Range.{in_memory}
 use Rattle.wasi_host.specs.Steps.{◌>>=◌}
 use Rattle.wasi_guest.specs.declared.answer.TrapKind.{TrapKind}
+use Rattle.wasi_host.specs.declared.errors.ErrorCode.{ErrorCode}
 use Rattle.wasi_guest.specs.declared.errno.Errno.{Errno as ErrorNumber}
 use Rattle.wasi_guest.specs.declared.errno.Errno.TheVariants as errnos
 use Rattle.wasi_guest.specs.declared.iovec.Iovec.{Iovec}
 use Rattle.wasi_p1.specs.CallParts.{NotMemory}
 use Rattle.wasi_p1.specs.Guest.{Place, closed, stream, directory, file}
-use Rattle.wasi_p1.specs.OpenHow.{or_inval, open_how, none_of, open_rows, may_open}
+use Rattle.wasi_p1.specs.RawFlags.{or_inval, open_how, follow_asked}
 use Rattle.wasi_p1.specs.Row.{Row}
-use Rattle.wasi_p1.specs.Rows.{text_in, utf8_text, live_in, directory_in, file_in, or_trap, buffer_in, range, may_write}
+use Rattle.wasi_p1.specs.Rows.{text_in, utf8_text, live_in, directory_in, start_in, file_in, or_trap, buffer_in, range, may_write, permit}
 use Rattle.wasi_p1.specs.declared.error.P1Error.{P1Error}
 use Rattle.wasi_p1.specs.declared.error.P1Error.TheVariants.{Errno, Trap}
-use Rattle.wasi_p1.specs.declared.open_how.OpenHow.{OpenHow}
 
 abbrev pub Never : {A : Type 0} → Row A → Type 0
 Never (Ok x) = Unit {0}
@@ -58,14 +58,13 @@ how_never dirflags oflags base inheriting fdflags =
     after (or_inval (flags_in known_rights inheriting)) _ (inval_never _) (λ _.
     after (or_inval (flags_in known_fdflags fdflags)) _ (inval_never _) (λ modes. tt)))))
 
-none_never : (rows : List (Bool × ErrorNumber)) → Never (none_of rows)
-none_never [] = tt
-none_never ((true, e) ∷ rows) = number
-none_never ((false, e) ∷ rows) = none_never rows
+pub permit_never : (own : Option ErrorCode) → Never (permit own)
+permit_never None = tt
+permit_never (Some code) = number
 
-pub open_never : (how : OpenHow) (perms : FsPerms) → Never (may_open how perms)
-unfolding may_open
-open_never how perms = none_never (open_rows how perms)
+pub follow_never : (flags : ℕ) → Never (follow_asked flags)
+unfolding follow_asked
+follow_never flags = after (or_inval (flags_in known_lookupflags flags)) _ (inval_never _) (λ set. tt)
 
 pub write_never : (perms : FsPerms) → Never (may_write perms)
 unfolding may_write
@@ -88,6 +87,13 @@ directory_never (Some (file f)) = number
 directory_never (Some (stream s)) = number
 directory_never (Some closed) = number
 directory_never None = number
+
+pub start_never : (p : Option Place) → Never (start_in p)
+start_never (Some (directory d)) = tt
+start_never (Some (file f)) = number
+start_never (Some (stream s)) = number
+start_never (Some closed) = number
+start_never None = number
 
 pub file_never : (p : Option Place) → Never (file_in p)
 file_never (Some (directory d)) = number

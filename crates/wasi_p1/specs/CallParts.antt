@@ -1,53 +1,39 @@
 -- What the parts of a call give, in the words of its row.
-use Rattle.std.specs.Prelude.{◌≡◌, ◌⊎◌, ℕ, Bool, true, false, if◌then◌else◌, List, length, Result, Ok, Err}
-use Rattle.std.specs.Result.{result_map_both}
+use Rattle.std.specs.Prelude.{◌≡◌, ◌⊎◌, ℕ, Bool, true, false, List, length, Option, Some, None, Ok, Err}
 use Rattle.std.specs.FinSet.{contains}
-use Rattle.wasi_fs.specs.declared.perms.FsPerms.{FsPerms}
+use Rattle.wasi_fs.specs.Calls.{opens}
+use Rattle.wasi_fs.specs.OpenHow.{OpenHow, mode_of}
+use Rattle.wasi_fs.specs.declared.descriptor.Dir.{Dir}
 use Rattle.wasi_host.specs.Meaning.{World, Handles, Keeps}
 use Rattle.wasi_host.specs.declared.errors.HostError.{HostError}
-use Rattle.wasi_host.specs.declared.file_type.FileType.{FileType}
-use Rattle.wasi_host.specs.declared.file_type.FileType.TheVariants as types
+use Rattle.wasi_host.specs.declared.errors.ErrorCode.{ErrorCode}
 use Rattle.wasi_host.specs.declared.held.Held.{Held}
 use Rattle.wasi_p1.specs.Asked.{Does}
-use Rattle.wasi_p1.specs.Errnos.{error_of}
-use Rattle.wasi_p1.specs.OpenHow.{options_of}
+use Rattle.wasi_p1.specs.Errnos.{errno_of, error_of}
 use Rattle.wasi_p1.specs.Request.{Request, Reply, MayReply, Path, Read, Write}
-use Rattle.wasi_resolve.specs.PathRequest.{OpenPath}
-use Rattle.wasi_p1.specs.Owners.{handle_in, Got}
 use Rattle.wasi_p1.specs.Row.{Row, give}
-use Rattle.wasi_p1.specs.Rows.{place_for, opened_among}
+use Rattle.wasi_p1.specs.Rows.{opened_among}
 use Rattle.wasi_guest.specs.Range.{with_bytes}
 use Rattle.wasi_guest.specs.declared.errno.Errno.TheVariants as errnos
-use Rattle.wasi_p1.specs.Guest.{OpenDirectory, OpenFile, Place, place_of, places_of}
+use Rattle.wasi_p1.specs.Guest.{OpenDirectory, OpenFile, Place, places_of, directory_by, file_by}
 use Rattle.wasi_p1.specs.declared.error.P1Error.{P1Error}
 use Rattle.wasi_p1.specs.declared.error.P1Error.TheVariants.{Errno, Memory}
 use Rattle.wasi_p1.specs.declared.context.Slot.{Slot}
 use Rattle.wasi_p1.specs.declared.context.Slot.TheVariants as slots
-use Rattle.wasi_p1.specs.declared.open_how.OpenHow.{OpenHow}
 use Rattle.wasi_p1.specs.declared.call_parts.FilePlace.{FilePlace}
-use Rattle.wasi_p1.specs.declared.call_parts.DirectoryPlace.{DirectoryPlace}
 
 -- a directory's, or a file's descriptor, with what its handle stands for in place of the handle
-abbrev pub open_directory_of : (ℕ → Held) → DirectoryPlace → OpenDirectory
-open_directory_of held dir = record { node = (held dir.handle).node; perms = dir.perms }
+abbrev pub open_directory_of : (ℕ → Held) → Dir → OpenDirectory
+open_directory_of held dir = directory_by (held dir.dir) dir
 
 abbrev pub open_file_of : (ℕ → Held) → FilePlace → OpenFile
-open_file_of held file = record {
-  node = (held file.handle).node;
-  mode = (held file.handle).mode;
-  perms = file.perms;
-  position = file.position;
-}
+open_file_of held file = file_by (held file.file.file) file.file file.position
 
--- the descriptor of a node of this kind, at its start, where a directory may be required
-abbrev pub slot_for : FsPerms → Bool → FileType → ℕ → Row Slot
-slot_for perms required types.Directory h = Ok (slots.Directory h perms)
-slot_for perms required kind h = if required then Err (Errno errnos.Notdir) else Ok (slots.File h perms 0)
-
--- a new descriptor has a new handle; a refusal leaves what is live
-abbrev pub SlotGot : Handles → Result Slot P1Error → Handles → Type 0
-SlotGot old (Ok slot) new = Got old (handle_in slot) new
-SlotGot old (Err e) new = new ≡ old
+-- A part that asks for something, which may not be permitted: then it is refused so, or memory was wanted first, and
+-- the host is as it was
+abbrev pub Refused : {A H : Type 0} → Option ErrorCode → Row A → H → H → Type 0
+Refused None result old new = Unit {0}
+Refused (Some code) result old new = ((result ≡ Err (Errno (errno_of code))) ⊎ (result ≡ Err Memory)) × (new ≡ old)
 
 -- a request made by a call that leaves what the live handles stand for
 pub record Makes {A : Type 0} (rose : Type 0) (old : Handles) (w v : World) (r : Request) (next : Reply r → Row A)
@@ -60,19 +46,11 @@ abbrev pub with_after : {A B : Type 0} → Row A → B → Row (A × B)
 with_after (Ok x) after = Ok (x, after)
 with_after (Err e) after = Err e
 
--- an open into a descriptor
-abbrev pub OpensSlot : Type 0 → Handles → World → World → OpenDirectory → List ℕ → OpenHow → Result Slot P1Error
-    → Type 0
-OpensSlot rose old w v d text how result =
-    Makes rose old w v (Path (OpenPath d.node text (options_of how) how.follow)) (place_for d.perms how.directory)
-    (result_map_both (place_of v.held) (λ e. e) result)
-
 -- an open into the descriptors
 abbrev pub OpensInto : Type 0 → World → World → OpenDirectory → List ℕ → OpenHow → List Place → List Place → Row ℕ
     → Type 0
 OpensInto rose w v d text how before after result =
-    Does rose w v (Path (OpenPath d.node text (options_of how) how.follow))
-    (opened_among before d.perms how.directory) (with_after result after)
+    Does rose w v (Path (opens d.node text how)) (opened_among before d.perms (mode_of how)) (with_after result after)
 
 -- a number beside the memory after it: bytes were read into a buffer
 abbrev pub filled_at : List ℕ → ℕ → List ℕ → Row (ℕ × List ℕ)
@@ -111,8 +89,8 @@ is_failure e = false
 
 -- the handle of a descriptor, if it has one, is live
 abbrev pub IsLive : Handles → Slot → Type 0
-IsLive live (slots.Directory h perms) = contains live h ≡ true
-IsLive live (slots.File h perms position) = contains live h ≡ true
+IsLive live (slots.Directory dir) = contains live dir.dir ≡ true
+IsLive live (slots.File f position) = contains live f.file ≡ true
 IsLive live (slots.Stream s) = Unit {0}
 IsLive live slots.Closed = Unit {0}
 

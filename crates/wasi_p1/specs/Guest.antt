@@ -2,6 +2,9 @@
 use Rattle.std.specs.Prelude.{ℕ, Bool, true, false, List, [], ◌∷◌, map, Option, Some, None}
 use Rattle.std.specs.List.{flat_map}
 use Rattle.wasi_host.specs.Tree.{Tree}
+use Rattle.wasi_fs.specs.declared.descriptor.Dir.{Dir}
+use Rattle.wasi_fs.specs.declared.descriptor.File.{File}
+use Rattle.wasi_fs.specs.declared.open_mode.OpenMode.{OpenMode}
 use Rattle.wasi_fs.specs.declared.perms.FsPerms.{FsPerms}
 use Rattle.wasi_host.specs.Meaning.{World}
 use Rattle.wasi_host.specs.declared.held.AccessMode.{AccessMode}
@@ -15,11 +18,13 @@ use Rattle.wasi_p1.specs.Slots.{View}
 pub record OpenDirectory : Type 0 where
   pub node : ℕ
   pub perms : FsPerms
+  pub open_mode : OpenMode
 
 pub record OpenFile : Type 0 where
   pub node : ℕ
   pub mode : AccessMode
   pub perms : FsPerms
+  pub open_mode : OpenMode
   pub position : ℕ
 
 -- what a descriptor number stands for
@@ -40,13 +45,25 @@ pub record State : Type 0 where
   pub tree : Tree
   pub guest : Guest
 
--- a descriptor, with what its handle stands for in place of the handle
+-- a directory, or a file at a position, with what its handle stands for in place of the handle
+abbrev pub directory_by : Held → Dir → OpenDirectory
+directory_by held dir = record { node = held.node; perms = dir.perms; open_mode = dir.open_mode }
+
+abbrev pub file_by : Held → File → ℕ → OpenFile
+file_by held f position = record {
+  node = held.node;
+  mode = held.mode;
+  perms = f.perms;
+  open_mode = f.open_mode;
+  position = position;
+}
+
+-- a descriptor so
 abbrev pub place_of : (ℕ → Held) → Slot → Place
 place_of held slots.Closed = closed
 place_of held (slots.Stream s) = stream s
-place_of held (slots.Directory h perms) = directory (record { node = (held h).node; perms = perms })
-place_of held (slots.File h perms position) =
-    file (record { node = (held h).node; mode = (held h).mode; perms = perms; position = position })
+place_of held (slots.Directory dir) = directory (directory_by (held dir.dir) dir)
+place_of held (slots.File f position) = file (file_by (held f.file) f position)
 
 -- the descriptors without their handles
 abbrev pub places_of : (ℕ → Held) → List Slot → List Place

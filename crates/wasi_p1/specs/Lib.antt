@@ -6,13 +6,14 @@ pub mod Guest
 pub mod Errnos
 pub mod Request
 pub mod Row
-pub mod OpenHow
+pub mod RawFlags
+pub mod Filestats
 pub mod Rows
 pub mod Turn
 pub mod CallTurn
 pub mod Run
 pub mod Reach
-pub mod Agree
+pub mod StatesAgree
 pub mod RunLaws
 pub mod Stems
 pub mod Writing

@@ -1,5 +1,5 @@
 -- Which handles are the descriptors' own.
-use Rattle.std.specs.Prelude.{ℕ, ◌≤◌, ◌==◌, ◌≡◌, Bool, true, false, List, [], ◌∷◌, map, slice_get, sum_by, Option, Some, None, option_to_list, Result, Ok, Err}
+use Rattle.std.specs.Prelude.{ℕ, ◌≤◌, ◌==◌, ◌≡◌, Bool, true, false, List, [], ◌∷◌, map, slice_get, sum_by, Option, Some, None, option_to_list}
 use Rattle.std.specs.List.{flat_map}
 use Rattle.std.specs.FinSet.{contains, insert, remove, retain}
 use Rattle.wasi_host.specs.Meaning.{Handles}
@@ -8,15 +8,14 @@ use Rattle.wasi_host.specs.declared.lookup.Lookup.{Lookup}
 use Rattle.wasi_p1.specs.declared.context.Slot.{Slot}
 use Rattle.wasi_p1.specs.declared.context.Slot.TheVariants as slots
 use Rattle.wasi_guest.specs.declared.call.Call.{Call}
-use Rattle.wasi_guest.specs.declared.call.Call.TheVariants.{PathOpen, FdRead, FdWrite, FdClose}
-use Rattle.wasi_p1.specs.declared.error.P1Error.{P1Error}
+use Rattle.wasi_guest.specs.declared.call.Call.TheVariants.{FdClose, FdRead, FdWrite, PathCreateDirectory, PathFilestatGet, PathOpen, PathReadlink, PathRemoveDirectory, PathSymlink, PathUnlinkFile}
 
 -- the handle of a descriptor
 abbrev pub handle_in : Slot → Option ℕ
 handle_in slots.Closed = None
 handle_in (slots.Stream s) = None
-handle_in (slots.Directory h perms) = Some h
-handle_in (slots.File h perms position) = Some h
+handle_in (slots.Directory dir) = Some dir.dir
+handle_in (slots.File f position) = Some f.file
 
 -- the handles of the descriptors, each under its number
 unfoldable pub handles : List Slot → List (Option ℕ)
@@ -68,6 +67,12 @@ descriptors_named memory (PathOpen fd dirflags path path_len oflags base inherit
 descriptors_named memory (FdRead fd iovs iovs_len) = fd ∷ []
 descriptors_named memory (FdWrite fd iovs iovs_len) = fd ∷ []
 descriptors_named memory (FdClose fd) = fd ∷ []
+descriptors_named memory (PathCreateDirectory fd path path_len) = fd ∷ []
+descriptors_named memory (PathFilestatGet fd flags path path_len) = fd ∷ []
+descriptors_named memory (PathReadlink fd path path_len buf buf_len) = fd ∷ []
+descriptors_named memory (PathRemoveDirectory fd path path_len) = fd ∷ []
+descriptors_named memory (PathSymlink old_path old_path_len fd new_path new_path_len) = fd ∷ []
+descriptors_named memory (PathUnlinkFile fd path path_len) = fd ∷ []
 
 -- the handles of the descriptors of these numbers
 abbrev pub under : List (Option ℕ) → List ℕ → List (Option ℕ)
@@ -86,11 +91,6 @@ CallTraced table table' memory call old new =
 -- those of a run begin from the descriptors before it
 abbrev pub RunTraced : List Slot → List Slot → List Lookup → List Lookup → Type 0
 RunTraced table table' old new = SlotsTraced (IsHandle (handles table)) table table' old new
-
--- the handle of the descriptor that a part of a call gave
-abbrev pub MadeBy : Result Slot P1Error → ℕ → Type 0
-MadeBy (Ok slot) q = handle_in slot ≡ Some q
-MadeBy (Err e) q = ⊥
 
 -- what is owned, at two numbers: a descriptor's handle is live, and another's is another
 abbrev pub OwnedApart : Handles → List (Option ℕ) → Type 0

@@ -1,11 +1,14 @@
 -- The ways in which a row reads or changes the tree.
-use Rattle.std.specs.Prelude.{ℕ, ◌<◌, ◌≤◌, List, [], ◌∷◌, length, Result}
+use Rattle.std.specs.Prelude.{◌≡◌, ℕ, ◌<◌, ◌≤◌, false, IsTrue, List, [], ◌∷◌, length, Result}
+use Rattle.wasi_paths.specs.Parts.{has_root}
 use Rattle.wasi_host.specs.Tree.{Tree}
 use Rattle.wasi_host.specs.Step.{write_step}
 use Rattle.wasi_host.specs.Answer.{bytes_read, bytes_taken}
 use Rattle.wasi_host.specs.declared.errors.ErrorCode.{ErrorCode}
 use Rattle.wasi_host.specs.declared.held.Held.{Held}
-use Rattle.wasi_resolve.specs.PathRequest.{PathRequest, PathReply, path_reply, path_after, path_starts, path_ends}
+use Rattle.wasi_host.specs.declared.limits.TheConstants.{LINK_MAX}
+use Rattle.wasi_resolve.specs.AtPlace.{ReadLink}
+use Rattle.wasi_resolve.specs.PathRequest.{PathRequest, OpenPath, AtPlace, PathReply, path_reply, path_after, path_start, path_ends}
 
 pub data Request : Type 0 where
   -- through a path: its walk, and what is done where it ends
@@ -21,10 +24,18 @@ Reply (Path p) = PathReply p
 Reply (Read f offset n) = List ℕ
 Reply (Write f offset piece) = ℕ
 
+-- what a reply through a path may be, whatever the tree: what was opened is a directory where one is asked for, and a
+-- link's text has some bytes, no more than it may, and no root
+abbrev pub MayFind : (p : PathRequest) → PathReply p → Type 0
+MayFind (OpenPath s text o follow directory) found = IsTrue directory → IsTrue found.is_dir
+MayFind (AtPlace s text ReadLink) link =
+    (0 < length link) × (length link ≤ LINK_MAX) × (has_root link ≡ false)
+MayFind p found = Unit {0}
+
 -- what a reply may be, whatever the tree: a read gives no more bytes than were asked for, and a write takes some of a
 -- piece that has any
 abbrev pub MayReply : (r : Request) → Reply r → Type 0
-MayReply (Path p) found = Unit {0}
+MayReply (Path p) found = MayFind p found
 MayReply (Read f offset n) bytes = length bytes ≤ n
 MayReply (Write f offset piece) count = (count ≤ length piece) × (0 < length piece → 0 < count)
 
@@ -42,7 +53,7 @@ reply_of t (Write f offset piece) = bytes_taken t f offset piece
 
 -- the nodes from which a request starts
 abbrev pub starts_at : Request → List ℕ
-starts_at (Path p) = path_starts p
+starts_at (Path p) = path_start p ∷ []
 starts_at (Read f offset n) = f.node ∷ []
 starts_at (Write f offset piece) = f.node ∷ []
 

@@ -1,26 +1,33 @@
 -- The rows of the calls.
-use Rattle.std.specs.Prelude.{ℕ, ◌+◌, Bool, not, ◌&&◌, List, length, slice_get, slice_set, slice_range, if◌then◌else◌, Ok, Err, Option, Some, None}
+use Rattle.std.specs.Prelude.{ℕ, ◌+◌, List, length, take, slice_get, slice_set, slice_range, if◌then◌else◌, Ok, Err, Option, Some, None}
 use Rattle.std.specs.Str.{is_utf8}
+use Rattle.wasi_fs.specs.Calls.{may_change, may_link, opens}
+use Rattle.wasi_fs.specs.OpenHow.{may_open, mode_of}
 use Rattle.wasi_fs.specs.Perms.{is_read_only}
+use Rattle.wasi_fs.specs.declared.open_mode.OpenMode.{OpenMode}
 use Rattle.wasi_fs.specs.declared.perms.FsPerms.{FsPerms}
 use Rattle.wasi_host.specs.Tree.{Tree}
+use Rattle.wasi_host.specs.Answer.{unless}
+use Rattle.wasi_host.specs.declared.errors.ErrorCode.{ErrorCode}
 use Rattle.wasi_host.specs.declared.held.Held.{Held}
 use Rattle.wasi_guest.specs.Range.{in_memory, with_bytes}
 use Rattle.wasi_guest.specs.Iovec.{first_buffer}
 use Rattle.wasi_p1.specs.Guest.{Guest, State, Place, closed, stream, directory, file, OpenDirectory, OpenFile, new_number, with_place}
-use Rattle.wasi_p1.specs.OpenHow.{open_how, may_open, options_of}
-use Rattle.wasi_resolve.specs.PathRequest.{OpenPath, Opened}
+use Rattle.wasi_p1.specs.RawFlags.{open_how, follow_asked}
+use Rattle.wasi_p1.specs.Filestats.{stat_both, filestat_in}
+use Rattle.wasi_resolve.specs.AtPlace.{PlaceCall, CreateDir, RemoveFile, RemoveDir, Symlink, ReadLink}
+use Rattle.wasi_resolve.specs.PathRequest.{LookPath, AtPlace, Opened}
 use Rattle.wasi_p1.specs.Request.{Path, Read, Write}
-use Rattle.wasi_p1.specs.Row.{Row, give, Program, answer, ask, run_on}
+use Rattle.wasi_p1.specs.Row.{Row, give, Program, answer, ask, from_host, run_on}
 use Rattle.wasi_host.specs.Steps.{◌>>=◌}
 use Rattle.wasi_guest.specs.declared.iovec.Iovec.{Iovec}
 use Rattle.wasi_guest.specs.declared.call.Call.{Call}
-use Rattle.wasi_guest.specs.declared.call.Call.TheVariants.{PathOpen, FdRead, FdWrite, FdClose}
+use Rattle.wasi_guest.specs.declared.call.Call.TheVariants.{FdClose, FdRead, FdWrite, PathCreateDirectory, PathFilestatGet, PathOpen, PathReadlink, PathRemoveDirectory, PathSymlink, PathUnlinkFile}
 use Rattle.wasi_guest.specs.declared.errno.Errno.TheVariants as errnos
 use Rattle.wasi_p1.specs.declared.error.P1Error.TheVariants.{Errno, Trap}
 use Rattle.wasi_guest.specs.declared.answer.TrapKind.TheVariants.{Pointer}
 use Rattle.wasi_guest.specs.declared.answer.Value.{Value}
-use Rattle.wasi_guest.specs.declared.answer.Value.TheVariants.{Number, Unit as Nothing}
+use Rattle.wasi_guest.specs.declared.answer.Value.TheVariants.{Number, Filestat, Unit as Nothing}
 
 -- ---- parts
 
@@ -67,22 +74,41 @@ or_trap None = Err (Trap Pointer)
 abbrev pub buffer_in : List ℕ → ℕ → ℕ → Row Iovec
 buffer_in memory iovs n = or_trap (first_buffer memory iovs n)
 
--- the descriptor of what was opened, with the permissions of its directory: a directory's, or a file's at its start
-abbrev pub new_place : FsPerms → Opened → Place
-new_place perms found =
-    if found.is_dir
-    then directory (record { node = found.held.node; perms = perms })
-    else file (record { node = found.held.node; mode = found.held.mode; perms = perms; position = 0 })
+-- the directory from which a path starts
+abbrev pub start_in : Option Place → Row OpenDirectory
+start_in (Some (directory d)) = Ok d
+start_in (Some (file f)) = Err (Errno errnos.Badf)
+start_in (Some (stream s)) = Err (Errno errnos.Badf)
+start_in (Some closed) = Err (Errno errnos.Badf)
+start_in None = Err (Errno errnos.Badf)
 
--- the same, where a directory may be required
-unfoldable pub place_for : FsPerms → Bool → Opened → Row Place
-place_for perms required found =
-    if required && not found.is_dir then Err (Errno errnos.Notdir) else Ok (new_place perms found)
+-- what isn't permitted is refused by the error number of its code
+abbrev pub permit : Option ErrorCode → Row (Unit {0})
+permit own = from_host (unless own tt)
+
+-- the descriptor of what was opened, for this, with the permissions of its directory: a directory's, or a file's at its
+-- start
+abbrev pub new_place : FsPerms → OpenMode → Opened → Place
+new_place perms mode found =
+    if found.is_dir
+    then directory (record { node = found.held.node; perms = perms; open_mode = mode })
+    else file (record {
+      node = found.held.node;
+      mode = found.held.mode;
+      perms = perms;
+      open_mode = mode;
+      position = 0;
+    })
 
 -- the number of the new descriptor, and the descriptors with it
-abbrev pub opened_among : List Place → FsPerms → Bool → Opened → Row (ℕ × List Place)
-opened_among places perms required found =
-    place_for perms required found >>= (λ place. give (new_number places, with_place places place))
+abbrev pub opened_among : List Place → FsPerms → OpenMode → Opened → Row (ℕ × List Place)
+opened_among places perms mode found =
+    give (new_number places, with_place places (new_place perms mode found))
+
+-- a text, as far as a buffer takes it
+abbrev pub text_to : List ℕ → ℕ → List ℕ → Row (ℕ × List ℕ)
+text_to memory buf bytes =
+    range memory buf (length bytes) >>= (λ _. give (length bytes, with_bytes memory buf bytes))
 
 -- the file of a descriptor, as it was opened
 abbrev pub held_by : OpenFile → Held
@@ -99,7 +125,7 @@ moved f n = file (record f { position = f.position + n })
 -- ---- rows
 
 -- An unknown bit is refused `inval`. A range that leaves the memory traps; bytes that aren't a text are refused
--- `ilseq`; then a number that isn't a directory's; then what may not be asked of it; then as the walk of the text
+-- `ilseq`; then a number that isn't a directory's; then what isn't permitted below it; then as the walk of the text
 -- refuses, and the host where it ends; then what isn't a directory and should be, `notdir`. The answer is the new
 -- descriptor's number
 unfoldable pub path_open : Guest → ℕ → ℕ → ℕ → ℕ → ℕ → ℕ → ℕ → ℕ → Row (Program (Value × Guest))
@@ -107,9 +133,9 @@ path_open g fd dirflags path len oflags base inheriting fdflags = do
   how ← open_how dirflags oflags base inheriting fdflags
   text ← text_in g.memory path len
   d ← directory_in (slice_get g.places fd)
-  _ ← may_open how d.perms
-  ask (Path (OpenPath d.node text (options_of how) how.follow)) (λ found.
-      opened_among g.places d.perms how.directory found >>= (λ new. give (
+  _ ← permit (may_open how d.perms)
+  ask (Path (opens d.node text how)) (λ found.
+      opened_among g.places d.perms (mode_of how) found >>= (λ new. give (
         Number new.0,
         record g { places = new.1 },
       )))
@@ -149,6 +175,54 @@ fd_close g fd = do
   _ ← live_in (slice_get g.places fd)
   answer (Nothing, record g { places = slice_set g.places fd closed })
 
+-- A number that isn't a directory's is refused; then the text as in `path_open`; then what isn't permitted below the
+-- directory; then as the walk of the text refuses, and the host at its place. Nothing is answered but that it was done
+abbrev pub done_at : Guest → ℕ → ℕ → ℕ → PlaceCall → Row (Program (Value × Guest))
+done_at g fd path len what = do
+  d ← start_in (slice_get g.places fd)
+  text ← text_in g.memory path len
+  _ ← permit (may_change d.perms)
+  ask (Path (AtPlace d.node text what)) (λ _. give (Nothing, g))
+
+unfoldable pub path_create_directory : Guest → ℕ → ℕ → ℕ → Row (Program (Value × Guest))
+path_create_directory g fd path len = done_at g fd path len CreateDir
+
+unfoldable pub path_remove_directory : Guest → ℕ → ℕ → ℕ → Row (Program (Value × Guest))
+path_remove_directory g fd path len = done_at g fd path len RemoveDir
+
+unfoldable pub path_unlink_file : Guest → ℕ → ℕ → ℕ → Row (Program (Value × Guest))
+path_unlink_file g fd path len = done_at g fd path len RemoveFile
+
+-- as these, with the text of the link read before that of the path, and one with a root not permitted
+unfoldable pub path_symlink : Guest → ℕ → ℕ → ℕ → ℕ → ℕ → Row (Program (Value × Guest))
+path_symlink g old_path old_len fd new_path new_len = do
+  d ← start_in (slice_get g.places fd)
+  target ← text_in g.memory old_path old_len
+  text ← text_in g.memory new_path new_len
+  _ ← permit (may_link d.perms target)
+  ask (Path (AtPlace d.node text (Symlink target))) (λ _. give (Nothing, g))
+
+-- A number that isn't a directory's is refused; then the text as in `path_open`; then as the walk of the text refuses,
+-- and the host at its place, and a text with a root; then a range that leaves the memory traps, as long as the link's
+-- text and no longer than the buffer. The answer is its length, and that much of the link's text stands there
+unfoldable pub path_readlink : Guest → ℕ → ℕ → ℕ → ℕ → ℕ → Row (Program (Value × Guest))
+path_readlink g fd path len buf buf_len = do
+  d ← start_in (slice_get g.places fd)
+  text ← text_in g.memory path len
+  ask (Path (AtPlace d.node text ReadLink)) (λ link.
+      text_to g.memory buf (take buf_len link) >>= (λ p. give (Number p.0, record g { memory = p.1 })))
+
+-- An unknown bit is refused `inval`; then a number that isn't a directory's; then the text as in `path_open`; then as
+-- the look at the path refuses; then a time that 64 bits of nanoseconds don't hold, `overflow`. The answer is what is
+-- told of the node
+unfoldable pub path_filestat_get : Guest → ℕ → ℕ → ℕ → ℕ → Row (Program (Value × Guest))
+path_filestat_get g fd flags path len = do
+  follow ← follow_asked flags
+  d ← start_in (slice_get g.places fd)
+  text ← text_in g.memory path len
+  ask (Path (LookPath d.node text follow)) (λ metadata.
+      filestat_in (stat_both metadata) >>= (λ stat. give (Filestat stat, g)))
+
 -- the row of a call
 abbrev pub row : Guest → Call → Row (Program (Value × Guest))
 row g (PathOpen fd dirflags path path_len oflags base inheriting fdflags) =
@@ -156,6 +230,13 @@ row g (PathOpen fd dirflags path path_len oflags base inheriting fdflags) =
 row g (FdRead fd iovs iovs_len) = fd_read g fd iovs iovs_len
 row g (FdWrite fd iovs iovs_len) = fd_write g fd iovs iovs_len
 row g (FdClose fd) = fd_close g fd
+row g (PathCreateDirectory fd path path_len) = path_create_directory g fd path path_len
+row g (PathFilestatGet fd flags path path_len) = path_filestat_get g fd flags path path_len
+row g (PathReadlink fd path path_len buf buf_len) = path_readlink g fd path path_len buf buf_len
+row g (PathRemoveDirectory fd path path_len) = path_remove_directory g fd path path_len
+row g (PathSymlink old_path old_path_len fd new_path new_path_len) =
+    path_symlink g old_path old_path_len fd new_path new_path_len
+row g (PathUnlinkFile fd path path_len) = path_unlink_file g fd path path_len
 
 abbrev pub with_tree : (Value × Guest) × Tree → Value × State
 with_tree p = (p.0.0, record { tree = p.1; guest = p.0.1 })

@@ -1,5 +1,12 @@
 -- A context of calls over a host, as contracts see it.
-use Rattle.std.specs.Prelude.{ℕ, Bool, true, false, List, ◌∷◌, map}
+use Rattle.std.specs.Prelude.{ℕ, Bool, true, false, not, List, ◌∷◌, map}
+use Rattle.wasi_fs.specs.OpenMode.{mode_for}
+use Rattle.wasi_fs.specs.Perms.{is_read_only}
+use Rattle.wasi_fs.specs.declared.descriptor.Descriptor.{Descriptor}
+use Rattle.wasi_fs.specs.declared.descriptor.Descriptor.TheVariants as descriptors
+use Rattle.wasi_fs.specs.declared.descriptor.Dir.{Dir}
+use Rattle.wasi_fs.specs.declared.open_mode.OpenMode.{OpenMode}
+use Rattle.wasi_fs.specs.declared.perms.FsPerms.{FsPerms}
 use Rattle.wasi_p1.specs.declared.context.P1Preopen.{P1Preopen}
 use Rattle.wasi_p1.specs.declared.context.Stream.TheVariants.{Input, Output, Error}
 use Rattle.wasi_p1.specs.declared.context.Slot.{Slot}
@@ -12,9 +19,17 @@ pub record View (H : Type 0) : Type 0 where
   pub stdout : List ℕ
   pub stderr : List ℕ
 
--- the descriptor of a directory that the guest is given
+-- a directory that the guest is given may be read, and written unless it is read-only
+abbrev pub given_mode : FsPerms → OpenMode
+given_mode perms = mode_for true (not (is_read_only perms))
+
+abbrev pub given_directory : P1Preopen → Dir
+given_directory preopen =
+    record { dir = preopen.handle; perms = preopen.perms; open_mode = given_mode preopen.perms }
+
+-- its descriptor
 abbrev pub given_slot : P1Preopen → Slot
-given_slot preopen = Directory preopen.handle preopen.perms
+given_slot preopen = Directory (given_directory preopen)
 
 -- the three streams, then the directories that the guest is given
 abbrev pub first_slots : List P1Preopen → List Slot
@@ -23,5 +38,10 @@ first_slots preopens = Stream Input ∷ Stream Output ∷ Stream Error ∷ map g
 abbrev pub is_closed_slot : Slot → Bool
 is_closed_slot Closed = true
 is_closed_slot (Stream stream) = false
-is_closed_slot (Directory h perms) = false
-is_closed_slot (File h perms position) = false
+is_closed_slot (Directory dir) = false
+is_closed_slot (File f position) = false
+
+-- the descriptor of what was opened, a file's at its start
+abbrev pub slot_of : Descriptor → Slot
+slot_of (descriptors.File f) = File f 0
+slot_of (descriptors.Dir dir) = Directory dir

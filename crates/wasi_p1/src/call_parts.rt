@@ -1,29 +1,33 @@
 //! What the calls of preview1 do with a host and a guest's memory, a part at a time.
-ghost use Rattle.std.specs.Prelude.{◌≡◌, ◌≤◌, ◌<◌, ◌+◌, ◌^◌, ℕ, true, false, IsTrue, length, slice_get, slice_set, Ok, Err, IfOk, IfErr, OnOk, OnErr, Some, None};
+ghost use Rattle.std.specs.Prelude.{◌≡◌, ◌≤◌, ◌<◌, ◌+◌, ◌^◌, ℕ, true, false, IsTrue, length, take, slice_get, slice_set, Ok, Err, IfOk, IfErr, OnOk, OnErr, Some, None};
 ghost use Rattle.std.specs.Result.{result_map_both};
 ghost use Rattle.std.specs.FinSet.{contains};
-ghost use Rattle.wasi_host.specs.Meaning.{Rose};
+ghost use Rattle.wasi_host.specs.Meaning.{HasCause, Rose};
 ghost use Rattle.wasi_host.specs.Lineage.{Traced, Only, Nothing};
 ghost use Rattle.wasi_p1.specs.CallTurn.{Causes};
-ghost use Rattle.wasi_p1.specs.Owners.{handle_in, handles, without, Owned, Owns, SlotsTraced, MadeBy};
+ghost use Rattle.wasi_p1.specs.Owners.{handle_in, handles, without, Owned, Owns, SlotsTraced};
 ghost use Rattle.wasi_p1.specs.Guest.{place_of, places_of};
-ghost use Rattle.wasi_resolve.specs.PathRequest.{OpenPath};
+ghost use Rattle.wasi_resolve.specs.PathRequest.{meant_by};
+ghost use Rattle.wasi_resolve.specs.Resolved.{Resolved};
 ghost use Rattle.wasi_p1.specs.Request.{Path, Read, Write};
-ghost use Rattle.wasi_p1.specs.OpenHow.{options_of};
-ghost use Rattle.wasi_p1.specs.Rows.{range, text_in, buffer_in, live_in, directory_in, file_in, may_write, place_for, opened_among};
-ghost use Rattle.wasi_p1.specs.Slots.{is_closed_slot};
+ghost use Rattle.wasi_fs.specs.Calls.{opens, looks, meant_as};
+ghost use Rattle.wasi_fs.specs.OpenHow.{how_of, may_open, mode_of};
+ghost use Rattle.wasi_p1.specs.Filestats.{stat_both, IsStated};
+ghost use Rattle.wasi_p1.specs.Rows.{range, text_in, buffer_in, live_in, directory_in, start_in, file_in, may_write, opened_among, text_to};
+ghost use Rattle.wasi_p1.specs.Slots.{is_closed_slot, slot_of};
 ghost use Rattle.wasi_guest.specs.Range.{IsInMemory};
-ghost use Rattle.wasi_p1.specs.CallParts.{open_directory_of, open_file_of, slot_for, SlotGot, OpensSlot, ReadsInto, WritesPiece, OpensInto, filled_at, with_after, Rests, Stays, IsLive, IsReplied, NotMemory, is_failure};
+ghost use Rattle.wasi_p1.specs.CallParts.{open_directory_of, open_file_of, Refused, ReadsInto, WritesPiece, OpensInto, filled_at, with_after, Rests, Stays, IsLive, IsReplied, NotMemory, is_failure};
 ghost use Rattle.wasi_p1.specs.Row.{give};
 
 use crate::context::Slot;
 use crate::descriptors::Descriptors;
 use crate::error::P1Error;
-use crate::open_how::OpenHow;
+use crate::filestats::StatBoth;
+use crate::open_with::OpenWith;
 use std::alloc::Global;
-use wasi_fs::FsPerms;
+use wasi_fs::{Descriptor, Dir, File, FsPerms, PathFlags};
 use wasi_guest::{Errno, GuestMemory, Iovec, TrapKind};
-use wasi_host::{FileType, Handle, Host};
+use wasi_host::{Handle, Host, HostError};
 
 /// The bytes of a range of memory, or the trap.
 pub fn bytes_at(memory: &GuestMemory, ptr: u32, n: u32) -> Result<&[u8], P1Error>
@@ -48,7 +52,7 @@ pub fn text_at(memory: &GuestMemory, ptr: u32, n: u32) -> Result<&str, P1Error>
 }
 
 /// What a live number stands for.
-#[tactic(auto, using(crate::proofs::Places::places))]
+#[tactic(auto, using(crate::proofs::PlaceRules::places))]
 pub fn live_at<H: Host>(host: &H, descriptors: &Descriptors, fd: u32) -> Result<Slot, P1Error>
     ensures is { IfOk result (λ slot. slice_get descriptors.now.slots fd ≡ Some slot) }
     ensures in_use { IfOk result (λ slot. is_closed_slot slot ≡ false) }
@@ -64,23 +68,12 @@ pub fn live_at<H: Host>(host: &H, descriptors: &Descriptors, fd: u32) -> Result<
     }
 }
 
-/// A directory's descriptor: its handle, and what may be done below it.
-#[derive(Clone, Copy, Debug, PartialEq, Eq)]
-pub struct DirectoryPlace {
-    pub handle: Handle,
-    pub perms: FsPerms,
-}
-
-/// The directory of a directory's descriptor.
-#[tactic(auto, using(crate::proofs::Places::places))]
-pub fn directory_at<H: Host>(
-    host: &H,
-    descriptors: &Descriptors,
-    fd: u32,
-) -> Result<DirectoryPlace, P1Error>
+/// The directory that a path is opened from: Badf where the number isn't a directory's or file's, Notdir of a file.
+#[tactic(auto, using(crate::proofs::PlaceRules::places))]
+pub fn directory_at<H: Host>(host: &H, descriptors: &Descriptors, fd: u32) -> Result<Dir, P1Error>
     requires owned { Owned (H.live host.now) (handles descriptors.now.slots) }
-    ensures live { IfOk result (λ dir. contains (H.live host.now) dir.handle ≡ true) }
-    ensures is { IfOk result (λ dir. slice_get descriptors.now.slots fd ≡ Some (Slot.Directory dir.handle dir.perms)) }
+    ensures live { IfOk result (λ dir. contains (H.live host.now) dir.dir ≡ true) }
+    ensures is { IfOk result (λ dir. slice_get descriptors.now.slots fd ≡ Some (Slot.Directory dir)) }
     ensures row { result_map_both (open_directory_of (H.world host.now).held) (λ e. e) result
         ≡ directory_in (slice_get (places_of (H.world host.now).held descriptors.now.slots) fd) }
 {
@@ -88,28 +81,47 @@ pub fn directory_at<H: Host>(
         return Err(P1Error::Errno(Errno::Badf));
     };
     match slot {
-        Slot::Directory { handle, perms } => Ok(DirectoryPlace { handle, perms }),
+        Slot::Directory(dir) => Ok(dir),
         Slot::File { .. } => Err(P1Error::Errno(Errno::Notdir)),
         Slot::Stream(_) => Err(P1Error::Errno(Errno::Badf)),
         Slot::Closed => Err(P1Error::Errno(Errno::Badf)),
     }
 }
 
-/// A file's descriptor: its handle, what may be done with it, and where its next read or write begins.
-#[derive(Clone, Copy, Debug, PartialEq, Eq)]
+/// The directory from which a path starts: Badf where the number isn't a directory's.
+#[tactic(auto, using(crate::proofs::PlaceRules::places))]
+pub fn start_at<H: Host>(host: &H, descriptors: &Descriptors, fd: u32) -> Result<Dir, P1Error>
+    requires owned { Owned (H.live host.now) (handles descriptors.now.slots) }
+    ensures live { IfOk result (λ dir. contains (H.live host.now) dir.dir ≡ true) }
+    ensures is { IfOk result (λ dir. slice_get descriptors.now.slots fd ≡ Some (Slot.Directory dir)) }
+    ensures row { result_map_both (open_directory_of (H.world host.now).held) (λ e. e) result
+        ≡ start_in (slice_get (places_of (H.world host.now).held descriptors.now.slots) fd) }
+{
+    let Some(slot) = descriptors.get(fd) else {
+        return Err(P1Error::Errno(Errno::Badf));
+    };
+    match slot {
+        Slot::Directory(dir) => Ok(dir),
+        Slot::File { .. } => Err(P1Error::Errno(Errno::Badf)),
+        Slot::Stream(_) => Err(P1Error::Errno(Errno::Badf)),
+        Slot::Closed => Err(P1Error::Errno(Errno::Badf)),
+    }
+}
+
+/// A file's descriptor: the file, and where its next read or write begins.
+#[derive(Drop)]
 pub struct FilePlace {
-    pub handle: Handle,
-    pub perms: FsPerms,
+    pub file: File,
     pub position: u64,
 }
 
 /// The file of a file's descriptor.
-#[tactic(auto, using(crate::proofs::Places::places))]
+#[tactic(auto, using(crate::proofs::PlaceRules::places))]
 pub fn file_at<H: Host>(host: &H, descriptors: &Descriptors, fd: u32) -> Result<FilePlace, P1Error>
     requires owned { Owned (H.live host.now) (handles descriptors.now.slots) }
-    ensures live { IfOk result (λ file. contains (H.live host.now) file.handle ≡ true) }
-    ensures is { IfOk result (λ file. slice_get descriptors.now.slots fd
-        ≡ Some (Slot.File file.handle file.perms file.position)) }
+    ensures live { IfOk result (λ place. contains (H.live host.now) place.file.file ≡ true) }
+    ensures is { IfOk result (λ place. slice_get descriptors.now.slots fd
+        ≡ Some (Slot.File place.file place.position)) }
     ensures row { result_map_both (open_file_of (H.world host.now).held) (λ e. e) result
         ≡ file_in (slice_get (places_of (H.world host.now).held descriptors.now.slots) fd) }
 {
@@ -117,16 +129,8 @@ pub fn file_at<H: Host>(host: &H, descriptors: &Descriptors, fd: u32) -> Result<
         return Err(P1Error::Errno(Errno::Badf));
     };
     match slot {
-        Slot::File {
-            handle,
-            perms,
-            position,
-        } => Ok(FilePlace {
-            handle,
-            perms,
-            position,
-        }),
-        Slot::Directory { .. } => Err(P1Error::Errno(Errno::Badf)),
+        Slot::File { file, position } => Ok(FilePlace { file, position }),
+        Slot::Directory(_) => Err(P1Error::Errno(Errno::Badf)),
         Slot::Stream(_) => Err(P1Error::Errno(Errno::Badf)),
         Slot::Closed => Err(P1Error::Errno(Errno::Badf)),
     }
@@ -154,62 +158,13 @@ pub fn check_write(perms: FsPerms) -> Result<(), P1Error>
     Ok(())
 }
 
-/// The descriptor of what was opened, at its start; Notdir where a directory is required and it is none.
-fn slot_for(perms: FsPerms, required: bool, kind: FileType, handle: Handle) -> Result<Slot, P1Error>
-    ensures { result ≡ slot_for perms required kind handle }
+/// The descriptor of what was opened, a file's at its start.
+fn slot_of(descriptor: Descriptor) -> Slot
+    ensures { result ≡ slot_of descriptor }
 {
-    match kind {
-        FileType::Directory => Ok(Slot::Directory { handle, perms }),
-        _ => {
-            if required {
-                return Err(P1Error::Errno(Errno::Notdir));
-            }
-            Ok(Slot::File {
-                handle,
-                perms,
-                position: 0,
-            })
-        }
-    }
-}
-
-/// Opens a path from a directory, and gives its descriptor, which has the directory's permissions. Where the host fails
-/// at the new handle's metadata, or it is no directory and should be, the handle is closed again.
-#[tactic(auto, using(wasi_host::proofs::Chain::live_rules))]
-pub fn open_slot<H: Host>(
-    alloc: Global,
-    host: &mut H,
-    directory: DirectoryPlace,
-    text: &str,
-    how: OpenHow,
-) -> Result<Slot, P1Error>
-    requires { contains (H.live host.old) directory.handle ≡ true }
-    ensures cause { Causes (H.faults host.old) (H.faults host.new) result }
-    ensures live { SlotGot (H.live host.old) result (H.live host.new) }
-    ensures lineage { Traced (Only directory.handle) Nothing (MadeBy result)
-        (H.lookups host.old) (H.lookups host.new) }
-    ensures front { IsReplied
-        (Path (OpenPath ((H.world host.old).held directory.handle).node text.now (options_of how) how.follow))
-        (place_for directory.perms how.directory)
-        (result_map_both (place_of (H.world host.old).held) (λ e. e) result) }
-    ensures told { IsTrue H.told → OpensSlot (Rose (H.faults host.old) (H.faults host.new)) (H.live host.old)
-        (H.world host.old) (H.world host.new) (open_directory_of (H.world host.old).held directory)
-        text.now how result }
-{
-    let handle = wasi_resolve::open(alloc, host, directory.handle, text, &how.options())?;
-    let metadata = match host.stat(handle) {
-        Ok(metadata) => metadata,
-        Err(code) => {
-            host.close(handle);
-            return Err(P1Error::from(code));
-        }
-    };
-    match slot_for(directory.perms, how.directory, metadata.kind, handle) {
-        Ok(slot) => Ok(slot),
-        Err(error) => {
-            host.close(handle);
-            Err(error)
-        }
+    match descriptor {
+        Descriptor::Dir(dir) => Slot::Directory(dir),
+        Descriptor::File(file) => Slot::File { file, position: 0 },
     }
 }
 
@@ -271,21 +226,15 @@ pub fn write_piece<H: Host>(
     Ok(count as u64)
 }
 
-/// Puts a file's descriptor back with another position.
-pub fn put_file(descriptors: &mut Descriptors, fd: u32, file: FilePlace, position: u64)
-    requires { slice_get descriptors.old.slots fd ≡ Some (Slot.File file.handle file.perms file.position) }
+/// Puts a file's descriptor back so many bytes further on.
+pub fn move_file(descriptors: &mut Descriptors, fd: u32, file: File, position: u64, count: u64)
+    requires is { slice_get descriptors.old.slots fd ≡ Some (Slot.File file position) }
+    requires fits { position + count < 2 ^ 64 }
     ensures handles { handles descriptors.new.slots ≡ handles descriptors.old.slots }
-    ensures slots { descriptors.new.slots
-        ≡ slice_set descriptors.old.slots fd (Slot.File file.handle file.perms position) }
+    ensures slots { descriptors.new.slots ≡ slice_set descriptors.old.slots fd (Slot.File file (position + count)) }
 {
-    descriptors.set(
-        fd,
-        Slot::File {
-            handle: file.handle,
-            perms: file.perms,
-            position,
-        },
-    );
+    let position = position + count;
+    descriptors.set(fd, Slot::File { file, position });
 }
 
 /// Opens a path into the descriptors, and gives the new one's number. Its room is taken before the host is called.
@@ -293,11 +242,11 @@ pub fn open_into<H: Host>(
     alloc: Global,
     host: &mut H,
     descriptors: &mut Descriptors,
-    directory: DirectoryPlace,
+    dir: Dir,
     text: &str,
-    how: OpenHow,
+    with: OpenWith,
 ) -> Result<u64, P1Error>
-    requires live { contains (H.live host.old) directory.handle ≡ true }
+    requires live { contains (H.live host.old) dir.dir ≡ true }
     requires owned { Owned (H.live host.old) (handles descriptors.old.slots) }
     ensures cause { Causes (H.faults host.old) (H.faults host.new) result }
 
@@ -305,26 +254,83 @@ pub fn open_into<H: Host>(
     ensures kept { OnErr result (descriptors.new.slots ≡ descriptors.old.slots) }
     ensures owns { Owns (H.live host.old) (H.live host.new)
         (handles descriptors.old.slots) (handles descriptors.new.slots) }
-    ensures lineage { SlotsTraced (Only directory.handle) descriptors.old.slots descriptors.new.slots
+    ensures lineage { SlotsTraced (Only dir.dir) descriptors.old.slots descriptors.new.slots
         (H.lookups host.old) (H.lookups host.new) }
 
     // The row, over every host and over one that tells its world.
-    ensures front { IsReplied
-        (Path (OpenPath ((H.world host.old).held directory.handle).node text.now (options_of how) how.follow))
-        (opened_among (places_of (H.world host.old).held descriptors.old.slots) directory.perms how.directory)
+    ensures permit { Refused (may_open (how_of with.path_flags with.open_flags with.flags) dir.perms)
+        (with_after result (places_of (H.world host.old).held descriptors.new.slots)) host.old host.new }
+    ensures front { may_open (how_of with.path_flags with.open_flags with.flags) dir.perms ≡ None → IsReplied
+        (Path (opens ((H.world host.old).held dir.dir).node text.now
+        (how_of with.path_flags with.open_flags with.flags)))
+        (opened_among (places_of (H.world host.old).held descriptors.old.slots) dir.perms
+        (mode_of (how_of with.path_flags with.open_flags with.flags)))
         (with_after result (places_of (H.world host.old).held descriptors.new.slots)) }
     ensures stays { IsTrue H.told → OnErr result
         (places_of (H.world host.new).held descriptors.new.slots
         ≡ places_of (H.world host.old).held descriptors.old.slots) }
-    ensures told { IsTrue H.told → OpensInto (Rose (H.faults host.old) (H.faults host.new))
+    ensures told { IsTrue H.told → may_open (how_of with.path_flags with.open_flags with.flags) dir.perms ≡ None
+        → OpensInto (Rose (H.faults host.old) (H.faults host.new))
         (H.world host.old) (H.world host.new)
-        (open_directory_of (H.world host.old).held directory) text.now how
+        (open_directory_of (H.world host.old).held dir) text.now
+        (how_of with.path_flags with.open_flags with.flags)
         (places_of (H.world host.old).held descriptors.old.slots)
         (places_of (H.world host.new).held descriptors.new.slots) result }
 {
     descriptors.reserve()?;
-    let slot = open_slot(alloc, host, directory, text, how)?;
-    Ok(descriptors.put(slot))
+    let descriptor = dir.open_at(
+        alloc,
+        host,
+        with.path_flags,
+        text,
+        with.open_flags,
+        with.flags,
+    )?;
+    Ok(descriptors.put(slot_of(descriptor)))
+}
+
+/// Puts bytes into the front of a buffer in memory, as many as it takes, and gives how many.
+pub fn write_front(
+    memory: &mut GuestMemory,
+    buf: u32,
+    buf_len: u32,
+    bytes: &[u8],
+) -> Result<u32, P1Error>
+    ensures size { length memory.new ≡ length memory.old }
+    ensures same { OnErr result (memory.new ≡ memory.old) }
+    ensures refusal { IfErr result (λ e. is_failure e ≡ false) }
+    ensures never_wants { IfErr result NotMemory }
+    ensures row { with_after result memory.new ≡ text_to memory.old buf (take buf_len bytes.now) }
+{
+    let n = (buf_len as usize).min(bytes.len());
+    let n = n as u32;
+    bytes_at(memory, buf, n)?;
+    let part = memory.range_mut(buf, n);
+    part.copy_from_slice(&bytes[..n as usize]);
+    Ok(n)
+}
+
+/// What is told of the node that a path names: the two answers of its directory, which make one record.
+pub fn stat_both<H: Host>(
+    alloc: Global,
+    host: &mut H,
+    dir: Dir,
+    flags: PathFlags,
+    text: &str,
+) -> Result<StatBoth, HostError>
+    requires live { contains (H.live host.old) dir.dir ≡ true }
+    ensures cause { HasCause (H.faults host.old) (H.faults host.new) result }
+    ensures live { H.live host.new ≡ H.live host.old }
+    ensures lineage { Traced (Only dir.dir) Nothing Nothing (H.lookups host.old) (H.lookups host.new) }
+    ensures some { IfOk result IsStated }
+    ensures told { IsTrue H.told → Resolved (H.live host.old) (H.world host.old) (H.world host.new)
+        (meant_as stat_both (meant_by (H.world host.old).tree
+        (looks ((H.world host.old).held dir.dir).node text.now flags)))
+        (λ both. both) result }
+{
+    let stat = dir.stat_at(alloc, host, flags, text)?;
+    let hash = dir.metadata_hash_at(alloc, host, flags, text)?;
+    Ok(StatBoth { stat, hash })
 }
 
 /// Closes a descriptor's handle, if it has one.
@@ -336,8 +342,8 @@ pub fn release<H: Host>(host: &mut H, slot: Slot)
     ensures told { IsTrue H.told → Rests (H.live host.old) (H.live host.new) (H.world host.old) (H.world host.new) }
 {
     match slot {
-        Slot::Directory { handle, .. } => host.close(handle),
-        Slot::File { handle, .. } => host.close(handle),
+        Slot::Directory(dir) => host.close(dir.dir),
+        Slot::File { file, .. } => host.close(file.file),
         Slot::Stream(_) => {}
         Slot::Closed => {}
     }

@@ -1,18 +1,20 @@
 //! The context of a guest's calls: its descriptors over a host.
 ghost use Rattle.std.specs.Prelude.{◌≡◌, ◌≢◌, [], true, IsTrue, All, AllPairs, IfOk, IfErr};
 ghost use Rattle.std.specs.FinSet.{contains};
-ghost use Rattle.wasi_guest.specs.declared.call.Call.TheVariants.{PathOpen, FdRead, FdWrite, FdClose};
+ghost use Rattle.wasi_p1.specs.Slots.{given_directory};
+ghost use Rattle.wasi_guest.specs.declared.call.Call.TheVariants.{FdClose, FdRead, FdWrite, PathCreateDirectory, PathFilestatGet, PathOpen, PathReadlink, PathRemoveDirectory, PathSymlink, PathUnlinkFile};
 
 use crate::call_parts::{
-    buffer_at, bytes_at, check_write, close_slot, directory_at, file_at, live_at, open_into,
-    put_file, read_into, text_at, write_piece,
+    FilePlace, buffer_at, bytes_at, check_write, close_slot, directory_at, file_at, live_at,
+    move_file, open_into, read_into, start_at, stat_both, text_at, write_front, write_piece,
 };
 use crate::descriptors::Descriptors;
 use crate::error::P1Error;
-use crate::open_how::OpenHow;
+use crate::open_with::{OpenWith, path_flags_of};
+use bitflags::Flags;
 use std::alloc::Global;
 use std::marker::Model;
-use wasi_fs::FsPerms;
+use wasi_fs::{Dir, File, FsPerms, OpenMode};
 use wasi_guest::{GuestMemory, Value};
 use wasi_host::{Handle, Host};
 
@@ -25,19 +27,29 @@ pub enum Stream {
 }
 
 /// What a descriptor number stands for, as the crate's `Descriptor` of `preview1.rs`. A position is in bytes.
-#[derive(Clone, Copy, Debug, PartialEq, Eq)]
+#[derive(Drop)]
 pub enum Slot {
     Closed,
     Stream(Stream),
-    Directory {
-        handle: Handle,
-        perms: FsPerms,
-    },
-    File {
-        handle: Handle,
-        perms: FsPerms,
-        position: u64,
-    },
+    Directory(Dir),
+    File { file: File, position: u64 },
+}
+
+impl Slot {
+    /// The same, for a call's use beside the one among the descriptors.
+    pub(crate) fn for_call(&self) -> Slot
+        ensures same { result ≡ self.now }
+    {
+        match self {
+            Slot::Closed => Slot::Closed,
+            Slot::Stream(stream) => Slot::Stream(*stream),
+            Slot::Directory(dir) => { Slot::Directory(Dir::new(dir.dir, dir.perms, dir.open_mode)) }
+            Slot::File { file, position } => Slot::File {
+                file: File::new(file.file, file.perms, file.open_mode),
+                position: *position,
+            },
+        }
+    }
 }
 
 /// A directory that a guest is given: a handle of it, what may be done below it, and the name by which the guest knows
@@ -47,6 +59,17 @@ pub struct P1Preopen {
     pub handle: Handle,
     pub perms: FsPerms,
     pub name: String,
+}
+
+impl P1Preopen {
+    /// The directory, which may be read, and written unless it is read-only.
+    pub fn directory(&self) -> Dir
+        ensures directory { result ≡ given_directory self.now }
+    {
+        let mut mode = OpenMode::READ;
+        mode.set(OpenMode::WRITE, !self.perms.write_not_permitted());
+        Dir::new(self.handle, self.perms, mode)
+    }
 }
 
 /// The calls of one guest over a host, with its descriptors, what it wrote to the standard streams, and the allocator
@@ -146,7 +169,6 @@ impl<H: Host> WasiP1Ctx<H> {
         }
     }
 
-    #[tactic(auto, using(crate::proofs::Taking::refused), unfolding(crate::specs::Rows::path_open))]
     /// Opens the path in a range of memory from the directory of a descriptor, and answers the number of the new
     /// descriptor, which has that directory's permissions and, of a file, position 0.
     ///
@@ -166,6 +188,7 @@ impl<H: Host> WasiP1Ctx<H> {
     /// `..` where a directory may not be searched, Loop of a link past the 40th, Isdir of a path that ends in `.` or
     /// `..` where creat, trunc or FD_WRITE is asked for, and at each name the host's, which are those of POSIX's
     /// `openat`; Notdir where DIRECTORY is asked for and no directory was opened.
+    #[tactic(auto, using(crate::proofs::Taking::refused, crate::proofs::CallTracing::traced_from), unfolding(crate::specs::Rows::path_open))]
     pub fn path_open(
         &mut self,
         memory: &mut GuestMemory,
@@ -185,27 +208,26 @@ impl<H: Host> WasiP1Ctx<H> {
         ensures turn { FollowsRow H.told H.world H.faults H.lookups self.old self.new memory.old memory.new
             (PathOpen fd dirflags path path_len oflags base inheriting fdflags) result }
     {
-        let how = OpenHow::of(dirflags, oflags, base, inheriting, fdflags)?;
+        let with = OpenWith::of(dirflags, oflags, base, inheriting, fdflags)?;
         let text = text_at(memory, path, path_len)?;
-        let directory = directory_at(&self.host, &self.descriptors, fd)?;
-        how.check(directory.perms)?;
+        let dir = directory_at(&self.host, &self.descriptors, fd)?;
         let number = open_into(
             self.alloc,
             &mut self.host,
             &mut self.descriptors,
-            directory,
+            dir,
             text,
-            how,
+            with,
         )?;
         Ok(Value::Number(number))
     }
 
-    #[tactic(auto, using(crate::proofs::Taking::refused), unfolding(crate::specs::Rows::fd_read))]
     /// Reads a file's bytes at its position into the first buffer that has any, of so many records at an address, and
     /// answers how many; the position is behind them afterwards. Refusals, in this order: trap Pointer where a record
     /// up to that one isn't aligned to 4 or leaves the memory; Badf where the number isn't a file's; trap Pointer where
     /// the buffer leaves the memory; then the host's, which are those of POSIX's `pread`. At or past the end of the
     /// file, and with no bytes to fill, the answer is 0.
+    #[tactic(auto, using(crate::proofs::Taking::refused), unfolding(crate::specs::Rows::fd_read))]
     pub fn fd_read(
         &mut self,
         memory: &mut GuestMemory,
@@ -220,21 +242,20 @@ impl<H: Host> WasiP1Ctx<H> {
             (FdRead fd iovs iovs_len) result }
     {
         let buffer = buffer_at(memory, iovs, iovs_len)?;
-        let file = file_at(&self.host, &self.descriptors, fd)?;
+        let FilePlace { file, position } = file_at(&self.host, &self.descriptors, fd)?;
         bytes_at(memory, buffer.buf, buffer.buf_len)?;
-        let handle = file.handle;
-        let position = file.position;
+        let handle = file.file;
         let count = read_into(&mut self.host, memory, handle, position, buffer)?;
-        put_file(&mut self.descriptors, fd, file, position + count as u64);
+        move_file(&mut self.descriptors, fd, file, position, count as u64);
         Ok(Value::Number(count as u64))
     }
 
-    #[tactic(auto, using(crate::proofs::Taking::refused), unfolding(crate::specs::Rows::fd_write))]
     /// Writes the first buffer that has bytes, of so many records at an address, into a file at its position, and
     /// answers how many bytes it took; the position is behind them afterwards. A host that tells its world takes all of
     /// them. Refusals, in this order: trap Pointer where a record up to that one isn't aligned to 4 or leaves the
     /// memory; Badf where the number isn't a file's; trap Pointer where the buffer leaves the memory; Badf under
     /// read-only permissions; then the host's, which are those of POSIX's `pwrite`.
+    #[tactic(auto, using(crate::proofs::Taking::refused), unfolding(crate::specs::Rows::fd_write))]
     pub fn fd_write(
         &mut self,
         memory: &mut GuestMemory,
@@ -251,19 +272,18 @@ impl<H: Host> WasiP1Ctx<H> {
             (state_of H.world self.new memory.new) fd iovs iovs_len) }
     {
         let buffer = buffer_at(memory, iovs, iovs_len)?;
-        let file = file_at(&self.host, &self.descriptors, fd)?;
+        let FilePlace { file, position } = file_at(&self.host, &self.descriptors, fd)?;
         let piece = bytes_at(memory, buffer.buf, buffer.buf_len)?;
         check_write(file.perms)?;
-        let handle = file.handle;
-        let position = file.position;
+        let handle = file.file;
         let count = write_piece(&mut self.host, handle, position, piece)?;
-        put_file(&mut self.descriptors, fd, file, position + count);
+        move_file(&mut self.descriptors, fd, file, position, count);
         Ok(Value::Number(count))
     }
 
-    #[tactic(auto, using(crate::proofs::Taking::refused), unfolding(crate::specs::Rows::fd_close))]
     /// The number becomes closed, and what it stood for is closed. Refusal: Badf where the number isn't live. It takes
     /// no memory.
+    #[tactic(auto, using(crate::proofs::Taking::refused), unfolding(crate::specs::Rows::fd_close))]
     pub fn fd_close(&mut self, memory: &mut GuestMemory, fd: u32) -> Result<Value, P1Error>
         ensures cause { Causes (H.faults self.old.host) (H.faults self.new.host) result }
         ensures handles { OthersStay H.live self.old self.new }
@@ -274,5 +294,171 @@ impl<H: Host> WasiP1Ctx<H> {
         let slot = live_at(&self.host, &self.descriptors, fd)?;
         close_slot(&mut self.host, &mut self.descriptors, fd, slot);
         Ok(Value::Unit)
+    }
+
+    /// Makes an empty directory at the path in a range of memory, from the directory of a descriptor; slashes behind its
+    /// name are let go. Refusals, in this order: Badf where the number isn't a directory's; trap Pointer where the range
+    /// leaves the memory; Ilseq where its bytes aren't UTF-8; Perm under read-only permissions; those of the walk to the
+    /// directory of the name, as in `path_open`, Noent of an empty text among them; then those of every host call by a
+    /// name: Inval of one with a NUL, Nametoolong of one of more than 255 bytes, Acces where its directory may not be
+    /// searched; then those of POSIX's `mkdirat`: Exist where the name is there, `.` and `..` among them, Noent where the
+    /// directory is removed, Acces where it may not be written, Nospc where the tree has as many nodes as it may.
+    #[tactic(auto, using(crate::proofs::Taking::refused, crate::proofs::CallTracing::traced_below), unfolding(crate::specs::Rows::path_create_directory))]
+    pub fn path_create_directory(
+        &mut self,
+        memory: &mut GuestMemory,
+        fd: u32,
+        path: u32,
+        path_len: u32,
+    ) -> Result<Value, P1Error>
+        ensures cause { Causes (H.faults self.old.host) (H.faults self.new.host) result }
+        ensures handles { OthersStay H.live self.old self.new }
+        ensures lineage { Looks H.lookups self.old self.new memory.old
+            (PathCreateDirectory fd path path_len) }
+        ensures turn { FollowsRow H.told H.world H.faults H.lookups self.old self.new memory.old memory.new
+            (PathCreateDirectory fd path path_len) result }
+    {
+        let dir = start_at(&self.host, &self.descriptors, fd)?;
+        let text = text_at(memory, path, path_len)?;
+        dir.create_directory_at(self.alloc, &mut self.host, text)?;
+        Ok(Value::Unit)
+    }
+
+    /// Drops an empty directory at the path in a range of memory, from the directory of a descriptor. A descriptor may
+    /// still stand for it, but it takes no name any more. Refusals, in this order: those of `path_create_directory` up to
+    /// those of every host call by a name; then those of POSIX's `unlinkat` with AT_REMOVEDIR: Inval of a path that ends
+    /// in `/`, `.` or `..`, Noent where the name is missing, Acces where its directory may not be written, Notdir where it
+    /// holds no directory, Notempty where that has names.
+    #[tactic(auto, using(crate::proofs::Taking::refused, crate::proofs::CallTracing::traced_below), unfolding(crate::specs::Rows::path_remove_directory))]
+    pub fn path_remove_directory(
+        &mut self,
+        memory: &mut GuestMemory,
+        fd: u32,
+        path: u32,
+        path_len: u32,
+    ) -> Result<Value, P1Error>
+        ensures cause { Causes (H.faults self.old.host) (H.faults self.new.host) result }
+        ensures handles { OthersStay H.live self.old self.new }
+        ensures lineage { Looks H.lookups self.old self.new memory.old
+            (PathRemoveDirectory fd path path_len) }
+        ensures turn { FollowsRow H.told H.world H.faults H.lookups self.old self.new memory.old memory.new
+            (PathRemoveDirectory fd path path_len) result }
+    {
+        let dir = start_at(&self.host, &self.descriptors, fd)?;
+        let text = text_at(memory, path, path_len)?;
+        dir.remove_directory_at(self.alloc, &mut self.host, text)?;
+        Ok(Value::Unit)
+    }
+
+    /// Drops the name of a file or link at the path in a range of memory, from the directory of a descriptor; a link
+    /// itself is dropped, not what it leads to. Refusals, in this order: those of `path_create_directory` up to those of
+    /// every host call by a name; then those of POSIX's `unlinkat`: Isdir of a path that ends in `/`, `.` or `..`, Noent
+    /// where the name is missing, Acces where its directory may not be written, Isdir of a directory.
+    #[tactic(auto, using(crate::proofs::Taking::refused, crate::proofs::CallTracing::traced_below), unfolding(crate::specs::Rows::path_unlink_file))]
+    pub fn path_unlink_file(
+        &mut self,
+        memory: &mut GuestMemory,
+        fd: u32,
+        path: u32,
+        path_len: u32,
+    ) -> Result<Value, P1Error>
+        ensures cause { Causes (H.faults self.old.host) (H.faults self.new.host) result }
+        ensures handles { OthersStay H.live self.old self.new }
+        ensures lineage { Looks H.lookups self.old self.new memory.old
+            (PathUnlinkFile fd path path_len) }
+        ensures turn { FollowsRow H.told H.world H.faults H.lookups self.old self.new memory.old memory.new
+            (PathUnlinkFile fd path path_len) result }
+    {
+        let dir = start_at(&self.host, &self.descriptors, fd)?;
+        let text = text_at(memory, path, path_len)?;
+        dir.unlink_file_at(self.alloc, &mut self.host, text)?;
+        Ok(Value::Unit)
+    }
+
+    /// Makes a link with the text in one range of memory at the path in another, from the directory of a descriptor.
+    /// Refusals, in this order: Badf where the number isn't a directory's; trap Pointer and Ilseq of the text, and then of
+    /// the path; Perm under read-only permissions, and of a text with a leading slash; those of the walk to the directory
+    /// of the name, as in `path_open`; then those of POSIX's `symlinkat`: Noent of an empty text, Inval of one with a NUL,
+    /// Nametoolong of one of more than 4,095 bytes, and those of `path_create_directory` behind its walk.
+    #[tactic(auto, using(crate::proofs::Taking::refused, crate::proofs::CallTracing::traced_below), unfolding(crate::specs::Rows::path_symlink))]
+    pub fn path_symlink(
+        &mut self,
+        memory: &mut GuestMemory,
+        old_path: u32,
+        old_path_len: u32,
+        fd: u32,
+        new_path: u32,
+        new_path_len: u32,
+    ) -> Result<Value, P1Error>
+        ensures cause { Causes (H.faults self.old.host) (H.faults self.new.host) result }
+        ensures handles { OthersStay H.live self.old self.new }
+        ensures lineage { Looks H.lookups self.old self.new memory.old
+            (PathSymlink old_path old_path_len fd new_path new_path_len) }
+        ensures turn { FollowsRow H.told H.world H.faults H.lookups self.old self.new memory.old memory.new
+            (PathSymlink old_path old_path_len fd new_path new_path_len) result }
+    {
+        let dir = start_at(&self.host, &self.descriptors, fd)?;
+        let target = text_at(memory, old_path, old_path_len)?;
+        let text = text_at(memory, new_path, new_path_len)?;
+        dir.symlink_at(self.alloc, &mut self.host, target, text)?;
+        Ok(Value::Unit)
+    }
+
+    /// Writes the text of the link at the path in a range of memory into a buffer, as far as it takes it, and answers how
+    /// many bytes were written. Refusals, in this order: Badf where the number isn't a directory's; trap Pointer where the
+    /// path's range leaves the memory; Ilseq where its bytes aren't UTF-8; those of the walk to the directory of the name,
+    /// as in `path_open`; those of every host call by a name, as in `path_create_directory`; then those of POSIX's
+    /// `readlinkat`: Noent where the name is missing, Inval of what is no link; Perm of a link's text with a leading slash;
+    /// trap Pointer where what is to be written leaves the memory.
+    #[tactic(auto, using(crate::proofs::Taking::refused, crate::proofs::CallTracing::traced_below), unfolding(crate::specs::Rows::path_readlink))]
+    pub fn path_readlink(
+        &mut self,
+        memory: &mut GuestMemory,
+        fd: u32,
+        path: u32,
+        path_len: u32,
+        buf: u32,
+        buf_len: u32,
+    ) -> Result<Value, P1Error>
+        ensures cause { Causes (H.faults self.old.host) (H.faults self.new.host) result }
+        ensures handles { OthersStay H.live self.old self.new }
+        ensures lineage { Looks H.lookups self.old self.new memory.old
+            (PathReadlink fd path path_len buf buf_len) }
+        ensures turn { FollowsRow H.told H.world H.faults H.lookups self.old self.new memory.old memory.new
+            (PathReadlink fd path path_len buf buf_len) result }
+    {
+        let dir = start_at(&self.host, &self.descriptors, fd)?;
+        let text = text_at(memory, path, path_len)?;
+        let link = dir.readlink_at(self.alloc, &mut self.host, text)?;
+        let count = write_front(memory, buf, buf_len, link.as_bytes())?;
+        Ok(Value::Number(count as u64))
+    }
+
+    /// Tells of the node that the path in a range of memory names, from the directory of a descriptor; SYMLINK_FOLLOW
+    /// follows a link under its last name. Refusals, in this order: Inval of an unknown flag; Badf where the number isn't a
+    /// directory's; trap Pointer where the range leaves the memory; Ilseq where its bytes aren't UTF-8; those of the walk and
+    /// of the look at its end, as in `path_open` and POSIX's `fstatat`; Overflow of a time that 64 bits of nanoseconds don't
+    /// hold.
+    #[tactic(auto, using(crate::proofs::Taking::refused, crate::proofs::CallTracing::traced_below), unfolding(crate::specs::Rows::path_filestat_get))]
+    pub fn path_filestat_get(
+        &mut self,
+        memory: &mut GuestMemory,
+        fd: u32,
+        flags: u32,
+        path: u32,
+        path_len: u32,
+    ) -> Result<Value, P1Error>
+        ensures cause { Causes (H.faults self.old.host) (H.faults self.new.host) result }
+        ensures handles { OthersStay H.live self.old self.new }
+        ensures lineage { Looks H.lookups self.old self.new memory.old
+            (PathFilestatGet fd flags path path_len) }
+        ensures turn { FollowsRow H.told H.world H.faults H.lookups self.old self.new memory.old memory.new
+            (PathFilestatGet fd flags path path_len) result }
+    {
+        let flags = path_flags_of(flags)?;
+        let dir = start_at(&self.host, &self.descriptors, fd)?;
+        let text = text_at(memory, path, path_len)?;
+        let both = stat_both(self.alloc, &mut self.host, dir, flags, text)?;
+        Ok(Value::Filestat(both.filestat()?))
     }
 }

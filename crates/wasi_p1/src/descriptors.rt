@@ -53,10 +53,7 @@ impl Descriptors {
         let mut descriptors = Descriptors::streams(alloc)?;
         for preopen in preopens {
             descriptors.reserve()?;
-            descriptors.put(Slot::Directory {
-                handle: preopen.handle,
-                perms: preopen.perms,
-            });
+            descriptors.put(Slot::Directory(preopen.directory()));
         }
         Ok(descriptors)
     }
@@ -65,7 +62,7 @@ impl Descriptors {
     pub fn get(&self, fd: u32) -> Option<Slot>
         ensures { result ≡ slice_get self.now.slots fd }
     {
-        self.slots.get(fd as usize).copied()
+        Some(self.slots.get(fd as usize)?.for_call())
     }
 
     /// Takes the room for a new descriptor.
@@ -131,7 +128,7 @@ impl Descriptors {
 #[cfg(test)]
 mod tests {
     use super::*;
-    use wasi_fs::FsPerms;
+    use wasi_fs::{File, FsPerms, OpenMode};
     use wasi_host::Handle;
 
     #[test]
@@ -146,12 +143,9 @@ mod tests {
         for number in 4..40 {
             assert!(rt; descriptors.get(number).is_none());
             descriptors.reserve()?;
-            let file = Slot::File {
-                handle: Handle::from_number(8),
-                perms: FsPerms::ReadOnly,
-                position: 0,
-            };
-            assert_eq!(rt; descriptors.put(file), number as u64);
+            let file = File::new(Handle::from_number(8), FsPerms::ReadOnly, OpenMode::READ);
+            let slot = Slot::File { file, position: 0 };
+            assert_eq!(rt; descriptors.put(slot), number as u64);
             assert!(rt; descriptors.get(number).is_some());
         }
         Ok(())

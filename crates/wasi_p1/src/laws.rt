@@ -1,6 +1,6 @@
 //! Laws of what is defined.
 ghost use Rattle.wasi_p1.specs.Owners.{LiveStays};
-ghost use Rattle.wasi_p1.specs.Agree.{TurnsAgree, RunsAgree};
+ghost use Rattle.wasi_p1.specs.StatesAgree.{TurnsAgree, RunsAgree};
 ghost use Rattle.wasi_p1.specs.RunLaws.{RunsAreFunctions, TurnsAreConfined};
 ghost use Rattle.wasi_p1.specs.Stems.{PermissionsStem};
 ghost use Rattle.wasi_p1.specs.Validity.{RunsStayValid};

@@ -6,8 +6,9 @@ mod call_parts;
 mod context;
 mod descriptors;
 mod error;
+mod filestats;
 mod laws;
-mod open_how;
+mod open_with;
 mod run;
 
 pub use context::{CtxRefused, Ended, P1Preopen, Slot, Stream, WasiP1Ctx};

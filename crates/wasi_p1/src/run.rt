@@ -65,6 +65,35 @@ pub fn call<H: Host>(
         Call::FdRead { fd, iovs, iovs_len } => context.fd_read(memory, fd, iovs, iovs_len),
         Call::FdWrite { fd, iovs, iovs_len } => context.fd_write(memory, fd, iovs, iovs_len),
         Call::FdClose { fd } => context.fd_close(memory, fd),
+        Call::PathCreateDirectory { fd, path, path_len } => {
+            context.path_create_directory(memory, fd, path, path_len)
+        }
+        Call::PathFilestatGet {
+            fd,
+            flags,
+            path,
+            path_len,
+        } => context.path_filestat_get(memory, fd, flags, path, path_len),
+        Call::PathReadlink {
+            fd,
+            path,
+            path_len,
+            buf,
+            buf_len,
+        } => context.path_readlink(memory, fd, path, path_len, buf, buf_len),
+        Call::PathRemoveDirectory { fd, path, path_len } => {
+            context.path_remove_directory(memory, fd, path, path_len)
+        }
+        Call::PathSymlink {
+            old_path,
+            old_path_len,
+            fd,
+            new_path,
+            new_path_len,
+        } => context.path_symlink(memory, old_path, old_path_len, fd, new_path, new_path_len),
+        Call::PathUnlinkFile { fd, path, path_len } => {
+            context.path_unlink_file(memory, fd, path, path_len)
+        }
     }
 }
 

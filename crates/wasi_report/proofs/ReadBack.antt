@@ -1,5 +1,5 @@
 -- A report's text tells the report: the text tells the value's JSON, and that tells each part.
-use Rattle.std.proofs.Common.{ℕ, ℤ, pos, negsuc, ◌≤◌, List, [], ◌∷◌, ◌++◌, ◌≡◌, Bool, true, false, cond, if◌then◌else◌, All, Less, Greater, Some, append_assoc, refl, sym, ap, ap₂, ◌∙◌, map, decimal, arith, codes}
+use Rattle.std.proofs.Common.{ℕ, ℤ, pos, negsuc, ◌≤◌, List, [], ◌∷◌, ◌++◌, ◌≡◌, Bool, true, false, cond, if◌then◌else◌, All, Less, Greater, Some, append_assoc, refl, sym, ap, ap₂, ◌∙◌, map, get_or, decimal, arith, codes}
 use Rattle.std.specs.Cmp.Lexicographic.{slice_cmp}
 use Rattle.std.specs.Fmt.{signed_decimal}
 use Rattle.std.specs.List.{AllByRecursion}
@@ -35,8 +35,9 @@ use Rattle.wasi_guest.specs.declared.answer.TrapKind.{TrapKind}
 use Rattle.wasi_guest.specs.declared.answer.TrapKind.TheVariants.{Pointer}
 use Rattle.wasi_guest.specs.declared.answer.Value.{Value}
 use Rattle.wasi_guest.specs.declared.answer.Value.TheVariants as values
+use Rattle.wasi_guest.specs.declared.filestat.Filestat.{Filestat}
 use Rattle.wasi_guest.specs.ErrnoName.{errno_name}
-use Rattle.wasi_report.specs.Report.{Report, report_value, report_text, put_all, number_value, success_value, trap_name, answer_value, hex_value, node_value, time_value, times_value, content_member, bits_text, bit_letter}
+use Rattle.wasi_report.specs.Report.{Report, report_value, report_text, put_all, number_value, filestat_numbers, success_value, trap_name, answer_value, hex_value, node_value, time_value, times_value, content_member, bits_text, bit_letter}
 use Rattle.wasi_report.specs.ReadBack.{FitsNumber, FitsValue, FitsAnswer, FitsEntry, FitsContent, FitsTime, FitsNode, IsOrdered, ReportsAreTold}
 
 -- ---- the JSON of a value has numbers, and is shallow
@@ -168,19 +169,52 @@ named-trap_name Pointer = refl
 
 -- ---- answers, read back from their JSON
 
-shallow_value : (v : Value) → FitsValue v → IsShallow 0 (outline (success_value v))
+shallow_value : (v : Value) → FitsValue v → IsShallow 1 (outline (success_value v))
 shallow_value values.Unit fits = record { numbers = tt; depth = omega arith }
-shallow_value (values.Number n) fits = shallow_number n fits
+shallow_value (values.Number n) fits = let inside = shallow_number n fits in record { numbers = inside.numbers; depth = omega arith }
+shallow_value (values.Filestat stat) fits =
+    let inside = shallow_list 0 FitsNumber number_value shallow_number (filestat_numbers stat) fits in
+    record { numbers = inside.numbers; depth = omega arith }
+
+abbrev number_back : json.Json → ℕ
+number_back j = digits_value 10 (text_in j)
+
+number_is_back : (n : ℕ) → FitsNumber n → number_back (outline (number_value n)) ≡ n
+number_is_back n fits = (decimal_is_IsNumeral n fits).1
+
+abbrev numbers_back : json.Items → List ℕ
+numbers_back json.no_items = []
+numbers_back (json.item j js) = number_back j ∷ numbers_back js
+
+numbers_are_back : (ns : List ℕ) → All FitsNumber ns → numbers_back (items_outline (items_of (map number_value ns))) ≡ ns
+numbers_are_back [] fits = refl
+numbers_are_back (n ∷ ns) fits =
+    ap₂ (λ m ms. m ∷ ms) (number_is_back n (All-head FitsNumber n ns fits)) (numbers_are_back ns (All-tail FitsNumber n ns fits))
+
+-- the record with these fields
+abbrev filestat_of : List ℕ → Filestat
+filestat_of ns = record {
+  dev = get_or ns 0 0;
+  ino = get_or ns 1 0;
+  filetype = get_or ns 2 0;
+  nlink = get_or ns 3 0;
+  size = get_or ns 4 0;
+  atim = get_or ns 5 0;
+  mtim = get_or ns 6 0;
+  ctim = get_or ns 7 0;
+}
 
 abbrev value_back : json.Json → Value
 value_back (json.number text) = values.Number (digits_value 10 text)
+value_back (json.array js) = values.Filestat (filestat_of (numbers_back js))
 value_back _ = values.Unit
 
 value_is_back : (v : Value) → FitsValue v → value_back (outline (success_value v)) ≡ v
 value_is_back values.Unit fits = refl
-value_is_back (values.Number n) fits = ap values.Number (decimal_is_IsNumeral n fits).1
+value_is_back (values.Number n) fits = ap values.Number (number_is_back n fits)
+value_is_back (values.Filestat stat) fits = ap (λ ns. values.Filestat (filestat_of ns)) (numbers_are_back (filestat_numbers stat) fits)
 
-shallow_answer : (a : Answer) → FitsAnswer a → IsShallow 1 (outline (answer_value a))
+shallow_answer : (a : Answer) → FitsAnswer a → IsShallow 2 (outline (answer_value a))
 shallow_answer (answers.Ok v) fits =
     let inside = shallow_value v fits in record { numbers = (inside.numbers, tt); depth = omega arith }
 shallow_answer (answers.Errno e) fits = record { numbers = (tt, tt); depth = omega arith }
@@ -354,7 +388,7 @@ same_node a b p q e =
 shallow_report : (r : Report) → IsOrdered r → IsShallow 128 (outline (report_value r))
 unfolding IsOrdered
 shallow_report r h =
-    let answers = shallow_list 1 FitsAnswer answer_value shallow_answer r.answers h.0 in
+    let answers = shallow_list 2 FitsAnswer answer_value shallow_answer r.answers h.0 in
     let memory = shallow_list 0 IsBytes hex_value (λ bytes fits. record { numbers = tt; depth = omega arith }) r.memory h.1 in
     let touched = shallow_list 0 FitsNumber number_value shallow_number r.touched h.4 in
     let nodes = shallow_list 3 FitsNode node_value shallow_node r.tree h.5 in

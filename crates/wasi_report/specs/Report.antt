@@ -16,6 +16,7 @@ use Rattle.wasi_guest.specs.declared.answer.TrapKind.{TrapKind}
 use Rattle.wasi_guest.specs.declared.answer.TrapKind.TheVariants.{Pointer}
 use Rattle.wasi_guest.specs.declared.answer.Value.{Value}
 use Rattle.wasi_guest.specs.declared.answer.Value.TheVariants as values
+use Rattle.wasi_guest.specs.declared.filestat.Filestat.{Filestat}
 use Rattle.wasi_report.specs.declared.outcome.Outcome.{Outcome}
 
 pub record Report : Type 0 where
@@ -43,10 +44,25 @@ reported o nodes = record {
 abbrev pub only : List ℕ → Data → Data
 only key value = object (member key value no_members)
 
+abbrev pub number_value : ℕ → Data
+number_value n = number (unsigned n)
+
+abbrev pub list_value : {A : Type 0} → (A → Data) → List A → Data
+list_value value_of items = array (items_of (map value_of items))
+
+-- the fields in preview1's order
+abbrev pub filestat_numbers : Filestat → List ℕ
+filestat_numbers stat =
+    stat.dev ∷ stat.ino ∷ stat.filetype ∷ stat.nlink ∷ stat.size ∷ stat.atim ∷ stat.mtim ∷ stat.ctim ∷ []
+
+abbrev pub filestat_value : Filestat → Data
+filestat_value stat = list_value number_value (filestat_numbers stat)
+
 -- what stands under `ok`
 abbrev pub success_value : Value → Data
 success_value values.Unit = null
-success_value (values.Number n) = number (unsigned n)
+success_value (values.Number n) = number_value n
+success_value (values.Filestat stat) = filestat_value stat
 
 abbrev pub trap_name : TrapKind → List ℕ
 trap_name Pointer = codes "pointer"
@@ -58,9 +74,6 @@ answer_value (answers.Trap kind) = only (codes "trap") (string (trap_name kind))
 
 abbrev pub hex_value : List ℕ → Data
 hex_value bytes = string (encode_lower bytes)
-
-abbrev pub number_value : ℕ → Data
-number_value n = number (unsigned n)
 
 -- the letter of a bit that is set, or a dash
 abbrev pub bit_letter : ℕ → Bool → ℕ
@@ -92,9 +105,6 @@ content_member (link text) others = member (codes "link") (string text) others
 abbrev pub node_value : Given → Data
 node_value node =
     object (member (codes "bits") (string (bits_text node.bits)) (content_member node.content (member (codes "times") (times_value node) no_members)))
-
-abbrev pub list_value : {A : Type 0} → (A → Data) → List A → Data
-list_value value_of items = array (items_of (map value_of items))
 
 -- the keys stand in byte order
 abbrev pub report_value : Report → Data

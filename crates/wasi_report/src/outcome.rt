@@ -121,17 +121,28 @@ fn tell_tree(alloc: Global, tree: &MemTree, out: &mut Writer) -> Result<(), Allo
 mod tests {
     use super::*;
     use std::test::Fail;
-    use wasi_guest::{Answer, Errno, TrapKind, Value};
+    use wasi_guest::{Answer, Errno, Filestat, TrapKind, Value};
     use wasi_host::Limits;
     use wasi_tree::{NewContent, NewEntry, NewNode, are_fit};
 
     const LIMITS: Limits = Limits { nodes: 8, links: 8 };
 
+    const STAT: Filestat = Filestat {
+        dev: 1,
+        ino: 2,
+        filetype: 4,
+        nlink: 3,
+        size: 5,
+        atim: 1_000_000_000,
+        mtim: 0,
+        ctim: u64::MAX,
+    };
+
     const SMALLEST: &str =
         "{\"answers\":[],\"memory\":[],\"stderr\":\"\",\"stdout\":\"\",\"touched\":[],\"tree\":[{\"bits\":\"rwx\",\"dir\":{},\"times\":[[0,0],[0,0],[0,0]]}]}\n";
 
     const EVERY_PART: &str =
-        "{\"answers\":[{\"ok\":4},{\"ok\":null},{\"errno\":\"noent\"},{\"trap\":\"pointer\"}],\"memory\":[\"ab01\"],\"stderr\":\"69\",\"stdout\":\"68\",\"touched\":[0,2],\"tree\":[{\"bits\":\"rwx\",\"dir\":{\"a\\\"\":2,\"f\":1},\"times\":[[0,0],[0,0],[0,0]]},{\"bits\":\"rw-\",\"file\":\"00ff\",\"times\":[[0,0],[0,0],[0,0]]},{\"bits\":\"rwx\",\"dir\":{},\"times\":[[0,0],[0,0],[0,0]]}]}\n";
+        "{\"answers\":[{\"ok\":4},{\"ok\":null},{\"ok\":[1,2,4,3,5,1000000000,0,18446744073709551615]},{\"errno\":\"noent\"},{\"trap\":\"pointer\"}],\"memory\":[\"ab01\"],\"stderr\":\"69\",\"stdout\":\"68\",\"touched\":[0,2],\"tree\":[{\"bits\":\"rwx\",\"dir\":{\"a\\\"\":2,\"f\":1},\"times\":[[0,0],[0,0],[0,0]]},{\"bits\":\"rw-\",\"file\":\"00ff\",\"times\":[[0,0],[0,0],[0,0]]},{\"bits\":\"rwx\",\"dir\":{},\"times\":[[0,0],[0,0],[0,0]]}]}\n";
 
     #[test]
     fn reports(rt: HostRuntime) -> Result<(), Fail> {
@@ -144,9 +155,10 @@ mod tests {
             touched: Vec::new(alloc),
         };
         let root = NewNode::new(NewContent::Dir(Vec::new(alloc)));
-        let mut answers = Answers::with_room(alloc, 4)?;
+        let mut answers = Answers::with_room(alloc, 5)?;
         answers.push(Answer::Ok(Value::Number(4)));
         answers.push(Answer::Ok(Value::Unit));
+        answers.push(Answer::Ok(Value::Filestat(STAT)));
         answers.push(Answer::Errno(Errno::Noent));
         answers.push(Answer::Trap(TrapKind::Pointer));
         let each_part = Outcome {

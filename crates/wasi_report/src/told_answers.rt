@@ -1,14 +1,14 @@
 //! How answers are reported.
 ghost use Rattle.std.specs.Prelude.{◌≡◌, ◌++◌, OnOk, codes};
 ghost use Rattle.serde_json.specs.Data.{string};
-ghost use Rattle.wasi_report.specs.ReadBack.{FitsAnswer, FitsValue};
-ghost use Rattle.wasi_report.specs.Report.{only, success_value, trap_name, answer_value};
+ghost use Rattle.wasi_report.specs.ReadBack.{FitsAnswer, FitsFilestat, FitsValue};
+ghost use Rattle.wasi_report.specs.Report.{only, filestat_value, success_value, trap_name, answer_value};
 ghost use Rattle.wasi_report.specs.Told.{told};
 
-use crate::told::Told;
+use crate::told::{Told, tell_list};
 use json::Writer;
 use std::alloc::{AllocError, Global};
-use wasi_guest::{Answer, TrapKind, Value};
+use wasi_guest::{Answer, Filestat, TrapKind, Value};
 
 impl Told for Answer {
     ghost value = { answer_value };
@@ -29,11 +29,33 @@ impl Told for Value {
 
     ghost fits = { FitsValue };
 
-    fn tell(&self, _alloc: Global, out: &mut Writer) -> Result<(), AllocError> {
+    fn tell(&self, alloc: Global, out: &mut Writer) -> Result<(), AllocError> {
         match *self {
             Value::Unit => out.null(),
             Value::Number(n) => out.u64(n),
+            Value::Filestat(stat) => stat.tell(alloc, out),
         }
+    }
+}
+
+/// A list of the fields, in preview1's order.
+impl Told for Filestat {
+    ghost value = { filestat_value };
+
+    ghost fits = { FitsFilestat };
+
+    fn tell(&self, alloc: Global, out: &mut Writer) -> Result<(), AllocError> {
+        let numbers = [
+            self.dev,
+            self.ino,
+            self.filetype as u64,
+            self.nlink,
+            self.size,
+            self.atim,
+            self.mtim,
+            self.ctim,
+        ];
+        tell_list(alloc, &numbers, out)
     }
 }
 

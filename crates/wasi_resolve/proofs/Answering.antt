@@ -27,7 +27,7 @@ use Rattle.wasi_resolve.specs.Finding.{LiveFound, StandsFound}
 use Rattle.wasi_resolve.specs.WalkSteps.{Stayed, Sight, Opened, Seen, meant_at, shown_found}
 use Rattle.wasi_resolve.specs.declared.found.Found.{Found}
 use Rattle.wasi_resolve.specs.declared.found.Found.TheVariants as found
-use Rattle.wasi_resolve.proofs.Touching.{none_in}
+use Rattle.wasi_host.proofs.Touching.{none_in}
 use Rattle.wasi_resolve.proofs.Calls.{resolved_stay, still_live}
 use Rattle.wasi_resolve.proofs.Ending.{mapped}
 

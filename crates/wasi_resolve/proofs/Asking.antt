@@ -1,24 +1,28 @@
--- What a walk asks a host for may be asked: over a valid tree its last name is a name.
+-- What a walk asks a host for may be asked: over a valid tree its last name is a name. So may what is asked at a place.
 use Rattle.std.proofs.Common.{ℕ, zero, suc, ◌≡◌, ◌<◌, arith, Bool, true, false, cond, List, [], ◌∷◌, ◌++◌, inl, inr, refl, sym, subst, Option, Some, None, Ok, Err}
-use Rattle.std.specs.Prelude.{codes, slice_index}
+use Rattle.std.specs.Prelude.{codes, slice_index, ◌||◌, IfSome, Result}
 use Rattle.std.specs.Str.{IsUtf8}
 use Rattle.std.specs.List.{All}
-use Rattle.std.proofs.lemmas.Bool.{cases_lt}
-use Rattle.std.proofs.lemmas.List.Elements.{All-head, All-tail, All-append}
+use Rattle.std.proofs.lemmas.Bool.{cases_lt, cases_Bool}
+use Rattle.std.proofs.lemmas.List.Elements.{All-head, All-tail, All-append, All-contains, Contains-push}
 use Rattle.std.proofs.lemmas.Str.{IsUtf8-nil, IsUtf8-from_ascii}
 use Rattle.wasi_paths.specs.Text.{IsName}
-use Rattle.wasi_paths.specs.Parts.{Component, RootDir, CurDir, ParentDir, Normal, parts, trailing_slash, is_empty}
+use Rattle.wasi_paths.specs.Parts.{Component, RootDir, CurDir, ParentDir, Normal, components, parts, trailing_slash, is_empty, requires_dir, ends_with_parent, split, strip_dir_suffix}
+use Rattle.wasi_paths.specs.TextLaws.{IsSplit}
+use Rattle.wasi_paths.proofs.OneSplit.{texts_have_one_split}
 use Rattle.wasi_host.specs.Options.{Options}
 use Rattle.wasi_host.specs.Tree.{Tree, Content, File, Directory, Link, node_at, next_of, child, text_of}
 use Rattle.wasi_host.specs.ValidTree.{IsValidTree, IsValidContent}
 use Rattle.wasi_host.specs.HostCall.{OpenAt, CanBeAsked}
 use Rattle.wasi_host.specs.Answer.{text_held, link_text}
+use Rattle.wasi_host.specs.Steps.{◌>>=◌}
 use Rattle.wasi_host.specs.declared.errors.ErrorCode.{ErrorCode}
 use Rattle.wasi_host.specs.declared.errors.ErrorCode.TheVariants as refusals
 use Rattle.wasi_host.proofs.Changes.{node_at-past}
 use Rattle.wasi_resolve.specs.Walk.{Aim, Open, Outcome, Stop, Name, Dot, Position, Leg, Ended, Linked, leg, at, unless_refused, is_to_be_read, refused, Walk, ended, one_link_more, resume, walk_from, walk}
-use Rattle.wasi_resolve.specs.Paths.{Opening, opening_of, opening}
-use Rattle.wasi_resolve.proofs.TextNames.{HasName, parts_named}
+use Rattle.wasi_resolve.specs.Paths.{Opening, opening_of, opening, Place, parent, part_text, place_at, place}
+use Rattle.wasi_resolve.specs.AtPlace.{PlaceCall, CreateDir, RemoveFile, RemoveDir, Symlink, ReadLink, call_at, place_for}
+use Rattle.wasi_resolve.proofs.TextNames.{HasName, components_named, parts_named, stripped_utf8}
 
 -- ---- the texts of links
 
@@ -35,7 +39,8 @@ module _ {t : Tree} (valid : IsValidTree t) where
     | inr past ↦ subst (λ node. IsUtf8 (text_of node.content)) (sym (node_at-past t n past)) IsUtf8-nil
   ]
 
-  link_utf8 : (d : ℕ) (name : List ℕ) → IsUtf8 (link_text t d name)
+  -- a link's text, which a host answers
+  pub link_utf8 : (d : ℕ) (name : List ℕ) → IsUtf8 (link_text t d name)
   unfolding link_text
   link_utf8 d name = held_utf8 (child t d name)
 
@@ -129,3 +134,59 @@ opening_asked {t} s text o follow {e} valid is opens =
     by (Stop code) named same = absurd (cc)
     by (Name d name slash) named same = let same_name : name ≡ e.name = (cc) in subst IsName same_name named
     by (Dot d) named same = dot d o.write same
+
+-- ---- the place
+
+last_named : {text front : List ℕ} (last : Component) → IsSplit text front last → IsUtf8 text → IsName (part_text last)
+last_named RootDir k is = absurd k.last_part
+last_named CurDir k is = dot_is_name
+last_named ParentDir k is = absurd k.last_part
+last_named {text} {front} (Normal name) k is =
+    elim (cases_Bool (requires_dir text || ends_with_parent text)) [
+      | inl whole ↦ let dot = (k.whole whole).1 in absurd (cc)
+      | inr cut ↦
+          let before = k.cut cut in
+          All-contains HasName (components front ++ Normal name ∷ []) (Normal name)
+          (subst (All HasName) before.all (components_named text is)) (Contains-push (components front) (Normal name))
+    ]
+
+split_named : (text : List ℕ) → IsUtf8 text → IfSome (split text) (λ halves. IsName (part_text halves.1))
+split_named text is = by (split text) (texts_have_one_split text).one
+  where
+    by : (found : Option (List ℕ × Component)) → IfSome found (λ halves. IsSplit text halves.0 halves.1)
+        → IfSome found (λ halves. IsName (part_text halves.1))
+    by None k = tt
+    by (Some halves) k = last_named halves.1 k is
+
+place_named : (t : Tree) (s : ℕ) (text : List ℕ) {p : Place} → IsUtf8 text → place t s text ≡ Ok p → IsName p.name
+unfolding place
+place_named t s text {p} is found = by (split text) (split_named text is) found
+  where
+    in_directory : (part : Component) (d : Result ℕ ErrorCode) → IsName (part_text part)
+        → d >>= (λ n. let r : Result Place ErrorCode = Ok (record { directory = n; name = part_text part }) in r) ≡ Ok p
+        → IsName p.name
+    in_directory part (Err code) named same = absurd (cc)
+    in_directory part (Ok n) named same =
+        let same_name : part_text part ≡ p.name = (cc) in subst IsName same_name named
+
+    by : (halves : Option (List ℕ × Component)) → IfSome halves (λ h. IsName (part_text h.1))
+        → place_at t s halves ≡ Ok p → IsName p.name
+    by None named same = absurd (cc)
+    by (Some halves) named same = in_directory halves.1 (parent t s halves.0) named same
+
+-- the text of a link that is to be made is UTF-8
+abbrev pub HasUtf8Target : PlaceCall → Type 0
+HasUtf8Target CreateDir = Unit {0}
+HasUtf8Target RemoveFile = Unit {0}
+HasUtf8Target RemoveDir = Unit {0}
+HasUtf8Target (Symlink target) = IsUtf8 target
+HasUtf8Target ReadLink = Unit {0}
+
+-- the call at a place may be asked of a host
+pub place_asked : (t : Tree) (s : ℕ) (text : List ℕ) (what : PlaceCall) {p : Place} → IsUtf8 text → HasUtf8Target what
+    → place_for t s text what ≡ Ok p → CanBeAsked (call_at what p)
+place_asked t s text CreateDir is target found = place_named t s (strip_dir_suffix text) (stripped_utf8 text is) found
+place_asked t s text RemoveFile is target found = place_named t s text is found
+place_asked t s text RemoveDir is target found = place_named t s text is found
+place_asked t s text (Symlink link) is target found = (target, place_named t s text is found)
+place_asked t s text ReadLink is target found = place_named t s text is found

@@ -7,10 +7,11 @@ use Rattle.std.proofs.lemmas.Bool.Decides.{nat_tests}
 use Rattle.wasi_host.specs.Tree.{Tree}
 use Rattle.wasi_host.specs.ValidTree.{Reached}
 use Rattle.wasi_host.specs.Agree.{Touches, OrMade}
-use Rattle.wasi_host.specs.HostCall.{HostCall, OpenAt, StatAt, ReadLinkAt, Access, Stat, Pread, Pwrite, Dup, Close}
+use Rattle.wasi_host.specs.HostCall.{HostCall, OpenAt, StatAt, ReadLinkAt, MakeDirAt, SymlinkAt, UnlinkAt, RemoveDirAt, Access, Stat, Pread, Pwrite, Dup, Close}
 use Rattle.wasi_host.specs.Refusal.{refusal}
 use Rattle.wasi_host.specs.Answer.{HostAnswer, host_answer, unless}
 use Rattle.wasi_host.specs.Step.{step, found_by, made_by}
+use Rattle.wasi_host.specs.Steps.{◌>>=◌}
 use Rattle.wasi_host.specs.Meaning.{World, Handles, Told, Stepped, AfterErr, answered, Means, MeansErr}
 use Rattle.wasi_host.specs.declared.errors.ErrorCode.{ErrorCode}
 use Rattle.wasi_host.specs.declared.errors.ErrorCode.TheVariants.{Io}
@@ -18,7 +19,7 @@ use Rattle.wasi_host.specs.declared.errors.HostError.{HostError}
 use Rattle.wasi_host.specs.declared.errors.HostError.TheVariants.{Code, Memory}
 use Rattle.wasi_resolve.specs.Resolved.{Meant, Resolved, TreeAfter}
 use Rattle.wasi_resolve.specs.WalkSteps.{Looks, Stayed, IsFault}
-use Rattle.wasi_resolve.proofs.Touching.{touches_with, touches_same, no_ends, touches_on, from_node, found_near, made_new}
+use Rattle.wasi_host.proofs.Touching.{touches_with, touches_same, no_ends, touches_on, from_node, found_near, made_new}
 
 -- ---- a call by itself
 
@@ -35,6 +36,10 @@ answers : (t : Tree) (call : HostCall) → refusal t call ≡ None → is_ok (ho
 answers t (OpenAt d name o) is = given _ is
 answers t (StatAt d name) is = given _ is
 answers t (ReadLinkAt d name) is = given _ is
+answers t (MakeDirAt d name) is = given _ is
+answers t (SymlinkAt text d name) is = given _ is
+answers t (UnlinkAt d name) is = given _ is
+answers t (RemoveDirAt d name) is = given _ is
 answers t (Access d) is = given _ is
 answers t (Stat n) is = given _ is
 answers t (Pread file offset n) is = given _ is
@@ -169,6 +174,13 @@ err_means meant code is = is
 pub fault_means : {B : Type 0} (meant : Result B ErrorCode) {e : HostError} → IsFault e → MeansErr meant e
 fault_means meant (inl is) = subst (MeansErr meant) (sym is) tt
 fault_means meant (inr is) = subst (MeansErr meant) (sym is) tt
+
+-- a first step is refused, or fails, and so does the whole
+pub means_then : {B C : Type 0} (r : Result B ErrorCode) (next : B → Result C ErrorCode) (e : HostError) → MeansErr r e
+    → MeansErr (r >>= next) e
+means_then r next Memory means = tt
+means_then r next (Code Io) means = tt
+means_then r next (Code code) means = ap (λ x. x >>= next) means
 
 -- ---- one behind another
 

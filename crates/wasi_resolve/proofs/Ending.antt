@@ -30,7 +30,7 @@ use Rattle.wasi_resolve.specs.declared.found.Found.TheVariants as found
 use Rattle.wasi_resolve.specs.declared.found.Reach.{Reach}
 use Rattle.wasi_resolve.specs.declared.found.Reach.TheVariants as reach
 use Rattle.wasi_resolve.specs.declared.name_left.NameLeft.{NameLeft}
-use Rattle.wasi_resolve.proofs.Touching.{at_root, open_ends, name_ends}
+use Rattle.wasi_host.proofs.Touching.{at_root, open_ends, name_ends}
 use Rattle.wasi_resolve.proofs.Calls.{call_meant}
 use Rattle.wasi_resolve.proofs.Calls.{call_ok, call_err, looks_of, looks_then, resolved_err, resolved_then, err_means, fault_means, same_live, still_live}
 use Rattle.wasi_resolve.proofs.Tables.{refused_by, looked_child, looked_free, looked_is, looked_link, looked_directory, open_to_read, look_to_read, look_reads, look_unread, met_reads}

@@ -21,7 +21,7 @@ use Rattle.wasi_resolve.specs.Walk.{is_link_code}
 use Rattle.wasi_resolve.specs.Resolved.{Resolved}
 use Rattle.wasi_resolve.specs.Finding.{has_link_code, is_link_kind}
 use Rattle.wasi_resolve.specs.WalkSteps.{Looks, IsFault, OpensUnread, MeetsLink, open_meant}
-use Rattle.wasi_resolve.proofs.Touching.{open_ends, at_root}
+use Rattle.wasi_host.proofs.Touching.{open_ends, at_root}
 use Rattle.wasi_resolve.proofs.Calls.{call_ok, call_err, looks_of, looks_still, looks_then, resolved_err, err_means, same_live, still_live}
 use Rattle.wasi_resolve.proofs.Tables.{refused_by, looked_link, unmet_code, unmet_rule, unmet_unlooked}
 

@@ -24,7 +24,7 @@ use Rattle.wasi_resolve.specs.WalkSteps.{Looks, Walked, Same, IsFault, IsRefused
 use Rattle.wasi_resolve.specs.declared.found.Stop.{Stop}
 use Rattle.wasi_resolve.specs.declared.found.Stop.TheVariants as stops
 use Rattle.wasi_resolve.specs.declared.left.PartLeft.{PartLeft}
-use Rattle.wasi_resolve.proofs.Touching.{reached_on}
+use Rattle.wasi_host.proofs.Touching.{reached_on}
 use Rattle.wasi_resolve.proofs.Calls.{looks_of, looks_then}
 use Rattle.wasi_resolve.proofs.Stacks.{first_live, top_node, nodes_push, nodes_kept}
 use Rattle.wasi_resolve.proofs.Tables.{refused_by, met_reads, open_leaves, open_near}

@@ -12,7 +12,7 @@ use Rattle.wasi_paths.specs.Parts.{Component, RootDir, CurDir, ParentDir, Normal
 use Rattle.wasi_resolve.specs.Walk.{Aim, Stop, Name, Leg, Ended, Linked, is_to_be_read, refused, middle_options, unless_refused}
 use Rattle.wasi_resolve.specs.ByNodes.{top, leg_nodes}
 use Rattle.wasi_resolve.specs.WalkSteps.{Same, IsRefused, is_met_link, taken_by, AreReached}
-use Rattle.wasi_resolve.proofs.Touching.{at_root}
+use Rattle.wasi_host.proofs.Touching.{at_root}
 use Rattle.wasi_resolve.proofs.Tables.{middle_to_read}
 
 -- ---- the same walk from another state

@@ -6,7 +6,6 @@ mod LawProofs
 pub mod Requests
 mod TextNames
 pub mod Asking
-pub mod Touching
 pub mod Calls
 pub mod Stacks
 pub mod Lookups
@@ -22,3 +21,4 @@ pub mod Passing
 pub mod Coming
 pub mod Answering
 pub mod Parenting
+pub mod AtPlaces

@@ -1,17 +1,17 @@
 -- The place that a path names.
-use Rattle.std.proofs.Common.{◌≡◌, ℕ, true, false, List, [], ◌∷◌, Some, None, Result, Ok, Err, refl, sym, ap, subst, ◌∙◌}
-use Rattle.std.specs.Prelude.{is_ok, codes}
+use Rattle.std.proofs.Common.{◌≡◌, ℕ, Bool, true, false, List, [], ◌∷◌, Some, None, Result, Ok, Err, refl, sym, ap, subst, ◌∙◌}
+use Rattle.std.specs.Prelude.{is_ok, codes, if◌then◌else◌}
 use Rattle.wasi_host.specs.Agree.{Touches}
-use Rattle.wasi_host.specs.Options.{creates}
+use Rattle.wasi_host.specs.Options.{Options, creates}
 use Rattle.wasi_host.specs.Tree.{Tree}
 use Rattle.wasi_host.specs.HostCall.{OpenAt}
 use Rattle.wasi_host.specs.Refusal.{refusal}
 use Rattle.wasi_host.specs.Steps.{◌>>=◌}
 use Rattle.wasi_host.specs.Meaning.{World, Handles, MeansErr}
 use Rattle.wasi_host.specs.declared.errors.ErrorCode.{ErrorCode}
-use Rattle.wasi_host.specs.declared.errors.ErrorCode.TheVariants.{Io, NoEntry}
+use Rattle.wasi_host.specs.declared.errors.ErrorCode.TheVariants.{IsDirectory, NoEntry}
 use Rattle.wasi_host.specs.declared.errors.HostError.{HostError}
-use Rattle.wasi_host.specs.declared.errors.HostError.TheVariants.{Code, Memory}
+use Rattle.wasi_host.specs.declared.errors.HostError.TheVariants.{Code}
 use Rattle.wasi_host.specs.declared.held.Held.{Held}
 use Rattle.wasi_paths.specs.Name.{name_bytes}
 use Rattle.wasi_paths.specs.Parts.{Component, split, is_empty}
@@ -22,24 +22,32 @@ use Rattle.wasi_resolve.specs.Meanings.{opens_at}
 use Rattle.wasi_resolve.specs.Resolved.{Resolved}
 use Rattle.wasi_resolve.specs.Parents.{shown_place, places_at}
 use Rattle.wasi_resolve.specs.declared.parent.MaybeOwned.TheVariants.{Borrowed, Owned}
-use Rattle.wasi_resolve.proofs.Touching.{touches_same}
-use Rattle.wasi_resolve.proofs.Calls.{looks_of, looks_none, resolved_err}
+use Rattle.wasi_host.proofs.Touching.{touches_same}
+use Rattle.wasi_resolve.proofs.Calls.{looks_of, looks_none, means_then, resolved_err}
 use Rattle.wasi_resolve.proofs.Tables.{open_leaves}
 use Rattle.wasi_resolve.proofs.Entering.{ok_free}
 
--- ---- a directory is opened without a step
+-- ---- an open that asks to make and cut nothing makes no step
 
-plain_opening : (outcome : Outcome) (e : Opening) → opening_of directory_options outcome ≡ Ok e
+plain_opening : (o : Options) (outcome : Outcome) (e : Opening) → creates o ≡ false → o.truncate ≡ false
+    → opening_of o outcome ≡ Ok e
     → (creates e.options ≡ false) × (e.options.truncate ≡ false)
-plain_opening (Stop code) e is = absurd (cc)
-plain_opening (NameEnd d name slash) e is =
-    let made : Opening = record { directory = d; name = name; options = last_options directory_options slash } in
+plain_opening o (Stop code) e not_made not_cut is = absurd (cc)
+plain_opening o (NameEnd d name slash) e not_made not_cut is =
+    let made : Opening = record { directory = d; name = name; options = last_options o slash } in
     let same : made ≡ e = (cc) in
-    subst (λ (x : Opening). (creates x.options ≡ false) × (x.options.truncate ≡ false)) same (refl, refl)
-plain_opening (Dot d) e is =
-    let made : Opening = record { directory = d; name = codes "."; options = directory_options } in
-    let same : made ≡ e = (cc) in
-    subst (λ (x : Opening). (creates x.options ≡ false) × (x.options.truncate ≡ false)) same (refl, refl)
+    subst (λ (x : Opening). (creates x.options ≡ false) × (x.options.truncate ≡ false)) same (not_made, not_cut)
+plain_opening o (Dot d) e not_made not_cut is = by o.write is
+  where
+    made : Opening
+    made = record { directory = d; name = codes "."; options = o }
+
+    by : (write : Bool) → (let r : Result Opening ErrorCode = if write then Err IsDirectory else Ok made in r) ≡ Ok e
+        → (creates e.options ≡ false) × (e.options.truncate ≡ false)
+    by true wrong = absurd (cc)
+    by false at =
+        let same : made ≡ e = (cc) in
+        subst (λ (x : Opening). (creates x.options ≡ false) × (x.options.truncate ≡ false)) same (not_made, not_cut)
 
 step_none : (t : Tree) (r : Result Opening ErrorCode)
     → ((e : Opening) → r ≡ Ok e → (creates e.options ≡ false) × (e.options.truncate ≡ false))
@@ -51,12 +59,17 @@ step_none t (Ok e) plain is =
     open_leaves t e.directory e.name e.options (ok_free (refusal t
     (OpenAt e.directory e.name e.options)) _ is) options.0 options.1
 
+pub opening_leaves : (t : Tree) (s : ℕ) (text : List ℕ) (o : Options) (follow : Bool) → creates o ≡ false
+    → o.truncate ≡ false → is_ok (opened t s text o follow) ≡ true
+    → after_open t s text o follow ≡ t
+unfolding opening
+opening_leaves t s text o follow not_made not_cut is =
+    let outcome = (walk t s text (Open o) follow).outcome in
+    step_none t (opening_of o outcome) (λ e at. plain_opening o outcome e not_made not_cut at) is
+
 dir_leaves : (t : Tree) (s : ℕ) (text : List ℕ) → is_ok (opened t s text directory_options true) ≡ true
     → after_open t s text directory_options true ≡ t
-unfolding opening
-dir_leaves t s text is =
-    step_none t (opening_of directory_options (walk t s text (Open directory_options) true).outcome)
-    (plain_opening (walk t s text (Open directory_options) true).outcome) is
+dir_leaves t s text is = opening_leaves t s text directory_options true refl refl is
 
 -- ---- the place
 
@@ -113,15 +126,6 @@ placed_start live w start path {text} {part} name is none named = record {
   keeps = λ h within. refl;
 }
 
-means_on : (part : Component) (r : Result Held ErrorCode) (e : HostError) → MeansErr r e
-    → MeansErr (r >>= (λ held. Ok held.node) >>= (λ d. let p : Result Place ErrorCode =
-    Ok (record { directory = d; name = part_text part }) in p)) e
-means_on part r Memory means = tt
-means_on part r (Code Io) means = tt
-means_on part r (Code code) means =
-    ap (λ x. x >>= (λ (held : Held). Ok held.node) >>= (λ d. let p : Result Place ErrorCode =
-    Ok (record { directory = d; name = part_text part }) in p)) means
-
 module _ {live : Handles} {w u : World} (s : ℕ) (path text : List ℕ) (part : Component) (is : split path ≡ Some
     (text, part))
     (some : is_empty text ≡ false) where
@@ -148,6 +152,8 @@ module _ {live : Handles} {w u : World} (s : ℕ) (path text : List ℕ) (part :
       → Resolved live w u (places_at w.tree s path) (shown_place u.held) (Err e)
   placed_err e resolved =
       resolved_err (places_at w.tree s path) (shown_place u.held) e refl
-      (subst (λ r. MeansErr r e) (sym (place_opened w.tree s path text part is some)) (means_on part
-      (opened w.tree s text directory_options true) e resolved.answer))
+      (subst (λ r. MeansErr r e) (sym (place_opened w.tree s path text part is some))
+      (means_then (opened w.tree s text directory_options true >>= (λ held. Ok held.node)) (λ d. Ok
+      (record { directory = d; name = part_text part }))
+      e (means_then (opened w.tree s text directory_options true) (λ held. Ok held.node) e resolved.answer)))
       (looks_of (Err e) (dir_leaves w.tree s text) resolved)

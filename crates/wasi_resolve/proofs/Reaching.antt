@@ -25,8 +25,8 @@ use Rattle.wasi_resolve.specs.declared.found.Reach.TheVariants as reach
 use Rattle.wasi_resolve.specs.declared.left.PartLeft.{PartLeft}
 use Rattle.wasi_resolve.proofs.Calls.{resolved_err, resolved_then, err_means}
 use Rattle.wasi_resolve.proofs.Stacks.{first_live, stands_same, stands_below}
-use Rattle.wasi_resolve.proofs.Lookups.{traced_last, traced_top, traced_stays}
-use Rattle.wasi_host.proofs.Tracing.{traced_then}
+use Rattle.wasi_resolve.proofs.Lookups.{traced_top, traced_stays}
+use Rattle.wasi_host.proofs.Tracing.{traced_then, traced_last}
 use Rattle.wasi_resolve.proofs.Legs.{last_ended, last_linked, taken_more}
 use Rattle.wasi_resolve.proofs.Going.{OnTop, node_is, here_near, looks_on, kept_on, walked_on}
 

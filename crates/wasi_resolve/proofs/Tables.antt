@@ -18,7 +18,7 @@ use Rattle.wasi_host.specs.declared.metadata.Metadata.{Metadata}
 use Rattle.wasi_resolve.specs.Walk.{Aim, Open, Look, is_to_be_read, is_link_code, is_look, refused, middle_options, last_options}
 use Rattle.wasi_resolve.specs.Finding.{is_link_kind, is_directory_kind}
 use Rattle.wasi_resolve.specs.WalkSteps.{is_met_link}
-use Rattle.wasi_resolve.proofs.Touching.{child_reached}
+use Rattle.wasi_host.proofs.Touching.{child_reached}
 
 pub refused_by : {B : Type 0} (refused : Option ErrorCode) (x : B) {code : ErrorCode} → unless refused x ≡ Err code
     → refused ≡ Some code

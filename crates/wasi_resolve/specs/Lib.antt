@@ -12,3 +12,4 @@ pub mod Stack
 pub mod Finding
 pub mod WalkSteps
 pub mod Parents
+pub mod AtPlace

@@ -1,6 +1,6 @@
 -- A name in the directory that a path leads to, as contracts see it.
 use Rattle.std.specs.Prelude.{◌≡◌, ℕ, false, List, [], Option, Some, None, Result, Ok, Err}
-use Rattle.std.specs.FinSet.{contains, insert}
+use Rattle.std.specs.FinSet.{contains, insert, remove}
 use Rattle.wasi_host.specs.Tree.{Tree}
 use Rattle.wasi_host.specs.Meaning.{Handles}
 use Rattle.wasi_host.specs.declared.errors.HostError.{HostError}
@@ -22,7 +22,7 @@ abbrev pub shown_place : (ℕ → Held) → Parent → Place
 shown_place held parent =
     record { directory = (held (directory_of parent.directory)).node; name = name_bytes parent.name }
 
--- what a place means. The path ends in its directory, which the start is, or which was opened.
+-- what a place means. Nothing need be touched, since a place in the start itself is found by its text alone.
 abbrev pub places_at : Tree → ℕ → List ℕ → Meant Place
 places_at t s text = record { start = s; answer = place t s text; stepped = t; ends = [] }
 
@@ -34,6 +34,11 @@ LiveIn start old (Owned h) new = (contains old h ≡ false) × (new ≡ insert o
 abbrev pub LiveParent : ℕ → Handles → Result Parent HostError → Handles → Type 0
 LiveParent start old (Ok parent) new = LiveIn start old parent.directory new
 LiveParent start old (Err e) new = new ≡ old
+
+-- what is live once a directory is closed that was opened
+abbrev pub released : Handles → MaybeOwned → Handles
+released live (Borrowed h) = live
+released live (Owned h) = remove live h
 
 -- the handle that was got, where one was opened
 abbrev pub GotIn : MaybeOwned → ℕ → Type 0

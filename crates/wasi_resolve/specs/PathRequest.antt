@@ -1,5 +1,5 @@
 -- The ways to read or change a tree through a path, and all that is known of each.
-use Rattle.std.specs.Prelude.{ℕ, Bool, List, [], ◌∷◌, Result, Ok, Err}
+use Rattle.std.specs.Prelude.{ℕ, Bool, not, ◌&&◌, if◌then◌else◌, List, [], ◌∷◌, Result, Ok, Err}
 use Rattle.wasi_host.specs.Options.{Options}
 use Rattle.wasi_host.specs.Tree.{Tree, node_at, is_directory}
 use Rattle.wasi_host.specs.HostCall.{OpenAt}
@@ -8,15 +8,21 @@ use Rattle.wasi_host.specs.Step.{open_step}
 use Rattle.wasi_host.specs.Answer.{unless, reached, access_of, metadata_of}
 use Rattle.wasi_host.specs.Steps.{◌>>=◌}
 use Rattle.wasi_host.specs.declared.errors.ErrorCode.{ErrorCode}
+use Rattle.wasi_host.specs.declared.errors.ErrorCode.TheVariants.{NotDirectory}
 use Rattle.wasi_host.specs.declared.held.Held.{Held}
 use Rattle.wasi_host.specs.declared.metadata.Metadata.{Metadata}
+use Rattle.wasi_resolve.specs.AtPlace.{PlaceCall, PlaceAnswer, answer_in, place_for, step_in, ends_in}
+use Rattle.wasi_resolve.specs.Meanings.{ends_by, opened_node}
 use Rattle.wasi_resolve.specs.Paths.{Opening, opening, after_open, looked}
+use Rattle.wasi_resolve.specs.Resolved.{Meant}
 
 pub data PathRequest : Type 0 where
-  -- open: the start, the text, the options, whether a last link is followed
-  OpenPath : ℕ → List ℕ → Options → Bool → PathRequest
+  -- open: the start, the text, the options, whether a last link is followed, whether a directory is to be opened
+  OpenPath : ℕ → List ℕ → Options → Bool → Bool → PathRequest
   -- look: the start, the text, whether a last link is followed
   LookPath : ℕ → List ℕ → Bool → PathRequest
+  -- do something at the place that the text names: the start, the text, what
+  AtPlace : ℕ → List ℕ → PlaceCall → PathRequest
 
 -- what was opened, and whether it is a directory
 pub record Opened : Type 0 where
@@ -25,8 +31,9 @@ pub record Opened : Type 0 where
 
 -- what a request is answered
 abbrev pub PathReply : PathRequest → Type 0
-PathReply (OpenPath s text o follow) = Opened
+PathReply (OpenPath s text o follow directory) = Opened
 PathReply (LookPath s text follow) = Metadata
+PathReply (AtPlace s text what) = PlaceAnswer what
 
 abbrev pub opened_at : Tree → ℕ → List ℕ → Options → Opened
 opened_at t d name o = record {
@@ -37,32 +44,42 @@ opened_at t d name o = record {
 abbrev pub answer_at : Tree → Opening → Result Opened ErrorCode
 answer_at t e = unless (refusal t (OpenAt e.directory e.name e.options)) (opened_at t e.directory e.name e.options)
 
+-- what isn't a directory is refused where one is asked for
+abbrev pub as_asked : Bool → Opened → Result Opened ErrorCode
+as_asked directory found = if directory && not found.is_dir then Err NotDirectory else Ok found
+
 -- the answer: of the walk, then of the host's table where it ends
 abbrev pub path_reply : Tree → (r : PathRequest) → Result (PathReply r) ErrorCode
-path_reply t (OpenPath s text o follow) = opening t s text o follow >>= answer_at t
+path_reply t (OpenPath s text o follow directory) = opening t s text o follow >>= answer_at t >>= as_asked directory
 path_reply t (LookPath s text follow) = looked t s text follow >>= (λ n. Ok (metadata_of t n))
+path_reply t (AtPlace s text what) = place_for t s text what >>= answer_in t what
 
 -- the tree after a request that is answered: at most one step
 abbrev pub path_after : Tree → PathRequest → Tree
-path_after t (OpenPath s text o follow) = after_open t s text o follow
+path_after t (OpenPath s text o follow directory) = after_open t s text o follow
 path_after t (LookPath s text follow) = t
+path_after t (AtPlace s text what) = step_in t what (place_for t s text what)
 
--- the nodes from which a request starts
-abbrev pub path_starts : PathRequest → List ℕ
-path_starts (OpenPath s text o follow) = s ∷ []
-path_starts (LookPath s text follow) = s ∷ []
-
-abbrev pub where_answered : {A : Type 0} → (A → List ℕ) → Result A ErrorCode → List ℕ
-where_answered nodes (Ok value) = nodes value
-where_answered nodes (Err code) = []
+-- the node from which a request starts
+abbrev pub path_start : PathRequest → ℕ
+path_start (OpenPath s text o follow directory) = s
+path_start (LookPath s text follow) = s
+path_start (AtPlace s text what) = s
 
 -- the nodes at which the path of a request ends
 abbrev pub path_ends : Tree → PathRequest → List ℕ
-path_ends t (OpenPath s text o follow) =
-    where_answered (λ e. reached t e.directory e.name ∷ []) (opening t s text o follow)
-path_ends t (LookPath s text follow) = where_answered (λ n. n ∷ []) (looked t s text follow)
+path_ends t (OpenPath s text o follow directory) = ends_by (opened_node t) (opening t s text o follow)
+path_ends t (LookPath s text follow) = ends_by (λ n. n) (looked t s text follow)
+path_ends t (AtPlace s text what) =
+    ends_in t (step_in t what (place_for t s text what)) (place_for t s text what)
 
 -- the nodes that an answer gives
 abbrev pub path_gives : (r : PathRequest) → PathReply r → List ℕ
-path_gives (OpenPath s text o follow) found = found.held.node ∷ []
+path_gives (OpenPath s text o follow directory) found = found.held.node ∷ []
 path_gives (LookPath s text follow) metadata = []
+path_gives (AtPlace s text what) answer = []
+
+-- what a request means
+abbrev pub meant_by : Tree → (r : PathRequest) → Meant (PathReply r)
+meant_by t r =
+    record { start = path_start r; answer = path_reply t r; stepped = path_after t r; ends = path_ends t r }

@@ -10,7 +10,7 @@ use Rattle.wasi_host.specs.declared.errors.HostError.{HostError}
 use Rattle.wasi_host.specs.declared.errors.HostError.TheVariants.{Code, Memory}
 use Rattle.wasi_host.specs.declared.lookup.Lookup.{Lookup}
 use Rattle.wasi_host.specs.declared.lookup.LookKind.{LookKind}
-use Rattle.wasi_host.specs.declared.lookup.LookKind.TheVariants.{ReadLink, Open, Stat, Dup}
+use Rattle.wasi_host.specs.declared.lookup.LookKind.TheVariants.{ReadLink, Open, Stat, Make, MakeLink, Unlink, RemoveDir, Dup}
 
 abbrev pub is_link_read : Lookup → Bool
 is_link_read entry = by entry.kind
@@ -19,6 +19,10 @@ is_link_read entry = by entry.kind
     by ReadLink = true
     by Open = false
     by Stat = false
+    by Make = false
+    by MakeLink = false
+    by Unlink = false
+    by RemoveDir = false
     by Dup = false
 
 -- how many links were read

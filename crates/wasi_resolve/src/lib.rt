@@ -1,6 +1,7 @@
 //! The walk along the parts of a path, which never leaves the directory that it starts from.
 #![tactic(auto)]
 
+mod at_place;
 mod found;
 mod laws;
 mod left;
@@ -11,6 +12,7 @@ mod resolver;
 mod stack;
 mod walk;
 
+pub use at_place::{create_dir, read_link, remove_dir, remove_file, symlink};
 pub use laws::{paths_agree, paths_stay_in_reach, walks_have_one_end, walks_read_few_links};
 pub use parent::{MaybeOwned, Parent, open_parent};
 pub use resolver::{open, open_dir, stat};

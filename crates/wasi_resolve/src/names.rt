@@ -105,10 +105,7 @@ pub(crate) fn open_or_link<H: Host>(
     if !may_be_link(refused) {
         return Err(refused);
     }
-    let metadata = match host.stat_at(here, name) {
-        Ok(metadata) => metadata,
-        Err(other) => return Err(other),
-    };
+    let metadata = host.stat_at(here, name)?;
     if !is_link_kind(metadata.kind) {
         return Err(refused);
     }
@@ -241,10 +238,7 @@ fn look_last<'p, H: Host>(
         ((H.world host.old).held here).node Look
         (follows follow) slash (left_bytes name.entry.text) result }
 {
-    let metadata = match host.stat_at(here, name.name()) {
-        Ok(metadata) => metadata,
-        Err(e) => return Err(e),
-    };
+    let metadata = host.stat_at(here, name.name())?;
     let may_read = reads_links(follow, slash);
     if is_read(metadata.kind, may_read) {
         return Ok(Reach::Link(name));

@@ -1,5 +1,5 @@
 //! A name in the directory that a path leads to.
-ghost use Rattle.std.specs.Prelude.{◌≡◌, ◌≤◌, ◌+◌, ◌*◌, true, IsTrue, length};
+ghost use Rattle.std.specs.Prelude.{◌≡◌, ◌≤◌, ◌+◌, ◌*◌, true, IsTrue, IfOk, length};
 ghost use Rattle.std.specs.FinSet.{contains};
 ghost use Rattle.wasi_host.specs.Meaning.{HasCause};
 ghost use Rattle.wasi_host.specs.Lineage.{Traced, Only, Nothing};
@@ -9,7 +9,8 @@ ghost use Rattle.wasi_paths.specs.TextLaws.{IsLastPart};
 ghost use Rattle.wasi_resolve.specs.Walk.{Open, walk};
 ghost use Rattle.wasi_resolve.specs.Paths.{directory_options, part_text};
 ghost use Rattle.wasi_resolve.specs.Resolved.{links_read, Resolved};
-ghost use Rattle.wasi_resolve.specs.Parents.{directory_of, parent_text, places_at, shown_place, GotParent, LiveParent};
+ghost use Rattle.wasi_resolve.specs.Parents.{directory_of, parent_text, places_at, released, shown_place, GotParent, LiveParent};
+ghost use Rattle.wasi_resolve.specs.WalkSteps.{Stayed};
 
 use crate::resolver::open_dir;
 use crate::walk::is_empty;
@@ -35,10 +36,25 @@ impl MaybeOwned {
             MaybeOwned::Owned(handle) => handle,
         }
     }
+
+    /// Closes the directory, where it was opened.
+    pub(crate) fn release<H: Host>(self, host: &mut H)
+        requires { contains (H.live host.old) (directory_of self) ≡ true }
+        ensures faults { H.faults host.new ≡ H.faults host.old }
+        ensures live { H.live host.new ≡ released (H.live host.old) self }
+        ensures logged { H.lookups host.new ≡ H.lookups host.old }
+        ensures told { IsTrue H.told
+            → Stayed (released (H.live host.old) self) (H.world host.old) (H.world host.new) }
+    {
+        match self {
+            MaybeOwned::Borrowed(_) => {}
+            MaybeOwned::Owned(handle) => host.close(handle),
+        }
+    }
 }
 
 /// A name in a directory, in which it may be missing.
-#[derive(Clone, Copy, Debug)]
+#[derive(Clone, Copy, Debug, PartialEq, Eq)]
 pub struct Parent<'p> {
     pub directory: MaybeOwned,
     pub name: Name<'p>,
@@ -63,6 +79,7 @@ fn last_name<'p>(last: Part<'p>) -> Name<'p>
 /// The place that a path names below a start directory: its last part, a plain name or `.`, in the directory that its
 /// parent text opens, or in the start itself: the crate's `open_parent` in `open_parent.rs`. The name itself
 /// is not looked up. The empty path is refused NoEntry, and any other as the open of its parent is.
+#[tactic(auto, using(wasi_host::proofs::Chain::live_rules))]
 pub fn open_parent<'p, H: Host>(
     alloc: Global,
     host: &mut H,
@@ -72,6 +89,8 @@ pub fn open_parent<'p, H: Host>(
     requires live { contains (H.live host.old) start ≡ true }
     ensures cause { HasCause (H.faults host.old) (H.faults host.new) result }
     ensures live { LiveParent start (H.live host.old) result (H.live host.new) }
+    ensures held { IfOk result (λ parent. contains (H.live host.new) (directory_of parent.directory) ≡ true) }
+    ensures closes { IfOk result (λ parent. released (H.live host.new) parent.directory ≡ H.live host.old) }
     ensures lineage { Traced (Only start) Nothing (GotParent result) (H.lookups host.old) (H.lookups host.new) }
     ensures links { links_read (H.lookups host.new) ≤ links_read (H.lookups host.old) + 40 }
     ensures told { IsTrue H.told → Resolved (H.live host.old) (H.world host.old) (H.world host.new)
@@ -92,11 +111,9 @@ pub fn open_parent<'p, H: Host>(
             name,
         });
     }
-    match open_dir(alloc, host, start, parent) {
-        Ok(handle) => Ok(Parent {
-            directory: MaybeOwned::Owned(handle),
-            name,
-        }),
-        Err(e) => Err(e),
-    }
+    let directory = open_dir(alloc, host, start, parent)?;
+    Ok(Parent {
+        directory: MaybeOwned::Owned(directory),
+        name,
+    })
 }

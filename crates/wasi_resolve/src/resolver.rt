@@ -38,10 +38,7 @@ pub fn open<H: Host>(
         (walk (H.world host.old).tree ((H.world host.old).held start).node path.now (Open options.now)
         (follows options.now.follow)).parts + 4) }
 {
-    let found = match walk(alloc, host, start, path, &Aim::Open(*options)) {
-        Ok(found) => found,
-        Err(e) => return Err(e),
-    };
+    let found = walk(alloc, host, start, path, &Aim::Open(*options))?;
     match found {
         Found::Handle(handle) => Ok(handle),
         Found::Metadata(_) => unreachable!(),
@@ -93,10 +90,7 @@ pub fn stat<H: Host>(
     ensures bound { IsTrue H.told → length (H.lookups host.new) ≤ length (H.lookups host.old) + (3 *
         (walk (H.world host.old).tree ((H.world host.old).held start).node path.now Look (follows follow)).parts + 4) }
 {
-    let found = match walk(alloc, host, start, path, &Aim::Look(follow)) {
-        Ok(found) => found,
-        Err(e) => return Err(e),
-    };
+    let found = walk(alloc, host, start, path, &Aim::Look(follow))?;
     match found {
         Found::Metadata(metadata) => Ok(metadata),
         Found::Handle(_) => unreachable!(),

@@ -104,10 +104,7 @@ fn leg<'p, H: Host>(
 {
     while let Some(part) = left.pop() {
         let is_last = left.as_slice().is_empty();
-        let stopped = match step(host, start, stack, part, is_last) {
-            Ok(stopped) => stopped,
-            Err(e) => return Err(e),
-        };
+        let stopped = step(host, start, stack, part, is_last)?;
         if let Some(stop) = stopped {
             return Ok(stop);
         }
@@ -129,10 +126,8 @@ fn open_dot<H: Host>(host: &mut H, here: Handle, options: &OpenOptions) -> Resul
     if options.is_write() {
         return Err(HostError::Code(ErrorCode::IsDirectory));
     }
-    match host.open_at(here, Name::dot(), options) {
-        Ok(handle) => Ok(Found::Handle(handle)),
-        Err(e) => Err(e),
-    }
+    let handle = host.open_at(here, Name::dot(), options)?;
+    Ok(Found::Handle(handle))
 }
 
 /// A look that ends in a directory, which must have its search bit.
@@ -146,14 +141,9 @@ fn look_dot<H: Host>(host: &mut H, here: Handle) -> Result<Found, HostError>
     ensures told { IsTrue H.told → EndsInDirectory (H.live host.old) (H.world host.old) (H.world host.new)
         ((H.world host.old).held here).node (aim_of (Aim.Look FollowSymlinks.No)) result }
 {
-    match host.access(here) {
-        Ok(()) => {}
-        Err(code) => return Err(HostError::Code(code)),
-    }
-    match host.stat(here) {
-        Ok(metadata) => Ok(Found::Metadata(metadata)),
-        Err(code) => Err(HostError::Code(code)),
-    }
+    host.access(here)?;
+    let metadata = host.stat(here)?;
+    Ok(Found::Metadata(metadata))
 }
 
 /// A walk that ends in a directory, since no part is left.
@@ -196,10 +186,7 @@ fn reach<'p, H: Host>(
         → Reaches first w (H.world host.old) (H.world host.new) start (aim_of aim.now) (follow_of aim.now) slash m
         (parts_left left.old.items) stack.old.items (parts_left left.new.items) stack.new.items result }
 {
-    let stop = match leg(host, start, stack, left) {
-        Ok(stop) => stop,
-        Err(e) => return Err(e),
-    };
+    let stop = leg(host, start, stack, left)?;
     let here = top_of(start, stack);
     match stop {
         Stop::Dot => match at_dot(host, here, aim) {
@@ -237,10 +224,7 @@ fn read_link<'p, H: Host>(
         ((H.world host.old).held here).node (left_bytes name.entry.text) slash
         (parts_left left.old.items) (parts_left left.new.items) result }
 {
-    let text = match host.read_link_at(alloc, here, name.name()) {
-        Ok(text) => text,
-        Err(e) => return Err(e),
-    };
+    let text = host.read_link_at(alloc, here, name.name())?;
     let was_last = left.as_slice().is_empty();
     put_link(alloc, left, text.as_str())?;
     Ok(slash_behind(slash, was_last, text.as_str()))
@@ -271,10 +255,7 @@ fn past_link<'p, H: Host>(
         (parts_left left.old.items) stack.old.items (parts_left left.new.items) stack.new.items
         (H.lookups host.old) (H.lookups host.new) result }
 {
-    let reached = match reach(host, start, stack, left, aim, slash) {
-        Ok(reached) => reached,
-        Err(e) => return Err(e),
-    };
+    let reached = reach(host, start, stack, left, aim, slash)?;
     let here = top_of(start, stack);
     match reached {
         Reach::Found(found) => Ok(Past::Found(found)),
@@ -311,19 +292,13 @@ fn along<'p, H: Host>(
 {
     let mut slash = has_slash;
     for links in 0..MAX_SYMLINK_EXPANSIONS {
-        let past = match past_link(alloc, host, start, stack, left, aim, slash) {
-            Ok(past) => past,
-            Err(e) => return Err(e),
-        };
+        let past = past_link(alloc, host, start, stack, left, aim, slash)?;
         match past {
             Past::Found(found) => return Ok(found),
             Past::Link(slash_now) => slash = slash_now,
         }
     }
-    let reached = match reach(host, start, stack, left, aim, slash) {
-        Ok(reached) => reached,
-        Err(e) => return Err(e),
-    };
+    let reached = reach(host, start, stack, left, aim, slash)?;
     match reached {
         Reach::Found(found) => Ok(found),
         Reach::Link(_name) => Err(HostError::Code(ErrorCode::Loop)),

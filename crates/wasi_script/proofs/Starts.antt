@@ -26,10 +26,10 @@ use Rattle.wasi_guest.specs.Range.{with_bytes}
 use Rattle.wasi_p1.specs.Reach.{Confined}
 use Rattle.wasi_form.specs.Plan.{PlannedPreopen, PlannedPiece, planned_preopen, planned_piece}
 use Rattle.wasi_form.specs.Built.{are_preopens_directories, is_directory_given, is_piece_within}
-use Rattle.wasi_p1.specs.Slots.{first_slots, given_slot}
+use Rattle.wasi_p1.specs.Slots.{first_slots, given_mode, given_directory, given_slot}
 use Rattle.wasi_p1.specs.declared.context.P1Preopen.{P1Preopen}
 use Rattle.wasi_script.specs.Start.{given_place, AreGiven, IsBegun, with_pieces}
-use Rattle.wasi_p1.specs.Guest.{State, directory as directory_place, place_of}
+use Rattle.wasi_p1.specs.Guest.{State, directory as directory_place, directory_by, place_of}
 use Rattle.wasi_form.specs.declared.script.Piece.{Piece}
 use Rattle.wasi_form.specs.declared.script.ScriptPreopen.{ScriptPreopen}
 
@@ -85,8 +85,7 @@ places_again : (old new : HeldMap) (given : List P1Preopen) → All (IsLiveIn ol
 places_again old new [] lives same = refl
 places_again old new (p ∷ ps) lives same =
     let here : place_of (held_in new) (given_slot p) ≡ place_of (held_in old) (given_slot p) =
-    ap (λ (held : Held). directory_place (record { node = held.node; perms = p.perms }))
-    (same p.handle (All-head (IsLiveIn old) p ps lives)) in
+    ap (λ (held : Held). directory_place (directory_by held (given_directory p))) (same p.handle (All-head (IsLiveIn old) p ps lives)) in
     λ i. here i ∷ places_again old new ps (All-tail (IsLiveIn old) p ps lives) same i
 
 pub none_given : {handles : HeldMap} → AreGiven handles [] []
@@ -110,7 +109,11 @@ given_more {old} {new} {planned} {p} preopens given are is = record {
       absurd (let wrong = sym (are.live k d within) ∙ ap (contains (live_of old)) same ∙ is.fresh in cc));
   places =
       let here : place_of (held_in new) (given_slot p) ≡ given_place planned =
-      (λ i. directory_place (record { node = (is.held i).node; perms = is.perms i })) in
+      (λ i. directory_place (record {
+        node = (is.held i).node;
+        perms = is.perms i;
+        open_mode = given_mode (is.perms i);
+      })) in
       let old_ones = places_again old new given are.live is.others ∙ are.places in
       rw (
         map-append given_slot given (p ∷ []),

@@ -8,14 +8,15 @@ use Rattle.wasi_tree.specs.MemState.{HeldMap, live_of, held_in}
 use Rattle.wasi_guest.specs.Range.{with_bytes}
 use Rattle.wasi_form.specs.Plan.{Plan, PlannedPiece, PlannedPreopen}
 use Rattle.wasi_form.specs.Built.{default_limits}
-use Rattle.wasi_p1.specs.Slots.{View, given_slot}
+use Rattle.wasi_p1.specs.Slots.{View, given_mode, given_slot}
 use Rattle.wasi_p1.specs.Guest.{State, Place, stream, directory, place_of, state_of}
 use Rattle.wasi_p1.specs.declared.context.P1Preopen.{P1Preopen}
 use Rattle.wasi_p1.specs.declared.context.Stream.TheVariants.{Input, Output, Error}
 
 -- the descriptor of a directory that the guest is given
 abbrev pub given_place : PlannedPreopen → Place
-given_place preopen = directory (record { node = preopen.node; perms = preopen.perms })
+given_place preopen =
+    directory (record { node = preopen.node; perms = preopen.perms; open_mode = given_mode preopen.perms })
 
 -- the three streams, then the directories that the guest is given
 abbrev pub first_places : List PlannedPreopen → List Place

@@ -140,6 +140,12 @@ pub fn run_script<S: Source, K: Sink>(
 }
 
 #[cfg(test)]
+mod changes;
+#[cfg(test)]
+mod directories;
+#[cfg(test)]
+mod places;
+#[cfg(test)]
 mod tests;
 #[cfg(test)]
 mod walks;

@@ -1,5 +1,5 @@
 -- The tree of fit nodes is valid.
-use Rattle.std.proofs.Common.{◌≡◌, ℕ, zero, suc, ◌+◌, ◌-◌, ◌<◌, ◌≤◌, Bool, true, false, not, ◌&&◌, inl, inr, ⊎_elim, List, [], ◌∷◌, length, slice_get, slice_index_or, nat_eq, nat_lt, nat_le, sum_by, count_by, Option, Some, None, refl, sym, ap, ◌∙◌, subst, arith, zero-add, add-zero}
+use Rattle.std.proofs.Common.{◌≡◌, ℕ, zero, suc, ◌+◌, ◌<◌, ◌≤◌, true, false, not, ◌&&◌, inl, inr, ⊎_elim, List, [], ◌∷◌, length, slice_get, slice_index_or, nat_eq, nat_lt, nat_le, sum_by, count_by, Option, Some, None, refl, sym, ap, ◌∙◌, subst, arith, zero-add, add-zero}
 use Rattle.std.specs.List.{All, Contains, list_all}
 use Rattle.std.specs.Option.{ForSome}
 use Rattle.std.specs.Str.{is_utf8}
@@ -19,7 +19,7 @@ use Rattle.wasi_host.specs.declared.limits.Limits.{Limits}
 use Rattle.wasi_host.specs.declared.limits.TheConstants.{FILE_MAX, LINK_MAX}
 use Rattle.wasi_tree.specs.Given.{Given, GivenContent, file, directory, link, given_entries, entry_count, content_from, node_from, nodes_from, tree_of}
 use Rattle.wasi_tree.specs.GivenTests.{is_dir_content, are_distinct, starts_with_directory}
-use Rattle.wasi_tree.specs.Fit.{is_fit_entry, IsFound, root, held, entries_at, entries_held, HasPlace, IsFitContent, AreFit}
+use Rattle.wasi_tree.specs.Fit.{is_fit_entry, IsFound, root, held, entries_held, HasPlace, IsFitContent, AreFit}
 use Rattle.wasi_tree.proofs.CountLemmas.{times-numbers}
 use Rattle.wasi_tree.proofs.GivenNames.{texts, names_from, times-from, All-from, find_held}
 

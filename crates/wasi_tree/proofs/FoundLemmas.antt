@@ -1,5 +1,5 @@
 -- Marking what is found from node 0, by a work list.
-use Rattle.std.proofs.Common.{◌≡◌, ℕ, zero, suc, ◌+◌, ◌<◌, ◌≤◌, ◌⊎◌, inl, inr, ⊎_elim, Bool, true, false, not, cond, List, [], ◌∷◌, ◌++◌, map, take, length, slice_get, slice_index_or, slice_set, sum_by, Option, Some, None, refl, sym, ap, ◌∙◌, subst, arith}
+use Rattle.std.proofs.Common.{◌≡◌, ℕ, zero, suc, ◌+◌, ◌<◌, ◌⊎◌, inl, inr, ⊎_elim, Bool, true, false, not, cond, List, [], ◌∷◌, ◌++◌, map, take, length, slice_get, slice_index_or, slice_set, Option, Some, None, refl, sym, ap, ◌∙◌, subst, arith}
 use Rattle.std.specs.List.{Contains}
 use Rattle.std.proofs.lemmas.Bool.{cases_eq, true≢false}
 use Rattle.std.proofs.Math.ListN.{replicate}
@@ -12,7 +12,7 @@ use Rattle.wasi_tree.specs.declared.node.NewEntry.{NewEntry}
 use Rattle.wasi_tree.specs.declared.node.NewNode.{NewNode}
 use Rattle.wasi_tree.specs.Given.{Given, pair_of, given, given_content, given_entries}
 use Rattle.wasi_tree.specs.Fit.{IsFound, root, held, entries_at, entries_held}
-use Rattle.wasi_tree.specs.FitTests.{entry_numbers, IsMarked, AreMarked, TellFound, unmarked_count}
+use Rattle.wasi_tree.specs.FitTests.{entry_numbers, IsMarked, AreMarked, TellFound}
 use Rattle.wasi_tree.proofs.CountLemmas.{entry_numbers-take}
 
 pub marked_none : (marks : List Bool) (work : List ℕ) → AreMarked [] marks work marks work

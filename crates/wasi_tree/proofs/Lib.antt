@@ -13,6 +13,7 @@ pub mod PutLemmas
 pub mod SoundLemmas
 pub mod RowLemmas
 pub mod StoreLemmas
+pub mod DropLemmas
 pub mod TouchedLemmas
 pub mod MemLemmas
 pub mod NewTreeLemmas

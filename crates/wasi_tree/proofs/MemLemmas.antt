@@ -1,18 +1,18 @@
-use Rattle.std.proofs.Common.{◌≡◌, ◌≢◌, ◌<◌, ℕ, true, Option, Some, None, Result, Ok, Err, sym, ap, ◌∙◌, arith}
+use Rattle.std.proofs.Common.{◌≡◌, ◌≢◌, ◌<◌, ℕ, true, Some, Result, Ok, Err, sym, ap, ◌∙◌, arith}
 use Rattle.std.proofs.lemmas.Bool.{true≢false}
 use Rattle.std.specs.Ordering.{nat_cmp}
 use Rattle.std.specs.FinSet.{contains, empty, contains-empty}
 use Rattle.wasi_host.specs.Tree.{Tree, is_directory, node_at, next_of}
-use Rattle.wasi_host.specs.HostCall.{HostCall, OpenAt, StatAt, ReadLinkAt, Access, Stat, Pread, Pwrite, Dup, Close}
+use Rattle.wasi_host.specs.HostCall.{HostCall, OpenAt, StatAt, ReadLinkAt, MakeDirAt, SymlinkAt, UnlinkAt, RemoveDirAt, Access, Stat, Pread, Pwrite, Dup, Close}
 use Rattle.wasi_host.specs.Refusal.{refusal}
-use Rattle.wasi_host.specs.Answer.{HostAnswer, host_answer, unless}
+use Rattle.wasi_host.specs.Answer.{HostAnswer}
 use Rattle.wasi_host.specs.Meaning.{AllHeld, IsHeld, HasCause}
-use Rattle.wasi_host.specs.declared.errors.ErrorCode.{ErrorCode}
 use Rattle.wasi_host.specs.declared.errors.ErrorCode.TheVariants.{Io}
 use Rattle.wasi_host.specs.declared.errors.HostError.{HostError}
 use Rattle.wasi_host.specs.declared.errors.HostError.TheVariants.{Code, Memory}
 use Rattle.wasi_host.specs.declared.held.AccessMode.TheVariants.{PathOnly}
 use Rattle.wasi_host.proofs.Changes.{directory_within}
+use Rattle.wasi_host.proofs.Refusals.{refusal_of}
 use Rattle.wasi_tree.specs.MemState.{HeldMap, MemState, live_of, held_in, world_of}
 use Rattle.wasi_tree.specs.Sound.{HoldsNodes}
 use Rattle.wasi_tree.specs.TouchedTree.{Touched, Refuses, Does}
@@ -43,36 +43,22 @@ holds_none t handles none = record {
 
 -- ---- no fault
 
-refused_io : {B : Type 0} (refused : Option ErrorCode) (b : B) → refused ≢ Some Io → unless refused b ≢ Err Io
-refused_io None b never is = (cc)
-refused_io (Some code) b never is = never (cc)
-
 -- no row of the table is `Io`
 never_io : (t : Tree) (call : HostCall) → refusal t call ≢ Some Io
 unfolding refusal
 never_io t (OpenAt d name o) io = grind (arith)
 never_io t (StatAt d name) io = grind (arith)
 never_io t (ReadLinkAt d name) io = grind (arith)
+never_io t (MakeDirAt d name) io = grind (arith)
+never_io t (SymlinkAt text d name) io = grind (arith)
+never_io t (UnlinkAt d name) io = grind (arith)
+never_io t (RemoveDirAt d name) io = grind (arith)
 never_io t (Access d) io = grind (arith)
 never_io t (Stat n) io = grind (arith)
 never_io t (Pread file offset length) io = grind (arith)
 never_io t (Pwrite file offset piece) io = grind (arith)
 never_io t (Dup held) io = grind (arith)
 never_io t Close io = grind (arith)
-
-never_answered_io : (t : Tree) (call : HostCall) → host_answer t call ≢ Err Io
-never_answered_io t (OpenAt d name o) is = refused_io (refusal t (OpenAt d name o)) _ (never_io t (OpenAt d name o)) is
-never_answered_io t (StatAt d name) is = refused_io (refusal t (StatAt d name)) _ (never_io t (StatAt d name)) is
-never_answered_io t (ReadLinkAt d name) is =
-    refused_io (refusal t (ReadLinkAt d name)) _ (never_io t (ReadLinkAt d name)) is
-never_answered_io t (Access d) is = refused_io (refusal t (Access d)) _ (never_io t (Access d)) is
-never_answered_io t (Stat n) is = refused_io (refusal t (Stat n)) _ (never_io t (Stat n)) is
-never_answered_io t (Pread file offset n) is =
-    refused_io (refusal t (Pread file offset n)) _ (never_io t (Pread file offset n)) is
-never_answered_io t (Pwrite file offset piece) is =
-    refused_io (refusal t (Pwrite file offset piece)) _ (never_io t (Pwrite file offset piece)) is
-never_answered_io t (Dup held) is = (cc)
-never_answered_io t Close is = (cc)
 
 no_fault : {A : Type 0} (result : Result A HostError) → result ≢ Err (Code Io) → HasCause 0 0 result
 no_fault result never = record { later = omega arith; io = λ is. absurd (never is) }
@@ -83,7 +69,7 @@ cause_of call Memory is = no_fault (Err Memory) (λ io. (cc))
 cause_of {s = s} call (Code code) is =
     no_fault (Err (Code code)) (λ io.
     let same : code ≡ Io = (cc) in
-    never_answered_io s.tree call (is.meant ∙ ap Err same))
+    never_io s.tree call (refusal_of s.tree call (is.meant ∙ ap Err same)))
 
 pub cause_done : {A : Type 0} (s u : Touched) (call : HostCall) (shown : A → HostAnswer call)
     (result : Result A HostError) → Does s u call shown result → HasCause 0 0 result

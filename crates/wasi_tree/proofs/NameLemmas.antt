@@ -1,4 +1,6 @@
-use Rattle.std.proofs.Common.{◌≡◌, ℕ, true, List, [], ◌∷◌, ◌++◌, None, map, refl, sym, ap, ◌∙◌, subst, cond, Some, Bool, false, ◌&&◌}
+use Rattle.std.proofs.Common.{◌≡◌, ℕ, true, List, [], ◌∷◌, ◌++◌, None, Option, map, refl, sym, ap, ◌∙◌, subst, cond, Some, Bool, false, ◌&&◌, length, nat_eq, arith}
+use Rattle.std.specs.Prelude.{◌↔◌, IsTrue}
+use Rattle.std.proofs.lemmas.Bool.{true≢false, ne_eqb}
 use Rattle.std.specs.String.{string_bytes}
 use Rattle.std.specs.declared.string.String.{String}
 use Rattle.std.specs.Ordering.{nat_cmp, is_eq, eq_by_cmp}
@@ -8,7 +10,7 @@ use Rattle.std.specs.BTreeMap.{is_at}
 use Rattle.std.specs.Cmp.Lexicographic.{slice_cmp, nat_list_cmp_total}
 use Rattle.std.proofs.lemmas.List.{append-nil, map_push}
 use Rattle.std.proofs.lemmas.Map.Text.{btree_map_updates_text, is_eq-slice_cmp}
-use Rattle.std.specs.BTreeMap.{BTreeMap, Updates}
+use Rattle.std.specs.BTreeMap.{BTreeMap, Updates, UpdatesBy}
 use lib.Dec.{T}
 use Rattle.std.specs.List.{AllByRecursion}
 use Rattle.std.specs.List.Sorted.{IsStrictlySortedBy}
@@ -18,7 +20,7 @@ use Rattle.std.specs.declared.cmp.Ordering.TheVariants.{Less}
 use Rattle.std.specs.Str.{bytes_eq}
 use Rattle.std.specs.String.{string_cmp}
 use Rattle.std.specs.FinMap.Entries.{below_all}
-use Rattle.std.specs.FinMap.{get, insert, entries, from_entries, from_sorted, entries-from_sorted, get-from_sorted, get-from_entries, same_map, is_sorted, get-empty, get-insert, nat_cmp-IsAntisymmetric, slice_cmp-IsAntisymmetric}
+use Rattle.std.specs.FinMap.{get, insert, remove, entries, from_entries, from_sorted, entries-from_sorted, get-from_sorted, get-from_entries, same_map, is_sorted, get-empty, get-insert, get-remove, len, len-empty, empty_of_len, nat_cmp-IsAntisymmetric, slice_cmp-IsAntisymmetric}
 use Rattle.wasi_host.specs.Tree.{Names}
 use Rattle.wasi_tree.specs.Given.{pair_of}
 use Rattle.wasi_tree.specs.StoredTree.{names_in, text_entry}
@@ -34,6 +36,9 @@ get-names_in (entry ∷ entries) name =
 
 pub get-no_names : (name : List ℕ) → get {X = ℕ} (from_entries {R = slice_cmp nat_cmp} []) name ≡ None
 get-no_names name = get-empty (slice_cmp nat_cmp) name
+
+pub len-no_names : len {X = ℕ} (from_entries {R = slice_cmp nat_cmp} []) ≡ 0
+len-no_names = len-empty (slice_cmp nat_cmp) ℕ
 
 -- names with these entries put in, the last one first
 abbrev pub with_entries : List (List ℕ × ℕ) → Names → Names
@@ -52,18 +57,48 @@ with_entries-empty (e ∷ es) = ap (λ m. insert m e.0 e.1) (with_entries-empty 
 same_names : (m n : Names) → ((q : List ℕ) → get m q ≡ get n q) → m ≡ n
 same_names m n is = same_map nat_list_cmp_total (slice_cmp-IsAntisymmetric nat_cmp-IsAntisymmetric) m n is
 
+same_text : (bs cs : List ℕ) → bytes_eq bs cs ≡ eq_by_cmp (slice_cmp nat_cmp) cs bs
+same_text bs cs = sym (is_eq-slice_cmp bs cs) ∙ (eq_by_cmp_equiv nat_list_cmp_total).symm bs cs
+
+-- what the names have after a change of the map at a text
+names_in-updated : {Y : Type 0} (m n : BTreeMap (String Y) ℕ) (bs : List ℕ) (w : Option ℕ)
+    → UpdatesBy string_cmp (λ k. slice_cmp nat_cmp bs (string_bytes k)) m n w → (q : List ℕ)
+    → get (names_in n.entries) q ≡ cond (eq_by_cmp (slice_cmp nat_cmp) q bs) w (get (names_in m.entries) q)
+names_in-updated m n bs w updates q =
+    get-names_in n.entries q
+    ∙ btree_map_updates_text bs m n w updates q
+    ∙ (λ i. cond (same_text bs q i) w (sym (get-names_in m.entries q) i))
+
 -- an insert into the map is one into its names
 pub names_in-inserted : {Y : Type 0} (m n : BTreeMap (String Y) ℕ) (key : String Y) (node : ℕ)
     → Updates string_cmp m n key (Some node)
     → names_in n.entries ≡ insert (names_in m.entries) (string_bytes key) node
 names_in-inserted m n key node updates = same_names _ _ (λ q.
-    get-names_in n.entries q
-    ∙ btree_map_updates_text (string_bytes key) m n (Some node) updates q
-    ∙ (λ i. cond (same_text (string_bytes key) q i) (Some node) (sym (get-names_in m.entries q) i))
+    names_in-updated m n (string_bytes key) (Some node) updates q
     ∙ sym (get-insert nat_list_cmp_total (names_in m.entries) (string_bytes key) node q))
-  where
-    same_text : (bs cs : List ℕ) → bytes_eq bs cs ≡ eq_by_cmp (slice_cmp nat_cmp) cs bs
-    same_text bs cs = sym (is_eq-slice_cmp bs cs) ∙ (eq_by_cmp_equiv nat_list_cmp_total).symm bs cs
+
+-- and so is a removal
+pub names_in-removed : {Y : Type 0} (m n : BTreeMap (String Y) ℕ) (text : List ℕ)
+    → UpdatesBy string_cmp (λ k. slice_cmp nat_cmp text (string_bytes k)) m n None
+    → names_in n.entries ≡ remove (names_in m.entries) text
+names_in-removed m n text updates = same_names _ _ (λ q.
+    names_in-updated m n text None updates q ∙ sym (get-remove nat_list_cmp_total (names_in m.entries) text q))
+
+-- no entries are no names
+pub no_entries : {Y : Type 0} (b : Bool) (es : List (String Y × ℕ)) → (IsTrue b ↔ (length es ≡ 0))
+    → b ≡ nat_eq (len (names_in es)) 0
+no_entries true [] is = sym (ap (λ n. nat_eq n 0) len-no_names)
+no_entries false [] is = absurd (true≢false (sym (is.1 refl)))
+no_entries true (entry ∷ es) is = let none = is.0 refl in absurd (omega (arith, none))
+no_entries false (entry ∷ es) is =
+    let names : Names = names_in (entry ∷ es) in
+    let name : List ℕ = string_bytes entry.0 in
+    let there : get names name ≡ Some entry.1 =
+    get-insert nat_list_cmp_total (names_in es) name entry.1 name
+    ∙ ap (λ b. cond b (Some entry.1) (get (names_in es) name)) ((eq_by_cmp_equiv nat_list_cmp_total).refl name) in
+    sym (ne_eqb (len names) 0 (λ none.
+    let gone : get names name ≡ None = ap (λ m. get m name) (empty_of_len names none) ∙ get-no_names name in
+    absurd (cc)))
 
 both : (a b : Bool) → T a → T b → T (a && b)
 both true b p q = q
@@ -112,4 +147,4 @@ pub none_put : {Y : Type 0} (es : List (List ℕ × ℕ)) (none : List (String Y
     → with_entries es (names_in none) ≡ from_entries es
 none_put es none is = ap (λ l. with_entries es (names_in l)) is ∙ with_entries-empty es
 
-pub ruleset name_rules = (get-names_in, get-no_names)
+pub ruleset name_rules = (get-names_in, get-no_names, len-no_names)

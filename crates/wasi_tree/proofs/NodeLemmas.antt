@@ -1,7 +1,7 @@
-use Rattle.std.proofs.Common.{◌≡◌, true, false, []}
+use Rattle.std.proofs.Common.{◌≡◌, Bool, true}
 use Rattle.wasi_host.specs.Time.{zero_time}
-use Rattle.wasi_host.specs.Tree.{Node, File, default_bits}
-use Rattle.wasi_host.specs.Step.{new_file}
+use Rattle.wasi_host.specs.Tree.{Node, Content, default_bits}
+use Rattle.wasi_host.specs.Step.{new_node}
 use Rattle.wasi_tree.specs.Given.{given, given_content, may_search, new_given}
 use Rattle.wasi_tree.specs.declared.node.NewNode.{NewNode}
 
@@ -18,10 +18,10 @@ given-new node bits atime mtime btime = λ i. record {
   btime = btime i;
 }
 
--- a file that is made
-pub is_new_file : (node : Node) → node.content ≡ File [] 1 → node.bits ≡ default_bits false → node.atime ≡ zero_time
-    → node.mtime ≡ zero_time → node.btime ≡ zero_time → node ≡ new_file
-is_new_file node content bits atime mtime btime = λ i. record {
+-- a node that is made
+pub is_new_node : {node : Node} {content : Content} {x : Bool} → node.content ≡ content → node.bits ≡ default_bits x
+    → node.atime ≡ zero_time → node.mtime ≡ zero_time → node.btime ≡ zero_time → node ≡ new_node content x
+is_new_node content bits atime mtime btime = λ i. record {
   content = content i;
   bits = bits i;
   atime = atime i;

@@ -2,9 +2,9 @@
 use Rattle.std.proofs.Common.{◌≡◌, ◌<◌, ℕ, zero, suc, List, [], ◌∷◌, ◌++◌, map, length, refl, sym, ap, ◌∙◌, subst, arith, slice_index_or, slice_set}
 use Rattle.std.proofs.Math.Seq.{map-set_same}
 use Rattle.std.proofs.lemmas.List.{length-map, map-set, map_push}
-use Rattle.std.specs.FinMap.{insert}
+use Rattle.std.specs.FinMap.{insert, remove}
 use Rattle.wasi_host.specs.Tree.{Tree, Node, Nodes, Content, Directory, node_at, next_of, names_of, is_gone}
-use Rattle.wasi_host.specs.Step.{new_file, with_nodes, file_made}
+use Rattle.wasi_host.specs.Step.{with_nodes, node_made}
 use Rattle.wasi_host.specs.declared.limits.Limits.{Limits}
 use Rattle.wasi_host.proofs.Changes.{changed}
 use Rattle.wasi_tree.specs.StoredTree.{stored_content, stored_node, stored_tree}
@@ -39,6 +39,10 @@ pub record IsRow (rows : List Row) (limits : Limits) (worked : Nodes) (t : Tree)
 abbrev pub with_entry : List ℕ → ℕ → Content → Content
 with_entry name n content = Directory (insert (names_of content) name n) (is_gone content)
 
+-- a directory's content with one name less
+abbrev pub without_entry : List ℕ → Content → Content
+without_entry name content = Directory (remove (names_of content) name) (is_gone content)
+
 module _ {rows : List Row} {limits : Limits} {worked : Nodes} {t : Tree} {n : ℕ} {row : Row}
     (is : IsRow rows limits worked t n row) where
   abbrev old : Node
@@ -50,7 +54,7 @@ module _ {rows : List Row} {limits : Limits} {worked : Nodes} {t : Tree} {n : �
       (row_is rows limits worked n row (omega (arith, is.within, next-rows rows limits worked t is.stands))
       ∙ ap stored_node (sym is.read))
 
-  tree_sound : {marks : ℕ} → IsSound (stored_tree rows limits worked) marks → IsSound t marks
+  pub tree_sound : {marks : ℕ} → IsSound (stored_tree rows limits worked) marks → IsSound t marks
   tree_sound {marks} sound = subst (λ u. IsSound u marks) is.stands sound
 
   pub row_sound : {marks : ℕ} → IsSound (stored_tree rows limits worked) marks
@@ -99,11 +103,12 @@ module _ {rows : List Row} {limits : Limits} {worked : Nodes} {t : Tree} {n : �
 pub tree_grown : {rows : List Row} {limits : Limits} {worked : Nodes} {t : Tree} {d : ℕ} {row : Row}
     → IsRow rows limits worked t d row → (name : List ℕ) (content : RowContent)
     → stored_content content ≡ with_entry name (next_of t) (stored_content row.content)
-    → (last : Row) → stored_node last ≡ new_file → (items : List Row)
+    → (last : Row) (items : List Row)
     → items ≡ slice_set rows d (record row { content = content }) ++ last ∷ [] → (now : Nodes)
-    → now ≡ with_nodes t.worked (d ∷ next_of t ∷ []) → stored_tree items limits now ≡ file_made t d name
-tree_grown {rows} {t = t} {d = d} {row} is name content does last file items all now marked =
-    let nodes : map stored_node items ≡ (file_made t d name).nodes =
+    → now ≡ with_nodes t.worked (d ∷ next_of t ∷ [])
+    → stored_tree items limits now ≡ node_made t d name (stored_node last)
+tree_grown {rows} {t = t} {d = d} {row} is name content does last items all now marked =
+    let nodes : map stored_node items ≡ (node_made t d name (stored_node last)).nodes =
     ap (map stored_node) all ∙ map_push stored_node (slice_set rows d (record row { content = content })) last
-    ∙ (λ i. nodes_written is (with_entry name (next_of t)) content does i ++ file i ∷ []) in
+    ∙ (λ i. nodes_written is (with_entry name (next_of t)) content does i ++ stored_node last ∷ []) in
     λ i. let u : Tree = record { nodes = nodes i; limits = (is.stands i).limits; worked = marked i } in u

@@ -5,7 +5,7 @@ use Rattle.std.specs.Prelude.{is_none, option_to_list, MatchResult}
 use Rattle.std.specs.FinSet.{insert}
 use Rattle.wasi_host.specs.Options.{Options, is_path_only}
 use Rattle.wasi_host.specs.Tree.{Tree, Content, File, Directory, Link, node_at, next_of, child, is_file, is_directory, is_link}
-use Rattle.wasi_host.specs.HostCall.{OpenAt, StatAt, ReadLinkAt, Stat}
+use Rattle.wasi_host.specs.HostCall.{OpenAt, StatAt, ReadLinkAt, MakeDirAt, SymlinkAt, Stat}
 use Rattle.wasi_host.specs.Refusal.{refusal, can_write}
 use Rattle.wasi_host.specs.Step.{new_file, is_cut, file_cut, file_made, opened_step, open_step, with_nodes}
 use Rattle.wasi_host.specs.Answer.{access_of, unless, reached, or_next, metadata_of, stat_at_answer, link_answer}
@@ -16,7 +16,7 @@ use Rattle.wasi_host.specs.declared.held.Held.{Held}
 use Rattle.wasi_host.specs.declared.metadata.Metadata.{Metadata}
 use Rattle.wasi_host.proofs.Changes.{node_at-made, next_of-made, directory_within}
 use Rattle.wasi_host.proofs.ValidSteps.{open_directory}
-use Rattle.wasi_tree.specs.Sound.{Stays}
+use Rattle.wasi_tree.specs.Sound.{Stays, IsSoundText}
 use Rattle.wasi_tree.specs.TouchedTree.{Touched, Answers, Does}
 
 -- what is held stays held
@@ -146,5 +146,24 @@ module _ {s u : Touched} {d : ℕ} {name : List ℕ} (looks : LooksAt s u d name
     tree = looks.tree;
     touched = and_none;
   }
+
+-- ---- a new node
+
+pub makes_in_directory : (t : Tree) (d : ℕ) (name : List ℕ) → refusal t (MakeDirAt d name) ≡ None
+    → is_directory (node_at t d).content ≡ true
+unfolding refusal
+makes_in_directory t d name free = grind (arith)
+
+pub links_in_directory : (t : Tree) (d : ℕ) (name text : List ℕ) → refusal t (SymlinkAt text d name) ≡ None
+    → is_directory (node_at t d).content ≡ true
+unfolding refusal
+links_in_directory t d name text free = grind (arith)
+
+-- the text of a link that may be made
+pub links_text : (t : Tree) (d : ℕ) (name text : List ℕ) → refusal t (SymlinkAt text d name) ≡ None
+    → IsSoundText text
+unfolding refusal
+links_text t d name [] free = absurd (grind (arith))
+links_text t d name (byte ∷ bytes) free = record { some = omega arith; most = grind (arith) }
 
 pub ruleset touched_rules = (stats)

@@ -1,19 +1,17 @@
 -- The rows of an open, parted by whether the name is there.
-use Rattle.std.specs.Prelude.{ℕ, Bool, not, ◌&&◌, nat_le, List, [], ◌∷◌}
+use Rattle.std.specs.Prelude.{ℕ, Bool, not, ◌&&◌, List, [], ◌∷◌}
 use Rattle.wasi_host.specs.Options.{Options, creates, is_path_only}
-use Rattle.wasi_host.specs.Tree.{Tree, Node, node_at, next_of, is_link, is_file, is_directory, is_gone}
+use Rattle.wasi_host.specs.Tree.{Tree, Node, is_link, is_file, is_directory}
 use Rattle.wasi_host.specs.Refusal.{lacks_bit}
 use Rattle.wasi_host.specs.declared.errors.ErrorCode.{ErrorCode}
 use Rattle.wasi_host.specs.declared.errors.ErrorCode.TheVariants as codes
+use Rattle.wasi_tree.specs.NewRows.{growing_rows}
 
 -- the rows for a name that is missing in a directory
 abbrev pub missing_rows : Tree → ℕ → Options → List (Bool × ErrorCode)
 missing_rows t d o =
     (not (creates o), codes.NoEntry)
-    ∷ (is_gone (node_at t d).content, codes.NoEntry)
-    ∷ (not (node_at t d).bits.w, codes.Access)
-    ∷ (nat_le t.limits.nodes (next_of t), codes.InsufficientSpace)
-    ∷ []
+    ∷ growing_rows t d
 
 -- the rows for the node that a name holds
 abbrev pub found_rows : Node → Options → List (Bool × ErrorCode)

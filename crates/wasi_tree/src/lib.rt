@@ -3,8 +3,6 @@
 
 mod errors;
 mod fit;
-#[cfg(test)]
-mod listed;
 mod marks;
 mod mem_tree;
 mod node;

@@ -1,5 +1,5 @@
 //! The tree in memory, as a host.
-ghost use Rattle.std.specs.Prelude.{◌≡◌, ◌↔◌, ◌<◌, ℕ, true, false, List, [], Err, IfOk, IfErr, OnOk, OnErr, map};
+ghost use Rattle.std.specs.Prelude.{◌≡◌, ◌↔◌, ◌<◌, ℕ, true, false, List, [], ◌∷◌, ◌++◌, vec_len, vec_capacity, None, Err, IfOk, IfErr, OnOk, OnErr, map};
 ghost use Rattle.std.specs.Ordering.{nat_cmp};
 ghost use Rattle.std.specs.List.Sorted.{IsStrictlySortedBy};
 ghost use Rattle.std.specs.FinSet.{contains, insert, empty, from_list};
@@ -173,11 +173,7 @@ impl Host for MemTree {
                 Ok(handle)
             }
             Err(HostError::Code(code)) => {
-                self.log.push_reserved(Lookup {
-                    kind: LookKind::Open,
-                    from: start,
-                    got: None,
-                });
+                log_look(&mut self.log, LookKind::Open, start);
                 Err(HostError::Code(code))
             }
             Err(HostError::Memory) => Err(HostError::Memory),
@@ -188,11 +184,7 @@ impl Host for MemTree {
         self.log.reserve(1)?;
         let directory = self.slots.held(start).node;
         let answer = self.tree.stat_at(directory, name);
-        self.log.push_reserved(Lookup {
-            kind: LookKind::Stat,
-            from: start,
-            got: None,
-        });
+        log_look(&mut self.log, LookKind::Stat, start);
         Ok(answer?)
     }
 
@@ -204,22 +196,41 @@ impl Host for MemTree {
     ) -> Result<String, HostError> {
         self.log.reserve(1)?;
         let directory = self.slots.held(start).node;
-        let look = Lookup {
-            kind: LookKind::ReadLink,
-            from: start,
-            got: None,
-        };
-        match self.tree.read_link_at(alloc, directory, name) {
-            Ok(text) => {
-                self.log.push_reserved(look);
-                Ok(text)
-            }
-            Err(HostError::Code(code)) => {
-                self.log.push_reserved(look);
-                Err(HostError::Code(code))
-            }
-            Err(HostError::Memory) => Err(HostError::Memory),
-        }
+        let answer = self.tree.read_link_at(alloc, directory, name);
+        log_look(&mut self.log, LookKind::ReadLink, start);
+        answer
+    }
+
+    fn make_dir_at(&mut self, start: Handle, name: Name<'_>) -> Result<(), HostError> {
+        self.log.reserve(1)?;
+        let directory = self.slots.held(start).node;
+        let answer = self.tree.make_dir_at(directory, name);
+        log_look(&mut self.log, LookKind::Make, start);
+        answer
+    }
+
+    fn symlink_at(&mut self, target: &str, start: Handle, name: Name<'_>) -> Result<(), HostError> {
+        self.log.reserve(1)?;
+        let directory = self.slots.held(start).node;
+        let answer = self.tree.symlink_at(target, directory, name);
+        log_look(&mut self.log, LookKind::MakeLink, start);
+        answer
+    }
+
+    fn unlink_at(&mut self, start: Handle, name: Name<'_>) -> Result<(), HostError> {
+        self.log.reserve(1)?;
+        let directory = self.slots.held(start).node;
+        let answer = self.tree.unlink_at(directory, name);
+        log_look(&mut self.log, LookKind::Unlink, start);
+        Ok(answer?)
+    }
+
+    fn remove_dir_at(&mut self, start: Handle, name: Name<'_>) -> Result<(), HostError> {
+        self.log.reserve(1)?;
+        let directory = self.slots.held(start).node;
+        let answer = self.tree.remove_dir_at(directory, name);
+        log_look(&mut self.log, LookKind::RemoveDir, start);
+        Ok(answer?)
     }
 
     fn access(&mut self, directory: Handle) -> Result<(), ErrorCode> {
@@ -264,5 +275,14 @@ impl Host for MemTree {
     }
 }
 
-#[cfg(test)]
-mod tests;
+/// Logs a look-up that made no handle.
+fn log_look(log: &mut Vec<Lookup>, kind: LookKind, from: Handle)
+    requires { vec_len log.old < vec_capacity log.old }
+    ensures { log.new.items ≡ log.old.items ++ record { kind = kind; from = from; got = None } ∷ [] }
+{
+    log.push_reserved(Lookup {
+        kind,
+        from,
+        got: None,
+    });
+}

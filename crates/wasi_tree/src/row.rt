@@ -2,11 +2,13 @@
 ghost use Rattle.std.specs.Prelude.{◌≡◌, ◌+◌, ◌≤◌, List, IfOk, OnOk, OnErr, length, map, true, not, nat_eq, ◌&&◌};
 ghost use Rattle.std.specs.FinMap as maps;
 ghost use Rattle.wasi_host.specs.Tree.{Directory, is_directory, is_file, is_link, is_gone, names_of, bytes_of, text_of};
-ghost use Rattle.wasi_host.specs.Step.{new_file, no_bytes, piece_in, with_piece};
+ghost use Rattle.std.specs.String.{string_bytes};
+ghost use Rattle.wasi_host.specs.Step.{new_node, new_file, new_directory, new_link, no_bytes, piece_in, with_piece};
 ghost use Rattle.wasi_host.specs.declared.limits.TheConstants.{FILE_MAX};
 ghost use Rattle.wasi_tree.specs.Given.{Given, pair_of, given, given_content, given_of, content_given, entry_count, content_from, node_from};
 ghost use Rattle.wasi_tree.specs.Lent.{lent, lent_content};
-ghost use Rattle.wasi_tree.specs.StoredTree.{names_in};
+ghost use Rattle.wasi_tree.specs.StoredTree.{names_in, stored_content};
+ghost use Rattle.wasi_tree.specs.DropRows.{name_lost};
 ghost use Rattle.wasi_host.specs.Answer.{kind_of, size_of, links_of, metadata_from};
 
 use crate::node::{LentContent, LentNode, NewContent, NewEntry, NewNode, new_bits};
@@ -194,6 +196,17 @@ impl RowContent {
         }
     }
 
+    /// Whether it holds no names.
+    pub fn is_bare(&self) -> bool
+        ensures { result ≡ nat_eq (maps.len (names_of (stored_content self.now))) 0 }
+    {
+        match self {
+            RowContent::File { .. } => true,
+            RowContent::Dir { names, .. } => are_none(names),
+            RowContent::Link { .. } => true,
+        }
+    }
+
     /// Puts a node under a name into a directory. Where memory is wanted, nothing has changed.
     pub fn add_name(&mut self, alloc: Global, name: &str, node: u64) -> Result<(), AllocError>
         requires { is_directory (stored_content self.old) ≡ true }
@@ -205,6 +218,30 @@ impl RowContent {
             RowContent::File { .. } => unreachable!(),
             RowContent::Dir { names, .. } => add_entry(names, alloc, name, node),
             RowContent::Link { .. } => unreachable!(),
+        }
+    }
+
+    /// Takes a name out of a directory.
+    pub fn remove_name(&mut self, name: &str)
+        requires { is_directory (stored_content self.old) ≡ true }
+        ensures { let was = stored_content self.old in
+            stored_content self.new ≡ Directory (maps.remove (names_of was) name.now) (is_gone was) }
+    {
+        match self {
+            RowContent::File { .. } => unreachable!(),
+            RowContent::Dir { names, .. } => remove_entry(names, name),
+            RowContent::Link { .. } => unreachable!(),
+        }
+    }
+
+    /// Takes a name from what has it: a file or link has one fewer, and a directory, which has no other, is gone.
+    pub fn lose_name(&mut self)
+        ensures { stored_content self.new ≡ name_lost (stored_content self.old) }
+    {
+        match self {
+            RowContent::File { links, .. } => *links = links.saturating_sub(1),
+            RowContent::Dir { gone, .. } => *gone = true,
+            RowContent::Link { links, .. } => *links = links.saturating_sub(1),
         }
     }
 
@@ -254,20 +291,40 @@ impl Row {
         })
     }
 
-    /// The row of a file that is made.
-    pub fn new_file(alloc: Global) -> Row
-        ensures { stored_node result ≡ new_file }
+    /// The row of a node that is made.
+    fn made(content: RowContent, x: bool) -> Row
+        ensures { stored_node result ≡ new_node (stored_content content) x }
     {
         Row {
-            content: RowContent::File {
-                bytes: Vec::new(alloc),
-                links: 1,
-            },
-            bits: new_bits(false),
+            content,
+            bits: new_bits(x),
             atime: SystemTime::EPOCH,
             mtime: SystemTime::EPOCH,
             btime: SystemTime::EPOCH,
         }
+    }
+
+    /// The row of a file that is made.
+    pub fn new_file(alloc: Global) -> Row
+        ensures { stored_node result ≡ new_file }
+    {
+        let bytes = Vec::new(alloc);
+        Row::made(RowContent::File { bytes, links: 1 }, false)
+    }
+
+    /// The row of a directory that is made.
+    pub fn new_directory(alloc: Global) -> Row
+        ensures { stored_node result ≡ new_directory }
+    {
+        let names = BTreeMap::new(alloc);
+        Row::made(RowContent::Dir { names, gone: false }, true)
+    }
+
+    /// The row of a link that is made.
+    pub fn new_link(text: String) -> Row
+        ensures { stored_node result ≡ new_link (string_bytes text) }
+    {
+        Row::made(RowContent::Link { text, links: 1 }, true)
     }
 
     /// The node as a list of nodes gives it, in memory of its own.
@@ -360,6 +417,19 @@ fn add_entry(
     let text = String::from_str(alloc, name)?;
     names.insert(text, node)?;
     Ok(())
+}
+
+fn are_none(names: &BTreeMap<String, u64>) -> bool
+    ensures { result ≡ nat_eq (maps.len (names_in names.now.entries)) 0 }
+{
+    names.is_empty()
+}
+
+/// Takes a name out.
+fn remove_entry(names: &mut BTreeMap<String, u64>, name: &str)
+    ensures { names_in names.new.entries ≡ maps.remove (names_in names.old.entries) name.now }
+{
+    names.remove(name);
 }
 
 /// Puts a piece into bytes from an offset on, with zeros in a gap before it. A piece that runs past the end is copied

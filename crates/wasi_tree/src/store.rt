@@ -1,10 +1,10 @@
 //! The nodes by number.
-ghost use Rattle.std.specs.Prelude.{◌≡◌, ◌+◌, ◌<◌, ◌≤◌, ◌^◌, ℕ, OnOk, Some, None, IfSome, IfOk, IfErr, OnErr, MatchResult, Ok, Err, if◌then◌else◌, take, drop, length, map, true};
+ghost use Rattle.std.specs.Prelude.{◌≡◌, ◌+◌, ◌<◌, ◌≤◌, ◌^◌, ℕ, OnOk, Some, None, IfSome, IfOk, IfErr, OnErr, MatchResult, Ok, Err, if◌then◌else◌, take, drop, length, map, true, false, nat_eq};
 ghost use Rattle.wasi_paths.specs.Name.{name_bytes};
 ghost use Rattle.wasi_host.specs.Tree.{Tree, next_of, node_at, child, is_directory};
-ghost use Rattle.wasi_host.specs.HostCall.{OpenAt, StatAt, ReadLinkAt, Access, Stat, Pread, Pwrite};
-ghost use Rattle.wasi_host.specs.Refusal.{refusal, first_row, name_rows};
-ghost use Rattle.wasi_host.specs.Step.{is_cut, file_cut, file_made, bytes_put, write_step};
+ghost use Rattle.wasi_host.specs.HostCall.{OpenAt, StatAt, ReadLinkAt, MakeDirAt, SymlinkAt, UnlinkAt, RemoveDirAt, Access, Stat, Pread, Pwrite};
+ghost use Rattle.wasi_host.specs.Refusal.{refusal, first_row, name_rows, text_rows};
+ghost use Rattle.wasi_host.specs.Step.{is_cut, file_cut, node_made, file_made, directory_made, link_made, bytes_put, write_step, name_dropped, unlink_step, remove_step};
 ghost use Rattle.wasi_host.specs.Answer.{metadata_of, stat_at_answer, link_answer, access_answer, bytes_read, bytes_taken};
 ghost use Rattle.wasi_host.specs.declared.limits.TheConstants.{FILE_MAX};
 ghost use Rattle.std.specs.Option.{ForSome};
@@ -14,6 +14,8 @@ ghost use Rattle.wasi_tree.specs.Lent.{lent};
 ghost use Rattle.wasi_tree.specs.Sound.{Stays, IsSoundText};
 ghost use Rattle.wasi_tree.specs.StoredTree.{stored_node};
 ghost use Rattle.wasi_tree.specs.OpenRows.{missing_rows, found_rows};
+ghost use Rattle.wasi_tree.specs.NewRows.{growing_rows, new_name_rows};
+ghost use Rattle.wasi_tree.specs.DropRows.{dropping_rows, name_lost, name_taken, node_lost};
 ghost use Rattle.wasi_tree.specs.TouchedTree.{MeansCode};
 
 use crate::errors::TreeError;
@@ -23,7 +25,7 @@ use crate::node::{LentNode, NewNode};
 use crate::row::Row;
 use std::alloc::{AllocError, Global};
 use std::marker::Model;
-use wasi_host::{ErrorCode, FILE_MAX, Held, HostError, Limits, Metadata, OpenOptions};
+use wasi_host::{ErrorCode, FILE_MAX, Held, HostError, LINK_MAX, Limits, Metadata, OpenOptions};
 use wasi_paths::Name;
 
 /// The nodes of a tree, with its limits and the nodes that steps have worked on. Contracts see the tree.
@@ -152,6 +154,14 @@ impl Store {
         if !options.creates() {
             return Some(ErrorCode::NoEntry);
         }
+        self.refuse_growth(directory)
+    }
+
+    /// The rows for a directory that is to get a new node.
+    fn refuse_growth(&self, directory: u64) -> Option<ErrorCode>
+        requires { directory < next_of self.now }
+        ensures { result ≡ first_row (growing_rows self.now directory) }
+    {
         let row = self.row(directory);
         if row.content.is_gone() {
             return Some(ErrorCode::NoEntry);
@@ -259,6 +269,103 @@ impl Store {
         Ok(node)
     }
 
+    /// The rows for a name that is to hold a new node.
+    fn refuse_new_name(
+        &self,
+        directory: u64,
+        name: Name<'_>,
+        found: Option<u64>,
+    ) -> Option<ErrorCode>
+        requires within { directory < next_of self.now }
+        requires found { found ≡ child self.now directory (name_bytes name) }
+        ensures { result ≡ first_row (new_name_rows self.now directory (name_bytes name.entry)) }
+    {
+        if let Some(code) = self.refuse_name(directory, name) {
+            return Some(code);
+        }
+        if found.is_some() {
+            return Some(ErrorCode::Exist);
+        }
+        self.refuse_growth(directory)
+    }
+
+    /// The code of the first row that refuses to make a directory, where the name holds this node.
+    #[tactic(auto, unfolding(wasi_host::specs::Refusal::refusal))]
+    pub fn refuse_make_dir(
+        &self,
+        directory: u64,
+        name: Name<'_>,
+        found: Option<u64>,
+    ) -> Option<ErrorCode>
+        requires within { directory < next_of self.now }
+        requires found { found ≡ child self.now directory (name_bytes name) }
+        ensures { result ≡ refusal self.now (MakeDirAt directory (name_bytes name.entry)) }
+    {
+        if !self.row(directory).content.is_directory() {
+            return Some(ErrorCode::NotDirectory);
+        }
+        self.refuse_new_name(directory, name, found)
+    }
+
+    /// The code of the first row that refuses to make a link of this text, where the name holds this node.
+    #[tactic(auto, unfolding(wasi_host::specs::Refusal::refusal))]
+    pub fn refuse_symlink(
+        &self,
+        target: &str,
+        directory: u64,
+        name: Name<'_>,
+        found: Option<u64>,
+    ) -> Option<ErrorCode>
+        requires within { directory < next_of self.now }
+        requires found { found ≡ child self.now directory (name_bytes name) }
+        ensures { result ≡ refusal self.now (SymlinkAt target.now directory (name_bytes name.entry)) }
+    {
+        if !self.row(directory).content.is_directory() {
+            return Some(ErrorCode::NotDirectory);
+        }
+        if let Some(code) = refuse_text(target) {
+            return Some(code);
+        }
+        self.refuse_new_name(directory, name, found)
+    }
+
+    /// The node under a name that is to be dropped, where no row refuses that looks at the name and at what has it; else
+    /// the row's code. That of `.` is given.
+    fn node_to_drop(
+        &self,
+        directory: u64,
+        name: Name<'_>,
+        found: Option<u64>,
+        dot: ErrorCode,
+    ) -> Result<u64, ErrorCode>
+        requires within { directory < next_of self.now }
+        requires found { found ≡ child self.now directory (name_bytes name) }
+        requires below { ForSome found (λ n. n < next_of self.now) }
+        ensures free { OnOk result
+            (first_row (dropping_rows self.now directory (name_bytes name.entry) dot) ≡ None) }
+        ensures refused { IfErr result
+            (λ code. first_row (dropping_rows self.now directory (name_bytes name.entry) dot) ≡ Some code) }
+        ensures node { IfOk result (λ n. child self.now directory (name_bytes name.entry) ≡ Some n) }
+        ensures below { IfOk result (λ n. n < next_of self.now) }
+    {
+        if !self.row(directory).content.is_directory() {
+            return Err(ErrorCode::NotDirectory);
+        }
+        if let Some(code) = self.refuse_name(directory, name) {
+            return Err(code);
+        }
+        if name.is_dot() {
+            return Err(dot);
+        }
+        let Some(node) = found else {
+            return Err(ErrorCode::NoEntry);
+        };
+        if !self.row(directory).bits.w {
+            return Err(ErrorCode::Access);
+        }
+        Ok(node)
+    }
+
     /// The metadata of the node that a name holds, a link's own.
     pub fn stat_at(
         &self,
@@ -328,12 +435,59 @@ impl Store {
         self.worked.mark(node);
     }
 
-    /// Makes a file under a name of a directory, and gives its number. All room is taken first, so that nothing has
-    /// changed where memory is wanted.
+    /// Makes a file under a name of a directory, and gives its number. Where memory is wanted, nothing has changed.
     pub fn make_file(&mut self, directory: u64, name: Name<'_>) -> Result<u64, AllocError>
         requires { is_directory (node_at self.old directory).content ≡ true }
         ensures number { IfOk result (λ n. n ≡ next_of self.old) }
         ensures made { OnOk result (self.new ≡ file_made self.old directory (name_bytes name.entry)) }
+        ensures kept { OnErr result (self.new ≡ self.old) }
+        ensures stays { Stays self.old self.new }
+    {
+        let alloc = *self.rows.allocator();
+        self.make_node(directory, name, Row::new_file(alloc))
+    }
+
+    /// Makes an empty directory under a name of a directory, and gives its number. Where memory is wanted, nothing has
+    /// changed.
+    pub fn make_directory(&mut self, directory: u64, name: Name<'_>) -> Result<u64, AllocError>
+        requires { is_directory (node_at self.old directory).content ≡ true }
+        ensures number { IfOk result (λ n. n ≡ next_of self.old) }
+        ensures made { OnOk result (self.new ≡ directory_made self.old directory (name_bytes name.entry)) }
+        ensures kept { OnErr result (self.new ≡ self.old) }
+        ensures stays { Stays self.old self.new }
+    {
+        let alloc = *self.rows.allocator();
+        self.make_node(directory, name, Row::new_directory(alloc))
+    }
+
+    /// Makes a link of a text under a name of a directory, and gives its number. Where memory is wanted, nothing has
+    /// changed.
+    pub fn make_link(
+        &mut self,
+        text: &str,
+        directory: u64,
+        name: Name<'_>,
+    ) -> Result<u64, AllocError>
+        requires directory { is_directory (node_at self.old directory).content ≡ true }
+        requires text { IsSoundText text.now }
+        ensures number { IfOk result (λ n. n ≡ next_of self.old) }
+        ensures made { OnOk result (self.new ≡ link_made self.old directory (name_bytes name.entry) text.now) }
+        ensures kept { OnErr result (self.new ≡ self.old) }
+        ensures stays { Stays self.old self.new }
+    {
+        let alloc = *self.rows.allocator();
+        let text = String::from_str(alloc, text)?;
+        self.make_node(directory, name, Row::new_link(text))
+    }
+
+    /// Makes a node under a name of a directory, and gives its number. All room is taken first, so that nothing has
+    /// changed where memory is wanted.
+    fn make_node(&mut self, directory: u64, name: Name<'_>, row: Row) -> Result<u64, AllocError>
+        requires directory { is_directory (node_at self.old directory).content ≡ true }
+        requires sound { IsSoundNode 0 (stored_node row) }
+        ensures number { IfOk result (λ n. n ≡ next_of self.old) }
+        ensures made { OnOk result
+            (self.new ≡ node_made self.old directory (name_bytes name.entry) (stored_node row)) }
         ensures kept { OnErr result (self.new ≡ self.old) }
         ensures stays { Stays self.old self.new }
     {
@@ -344,10 +498,103 @@ impl Store {
         self.rows[directory as usize]
             .content
             .add_name(alloc, name.as_str(), node)?;
-        self.rows.push_reserved(Row::new_file(alloc));
+        self.rows.push_reserved(row);
         self.worked.mark(directory);
         self.worked.push();
         Ok(node)
+    }
+
+    /// Drops a name of a file or link.
+    pub fn unlink_at(
+        &mut self,
+        directory: u64,
+        name: Name<'_>,
+        found: Option<u64>,
+    ) -> Result<(), ErrorCode>
+        requires within { directory < next_of self.old }
+        requires found { found ≡ child self.old directory (name_bytes name) }
+        requires below { ForSome found (λ n. n < next_of self.old) }
+        ensures free { OnOk result (refusal self.old (UnlinkAt directory (name_bytes name.entry)) ≡ None) }
+        ensures refused { IfErr result
+            (λ code. refusal self.old (UnlinkAt directory (name_bytes name.entry)) ≡ Some code) }
+        ensures step { OnOk result (self.new ≡ unlink_step self.old directory (name_bytes name.entry)) }
+        ensures kept { OnErr result (self.new ≡ self.old) }
+        ensures stays { Stays self.old self.new }
+        ensures count { next_of self.new ≡ next_of self.old }
+    {
+        let node = self.node_to_drop(directory, name, found, ErrorCode::IsDirectory)?;
+        if self.row(node).content.is_directory() {
+            return Err(ErrorCode::IsDirectory);
+        }
+        self.drop_name(directory, name, node);
+        Ok(())
+    }
+
+    /// Drops the name of an empty directory, which is gone from then on.
+    pub fn remove_dir_at(
+        &mut self,
+        directory: u64,
+        name: Name<'_>,
+        found: Option<u64>,
+    ) -> Result<(), ErrorCode>
+        requires within { directory < next_of self.old }
+        requires found { found ≡ child self.old directory (name_bytes name) }
+        requires below { ForSome found (λ n. n < next_of self.old) }
+        ensures free { OnOk result (refusal self.old (RemoveDirAt directory (name_bytes name.entry)) ≡ None) }
+        ensures refused { IfErr result
+            (λ code. refusal self.old (RemoveDirAt directory (name_bytes name.entry)) ≡ Some code) }
+        ensures step { OnOk result (self.new ≡ remove_step self.old directory (name_bytes name.entry)) }
+        ensures kept { OnErr result (self.new ≡ self.old) }
+        ensures stays { Stays self.old self.new }
+        ensures count { next_of self.new ≡ next_of self.old }
+    {
+        let node = self.node_to_drop(directory, name, found, ErrorCode::Invalid)?;
+        let row = self.row(node);
+        if !row.content.is_directory() {
+            return Err(ErrorCode::NotDirectory);
+        }
+        if !row.content.is_bare() {
+            return Err(ErrorCode::NotEmpty);
+        }
+        self.drop_name(directory, name, node);
+        Ok(())
+    }
+
+    /// Drops a name of a directory, which another node has.
+    fn drop_name(&mut self, directory: u64, name: Name<'_>, node: u64)
+        requires directory { is_directory (node_at self.old directory).content ≡ true }
+        requires within { node < next_of self.old }
+        requires apart { nat_eq node directory ≡ false }
+        ensures dropped { self.new ≡ name_dropped self.old directory (name_bytes name.entry) name_lost node }
+        ensures stays { Stays self.old self.new }
+        ensures count { next_of self.new ≡ next_of self.old }
+    {
+        self.take_name(directory, name);
+        self.lose_name(node);
+    }
+
+    /// Takes a name out of a directory.
+    fn take_name(&mut self, directory: u64, name: Name<'_>)
+        requires { is_directory (node_at self.old directory).content ≡ true }
+        ensures taken { self.new ≡ name_taken self.old directory (name_bytes name.entry) }
+        ensures stays { Stays self.old self.new }
+        ensures count { next_of self.new ≡ next_of self.old }
+    {
+        self.rows[directory as usize]
+            .content
+            .remove_name(name.as_str());
+        self.worked.mark(directory);
+    }
+
+    /// Takes a name from the node that has it.
+    fn lose_name(&mut self, node: u64)
+        requires { node < next_of self.old }
+        ensures lost { self.new ≡ node_lost self.old node }
+        ensures stays { Stays self.old self.new }
+        ensures count { next_of self.new ≡ next_of self.old }
+    {
+        self.rows[node as usize].content.lose_name();
+        self.worked.mark(node);
     }
 
     /// The metadata of a node.
@@ -450,6 +697,22 @@ fn new_nodes(alloc: Global, rows: &[Row]) -> Result<Vec<NewNode>, AllocError>
     Ok(nodes)
 }
 
+/// What is wrong with the text of a link that is to be made.
+fn refuse_text(text: &str) -> Option<ErrorCode>
+    ensures { result ≡ first_row (text_rows text.now) }
+{
+    if text.is_empty() {
+        return Some(ErrorCode::NoEntry);
+    }
+    if text.as_bytes().contains(&0) {
+        return Some(ErrorCode::Invalid);
+    }
+    if text.len() > LINK_MAX {
+        return Some(ErrorCode::NameTooLong);
+    }
+    None
+}
+
 /// The bytes from an offset on; none at or past the end.
 fn bytes_from(bytes: &[u8], offset: u64) -> &[u8]
     ensures { result.now ≡ drop offset bytes.now }
@@ -469,56 +732,4 @@ fn copy_front(bytes: &[u8], buf: &mut [u8]) -> usize
     let n = bytes.len().min(buf.len());
     buf[..n].copy_from_slice(&bytes[..n]);
     n
-}
-
-#[cfg(test)]
-mod tests {
-    use super::*;
-    use crate::row::RowContent;
-    use std::collections::BTreeMap;
-    use std::test::Fail;
-    use wasi_host::{Bits, SystemTime};
-
-    const LIMITS: Limits = Limits { nodes: 2, links: 1 };
-
-    /// One directory without names, which may be written or not, and may be gone.
-    fn one_directory(alloc: Global, w: bool, gone: bool) -> Result<Store, AllocError>
-        ensures { IfOk result (λ store. next_of store ≡ 1) }
-    {
-        let row = Row {
-            content: RowContent::Dir {
-                names: BTreeMap::new(alloc),
-                gone,
-            },
-            bits: Bits {
-                r: true,
-                w,
-                x: true,
-            },
-            atime: SystemTime::EPOCH,
-            mtime: SystemTime::EPOCH,
-            btime: SystemTime::EPOCH,
-        };
-        Ok(Store {
-            rows: vec![in alloc; row]?,
-            limits: LIMITS,
-            worked: Marks::new(alloc, 1)?,
-        })
-    }
-
-    #[test]
-    fn refuses_new_files(rt: HostRuntime) -> Result<(), Fail> {
-        let mut options = OpenOptions::new();
-        options.write(true).create(true);
-        for (w, gone, want) in [
-            (true, false, None),
-            (false, false, Some(ErrorCode::Access)),
-            (false, true, Some(ErrorCode::NoEntry)),
-        ] {
-            let store = one_directory(rt.alloc(), w, gone)?;
-            let refused = store.refuse_missing(0, &options);
-            assert_eq!(rt; refused, want, "of {w} {gone}");
-        }
-        Ok(())
-    }
 }

@@ -4,7 +4,7 @@ ghost use Rattle.std.specs.FinSet.{empty};
 ghost use Rattle.std.specs.String.{string_bytes};
 ghost use Rattle.wasi_paths.specs.Name.{name_bytes};
 ghost use Rattle.wasi_host.specs.Tree.{Tree, next_of};
-ghost use Rattle.wasi_host.specs.HostCall.{OpenAt, StatAt, ReadLinkAt, Access, Stat, Pread, Pwrite};
+ghost use Rattle.wasi_host.specs.HostCall.{OpenAt, StatAt, ReadLinkAt, MakeDirAt, SymlinkAt, UnlinkAt, RemoveDirAt, Access, Stat, Pread, Pwrite};
 ghost use Rattle.wasi_host.specs.Meaning.{IsHeld, hosted};
 ghost use Rattle.wasi_host.specs.Time.{HasTimes};
 ghost use Rattle.wasi_tree.specs.Given.{given, tree_of};
@@ -133,6 +133,70 @@ impl TouchedTree {
         self.touched.mark_found(directory, found);
         let text = self.store.link_at(directory, name, found)?;
         Ok(String::from_str(alloc, text)?)
+    }
+
+    /// Makes an empty directory under a name in a directory.
+    pub fn make_dir_at(&mut self, directory: u64, name: Name<'_>) -> Result<(), HostError>
+        requires { directory < next_of self.old.tree }
+        ensures does { Does self.old self.new (MakeDirAt directory (name_bytes name.entry)) (λ unit. unit) result }
+        ensures stays { Stays self.old.tree self.new.tree }
+    {
+        let found = self.store.child(directory, name);
+        self.touched.mark_found(directory, found);
+        if let Some(code) = self.store.refuse_make_dir(directory, name, found) {
+            return Err(HostError::Code(code));
+        }
+        self.touched.reserve()?;
+        self.store.make_directory(directory, name)?;
+        self.touched.push();
+        Ok(())
+    }
+
+    /// Makes a link of this text under a name in a directory.
+    pub fn symlink_at(
+        &mut self,
+        target: &str,
+        directory: u64,
+        name: Name<'_>,
+    ) -> Result<(), HostError>
+        requires { directory < next_of self.old.tree }
+        ensures does { Does self.old self.new (SymlinkAt target.now directory (name_bytes name.entry))
+            (λ unit. unit) result }
+        ensures stays { Stays self.old.tree self.new.tree }
+    {
+        let found = self.store.child(directory, name);
+        self.touched.mark_found(directory, found);
+        if let Some(code) = self.store.refuse_symlink(target, directory, name, found) {
+            return Err(HostError::Code(code));
+        }
+        self.touched.reserve()?;
+        self.store.make_link(target, directory, name)?;
+        self.touched.push();
+        Ok(())
+    }
+
+    /// Drops a name of a file or link in a directory.
+    pub fn unlink_at(&mut self, directory: u64, name: Name<'_>) -> Result<(), ErrorCode>
+        requires { directory < next_of self.old.tree }
+        ensures does { Does self.old self.new (UnlinkAt directory (name_bytes name.entry))
+            (λ unit. unit) (hosted result) }
+        ensures stays { Stays self.old.tree self.new.tree }
+    {
+        let found = self.store.child(directory, name);
+        self.touched.mark_found(directory, found);
+        self.store.unlink_at(directory, name, found)
+    }
+
+    /// Drops the name of an empty directory in a directory.
+    pub fn remove_dir_at(&mut self, directory: u64, name: Name<'_>) -> Result<(), ErrorCode>
+        requires { directory < next_of self.old.tree }
+        ensures does { Does self.old self.new (RemoveDirAt directory (name_bytes name.entry))
+            (λ unit. unit) (hosted result) }
+        ensures stays { Stays self.old.tree self.new.tree }
+    {
+        let found = self.store.child(directory, name);
+        self.touched.mark_found(directory, found);
+        self.store.remove_dir_at(directory, name, found)
     }
 
     /// Whether a directory may be searched.

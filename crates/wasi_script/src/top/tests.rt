@@ -50,13 +50,13 @@ fn script(alloc: Global, parts: Parts<'_>) -> Result<String, AllocError> {
     )
 }
 
-fn words(alloc: Global, word: &str) -> Result<Vec<String>, AllocError> {
+pub(super) fn words(alloc: Global, word: &str) -> Result<Vec<String>, AllocError> {
     let mut list = Vec::new(alloc);
     list.push(String::from_str(alloc, word)?)?;
     Ok(list)
 }
 
-fn ended(
+pub(super) fn ended(
     alloc: Global,
     words: &Vec<String>,
     script: &[u8],

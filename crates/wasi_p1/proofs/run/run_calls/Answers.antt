@@ -1,10 +1,10 @@
 use Rattle.std.proofs.Common.{◌∙◌, inl, arith, sym, refl, length, drop, length-append, ◌≡◌, ◌+◌, ◌<◌, ◌≤◌}
 use Rattle.std.proofs.lemmas.List.{take_all}
-use Rattle.wasi_guest.specs.declared.call.Call.TheVariants.{PathOpen}
+use Rattle.wasi_guest.specs.declared.call.Call.TheVariants.{FdClose}
 use Rattle.wasi_host.proofs.Tracing.{traced_none}
 use Rattle.wasi_p1.proofs.CallTracing.{traced_on}
 use Rattle.wasi_p1.proofs.Runs.{nothing_yet, io_counted, turned_on, stood, stood_first, ended, all_done, call_at, calls_at}
-use Rattle.wasi_p1.proofs.Answering.{goes_on-push, each_answered, last_answered}
+use Rattle.wasi_p1.proofs.RunAnswers.{goes_on-push, each_answered, last_answered}
 use Rattle.wasi_p1.proofs.Confining.{turn_confines}
 use Rattle.wasi_p1.proofs.Validity.{turn_valid}
 use Rattle.wasi_p1.proofs.run.run_calls.Goals as goal
@@ -44,7 +44,7 @@ loop-one-preserved g c = record {
   lineage = traced_on _ _ c.call-outcome.ensures.lineage c.loop-one.invariant.lineage;
   run = λ told.
       let within : c.loop-one.one-index < length c.args.calls.now.items = omega arith in
-      let one = call_at c.args.calls.now.items c.loop-one.one-index (PathOpen 0 0 0 0 0 0 0 0) within in
+      let one = call_at c.args.calls.now.items c.loop-one.one-index (FdClose 0) within in
       let on = turned_on (sym c.in-Some.ensures) c.call-outcome.ensures.cause (c.call-outcome.ensures.turn.turn told)
       (c.loop-one.invariant.run told) (sym c.ends_run.ensures ∙ c.if-ends_run.false) in
       rw (c.push.ensures.answers, one) (rw c.deref-one-items.ensures.value at on);
@@ -106,7 +106,7 @@ returns-then-ends_run-clause-lineage g c = traced_on _ _ c.call-outcome.ensures.
 pub returns-then-ends_run-clause-run : goal.returns-then-ends_run-clause-run
 returns-then-ends_run-clause-run g c = λ told.
     let within : c.loop-one.one-index < length c.args.calls.now.items = omega arith in
-    let all = calls_at c.args.calls.now.items c.loop-one.one-index (PathOpen 0 0 0 0 0 0 0 0) within in
+    let all = calls_at c.args.calls.now.items c.loop-one.one-index (FdClose 0) within in
     let on = ended (sym c.in-Some.ensures) c.call-outcome.ensures.cause (c.call-outcome.ensures.turn.turn told)
     (c.loop-one.invariant.run told) (drop (c.loop-one.one-index + 1) c.args.calls.now.items)
     (sym c.ends_run.ensures ∙ c.if-ends_run.true) in

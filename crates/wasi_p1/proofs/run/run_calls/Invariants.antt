@@ -7,7 +7,7 @@ use Rattle.wasi_p1.specs.CallTurn.{OthersStay}
 use Rattle.wasi_p1.specs.Owners.{RunTraced}
 use Rattle.wasi_p1.specs.Validity.{IsValidState}
 use Rattle.wasi_p1.proofs.Runs.{SoFar}
-use Rattle.wasi_p1.proofs.Answering.{GoesOn}
+use Rattle.wasi_p1.proofs.RunAnswers.{GoesOn}
 use Rattle.wasi_p1.proofs.run.run_calls.Given as goal
 
 abbrev pub invariant-loop-one : goal.invariant-loop-one

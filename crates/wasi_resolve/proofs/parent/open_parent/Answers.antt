@@ -1,4 +1,5 @@
 use Rattle.std.proofs.Common.{sym, ◌∙◌}
+use Rattle.std.proofs.lemmas.Result.{err_from_is_err_and}
 use Rattle.wasi_resolve.proofs.Parenting.{placed_none, placed_start, placed_ok, placed_err}
 use Rattle.wasi_resolve.proofs.parent.open_parent.Goals as goal
 
@@ -10,13 +11,14 @@ returns-then-is_empty-clause-told g c told =
     placed_start _ _ c.args.start c.args.path.now c.last_name-name.result (sym c.in-Some.ensures.split)
     (sym c.is_empty.ensures ∙ c.if-is_empty.true) c.last_name-name.ensures
 
-pub returns-in-Ok-clause-told : goal.returns-in-Ok-clause-told
-returns-in-Ok-clause-told g c told =
+pub returns-clause-told : goal.returns-clause-told
+returns-clause-told g c told =
     placed_ok _ c.args.path.now _ _ (sym c.in-Some.ensures.split) (sym c.is_empty.ensures ∙ c.if-is_empty.false)
-    c.in-Ok.handle c.last_name-name.result c.last_name-name.ensures (c.in-Ok.ensures.told told)
+    c.in_ok-directory.directory c.last_name-name.result c.last_name-name.ensures (c.in_ok-directory.ensures.told told)
 
-pub returns-in-Err-clause-told : goal.returns-in-Err-clause-told
-returns-in-Err-clause-told g c told =
-    placed_err _ c.args.path.now _ _ (sym c.in-Some.ensures.split) (sym c.is_empty.ensures
-    ∙ c.if-is_empty.false) c.in-Err.e
-    (c.in-Err.ensures.told told)
+pub returns-in_err-directory-clause-told : goal.returns-in_err-directory-clause-told
+returns-in_err-directory-clause-told g c told =
+    let error = err_from_is_err_and c.from_residual.result c.from_residual.ensures.1 in
+    rw (error.1, error.2) (placed_err _ c.args.path.now _ _ (sym c.in-Some.ensures.split) (sym c.is_empty.ensures
+    ∙ c.if-is_empty.false) c.in_err-directory.field-0.0
+    (c.in_err-directory.ensures.told told))

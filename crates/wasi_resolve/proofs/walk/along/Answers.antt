@@ -1,8 +1,8 @@
 use Rattle.std.proofs.Common.{◌-◌, ◌+◌, Ok, Err, inl, inr, refl, arith}
-use Rattle.wasi_host.proofs.Tracing.{traced_none, traced_then}
+use Rattle.std.proofs.lemmas.Result.{err_from_is_err_and}
+use Rattle.wasi_host.proofs.Tracing.{traced_none, traced_then, traced_last, traced_less}
 use Rattle.wasi_resolve.specs.Finding.{follow_of, aim_of}
 use Rattle.wasi_resolve.specs.Left.{parts_left}
-use Rattle.wasi_resolve.proofs.Lookups.{traced_last, traced_less}
 use Rattle.wasi_resolve.proofs.Passing.{ends_past, fails_past, link_few}
 use Rattle.wasi_resolve.proofs.Coming.{so_starts, so_turns, so_ends, so_fails, so_loops}
 use Rattle.wasi_resolve.proofs.walk.along.Goals as goal
@@ -23,82 +23,93 @@ past_link-requires g c = (c.requires.0, c.loop-links.invariant.stands _ c.requir
 
 pub loop-links-preserved : goal.loop-links-preserved
 loop-links-preserved g c = record {
-  later = omega (arith, c.in-Ok.ensures.cause.later, c.loop-links.invariant.later);
+  later = omega (arith, c.in_ok-past.ensures.cause.later, c.loop-links.invariant.later);
   stands =
-      λ first stands. rw c.in-Link.is at (c.in-Ok.ensures.stands first (c.loop-links.invariant.stands first stands));
+      λ first stands.
+      rw c.in-Link.is at (c.in_ok-past.ensures.stands first (c.loop-links.invariant.stands first stands));
   lineage =
       traced_then (λ q has. has) (λ q has. has) c.loop-links.invariant.lineage
-      (rw c.in-Link.is at c.in-Ok.ensures.lineage);
-  links_so_far = omega (arith, c.loop-links.invariant.links_so_far, c.in-Ok.ensures.links);
+      (rw c.in-Link.is at c.in_ok-past.ensures.lineage);
+  links_so_far = omega (arith, c.loop-links.invariant.links_so_far, c.in_ok-past.ensures.links);
   told = λ told first w stands walked.
       let so = c.loop-links.invariant.told told first w stands walked in
       so_turns (40 - (c.loop-links.links + 1)) so (omega arith)
-      (rw c.in-Link.is at (c.in-Ok.ensures.told told first w so.taken
+      (rw c.in-Link.is at (c.in_ok-past.ensures.told told first w so.taken
       (c.loop-links.invariant.stands first stands) so.walked));
 }
 
-pub returns-in-Err-clause-told : goal.returns-in-Err-clause-told
-returns-in-Err-clause-told g c told first w stands walked =
+pub returns-in_err-past-clause-told : goal.returns-in_err-past-clause-told
+returns-in_err-past-clause-told g c told first w stands walked =
     let so = c.loop-links.invariant.told told first w stands walked in
-    elim (c.in-Err.ensures.told told first w so.taken (c.loop-links.invariant.stands first stands) so.walked) [
-      | inl fails ↦ so_fails c.in-Err.e so fails
-      | inr ends ↦ so_ends (Err c.in-Err.e) so ends
-    ]
+    let error = err_from_is_err_and c.from_residual.result c.from_residual.ensures.1 in
+    rw (error.1, error.2) (elim (c.in_err-past.ensures.told told first w so.taken
+    (c.loop-links.invariant.stands first stands) so.walked) [
+      | inl fails ↦ so_fails c.in_err-past.field-0.0 so fails
+      | inr ends ↦ so_ends (Err c.in_err-past.field-0.0) so ends
+    ])
 
-pub returns-in-Err-clause-lineage : goal.returns-in-Err-clause-lineage
-returns-in-Err-clause-lineage g c = traced_last (λ q has. has) c.loop-links.invariant.lineage c.in-Err.ensures.lineage
+pub returns-in_err-past-clause-lineage : goal.returns-in_err-past-clause-lineage
+returns-in_err-past-clause-lineage g c =
+    let error = err_from_is_err_and c.from_residual.result c.from_residual.ensures.1 in
+    rw error.1 (traced_last (λ q has. has) c.loop-links.invariant.lineage c.in_err-past.ensures.lineage)
 
 pub returns-in-Found-clause-told : goal.returns-in-Found-clause-told
 returns-in-Found-clause-told g c told first w stands walked =
     let so = c.loop-links.invariant.told told first w stands walked in
     so_ends (Ok c.in-Found.found) so
-    (rw c.in-Found.is at (c.in-Ok.ensures.told told first w so.taken
+    (rw c.in-Found.is at (c.in_ok-past.ensures.told told first w so.taken
     (c.loop-links.invariant.stands first stands) so.walked))
 
 pub returns-in-Found-clause-lineage : goal.returns-in-Found-clause-lineage
 returns-in-Found-clause-lineage g c =
-    traced_last (λ q has. has) c.loop-links.invariant.lineage (rw c.in-Found.is at c.in-Ok.ensures.lineage)
+    traced_last (λ q has. has) c.loop-links.invariant.lineage (rw c.in-Found.is at c.in_ok-past.ensures.lineage)
 
 pub reach-requires : goal.reach-requires
 reach-requires g c = (c.requires.0, c.loop-links.invariant.stands _ c.requires.1)
 
-pub returns-in-Err-reach-clause-told : goal.returns-in-Err-reach-clause-told
-returns-in-Err-reach-clause-told g c told first w stands walked =
+pub returns-in_err-reached-clause-told : goal.returns-in_err-reached-clause-told
+returns-in_err-reached-clause-told g c told first w stands walked =
     let so = c.loop-links.invariant.told told first w stands walked in
-    elim (c.in-Err-reach.ensures.told told first w so.taken (c.loop-links.invariant.stands first stands) so.walked) [
-      | inl fails ↦ so_fails c.in-Err-reach.e so (fails_past c.loop-links.left.items c.reach.new.left.items c.in-Err-reach.e fails c.in-Err-reach.ensures.reads)
-      | inr ends ↦ so_ends (Err c.in-Err-reach.e) so (ends_past c.loop-links.left.items c.reach.new.left.items (Err c.in-Err-reach.e) ends c.in-Err-reach.ensures.reads)
-    ]
+    let error = err_from_is_err_and c.from_residual-in_err-reached.result c.from_residual-in_err-reached.ensures.1 in
+    let e = c.in_err-reached.field-0.0 in
+    rw (error.1, error.2) (elim (c.in_err-reached.ensures.told told first w so.taken
+    (c.loop-links.invariant.stands first stands) so.walked) [
+      | inl fails ↦ so_fails e so (fails_past c.loop-links.left.items c.reach.new.left.items e fails
+          c.in_err-reached.ensures.reads)
+      | inr ends ↦ so_ends (Err e) so (ends_past c.loop-links.left.items c.reach.new.left.items (Err e) ends
+          c.in_err-reached.ensures.reads)
+    ])
 
-pub returns-in-Err-reach-clause-lineage : goal.returns-in-Err-reach-clause-lineage
-returns-in-Err-reach-clause-lineage g c =
-    traced_last (λ q has. has) c.loop-links.invariant.lineage c.in-Err-reach.ensures.lineage
+pub returns-in_err-reached-clause-lineage : goal.returns-in_err-reached-clause-lineage
+returns-in_err-reached-clause-lineage g c =
+    let error = err_from_is_err_and c.from_residual-in_err-reached.result c.from_residual-in_err-reached.ensures.1 in
+    rw error.1 (traced_last (λ q has. has) c.loop-links.invariant.lineage c.in_err-reached.ensures.lineage)
 
 pub returns-in-Found-reached-clause-told : goal.returns-in-Found-reached-clause-told
 returns-in-Found-reached-clause-told g c told first w stands walked =
     let so = c.loop-links.invariant.told told first w stands walked in
     so_ends (Ok c.in-Found-reached.found) so
     (ends_past c.loop-links.left.items c.reach.new.left.items (Ok c.in-Found-reached.found)
-    (rw c.in-Found-reached.is at (c.in-Ok-reach.ensures.told told first w so.taken
+    (rw c.in-Found-reached.is at (c.in_ok-reached.ensures.told told first w so.taken
     (c.loop-links.invariant.stands first stands) so.walked))
-    (rw c.in-Found-reached.is at c.in-Ok-reach.ensures.reads))
+    (rw c.in-Found-reached.is at c.in_ok-reached.ensures.reads))
 
 pub returns-in-Found-reached-clause-lineage : goal.returns-in-Found-reached-clause-lineage
 returns-in-Found-reached-clause-lineage g c =
     traced_last (λ q has. has) c.loop-links.invariant.lineage
-    (rw c.in-Found-reached.is at c.in-Ok-reach.ensures.lineage)
+    (rw c.in-Found-reached.is at c.in_ok-reached.ensures.lineage)
 
 pub returns-in-Link-reached-clause-told : goal.returns-in-Link-reached-clause-told
 returns-in-Link-reached-clause-told g c told first w stands walked =
     let so = c.loop-links.invariant.told told first w stands walked in
     let link =
-    rw c.in-Link-reached.is at (c.in-Ok-reach.ensures.told told first w so.taken
+    rw c.in-Link-reached.is at (c.in_ok-reached.ensures.told told first w so.taken
     (c.loop-links.invariant.stands first stands) so.walked) in
     so_loops so (omega arith) link
     (link_few c.loop-links.left.items c.reach.new.left.items link
-    (rw c.in-Link-reached.is at c.in-Ok-reach.ensures.reads))
+    (rw c.in-Link-reached.is at c.in_ok-reached.ensures.reads))
 
 pub returns-in-Link-reached-clause-lineage : goal.returns-in-Link-reached-clause-lineage
 returns-in-Link-reached-clause-lineage g c =
     traced_less (traced_then (λ q has. has) (λ q has. has) c.loop-links.invariant.lineage
-    (rw c.in-Link-reached.is at c.in-Ok-reach.ensures.lineage))
+    (rw c.in-Link-reached.is at c.in_ok-reached.ensures.lineage))

@@ -1,5 +1,6 @@
 use Rattle.std.proofs.Common.{◌∙◌, sym, ap, [], ◌∷◌, length, refl, arith, length-append}
 use Rattle.std.specs.Prelude.{◌==◌}
+use Rattle.std.proofs.lemmas.Result.{err_from_is_err_and}
 use Rattle.wasi_host.proofs.Tracing.{traced_none, traced_then}
 use Rattle.wasi_resolve.specs.Left.{parts_left}
 use Rattle.wasi_resolve.proofs.Legs.{same_here}
@@ -19,39 +20,41 @@ loop-part-init g c = record {
 pub step-requires : goal.step-requires
 step-requires g c = (c.requires.0, c.loop-part.invariant.stands _ c.requires.1)
 
-pub returns-in-Err-clause-lineage : goal.returns-in-Err-clause-lineage
-returns-in-Err-clause-lineage g c =
-    traced_then (λ q has. has) (λ q has. has) c.loop-part.invariant.lineage c.in-Err.ensures.lineage
+pub returns-in_err-stopped-clause-lineage : goal.returns-in_err-stopped-clause-lineage
+returns-in_err-stopped-clause-lineage g c =
+    traced_then (λ q has. has) (λ q has. has) c.loop-part.invariant.lineage c.in_err-stopped.ensures.lineage
 
 pub returns-in-Some-stopped-clause-lineage : goal.returns-in-Some-stopped-clause-lineage
 returns-in-Some-stopped-clause-lineage g c =
-    traced_then (λ q has. has) (λ q has. has) c.loop-part.invariant.lineage c.in-Ok.ensures.lineage
+    traced_then (λ q has. has) (λ q has. has) c.loop-part.invariant.lineage c.in_ok-stopped.ensures.lineage
 
-pub returns-in-Err-clause-told : goal.returns-in-Err-clause-told
-returns-in-Err-clause-told g c told first w stands walked =
+pub returns-in_err-stopped-clause-told : goal.returns-in_err-stopped-clause-told
+returns-in_err-stopped-clause-told g c told first w stands walked =
     let so_far = c.loop-part.invariant.told told first w stands walked in
-    fails_then _ so_far (popped_parts _ c.in-Some.part c.in-Some.ensures.items) c.in-Err.e
-    (c.in-Err.ensures.told told first w (parts_left c.pop.new.self.items) (nil_left c.pop.new.self.items
+    let error = err_from_is_err_and c.from_residual.result c.from_residual.ensures.1 in
+    rw (error.1, error.2) (fails_then _ so_far (popped_parts _ c.in-Some.part c.in-Some.ensures.items)
+    c.in_err-stopped.field-0.0
+    (c.in_err-stopped.ensures.told told first w (parts_left c.pop.new.self.items) (nil_left c.pop.new.self.items
     ∙ sym (c.is_empty-is_last.ensures ∙ ap (λ l. length l == 0) c.as_slice.ensures.value))
-    (c.loop-part.invariant.stands first stands) so_far.walked)
+    (c.loop-part.invariant.stands first stands) so_far.walked))
 
 pub returns-in-Some-stopped-clause-told : goal.returns-in-Some-stopped-clause-told
 returns-in-Some-stopped-clause-told g c told first w stands walked =
     let so_far = c.loop-part.invariant.told told first w stands walked in
     stops_then _ so_far (popped_parts _ c.in-Some.part c.in-Some.ensures.items) (g.H.Host.world c.step.new.host)
     (parts_left c.pop.new.self.items) c.step.new.stack.items c.in-Some-stopped.stop
-    (rw c.in-Some-stopped.is at (c.in-Ok.ensures.told told first w (parts_left c.pop.new.self.items)
+    (rw c.in-Some-stopped.is at (c.in_ok-stopped.ensures.told told first w (parts_left c.pop.new.self.items)
     (nil_left c.pop.new.self.items ∙ sym (c.is_empty-is_last.ensures
     ∙ ap (λ l. length l == 0) c.as_slice.ensures.value))
     (c.loop-part.invariant.stands first stands) so_far.walked))
 
 pub loop-part-preserved : goal.loop-part-preserved
 loop-part-preserved g c = record {
-  later = omega (arith, c.in-Ok.ensures.cause.later, c.loop-part.invariant.later);
-  stands = λ first stands. c.in-Ok.ensures.stands first (c.loop-part.invariant.stands first stands);
-  lineage = traced_then (λ q has. has) (λ q has. has) c.loop-part.invariant.lineage c.in-Ok.ensures.lineage;
+  later = omega (arith, c.in_ok-stopped.ensures.cause.later, c.loop-part.invariant.later);
+  stands = λ first stands. c.in_ok-stopped.ensures.stands first (c.loop-part.invariant.stands first stands);
+  lineage = traced_then (λ q has. has) (λ q has. has) c.loop-part.invariant.lineage c.in_ok-stopped.ensures.lineage;
   reads =
-      let reads = rw c.in_default-stopped.is at c.in-Ok.ensures.reads in
+      let reads = rw c.in_default-stopped.is at c.in_ok-stopped.ensures.reads in
       record {
         calls =
             omega (
@@ -66,7 +69,7 @@ loop-part-preserved g c = record {
   told = λ told first w stands walked.
       let so_far = c.loop-part.invariant.told told first w stands walked in
       goes_then _ so_far (popped_parts _ c.in-Some.part c.in-Some.ensures.items)
-      (rw c.in_default-stopped.is at (c.in-Ok.ensures.told told first w (parts_left c.pop.new.self.items)
+      (rw c.in_default-stopped.is at (c.in_ok-stopped.ensures.told told first w (parts_left c.pop.new.self.items)
       (nil_left c.pop.new.self.items ∙ sym (c.is_empty-is_last.ensures
       ∙ ap (λ l. length l == 0) c.as_slice.ensures.value))
       (c.loop-part.invariant.stands first stands) so_far.walked));

@@ -1,8 +1,9 @@
-use Rattle.std.proofs.Common.{refl}
+use Rattle.std.proofs.Common.{refl, rules}
 use Rattle.std.proofs.lemmas.Result.{err_from_is_err_and}
 use Rattle.wasi_p1.specs.Row.{give}
-use Rattle.wasi_p1.proofs.Taking.{makes_err, moved_ok}
-use Rattle.wasi_p1.proofs.Fronts.{fd_write_asks, with_position}
+use Rattle.wasi_p1.specs.Rows.{fd_write}
+use Rattle.wasi_p1.proofs.Taking.{refused, makes_err, moved_ok}
+use Rattle.wasi_p1.proofs.RowFronts.{fd_write_asks, with_position}
 use Rattle.wasi_p1.proofs.Writing.{writes_whole}
 use Rattle.wasi_p1.proofs.context.WasiP1Ctx.fd_write.Goals as goal
 
@@ -20,8 +21,12 @@ returns-clause-turn g c = rw (← c.self.view_is) (moved_ok give (with_position 
     (rw c.in_ok-buffer.was at c.buffer_at.ensures) c.in_ok-file.ensures.row c.in_ok-piece.ensures.row
     c.in_ok-check_write.ensures.row)
     c.self.invariant refl c.in_ok-count.ensures.front refl
-    (record { slots = c.put_file.ensures.slots; stdout = refl; stderr = refl }) c.in_ok-file.ensures.live
+    (record { slots = c.move_file.ensures.slots; stdout = refl; stderr = refl }) c.in_ok-file.ensures.live
     c.in_ok-count.ensures.told)
 
 pub returns-clause-whole : goal.returns-clause-whole
 returns-clause-whole g c = λ told. writes_whole _ _ _ _ _ _ ((returns-clause-turn g c).turn told).turn
+
+pub returns-in_err-check_write-clause-turn : goal.returns-in_err-check_write-clause-turn
+unfolding fd_write
+returns-in_err-check_write-clause-turn g c = rw (← c.self.view_is) (search (rules, refused))

@@ -1,47 +1,29 @@
-use Rattle.std.proofs.Common.{refl, [], rules}
+use Rattle.std.proofs.Common.{refl, rules}
 use Rattle.std.proofs.lemmas.Result.{err_from_is_err_and}
 use Rattle.wasi_p1.specs.Rows.{path_open, opened_among}
-use Rattle.wasi_p1.proofs.CallTracing.{traced_at}
+use Rattle.wasi_p1.proofs.Below.{permitted_err, permitted_ok}
 use Rattle.wasi_p1.proofs.Changing.{with_places}
-use Rattle.wasi_p1.proofs.Taking.{refused, does_err, does_ok}
-use Rattle.wasi_p1.proofs.Fronts.{path_open_asks}
+use Rattle.wasi_p1.proofs.Taking.{refused}
+use Rattle.wasi_p1.proofs.RowFronts.{path_open_asks}
 use Rattle.wasi_p1.proofs.context.WasiP1Ctx.path_open.Goals as goal
-
-pub returns-in_err-number-clause-lineage : goal.returns-in_err-number-clause-lineage
-returns-in_err-number-clause-lineage g c =
-    rw (← c.self.view_is) (traced_at _ _ [] c.in_ok-directory.ensures.is refl c.in_err-number.ensures.lineage)
 
 pub returns-in_err-number-clause-turn : goal.returns-in_err-number-clause-turn
 returns-in_err-number-clause-turn g c =
-    let error = err_from_is_err_and c.from_residual-in_err-number.result c.from_residual-in_err-number.ensures.1 in
-    rw (error.1, error.2, ← c.self.view_is) (does_err
-    (opened_among _ c.in_ok-directory.directory.perms c.in_ok-how.how.directory) with_places
-    (path_open_asks _ _ _ _ _ _ _ _ _ c.in_ok-how.ensures.row c.in_ok-text.ensures c.in_ok-directory.ensures.row
-    c.in_ok-check.ensures.row)
-    c.in_err-number.ensures.front
-    (λ _. refl)
-    (record { slots = c.in_err-number.ensures.kept; stdout = refl; stderr = refl; memory = refl })
-    c.in_err-number.ensures.stays
-    c.in_err-number.ensures.told)
-
-pub returns-clause-lineage : goal.returns-clause-lineage
-returns-clause-lineage g c =
-    rw (← c.self.view_is) (traced_at _ _ [] c.in_ok-directory.ensures.is refl c.in_ok-number.ensures.lineage)
+    let given = c.in_err-number.ensures in
+    let residual = c.from_residual-in_err-number in
+    let error = err_from_is_err_and residual.result residual.ensures.1 in
+    rw (error.1, error.2, ← c.self.view_is) (permitted_err (opened_among _ c.in_ok-dir.dir.perms _) with_places
+    (path_open_asks _ _ _ _ _ _ _ _ _ c.in_ok-with.ensures.row c.in_ok-text.ensures c.in_ok-dir.ensures.row)
+    given.permit given.front refl (record { slots = given.kept; stdout = refl; stderr = refl; memory = refl })
+    (λ told _. given.stays told) given.told)
 
 pub returns-clause-turn : goal.returns-clause-turn
-returns-clause-turn g c = rw (← c.self.view_is) (does_ok
-    (opened_among _ c.in_ok-directory.directory.perms c.in_ok-how.how.directory) with_places
-    (path_open_asks _ _ _ _ _ _ _ _ _ c.in_ok-how.ensures.row c.in_ok-text.ensures c.in_ok-directory.ensures.row
-    c.in_ok-check.ensures.row)
-    refl
-    c.in_ok-number.ensures.front
-    refl
-    (λ told. (c.in_ok-number.ensures.told told, refl)))
+returns-clause-turn g c =
+    let given = c.in_ok-number.ensures in
+    rw (← c.self.view_is) (permitted_ok (opened_among _ c.in_ok-dir.dir.perms _) with_places
+    (path_open_asks _ _ _ _ _ _ _ _ _ c.in_ok-with.ensures.row c.in_ok-text.ensures c.in_ok-dir.ensures.row)
+    given.permit refl given.front refl (λ told none. (given.told told none, refl)))
 
-pub returns-in_err-directory-clause-turn : goal.returns-in_err-directory-clause-turn
+pub returns-in_err-dir-clause-turn : goal.returns-in_err-dir-clause-turn
 unfolding path_open
-returns-in_err-directory-clause-turn g c = rw (← c.self.view_is) (search (rules, refused))
-
-pub returns-in_err-check-clause-turn : goal.returns-in_err-check-clause-turn
-unfolding path_open
-returns-in_err-check-clause-turn g c = rw (← c.self.view_is) (search (rules, refused))
+returns-in_err-dir-clause-turn g c = rw (← c.self.view_is) (search (rules, refused))

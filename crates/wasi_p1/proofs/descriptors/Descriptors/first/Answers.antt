@@ -7,6 +7,6 @@ pub loop-preopen-preserved : goal.loop-preopen-preserved
 loop-preopen-preserved c = record {
   slots =
       let item = take_more c.args.preopens.now c.loop-preopen.preopen-index c.preopen-item.result (omega arith) in
-      rw (c.put.ensures.slots, c.reserve.ensures.slots, c.loop-preopen.invariant.slots, item, ← c.preopen-item.is)
+      rw (c.put.ensures.slots, c.reserve.ensures.slots, c.loop-preopen.invariant.slots, item, c.directory.ensures.directory, ← c.preopen-item.is)
       (given_more _ _);
 }

@@ -1,5 +1,5 @@
-use Rattle.wasi_tree.proofs.MemLemmas.{cause_of}
+use Rattle.wasi_tree.proofs.MemLemmas.{cause_done}
 use Rattle.wasi_tree.proofs.mem_tree.MemTreeHost.read_link_at.Goals as goal
 
-pub returns-in-Err-Code-clause-cause : goal.returns-in-Err-Code-clause-cause
-returns-in-Err-Code-clause-cause c = rw (← c.in-Err-Code.field-0-is) (cause_of _ _ c.in-Err-Code.ensures.does)
+pub returns-clause-cause : goal.returns-clause-cause
+returns-clause-cause c = cause_done _ _ _ _ _ c.read_link_at-answer.ensures.does

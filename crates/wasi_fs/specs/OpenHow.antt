@@ -1,0 +1,103 @@
+-- How a path is opened: what the flags of an open ask for.
+use Rattle.std.specs.Prelude.{Bool, true, false, not, ◌&&◌, ◌||◌, List, [], ◌∷◌, Option}
+use Rattle.wasi_host.specs.Options.{Options, no_options}
+use Rattle.wasi_host.specs.Refusal.{first_row}
+use Rattle.wasi_host.specs.declared.errors.ErrorCode.{ErrorCode}
+use Rattle.wasi_host.specs.declared.errors.ErrorCode.TheVariants as codes
+use Rattle.wasi_host.specs.declared.open_options.FollowSymlinks.{FollowSymlinks}
+use Rattle.wasi_host.specs.declared.open_options.FollowSymlinks.TheVariants.{Yes, No}
+use Rattle.wasi_fs.specs.OpenFlags.{path_flag_bits, open_flag_bits, descriptor_flag_bits, includes}
+use Rattle.wasi_fs.specs.OpenMode.{mode_for}
+use Rattle.wasi_fs.specs.Perms.{is_read_only}
+use Rattle.wasi_fs.specs.declared.open_flags.PathFlags.{PathFlags}
+use Rattle.wasi_fs.specs.declared.open_flags.OpenFlags.{OpenFlags}
+use Rattle.wasi_fs.specs.declared.open_flags.DescriptorFlags.{DescriptorFlags}
+use Rattle.wasi_fs.specs.declared.open_flags.TheConstants.PathFlags as of_path
+use Rattle.wasi_fs.specs.declared.open_flags.TheConstants.OpenFlags as of_open
+use Rattle.wasi_fs.specs.declared.open_flags.TheConstants.DescriptorFlags as of_descriptor
+use Rattle.wasi_fs.specs.declared.open_mode.OpenMode.{OpenMode}
+use Rattle.wasi_fs.specs.declared.perms.FsPerms.{FsPerms}
+
+-- `sync` is any of the flags of integrity
+pub record OpenHow : Type 0 where
+  pub follow : Bool
+  pub create : Bool
+  pub directory : Bool
+  pub exclusive : Bool
+  pub truncate : Bool
+  pub read : Bool
+  pub write : Bool
+  pub sync : Bool
+
+abbrev has_path_flag : PathFlags → PathFlags → Bool
+has_path_flag set flag = includes (path_flag_bits set) (path_flag_bits flag)
+
+abbrev has_open_flag : OpenFlags → OpenFlags → Bool
+has_open_flag set flag = includes (open_flag_bits set) (open_flag_bits flag)
+
+abbrev has_descriptor_flag : DescriptorFlags → DescriptorFlags → Bool
+has_descriptor_flag set flag = includes (descriptor_flag_bits set) (descriptor_flag_bits flag)
+
+-- a link under the last name is followed
+abbrev pub is_followed : PathFlags → Bool
+is_followed flags = has_path_flag flags of_path.SYMLINK_FOLLOW
+
+-- what the flags ask for; MUTATE_DIRECTORY asks for nothing
+abbrev pub how_of : PathFlags → OpenFlags → DescriptorFlags → OpenHow
+how_of path_flags open_flags flags = record {
+  follow = is_followed path_flags;
+  create = has_open_flag open_flags of_open.CREATE;
+  directory = has_open_flag open_flags of_open.DIRECTORY;
+  exclusive = has_open_flag open_flags of_open.EXCLUSIVE;
+  truncate = has_open_flag open_flags of_open.TRUNCATE;
+  read = has_descriptor_flag flags of_descriptor.READ;
+  write = has_descriptor_flag flags of_descriptor.WRITE;
+  sync = has_descriptor_flag flags of_descriptor.FILE_INTEGRITY_SYNC
+      || has_descriptor_flag flags of_descriptor.DATA_INTEGRITY_SYNC
+      || has_descriptor_flag flags of_descriptor.REQUESTED_WRITE_SYNC;
+}
+
+-- what is refused of an open below a directory of these permissions, before its path is looked at
+abbrev pub open_rows : OpenHow → FsPerms → List (Bool × ErrorCode)
+open_rows how perms =
+    (how.sync, codes.Unsupported)
+    ∷ (how.directory && (how.create || how.exclusive || how.truncate), codes.Invalid)
+    ∷ (is_read_only perms && (how.create || how.truncate || how.write), codes.NotPermitted)
+    ∷ []
+
+-- the code of the first of these rows that holds
+unfoldable pub may_open : OpenHow → FsPerms → Option ErrorCode
+may_open how perms = first_row (open_rows how perms)
+
+abbrev pub follow_of : Bool → FollowSymlinks
+follow_of true = Yes
+follow_of false = No
+
+-- without WRITE it is opened for reading
+abbrev pub reads : OpenHow → Bool
+reads how = how.read || not how.write
+
+-- what makes or cuts a file opens it for writing too
+abbrev pub writes : OpenHow → Bool
+writes how = how.write || how.create || how.truncate
+
+-- The options of the path's open. A file is made exclusively only where it is to be made. That a directory is asked for
+-- is no option: it is looked at after the open
+abbrev pub options_of : OpenHow → Options
+options_of how = record no_options {
+  read = reads how;
+  write = writes how;
+  truncate = how.truncate;
+  create = how.create && not how.exclusive;
+  create_new = how.create && how.exclusive;
+  follow = follow_of how.follow;
+}
+
+-- what the new descriptor may be used for: the reading and writing that its options ask for
+abbrev pub mode_of : OpenHow → OpenMode
+mode_of how = mode_for (options_of how).read (options_of how).write
+
+-- the code that says that a host failed
+abbrev pub is_io : ErrorCode → Bool
+is_io codes.Io = true
+is_io code = false

@@ -1,0 +1,323 @@
+//! The calls of an open directory: what its permissions permit, then what the resolver does.
+ghost use Rattle.std.specs.Prelude.{◌≡◌, ◌≤◌, ◌<◌, ℕ, true, false, IsTrue, IfOk, IfErr, None, length};
+ghost use Rattle.std.specs.Result.{result_err, result_map_both};
+ghost use Rattle.std.specs.FinSet.{contains};
+ghost use Rattle.std.specs.String.{string_bytes};
+ghost use Rattle.wasi_paths.specs.Parts.{has_root};
+ghost use Rattle.wasi_host.specs.Meaning.{HasCause};
+ghost use Rattle.wasi_host.specs.Lineage.{Traced, Only, Nothing};
+ghost use Rattle.wasi_host.specs.declared.errors.ErrorCode.TheVariants as codes;
+ghost use Rattle.wasi_host.specs.declared.held.Held.{Held};
+ghost use Rattle.wasi_host.specs.declared.limits.TheConstants.{LINK_MAX};
+ghost use Rattle.wasi_resolve.specs.AtPlace.{CreateDir, RemoveFile, RemoveDir, Symlink, ReadLink};
+ghost use Rattle.wasi_resolve.specs.Finding.{is_directory_kind};
+ghost use Rattle.wasi_resolve.specs.PathRequest.{AtPlace, as_asked, meant_by};
+ghost use Rattle.wasi_resolve.specs.Resolved.{Resolved};
+ghost use Rattle.wasi_fs.specs.Calls.{may_change, may_link, Refuses, handle_of, perms_of, open_mode_of, opened_of, IsAsked, LiveOpened, GotOpened, opens, looks, meant_as};
+ghost use Rattle.wasi_fs.specs.DescriptorStat.{descriptor_stat, IsStat};
+ghost use Rattle.wasi_fs.specs.MetadataHash.{metadata_hash, IsHash};
+ghost use Rattle.wasi_fs.specs.OpenHow.{how_of, may_open, mode_of};
+
+use crate::open_how::{OpenHow, follow_symlinks};
+use crate::{
+    Descriptor, DescriptorFlags, DescriptorStat, Dir, File, MetadataHashValue, OpenFlags, PathFlags,
+};
+use bitflags::Flags;
+use std::alloc::Global;
+use wasi_host::{ErrorCode, FileType, Handle, Host, HostError, Metadata};
+
+/// Each call begins from this directory's handle, which is to be live, and leaves what is live but for the handle that
+/// it answers. A call that isn't permitted asks the host nothing. Memory is taken as the walk takes it; where it is
+/// wanted, the tree is as it was.
+impl Dir {
+    /// Opens a path below this directory: the crate's `open_at`. The new descriptor has this directory's permissions, and
+    /// as its mode the reading and writing that the flags ask for. CREATE makes a missing file, and with EXCLUSIVE refuses
+    /// a name that is there; TRUNCATE cuts a file to no bytes; both open for writing. READ and WRITE open for reading and
+    /// writing, and without WRITE for reading too. EXCLUSIVE alone and MUTATE_DIRECTORY ask for nothing. Refusals, in this
+    /// order: Unsupported of a sync flag; Invalid of DIRECTORY beside another of its flags; NotPermitted of CREATE,
+    /// TRUNCATE and WRITE under read-only permissions; those of the resolver's `open`; NotDirectory where DIRECTORY is asked
+    /// for and none was opened. The new handle's metadata are read, and where that fails it is closed again.
+    pub fn open_at<H: Host>(
+        &self,
+        alloc: Global,
+        host: &mut H,
+        path_flags: PathFlags,
+        path: &str,
+        oflags: OpenFlags,
+        flags: DescriptorFlags,
+    ) -> Result<Descriptor, HostError>
+        requires live { contains (H.live host.old) self.now.dir ≡ true }
+        ensures cause { HasCause (H.faults host.old) (H.faults host.new) result }
+        ensures live { LiveOpened (H.live host.old) result (H.live host.new) }
+        ensures lineage { Traced (Only self.now.dir) Nothing (GotOpened result) (H.lookups host.old) (H.lookups host.new) }
+        ensures perms { IfOk result (λ descriptor. perms_of descriptor ≡ self.now.perms) }
+        ensures mode { IfOk result (λ descriptor. open_mode_of descriptor ≡ mode_of (how_of path_flags oflags flags)) }
+        ensures kind { IfOk result (IsAsked (how_of path_flags oflags flags).directory) }
+        ensures permit { Refuses (may_open (how_of path_flags oflags flags) self.now.perms) result host.old host.new }
+        ensures told { IsTrue H.told → may_open (how_of path_flags oflags flags) self.now.perms ≡ None
+            → Resolved (H.live host.old) (H.world host.old) (H.world host.new)
+            (meant_by (H.world host.old).tree
+            (opens ((H.world host.old).held self.now.dir).node path.now (how_of path_flags oflags flags)))
+            (opened_of (H.world host.new).held) result }
+    {
+        let how = OpenHow::of(path_flags, oflags, flags);
+        how.check(self.perms)?;
+        self.open_by(alloc, host, path, how)
+    }
+
+    /// Makes an empty directory: the crate's `create_directory_at`. Refusals: NotPermitted under read-only permissions,
+    /// then those of the resolver's `create_dir`.
+    pub fn create_directory_at<H: Host>(
+        &self,
+        alloc: Global,
+        host: &mut H,
+        path: &str,
+    ) -> Result<(), HostError>
+        requires live { contains (H.live host.old) self.now.dir ≡ true }
+        ensures cause { HasCause (H.faults host.old) (H.faults host.new) result }
+        ensures live { H.live host.new ≡ H.live host.old }
+        ensures lineage { Traced (Only self.now.dir) Nothing Nothing (H.lookups host.old) (H.lookups host.new) }
+        ensures permit { Refuses (may_change self.now.perms) result host.old host.new }
+        ensures told { IsTrue H.told → may_change self.now.perms ≡ None
+            → Resolved (H.live host.old) (H.world host.old) (H.world host.new)
+            (meant_by (H.world host.old).tree (AtPlace ((H.world host.old).held self.now.dir).node path.now CreateDir))
+            (λ unit. unit) result }
+    {
+        self.check_change()?;
+        wasi_resolve::create_dir(alloc, host, self.dir, path)
+    }
+
+    /// Drops an empty directory: the crate's `remove_directory_at`. Refusals: NotPermitted under read-only permissions,
+    /// then those of the resolver's `remove_dir`.
+    pub fn remove_directory_at<H: Host>(
+        &self,
+        alloc: Global,
+        host: &mut H,
+        path: &str,
+    ) -> Result<(), HostError>
+        requires live { contains (H.live host.old) self.now.dir ≡ true }
+        ensures cause { HasCause (H.faults host.old) (H.faults host.new) result }
+        ensures live { H.live host.new ≡ H.live host.old }
+        ensures lineage { Traced (Only self.now.dir) Nothing Nothing (H.lookups host.old) (H.lookups host.new) }
+        ensures permit { Refuses (may_change self.now.perms) result host.old host.new }
+        ensures told { IsTrue H.told → may_change self.now.perms ≡ None
+            → Resolved (H.live host.old) (H.world host.old) (H.world host.new)
+            (meant_by (H.world host.old).tree (AtPlace ((H.world host.old).held self.now.dir).node path.now RemoveDir))
+            (λ unit. unit) result }
+    {
+        self.check_change()?;
+        wasi_resolve::remove_dir(alloc, host, self.dir, path)
+    }
+
+    /// Drops the name of a file or link: the crate's `unlink_file_at`. Refusals: NotPermitted under read-only permissions,
+    /// then those of the resolver's `remove_file`.
+    pub fn unlink_file_at<H: Host>(
+        &self,
+        alloc: Global,
+        host: &mut H,
+        path: &str,
+    ) -> Result<(), HostError>
+        requires live { contains (H.live host.old) self.now.dir ≡ true }
+        ensures cause { HasCause (H.faults host.old) (H.faults host.new) result }
+        ensures live { H.live host.new ≡ H.live host.old }
+        ensures lineage { Traced (Only self.now.dir) Nothing Nothing (H.lookups host.old) (H.lookups host.new) }
+        ensures permit { Refuses (may_change self.now.perms) result host.old host.new }
+        ensures told { IsTrue H.told → may_change self.now.perms ≡ None
+            → Resolved (H.live host.old) (H.world host.old) (H.world host.new)
+            (meant_by (H.world host.old).tree (AtPlace ((H.world host.old).held self.now.dir).node path.now RemoveFile))
+            (λ unit. unit) result }
+    {
+        self.check_change()?;
+        wasi_resolve::remove_file(alloc, host, self.dir, path)
+    }
+
+    /// Makes a link of the text `src_path` under `dest_path`: the crate's `symlink_at`. Refusals: NotPermitted under
+    /// read-only permissions, and of a text with a root; then those of the resolver's `symlink`.
+    #[tactic(auto, unfolding(crate::specs::Calls::may_change, crate::specs::Calls::may_link))]
+    pub fn symlink_at<H: Host>(
+        &self,
+        alloc: Global,
+        host: &mut H,
+        src_path: &str,
+        dest_path: &str,
+    ) -> Result<(), HostError>
+        requires live { contains (H.live host.old) self.now.dir ≡ true }
+        ensures cause { HasCause (H.faults host.old) (H.faults host.new) result }
+        ensures live { H.live host.new ≡ H.live host.old }
+        ensures lineage { Traced (Only self.now.dir) Nothing Nothing (H.lookups host.old) (H.lookups host.new) }
+        ensures permit { Refuses (may_link self.now.perms src_path.now) result host.old host.new }
+        ensures told { IsTrue H.told → may_link self.now.perms src_path.now ≡ None
+            → Resolved (H.live host.old) (H.world host.old) (H.world host.new)
+            (meant_by (H.world host.old).tree
+            (AtPlace ((H.world host.old).held self.now.dir).node dest_path.now (Symlink src_path.now)))
+            (λ unit. unit) result }
+    {
+        self.check_change()?;
+        wasi_resolve::symlink(alloc, host, src_path, self.dir, dest_path)
+    }
+
+    /// The text of a link: the crate's `readlink_at`. Refusals: those of the resolver's `read_link`, NotPermitted of a text
+    /// with a root among them.
+    pub fn readlink_at<H: Host>(
+        &self,
+        alloc: Global,
+        host: &mut H,
+        path: &str,
+    ) -> Result<String, HostError>
+        requires live { contains (H.live host.old) self.now.dir ≡ true }
+        ensures cause { HasCause (H.faults host.old) (H.faults host.new) result }
+        ensures live { H.live host.new ≡ H.live host.old }
+        ensures lineage { Traced (Only self.now.dir) Nothing Nothing (H.lookups host.old) (H.lookups host.new) }
+        ensures some { IfOk result (λ text. 0 < length (string_bytes text)) }
+        ensures most { IfOk result (λ text. length (string_bytes text) ≤ LINK_MAX) }
+        ensures unrooted { IfOk result (λ text. has_root (string_bytes text) ≡ false) }
+        ensures told { IsTrue H.told → Resolved (H.live host.old) (H.world host.old) (H.world host.new)
+            (meant_by (H.world host.old).tree (AtPlace ((H.world host.old).held self.now.dir).node path.now ReadLink))
+            (λ text. string_bytes text) result }
+    {
+        wasi_resolve::read_link(alloc, host, self.dir, path)
+    }
+
+    /// What is said of the node that a path names, where SYMLINK_FOLLOW follows a link under its last name: the crate's
+    /// `stat_at`. Refusals: those of the resolver's `stat`.
+    pub fn stat_at<H: Host>(
+        &self,
+        alloc: Global,
+        host: &mut H,
+        path_flags: PathFlags,
+        path: &str,
+    ) -> Result<DescriptorStat, HostError>
+        requires live { contains (H.live host.old) self.now.dir ≡ true }
+        ensures cause { HasCause (H.faults host.old) (H.faults host.new) result }
+        ensures live { H.live host.new ≡ H.live host.old }
+        ensures lineage { Traced (Only self.now.dir) Nothing Nothing (H.lookups host.old) (H.lookups host.new) }
+        ensures of { IfOk result IsStat }
+        ensures told { IsTrue H.told → Resolved (H.live host.old) (H.world host.old) (H.world host.new)
+            (meant_as descriptor_stat (meant_by (H.world host.old).tree
+            (looks ((H.world host.old).held self.now.dir).node path.now path_flags)))
+            (λ stat. stat) result }
+    {
+        let metadata = self.look_at(alloc, host, path_flags, path)?;
+        Ok(DescriptorStat::new(&metadata))
+    }
+
+    /// The hash of the node that a path names, found as in `stat_at`: the crate's `metadata_hash_at`. Refusals: those of
+    /// the resolver's `stat`.
+    pub fn metadata_hash_at<H: Host>(
+        &self,
+        alloc: Global,
+        host: &mut H,
+        path_flags: PathFlags,
+        path: &str,
+    ) -> Result<MetadataHashValue, HostError>
+        requires live { contains (H.live host.old) self.now.dir ≡ true }
+        ensures cause { HasCause (H.faults host.old) (H.faults host.new) result }
+        ensures live { H.live host.new ≡ H.live host.old }
+        ensures lineage { Traced (Only self.now.dir) Nothing Nothing (H.lookups host.old) (H.lookups host.new) }
+        ensures of { IfOk result IsHash }
+        ensures told { IsTrue H.told → Resolved (H.live host.old) (H.world host.old) (H.world host.new)
+            (meant_as metadata_hash (meant_by (H.world host.old).tree
+            (looks ((H.world host.old).held self.now.dir).node path.now path_flags)))
+            (λ hash. hash) result }
+    {
+        let metadata = self.look_at(alloc, host, path_flags, path)?;
+        Ok(MetadataHashValue::new(&metadata))
+    }
+
+    /// Whether anything may be changed below this directory; NotPermitted under read-only permissions.
+    #[tactic(auto, unfolding(crate::specs::Calls::may_change))]
+    fn check_change(&self) -> Result<(), ErrorCode>
+        ensures row { result_err result ≡ may_change self.now.perms }
+        ensures code { IfErr result (λ code. code ≡ codes.NotPermitted) }
+    {
+        if self.perms.write_not_permitted() {
+            return Err(ErrorCode::NotPermitted);
+        }
+        Ok(())
+    }
+
+    /// The metadata of the node that a path names, where SYMLINK_FOLLOW follows a link under its last name.
+    fn look_at<H: Host>(
+        &self,
+        alloc: Global,
+        host: &mut H,
+        path_flags: PathFlags,
+        path: &str,
+    ) -> Result<Metadata, HostError>
+        requires live { contains (H.live host.old) self.now.dir ≡ true }
+        ensures cause { HasCause (H.faults host.old) (H.faults host.new) result }
+        ensures live { H.live host.new ≡ H.live host.old }
+        ensures lineage { Traced (Only self.now.dir) Nothing Nothing (H.lookups host.old) (H.lookups host.new) }
+        ensures told { IsTrue H.told → Resolved (H.live host.old) (H.world host.old) (H.world host.new)
+            (meant_by (H.world host.old).tree
+            (looks ((H.world host.old).held self.now.dir).node path.now path_flags))
+            (λ metadata. metadata) result }
+    {
+        let follow = follow_symlinks(path_flags.contains(PathFlags::SYMLINK_FOLLOW));
+        wasi_resolve::stat(alloc, host, self.dir, path, follow)
+    }
+
+    /// Opens a path by an open that is permitted. Where the host fails at the new handle's metadata, or the handle is no
+    /// directory's and should be, it is closed again.
+    #[tactic(auto, using(wasi_host::proofs::Chain::live_rules))]
+    fn open_by<H: Host>(
+        &self,
+        alloc: Global,
+        host: &mut H,
+        path: &str,
+        how: OpenHow,
+    ) -> Result<Descriptor, HostError>
+        requires live { contains (H.live host.old) self.now.dir ≡ true }
+        requires may { may_open how self.now.perms ≡ None }
+        ensures cause { HasCause (H.faults host.old) (H.faults host.new) result }
+        ensures live { LiveOpened (H.live host.old) result (H.live host.new) }
+        ensures lineage { Traced (Only self.now.dir) Nothing (GotOpened result) (H.lookups host.old) (H.lookups host.new) }
+        ensures perms { IfOk result (λ descriptor. perms_of descriptor ≡ self.now.perms) }
+        ensures mode { IfOk result (λ descriptor. open_mode_of descriptor ≡ mode_of how) }
+        ensures kind { IfOk result (IsAsked how.directory) }
+        ensures told { IsTrue H.told → Resolved (H.live host.old) (H.world host.old) (H.world host.new)
+            (meant_by (H.world host.old).tree (opens ((H.world host.old).held self.now.dir).node path.now how))
+            (opened_of (H.world host.new).held) result }
+    {
+        let handle = wasi_resolve::open(alloc, host, self.dir, path, &how.options())?;
+        let metadata = match host.stat(handle) {
+            Ok(metadata) => metadata,
+            Err(code) => {
+                host.close(handle);
+                return Err(HostError::Code(code));
+            }
+        };
+        match self.descriptor_for(handle, metadata.kind, how) {
+            Ok(descriptor) => Ok(descriptor),
+            Err(code) => {
+                host.close(handle);
+                Err(HostError::Code(code))
+            }
+        }
+    }
+
+    /// The descriptor of what was opened below this directory; NotDirectory where a directory is asked for and it is
+    /// none.
+    fn descriptor_for(
+        &self,
+        handle: Handle,
+        kind: FileType,
+        how: OpenHow,
+    ) -> Result<Descriptor, ErrorCode>
+        ensures handle { IfOk result (λ descriptor. handle_of descriptor ≡ handle) }
+        ensures perms { IfOk result (λ descriptor. perms_of descriptor ≡ self.now.perms) }
+        ensures mode { IfOk result (λ descriptor. open_mode_of descriptor ≡ mode_of how) }
+        ensures kind { IfOk result (IsAsked how.directory) }
+        ensures refusal { IfErr result (λ code. code ≡ codes.NotDirectory) }
+        ensures asked { (held : ℕ → Held) → result_map_both (opened_of held) (λ code. code) result
+            ≡ as_asked how.directory (record { held = held handle; is_dir = is_directory_kind kind }) }
+    {
+        if kind == FileType::Directory {
+            return Ok(Descriptor::Dir(Dir::new(handle, self.perms, how.mode())));
+        }
+        if how.directory() {
+            return Err(ErrorCode::NotDirectory);
+        }
+        Ok(Descriptor::File(File::new(handle, self.perms, how.mode())))
+    }
+}

@@ -1,0 +1,181 @@
+//! The flag sets of an open, by the names and bits of the crate's `filesystem.rs`. Contracts see a set as the number of
+//! its bits.
+ghost use Rattle.std.specs.Prelude.{⊤, [], ◌∷◌, codes};
+ghost use Rattle.wasi_fs.specs.OpenFlags.{path_flag_bits, open_flag_bits, descriptor_flag_bits};
+
+use bitflags::{Flag, Flags, bitflag_items};
+
+/// How a path is resolved. Contracts see the number of its bits as `path_flag_bits`.
+#[derive(Clone, Copy, Debug, PartialEq, Eq)]
+pub struct PathFlags(usize);
+
+bitflag_items! {
+    impl PathFlags: usize {
+        /// A link under the last name is followed.
+        const SYMLINK_FOLLOW = 1;
+    }
+}
+
+impl Flags for PathFlags {
+    type Bits = usize;
+
+    ghost exact = { ⊤ };
+
+    ghost table = { (codes "SYMLINK_FOLLOW", 1) ∷ [] };
+
+    ghost set_of = { path_flag_bits };
+
+    fn flags<'a>() -> &'a [Flag<PathFlags>] {
+        PathFlags::FLAGS
+    }
+
+    fn bits(&self) -> usize {
+        self.0
+    }
+
+    fn from_bits_retain(bits: usize) -> PathFlags {
+        PathFlags(bits)
+    }
+}
+
+/// What is made, asked or cut by an open. Contracts see the number of its bits as `open_flag_bits`.
+#[derive(Clone, Copy, Debug, PartialEq, Eq)]
+pub struct OpenFlags(usize);
+
+bitflag_items! {
+    impl OpenFlags: usize {
+        /// A missing file is made (POSIX's `O_CREAT`).
+        const CREATE = 1;
+        /// What isn't a directory is refused (`O_DIRECTORY`).
+        const DIRECTORY = 2;
+        /// Beside CREATE, a name that is there is refused (`O_EXCL`).
+        const EXCLUSIVE = 4;
+        /// A file is cut to no bytes (`O_TRUNC`).
+        const TRUNCATE = 8;
+    }
+}
+
+impl Flags for OpenFlags {
+    type Bits = usize;
+
+    ghost exact = { ⊤ };
+
+    ghost table = { (codes "CREATE", 1) ∷
+        (codes "DIRECTORY", 2) ∷
+        (codes "EXCLUSIVE", 4) ∷
+        (codes "TRUNCATE", 8) ∷
+        [] };
+
+    ghost set_of = { open_flag_bits };
+
+    fn flags<'a>() -> &'a [Flag<OpenFlags>] {
+        OpenFlags::FLAGS
+    }
+
+    fn bits(&self) -> usize {
+        self.0
+    }
+
+    fn from_bits_retain(bits: usize) -> OpenFlags {
+        OpenFlags(bits)
+    }
+}
+
+/// What a descriptor is for. Contracts see the number of its bits as `descriptor_flag_bits`.
+#[derive(Clone, Copy, Debug, PartialEq, Eq)]
+pub struct DescriptorFlags(usize);
+
+bitflag_items! {
+    impl DescriptorFlags: usize {
+        /// Bytes may be read.
+        const READ = 1;
+        /// Bytes may be written.
+        const WRITE = 2;
+        /// Writes wait for the integrity of the file (POSIX's `O_SYNC`). No open takes it.
+        const FILE_INTEGRITY_SYNC = 4;
+        /// Writes wait for the integrity of data (`O_DSYNC`). No open takes it.
+        const DATA_INTEGRITY_SYNC = 8;
+        /// Reads wait as writes do (`O_RSYNC`). No open takes it.
+        const REQUESTED_WRITE_SYNC = 16;
+        /// What is in a directory may be changed.
+        const MUTATE_DIRECTORY = 32;
+    }
+}
+
+impl Flags for DescriptorFlags {
+    type Bits = usize;
+
+    ghost exact = { ⊤ };
+
+    ghost table = { (codes "READ", 1) ∷
+        (codes "WRITE", 2) ∷
+        (codes "FILE_INTEGRITY_SYNC", 4) ∷
+        (codes "DATA_INTEGRITY_SYNC", 8) ∷
+        (codes "REQUESTED_WRITE_SYNC", 16) ∷
+        (codes "MUTATE_DIRECTORY", 32) ∷
+        [] };
+
+    ghost set_of = { descriptor_flag_bits };
+
+    fn flags<'a>() -> &'a [Flag<DescriptorFlags>] {
+        DescriptorFlags::FLAGS
+    }
+
+    fn bits(&self) -> usize {
+        self.0
+    }
+
+    fn from_bits_retain(bits: usize) -> DescriptorFlags {
+        DescriptorFlags(bits)
+    }
+}
+
+#[cfg(test)]
+mod tests {
+    use super::{DescriptorFlags, OpenFlags, PathFlags};
+    use bitflags::Flags;
+
+    #[test]
+    fn flags_by_their_bits(rt: HostRuntime) {
+        for (bits, want) in [
+            (PathFlags::SYMLINK_FOLLOW.bits(), 1),
+            (OpenFlags::CREATE.bits(), 1),
+            (OpenFlags::DIRECTORY.bits(), 2),
+            (OpenFlags::EXCLUSIVE.bits(), 4),
+            (OpenFlags::TRUNCATE.bits(), 8),
+            (DescriptorFlags::READ.bits(), 1),
+            (DescriptorFlags::WRITE.bits(), 2),
+            (DescriptorFlags::FILE_INTEGRITY_SYNC.bits(), 4),
+            (DescriptorFlags::DATA_INTEGRITY_SYNC.bits(), 8),
+            (DescriptorFlags::REQUESTED_WRITE_SYNC.bits(), 16),
+            (DescriptorFlags::MUTATE_DIRECTORY.bits(), 32),
+        ] {
+            assert_eq!(rt; bits, want);
+        }
+        for (bits, in_path, in_open, in_descriptor) in [
+            (0, true, true, true),
+            (1, true, true, true),
+            (2, false, true, true),
+            (15, false, true, true),
+            (16, false, false, true),
+            (63, false, false, true),
+            (64, false, false, false),
+        ] {
+            assert_eq!(rt;
+                PathFlags::from_bits(bits).is_some(),
+                in_path,
+                "path flags {bits}"
+            );
+            assert_eq!(rt;
+                OpenFlags::from_bits(bits).is_some(),
+                in_open,
+                "open flags {bits}"
+            );
+            assert_eq!(rt;
+                DescriptorFlags::from_bits(bits).is_some(),
+                in_descriptor,
+                "descriptor flags {bits}"
+            );
+        }
+    }
+}

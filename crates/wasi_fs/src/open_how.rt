@@ -1,0 +1,243 @@
+//! How a path is opened.
+ghost use Rattle.std.specs.Prelude.{◌≡◌, false, IfErr};
+ghost use Rattle.std.specs.Result.{result_err};
+ghost use Rattle.wasi_fs.specs.OpenHow.{how_of, may_open, is_io, follow_of, reads, writes, options_of, mode_of};
+
+use crate::{DescriptorFlags, FsPerms, OpenFlags, OpenMode, PathFlags};
+use bitflags::Flags;
+use std::marker::Model;
+use wasi_host::{ErrorCode, FollowSymlinks, OpenOptions};
+
+/// What the three flag sets of an open ask for, by the names of their flags; `sync` is any of the three flags of
+/// integrity. MUTATE_DIRECTORY asks for nothing. Contracts see the record of what is asked for.
+#[derive(Clone, Copy)]
+pub(crate) struct OpenHow {
+    follow: bool,
+    create: bool,
+    directory: bool,
+    exclusive: bool,
+    truncate: bool,
+    read: bool,
+    write: bool,
+    sync: bool,
+}
+
+impl Model for OpenHow {
+    ghost use Rattle.wasi_fs.specs.OpenHow.{OpenHow};
+
+    ghost Value = { OpenHow };
+
+    ghost view = { λ a. record {
+      follow = a.follow;
+      create = a.create;
+      directory = a.directory;
+      exclusive = a.exclusive;
+      truncate = a.truncate;
+      read = a.read;
+      write = a.write;
+      sync = a.sync;
+    } };
+
+    ghost inverse = { λ how. record {
+      follow = how.follow;
+      create = how.create;
+      directory = how.directory;
+      exclusive = how.exclusive;
+      truncate = how.truncate;
+      read = how.read;
+      write = how.write;
+      sync = how.sync;
+    } };
+}
+
+/// Whether a link under the last name is followed, as a host's option.
+pub(crate) fn follow_symlinks(follow: bool) -> FollowSymlinks
+    ensures follow { result ≡ follow_of follow }
+{
+    if follow {
+        FollowSymlinks::Yes
+    } else {
+        FollowSymlinks::No
+    }
+}
+
+impl OpenHow {
+    /// What these sets ask for.
+    pub(crate) fn of(
+        path_flags: PathFlags,
+        open_flags: OpenFlags,
+        flags: DescriptorFlags,
+    ) -> OpenHow
+        ensures how { result ≡ how_of path_flags open_flags flags }
+    {
+        OpenHow {
+            follow: path_flags.contains(PathFlags::SYMLINK_FOLLOW),
+            create: open_flags.contains(OpenFlags::CREATE),
+            directory: open_flags.contains(OpenFlags::DIRECTORY),
+            exclusive: open_flags.contains(OpenFlags::EXCLUSIVE),
+            truncate: open_flags.contains(OpenFlags::TRUNCATE),
+            read: flags.contains(DescriptorFlags::READ),
+            write: flags.contains(DescriptorFlags::WRITE),
+            sync: flags.contains(DescriptorFlags::FILE_INTEGRITY_SYNC)
+                || flags.contains(DescriptorFlags::DATA_INTEGRITY_SYNC)
+                || flags.contains(DescriptorFlags::REQUESTED_WRITE_SYNC),
+        }
+    }
+
+    /// Whether this may be asked of a directory of these permissions. Refusals, in this order: Unsupported of a sync
+    /// flag; Invalid of DIRECTORY beside another of its flags; NotPermitted of what changes the tree, where only
+    /// reading is permitted.
+    #[tactic(auto, unfolding(crate::specs::OpenHow::may_open))]
+    pub(crate) fn check(&self, perms: FsPerms) -> Result<(), ErrorCode>
+        ensures row { result_err result ≡ may_open self.now perms }
+        ensures code { IfErr result (λ code. is_io code ≡ false) }
+    {
+        if self.sync {
+            return Err(ErrorCode::Unsupported);
+        }
+        if self.directory && (self.create || self.exclusive || self.truncate) {
+            return Err(ErrorCode::Invalid);
+        }
+        if perms.write_not_permitted() && (self.create || self.truncate || self.write) {
+            return Err(ErrorCode::NotPermitted);
+        }
+        Ok(())
+    }
+
+    /// Whether only a directory is to be opened.
+    pub(crate) fn directory(&self) -> bool
+        ensures test { result ≡ self.now.directory }
+    {
+        self.directory
+    }
+
+    /// Whether it is opened for reading: as asked, and where WRITE isn't.
+    fn reads(&self) -> bool
+        ensures test { result ≡ reads self.now }
+    {
+        self.read || !self.write
+    }
+
+    /// Whether it is opened for writing: as asked, and where a file is made or cut.
+    fn writes(&self) -> bool
+        ensures test { result ≡ writes self.now }
+    {
+        self.write || self.create || self.truncate
+    }
+
+    /// The options of the path's open. That a directory is asked for is none of them: it is looked at after the open.
+    pub(crate) fn options(&self) -> OpenOptions
+        ensures options { result ≡ options_of self.now }
+    {
+        let mut options = OpenOptions::new();
+        options
+            .read(self.reads())
+            .write(self.writes())
+            .truncate(self.truncate)
+            .create(self.create && !self.exclusive)
+            .create_new(self.create && self.exclusive)
+            .follow(follow_symlinks(self.follow));
+        options
+    }
+
+    /// What the new descriptor may be used for: the reading and writing that its options ask for.
+    pub(crate) fn mode(&self) -> OpenMode
+        ensures mode { result ≡ mode_of self.now }
+    {
+        let mut mode = OpenMode::empty();
+        mode.set(OpenMode::READ, self.reads());
+        mode.set(OpenMode::WRITE, self.writes());
+        mode
+    }
+}
+
+#[cfg(test)]
+mod tests {
+    use super::*;
+
+    const NO_FLAGS: usize = 0;
+
+    const CREATE: usize = 1;
+
+    const DIRECTORY: usize = 2;
+
+    const EXCLUSIVE: usize = 4;
+
+    const TRUNCATE: usize = 8;
+
+    const READ: usize = 1;
+
+    const WRITE: usize = 2;
+
+    const MUTATE_DIRECTORY: usize = 32;
+
+    /// How an open with these bits of its sets opens, where links are followed.
+    fn how(open_flags: usize, flags: usize) -> OpenHow {
+        OpenHow::of(
+            PathFlags::SYMLINK_FOLLOW,
+            OpenFlags::from_bits_retain(open_flags),
+            DescriptorFlags::from_bits_retain(flags),
+        )
+    }
+
+    #[test]
+    fn refusals(rt: HostRuntime) {
+        use FsPerms::{ReadOnly, ReadWrite};
+
+        let unsupported = Err(ErrorCode::Unsupported);
+        let invalid = Err(ErrorCode::Invalid);
+        let not_permitted = Err(ErrorCode::NotPermitted);
+        for (open_flags, flags, perms, want) in [
+            (NO_FLAGS, 4, ReadWrite, unsupported),
+            (NO_FLAGS, 8, ReadWrite, unsupported),
+            (DIRECTORY | CREATE, WRITE | 16, ReadOnly, unsupported),
+            (DIRECTORY | CREATE, WRITE, ReadOnly, invalid),
+            (DIRECTORY | EXCLUSIVE, READ, ReadWrite, invalid),
+            (DIRECTORY | TRUNCATE, READ, ReadWrite, invalid),
+            (CREATE, READ, ReadOnly, not_permitted),
+            (TRUNCATE, READ, ReadOnly, not_permitted),
+            (NO_FLAGS, WRITE, ReadOnly, not_permitted),
+            (EXCLUSIVE, READ, ReadOnly, Ok(())),
+            (DIRECTORY, READ | MUTATE_DIRECTORY, ReadOnly, Ok(())),
+            (CREATE | EXCLUSIVE | TRUNCATE, WRITE, ReadWrite, Ok(())),
+        ] {
+            assert_eq!(rt;
+                how(open_flags, flags).check(perms),
+                want,
+                "of {open_flags} {flags}"
+            );
+        }
+    }
+
+    #[test]
+    fn options_and_modes(rt: HostRuntime) {
+        let reading = *OpenOptions::new().read(true);
+        let writing = *OpenOptions::new().write(true);
+        let both = *OpenOptions::new().read(true).write(true);
+        let making = *OpenOptions::new().read(true).write(true).create(true);
+        let making_new = *OpenOptions::new().write(true).create_new(true);
+        let cutting = *OpenOptions::new().read(true).write(true).truncate(true);
+        for (open_flags, flags, want, mode) in [
+            (NO_FLAGS, 0, reading, 1),
+            (NO_FLAGS, MUTATE_DIRECTORY, reading, 1),
+            (DIRECTORY, READ, reading, 1),
+            (EXCLUSIVE, READ, reading, 1),
+            (NO_FLAGS, WRITE, writing, 2),
+            (NO_FLAGS, READ | WRITE, both, 3),
+            (CREATE, READ, making, 3),
+            (CREATE | EXCLUSIVE, WRITE, making_new, 2),
+            (TRUNCATE, 0, cutting, 3),
+        ] {
+            let how = how(open_flags, flags);
+            assert_eq!(rt; how.options(), want, "of {open_flags} {flags}");
+            assert_eq!(rt; how.mode().bits(), mode, "of {open_flags} {flags}");
+        }
+        let unfollowed = OpenHow::of(
+            PathFlags::empty(),
+            OpenFlags::empty(),
+            DescriptorFlags::READ,
+        );
+        let want = *OpenOptions::new().read(true).follow(FollowSymlinks::No);
+        assert_eq!(rt; unfollowed.options(), want);
+    }
+}

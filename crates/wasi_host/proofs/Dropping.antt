@@ -1,0 +1,214 @@
+-- A name that a step drops, of a node without names of its own: a file, a link or an empty directory.
+use Rattle.std.proofs.Common.{◌≡◌, ◌≢◌, ℕ, ◌+◌, ◌-◌, ◌<◌, ◌≤◌, true, false, nat_eq, List, Some, inl, inr, refl, sym, ap, ◌∙◌, subst, arith, zero-add}
+use Rattle.std.specs.List.{All}
+use Rattle.std.specs.FinMap as maps
+use Rattle.std.proofs.lemmas.Bool.{true≢false, cases_eq, ne_eqb}
+use Rattle.std.proofs.lemmas.List.Sums.{sum_by-set}
+use Rattle.wasi_host.specs.Tree.{Tree, Node, Content, File, Directory, Link, Names, node_at, next_of, names_of, is_directory, is_gone, stray}
+use Rattle.wasi_host.specs.ValidTree.{names_for, name_count, IsEntry, IsValidContent, IsValidTree}
+use Rattle.wasi_host.specs.Step.{without_name, one_name_less, made_gone, name_dropped}
+use Rattle.wasi_host.specs.declared.limits.Limits.{Limits}
+use Rattle.wasi_host.proofs.Changes.{changed, next_of-changed, node_at-changed, node_at-other, node_at-same, directory_within}
+use Rattle.wasi_host.proofs.EntryLemmas.{times, once, All-no_names, unnamed, times-removed, All-removed, get-left, nat_eq-refl}
+use Rattle.wasi_host.proofs.Leaving.{fewer_names, gone_names}
+use Rattle.wasi_host.proofs.Carrying.{Carries, StillNamed, entries_still, content_still, directory_still, valid_still, reached_among, valid_entries, named_within, stays_or_gone}
+
+-- ---- a node with one name fewer
+
+pub record HasOneLess (t u : Tree) (n : ℕ) : Type 0 where
+  pub limits : u.limits ≡ t.limits
+  pub count : 1 + name_count u n ≡ name_count t n
+
+module _ {t u : Tree} {n : ℕ} (less : HasOneLess t u n) where
+  links_less : (links : ℕ) → links ≤ t.limits.links → links - 1 ≤ u.limits.links
+  links_less links most = subst (λ (l : Limits). links - 1 ≤ l.links) (sym less.limits) (omega (arith, most))
+
+  -- a file or a link
+  pub content_less : (content : Content) → is_directory content ≡ false → IsValidContent t n content
+      → IsValidContent u n (one_name_less content)
+  content_less (File bytes links) is v = (v.0, v.1, omega (arith, v.2, less.count), links_less links v.3)
+  content_less (Directory names gone) is v = absurd (cc)
+  content_less (Link text links) is v = (v.0, v.1, v.2, v.3, omega (arith, v.4, less.count), links_less links v.5)
+
+  -- an empty directory, which is gone then
+  pub content_gone : (content : Content) → is_directory content ≡ true → names_of content ≡ maps.empty → 0 < n
+      → (node_at u n).content ≡ made_gone content → IsValidContent t n content → IsValidContent u n (made_gone content)
+  content_gone (File bytes links) is bare positive now v = absurd (cc)
+  content_gone (Directory names gone) is bare positive now v =
+      let none : name_count u n ≡ 0 = elim (v.1 positive) [
+        | inl placed ↦ omega (arith, placed.0, less.count)
+        | inr emptied ↦ absurd (omega (arith, emptied.0, less.count))
+      ] in (
+        subst (λ (m : Names). All (IsEntry u) (maps.entries m)) (sym bare) (All-no_names (IsEntry u)),
+        λ _. inr (none, ap names_of now ∙ bare, ap is_gone now),
+      )
+  content_gone (Link text links) is bare positive now v = absurd (cc)
+
+-- ---- the tree without the name
+
+pub record Drops (t : Tree) (d : ℕ) (name : List ℕ) (n : ℕ) : Type 0 where
+  pub directory : is_directory (node_at t d).content ≡ true
+  pub named : maps.get (names_of (node_at t d).content) name ≡ Some n
+  pub bare : names_of (node_at t n).content ≡ maps.empty
+
+-- the node that the name held is changed, and has the names that it had
+module _ {t : Tree} {d n : ℕ} {name : List ℕ} (drops : Drops t d name n) (valid : IsValidTree t)
+    (change : Content → Content) (keeps : (content : Content) → names_of (change content) ≡ names_of content) where
+  abbrev names : Names
+  names = names_of (node_at t d).content
+
+  abbrev parent : Node
+  parent = without_name (node_at t d) name
+
+  abbrev other : Node
+  other = record (node_at t n) { content = change (node_at t n).content }
+
+  abbrev dropped : Tree
+  dropped = name_dropped t d name change n
+
+  -- without the name, and before the change
+  abbrev half : Tree
+  half = changed t d parent dropped.worked
+
+  within_tree : d < next_of t
+  within_tree = directory_within t d drops.directory
+
+  half_within : n < next_of half
+  half_within =
+      let within : n < next_of t = named_within t d valid drops.directory name n drops.named in
+      omega (arith, within, next_of-changed t d parent dropped.worked)
+
+  apart : d ≢ n
+  apart same = unnamed names name n (ap (λ k. names_of (node_at t k).content) same ∙ drops.bare) drops.named
+
+  next_of-dropped : next_of dropped ≡ next_of t
+  next_of-dropped = next_of-changed half n other dropped.worked ∙ next_of-changed t d parent dropped.worked
+
+  node_at-half : (k : ℕ) → k ≢ d → node_at half k ≡ node_at t k
+  node_at-half k not_parent = node_at-other t d parent dropped.worked within_tree k not_parent
+
+  node_at-not : (k : ℕ) → k ≢ n → node_at dropped k ≡ node_at half k
+  node_at-not k not_node = node_at-other half n other dropped.worked half_within k not_node
+
+  pub node_at-dropped : node_at dropped n ≡ other
+  node_at-dropped = node_at-changed half n other dropped.worked half_within
+
+  node_at-parent : node_at dropped d ≡ parent
+  node_at-parent = node_at-not d apart ∙ node_at-changed t d parent dropped.worked within_tree
+
+  node_at-apart : (k : ℕ) → k ≢ d → k ≢ n → node_at dropped k ≡ node_at t k
+  node_at-apart k not_parent not_node = node_at-not k not_node ∙ node_at-half k not_parent
+
+  -- what the directory keeps stays everywhere but at the node
+  node_at-kept : {B : Type 0} (f : Node → B) → f parent ≡ f (node_at t d) → (k : ℕ) → k ≢ n
+      → f (node_at dropped k) ≡ f (node_at t k)
+  node_at-kept f same k not_node =
+      ap f (node_at-not k not_node) ∙ node_at-same t d parent dropped.worked within_tree f same k
+
+  name_count-dropped : (k : ℕ) → once (nat_eq n k) + name_count dropped k ≡ name_count t k
+  unfolding node_at
+  name_count-dropped k =
+      let same : names_for k other ≡ names_for k (node_at t n) =
+      ap (λ (m : Names). times k (maps.values m)) (keeps (node_at t n).content) in
+      let before : names_for k (node_at half n) ≡ names_for k (node_at t n) =
+      ap (names_for k) (node_at-half n (λ here. apart (sym here))) in
+      omega (
+        arith,
+        same,
+        before,
+        times-removed names name n drops.named k,
+        sum_by-set (names_for k) t.nodes d parent stray within_tree,
+        sum_by-set (names_for k) half.nodes n other stray half_within,
+      )
+
+  pub one_less : HasOneLess t dropped n
+  one_less = record {
+    limits = refl;
+    count = ap (λ b. once b + name_count dropped n) (sym (nat_eq-refl n)) ∙ name_count-dropped n;
+  }
+
+  -- no way to another node leads over this one, or by this name
+  still_named : StillNamed t dropped (λ k. k ≢ n)
+  still_named = record {
+    names = λ e m q other is.
+        let at_node : e ≢ n = λ here. unnamed (names_of (node_at t n).content) q m drops.bare (rw here at is) in (
+          at_node,
+          elim (cases_eq e d) [
+            | inl here ↦ rw (here, node_at-parent) (get-left names name n drops.named q m other (rw here at is))
+            | inr not_parent ↦ rw (node_at-apart e not_parent at_node) is
+          ],
+        );
+  }
+
+  -- a directory that has a name isn't gone
+  parent_stays : is_gone (node_at t d).content ≡ false
+  parent_stays = elim (stays_or_gone t d valid drops.directory) [
+    | inl stays ↦ stays.0
+    | inr gone ↦ absurd (unnamed names name n gone.1 drops.named)
+  ]
+
+  carries-dropped : (k : ℕ) → k ≢ n → Carries t dropped k
+  carries-dropped k not_node = record {
+    limits = refl;
+    next = omega (arith, next_of-dropped);
+    count =
+        sym (zero-add (name_count dropped k))
+        ∙ ap (λ b. once b + name_count dropped k) (sym (ne_eqb n k (λ same. not_node (sym same))))
+        ∙ name_count-dropped k;
+    reached = reached_among t dropped (λ k. k ≢ n) still_named k not_node;
+    directory = node_at-kept (λ node. is_directory node.content) (sym drops.directory) k not_node;
+    gone = node_at-kept (λ node. is_gone node.content) refl k not_node;
+    emptied = λ gone.
+        let not_parent : k ≢ d = λ here. true≢false (sym (rw here at gone) ∙ parent_stays) in
+        ap (λ (node : Node). names_of node.content) (node_at-apart k not_parent not_node);
+  }
+
+  -- node 0 has no name
+  pub not_root : 0 ≢ n
+  not_root same = absurd (omega (arith, ap (name_count t) same, valid.root.nameless, one_less.count))
+
+  valid-parent : IsValidContent dropped d parent.content
+  valid-parent =
+      let next : next_of t ≤ next_of dropped = omega (arith, next_of-dropped) in
+      let others = entries_still t dropped (maps.entries names) next (valid_entries t d valid drops.directory) in
+      directory_still (carries-dropped d apart) (node_at t d).content (maps.remove names name) drops.directory
+      (valid.nodes d within_tree) (All-removed names name n drops.named (IsEntry dropped) others)
+
+  -- a change that leaves the node valid leaves the tree so
+  pub valid-dropped : IsValidContent dropped n (change (node_at t n).content) → IsValidTree dropped
+  valid-dropped fits =
+      let room : next_of dropped ≤ t.limits.nodes = omega (arith, next_of-dropped, valid.numbers) in
+      valid_still t dropped (carries-dropped 0 not_root) valid room (λ k h.
+      elim (cases_eq k n) [
+        | inl here ↦ rw (here, node_at-dropped) fits
+        | inr not_node ↦ elim (cases_eq k d) [
+          | inl here ↦ rw (here, node_at-parent) valid-parent
+          | inr not_parent ↦
+              let before : k < next_of t = omega (arith, next_of-dropped, h) in
+              rw (node_at-apart k not_parent not_node)
+              (content_still (carries-dropped k not_node) (node_at t k).content (valid.nodes k before))
+        ]
+      ])
+
+-- ---- the two kinds
+
+module _ {t : Tree} {d n : ℕ} {name : List ℕ} (drops : Drops t d name n) (valid : IsValidTree t) where
+  abbrev content : Content
+  content = (node_at t n).content
+
+  was_valid : IsValidContent t n content
+  was_valid = valid.nodes n (named_within t d valid drops.directory name n drops.named)
+
+  -- a file or a link
+  pub valid-unlinked : is_directory content ≡ false → IsValidTree (name_dropped t d name one_name_less n)
+  valid-unlinked is =
+      valid-dropped drops valid one_name_less fewer_names
+      (content_less (one_less drops valid one_name_less fewer_names) content is was_valid)
+
+  -- a directory
+  pub valid-removed : is_directory content ≡ true → IsValidTree (name_dropped t d name made_gone n)
+  valid-removed is =
+      let positive : 0 < n = omega (arith, not_root drops valid made_gone gone_names) in
+      let now = ap (λ (node : Node). node.content) (node_at-dropped drops valid made_gone gone_names) in
+      valid-dropped drops valid made_gone gone_names
+      (content_gone (one_less drops valid made_gone gone_names) content is drops.bare positive now was_valid)

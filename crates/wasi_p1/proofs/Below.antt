@@ -1,0 +1,188 @@
+-- From what a call below a directory gives to what the call does.
+use Rattle.std.proofs.Common.{◌≡◌, inl, inr, ℕ, List, Option, Some, None, Ok, Err, refl, ap, sym, ◌∙◌, subst, length}
+use Rattle.std.specs.Prelude.{Bool, IsTrue}
+use Rattle.wasi_fs.specs.Calls.{Refuses}
+use Rattle.wasi_host.specs.Meaning.{World, Handles, HasCause}
+use Rattle.wasi_host.specs.declared.errors.ErrorCode.{ErrorCode}
+use Rattle.wasi_host.specs.declared.errors.HostError.{HostError}
+use Rattle.wasi_host.specs.declared.errors.HostError.TheVariants.{Code}
+use Rattle.wasi_host.specs.declared.held.Held.{Held}
+use Rattle.wasi_host.specs.declared.lookup.Lookup.{Lookup}
+use Rattle.wasi_resolve.specs.AtPlace.{PlaceCall, PlaceAnswer}
+use Rattle.wasi_resolve.specs.PathRequest.{PathRequest, PathReply, AtPlace, meant_by}
+use Rattle.wasi_resolve.specs.Resolved.{Resolved}
+use Rattle.wasi_guest.specs.declared.answer.Value.{Value}
+use Rattle.wasi_guest.specs.declared.answer.Value.TheVariants.{Unit as Nothing}
+use Rattle.wasi_guest.specs.declared.call.Call.{Call}
+use Rattle.wasi_p1.specs.CallParts.{Refused, Follows, IsReplied}
+use Rattle.wasi_p1.specs.CallTurn.{FollowsRow, Kept, may_want}
+use Rattle.wasi_p1.specs.Errnos.{errno_of, error_of}
+use Rattle.wasi_p1.specs.Guest.{Guest, places_of, guest_of, guest_by}
+use Rattle.wasi_p1.specs.Owners.{handles, Owned}
+use Rattle.wasi_p1.specs.Request.{Request, Reply, MayReply, Path}
+use Rattle.wasi_p1.specs.Row.{Row, give, asking}
+use Rattle.wasi_host.specs.Steps.{◌>>=◌}
+use Rattle.wasi_p1.specs.Rows.{row}
+use Rattle.wasi_p1.specs.Slots.{View}
+use Rattle.wasi_p1.specs.declared.error.P1Error.{P1Error}
+use Rattle.wasi_p1.specs.declared.error.P1Error.TheVariants.{Errno, Memory}
+use Rattle.wasi_p1.proofs.RowFronts.{tail, changes_at, with_nothing}
+use Rattle.wasi_p1.proofs.Placing.{places_stay}
+use Rattle.wasi_p1.proofs.Resolving.{resolved_ok, resolved_err}
+use Rattle.wasi_p1.proofs.Taking.{refused, wanted, does_err, does_ok, makes_err, makes_ok, Did}
+
+-- what a directory doesn't permit is refused by the error number of its code
+pub refused_by : (A B : Type 0) {H : Type 0} (own : Option ErrorCode) (e : HostError) (old new : H)
+    → Refuses {A = A} own (Err e) old new
+    → Refused {A = B} own (Err (error_of e)) old new
+refused_by A B own e old new = by own
+  where
+    by : (o : Option ErrorCode) → Refuses {A = A} o (Err e) old new → Refused {A = B} o (Err (error_of e)) old new
+    by None is = tt
+    by (Some code) is =
+        let same : e ≡ Code code = let r = is.0 in cc in (inl (ap (λ x. Err (error_of x)) same), is.1)
+
+same_view : {H : Type 0} {old new : View H} {before after : List ℕ} → new.host ≡ old.host → Kept old new before after
+    → new ≡ old
+same_view host kept =
+    λ i. record { host = host i; slots = kept.slots i; stdout = kept.stdout i; stderr = kept.stderr i }
+
+module _ {H : Type 0} {told : Bool} {world : H → World} {faults : H → ℕ} {lookups : H → List Lookup}
+    {old new : View H} {before after : List ℕ} {call : Call} where
+  -- nothing was asked
+  not_permitted : (e : P1Error) (code : ErrorCode)
+      → Err (Errno (errno_of code)) ≡ row (guest_of world old before) call
+      → Refused {A = Value} (Some code) (Err e) old.host new.host → IsTrue (may_want call) → Kept old new before after
+      → FollowsRow told world faults lookups old new before after call (Err e)
+  not_permitted e code front (why, host) may kept =
+      subst (λ v. FollowsRow told world faults lookups old v before after call (Err e)) (sym (same_view host kept))
+      (subst (λ m. FollowsRow told world faults lookups old old before m call (Err e)) (sym kept.memory) (elim why [
+        | inl is ↦
+            subst (λ r. FollowsRow told world faults lookups old old before before call r) (sym is) (refused refl front)
+        | inr is ↦ subst (λ r. FollowsRow told world faults lookups old old before before call r) (sym is) (wanted may)
+      ]))
+
+  module _ {r : Request} {A : Type 0} {own : Option ErrorCode} (next : Reply r → Row A)
+      (shown : Guest → A → Value × Guest)
+      (front : tail own r next shown (guest_of world old before) ≡ row (guest_of world old before) call) where
+    pub permitted_err : {e : P1Error} → Refused {A = A} own (Err e) old.host new.host
+        → (own ≡ None → IsReplied r next (Err e)) → IsTrue (may_want call) → Kept old new before after
+        → (IsTrue told → own ≡ None
+        → places_of (world new.host).held new.slots ≡ places_of (world old.host).held old.slots)
+        → (IsTrue told → own ≡ None → Did world faults old new r next (Err e))
+        → FollowsRow told world faults lookups old new before after call (Err e)
+    permitted_err {e} refuses replied may kept places does = by own refl
+      where
+        by : (o : Option ErrorCode) → own ≡ o → FollowsRow told world faults lookups old new before after call (Err e)
+        by None none = does_err next shown (subst (λ o. tail o r next shown (guest_of world old before)
+            ≡ row (guest_of world old before) call) none front) (replied none) (λ _. may) kept (λ told. places told none)
+            (λ told. does told none)
+        by (Some code) some = not_permitted e code (subst (λ o. tail o r next shown (guest_of world old before)
+            ≡ row (guest_of world old before) call) some front) (again (subst (λ o. Refused {A = A} o (Err e) old.host
+            new.host) some refuses)) may kept
+          where
+            again : Refused {A = A} (Some code) (Err e) old.host new.host
+                → Refused {A = Value} (Some code) (Err e) old.host new.host
+            again (inl is, host) = (inl (let same : e ≡ Errno (errno_of code) = cc in ap Err same), host)
+            again (inr is, host) = (inr (let same : e ≡ Memory = cc in ap Err same), host)
+
+    pub permitted_ok : {y : Value} {x x' : A} → Refused own (Ok x) old.host new.host → length after ≡ length before
+        → (own ≡ None → Follows r next (Ok x))
+        → shown (guest_of world old before) x ≡ (y, guest_by (world old.host).held new after)
+        → (IsTrue told → own ≡ None → Did world faults old new r next (Ok x')
+        × (shown (guest_of world old before) x' ≡ (y, guest_of world new after)))
+        → FollowsRow told world faults lookups old new before after call (Ok y)
+    permitted_ok {y} {x} {x'} refuses size follows at does = by own refl
+      where
+        by : (o : Option ErrorCode) → own ≡ o → FollowsRow told world faults lookups old new before after call (Ok y)
+        by None none = does_ok next shown (subst (λ o. tail o r next shown (guest_of world old before)
+            ≡ row (guest_of world old before) call) none front) size (follows none) at (λ told. does told none)
+        by (Some code) some = absurd (elim (subst (λ o. Refused o (Ok x) old.host new.host) some refuses).0 [
+          | inl is ↦ (cc)
+          | inr is ↦ (cc)
+        ])
+
+  -- ---- what is done at a path, and answered by nothing
+
+  module _ {live : Handles} {own : Option ErrorCode} (start : ℕ) (text : List ℕ) (what : PlaceCall)
+      {shown : Unit {0} → PlaceAnswer what}
+      (front : changes_at own start text what (guest_of world old before) ≡ row (guest_of world old before) call)
+      (owned : Owned live (handles old.slots)) (kept : Kept old new before after) where
+    pub done_err : (e : HostError) → HasCause {A = Unit {0}} (faults old.host) (faults new.host) (Err e)
+        → Refuses {A = Unit {0}} own (Err e) old.host new.host → IsTrue (may_want call)
+        → (IsTrue told → own ≡ None → Resolved {A = Unit {0}} live (world old.host) (world new.host)
+        (meant_by (world old.host).tree (AtPlace start text what)) shown (Err e))
+        → FollowsRow told world faults lookups old new before after call (Err (error_of e))
+    done_err e cause refuses may resolves = permitted_err (λ _. give tt) with_nothing front (refused_by (Unit {0}) (Unit {0}) own e old.host new.host refuses)
+        (λ none. inl (e, refl)) may kept
+        (λ told none. ap (places_of (world new.host).held) kept.slots
+        ∙ places_stay old.slots owned (resolves told none).keeps)
+        (λ told none. inl (resolved_err e (λ is. cause.io (ap Err is)) (resolves told none)))
+
+    pub done_ok : MayReply (Path (AtPlace start text what)) (shown tt)
+        → Refuses {A = Unit {0}} own (Ok tt) old.host new.host
+        → (IsTrue told → own ≡ None → Resolved {A = Unit {0}} live (world old.host) (world new.host)
+        (meant_by (world old.host).tree (AtPlace start text what)) shown (Ok tt))
+        → FollowsRow told world faults lookups old new before after call (Ok Nothing)
+    done_ok may refuses resolves = permitted_ok (λ _. give tt) with_nothing front {x = tt} {x' = tt} (by own refuses)
+        (ap length kept.memory) (λ none. (shown tt, may, refl)) (again (world old.host).held refl)
+        (λ told none. let did = resolves told none in (
+          (shown tt, resolved_ok did, refl),
+          again (world new.host).held (places_stay old.slots owned did.keeps),
+        ))
+      where
+        by : (o : Option ErrorCode) → Refuses {A = Unit {0}} o (Ok tt) old.host new.host
+            → Refused {A = Unit {0}} o (Ok tt) old.host new.host
+        by None is = tt
+        by (Some code) is = absurd (let r = is.0 in cc)
+
+        again : (stands : ℕ → Held) → places_of stands old.slots ≡ places_of (world old.host).held old.slots
+            → ◌≡◌ {A = Value × Guest} (Nothing, guest_of world old before) (Nothing, guest_by stands new after)
+        again stands same = λ i. (
+          Nothing,
+          record {
+            places = (sym same ∙ ap (places_of stands) (sym kept.slots)) i;
+            memory = sym kept.memory i;
+            stdout = sym kept.stdout i;
+            stderr = sym kept.stderr i;
+          },
+        )
+
+  -- ---- what is found at a path, where nothing has to be permitted
+
+  module _ {B : Type 0} {live : Handles} {p : PathRequest} {A : Type 0} {shown : B → PathReply p}
+      (next : PathReply p → Row A) (told_by : Guest → A → Value × Guest)
+      (front : Ok (asking (Path p) (λ reply. next reply >>= (λ x. give (told_by (guest_of world old before) x))))
+      ≡ row (guest_of world old before) call)
+      (owned : Owned live (handles old.slots)) where
+    pub found_err : (e : HostError) → HasCause {A = B} (faults old.host) (faults new.host) (Err e)
+        → IsTrue (may_want call) → Kept old new before after
+        → (IsTrue told → Resolved live (world old.host) (world new.host) (meant_by (world old.host).tree p) shown (Err e))
+        → FollowsRow told world faults lookups old new before after call (Err (error_of e))
+    found_err e cause may kept resolves =
+        makes_err next told_by front owned (inl (e, refl)) (λ _. may) kept (λ told. record {
+          keeps = (resolves told).keeps;
+          does = inl (resolved_err e (λ is. cause.io (ap Err is)) (resolves told));
+        })
+
+    module _ {b : B} (may : MayReply (Path p) (shown b))
+        (resolves : IsTrue told
+        → Resolved live (world old.host) (world new.host) (meant_by (world old.host).tree p) shown (Ok b)) where
+      -- the row refused what was found
+      pub found_refused : {e : P1Error} → next (shown b) ≡ Err e → IsTrue (may_want call) → Kept old new before after
+          → FollowsRow told world faults lookups old new before after call (Err e)
+      found_refused is wants kept =
+          makes_err next told_by front owned (inr (shown b, may, is)) (λ _. wants) kept (λ told. record {
+            keeps = (resolves told).keeps;
+            does = inr (shown b, resolved_ok (resolves told), is);
+          })
+
+      pub found_ok : {y : Value} {x : A} → next (shown b) ≡ Ok x → length after ≡ length before
+          → told_by (guest_of world old before) x ≡ (y, guest_by (world old.host).held new after)
+          → new.slots ≡ old.slots
+          → FollowsRow told world faults lookups old new before after call (Ok y)
+      found_ok is size shows same =
+          makes_ok next told_by front owned size (shown b, may, is) shows same (λ told. record {
+            keeps = (resolves told).keeps;
+            does = (shown b, resolved_ok (resolves told), is);
+          })

@@ -1,0 +1,125 @@
+-- What each row asks, where nothing of its front is refused.
+use Rattle.std.proofs.Common.{ℕ, ◌≡◌, refl, Bool, List, take, slice_get, slice_set, Option, Ok}
+use Rattle.wasi_p1.specs.CallParts.{filled_at}
+use Rattle.wasi_p1.specs.Guest.{Guest, OpenDirectory, OpenFile}
+use Rattle.wasi_fs.specs.Calls.{may_change, may_link, opens}
+use Rattle.wasi_fs.specs.OpenHow.{OpenHow, may_open, mode_of}
+use Rattle.wasi_host.specs.declared.errors.ErrorCode.{ErrorCode}
+use Rattle.wasi_resolve.specs.AtPlace.{PlaceCall, CreateDir, RemoveFile, RemoveDir, Symlink, ReadLink}
+use Rattle.wasi_resolve.specs.PathRequest.{LookPath, AtPlace}
+use Rattle.wasi_p1.specs.Filestats.{stat_both, filestat_in}
+use Rattle.wasi_p1.specs.RawFlags.{open_how, follow_asked}
+use Rattle.wasi_p1.specs.Request.{Request, Reply, Path, Read, Write}
+use Rattle.wasi_p1.specs.Row.{Row, Program, give, ask}
+use Rattle.wasi_host.specs.Steps.{◌>>=◌}
+use Rattle.wasi_p1.specs.Rows.{path_open, fd_read, fd_write, done_at, path_create_directory, path_remove_directory, path_unlink_file, path_symlink, path_readlink, path_filestat_get, text_in, directory_in, start_in, file_in, buffer_in, range, permit, opened_among, text_to, held_by, may_write, moved}
+use Rattle.wasi_guest.specs.declared.iovec.Iovec.{Iovec}
+use Rattle.wasi_guest.specs.declared.answer.Value.{Value}
+use Rattle.wasi_guest.specs.declared.answer.Value.TheVariants.{Number, Unit as Nothing}
+use Rattle.wasi_p1.proofs.Changing.{with_places, with_text, with_filestat}
+
+-- the end of a row that asks for what has to be permitted
+abbrev pub tail : {A : Type 0} → Option ErrorCode → (r : Request) → (Reply r → Row A) → (Guest → A → Value × Guest)
+    → Guest → Row (Program (Value × Guest))
+tail own r next shown g = permit own >>= (λ _. ask r (λ reply. next reply >>= (λ x. give (shown g x))))
+
+-- what `path_open` asks
+pub path_open_asks : (g : Guest) (fd dirflags path len oflags base inheriting fdflags : ℕ) {how : OpenHow}
+    {text : List ℕ} {d : OpenDirectory}
+    → Ok how ≡ open_how dirflags oflags base inheriting fdflags → Ok text ≡ text_in g.memory path len
+    → Ok d ≡ directory_in (slice_get g.places fd)
+    → tail (may_open how d.perms) (Path (opens d.node text how)) (opened_among g.places d.perms (mode_of how)) with_places g
+    ≡ path_open g fd dirflags path len oflags base inheriting fdflags
+unfolding path_open
+path_open_asks g fd dirflags path len oflags base inheriting fdflags known found within =
+    rw (← known, ← found, ← within) refl
+
+-- nothing is answered but that it was done
+abbrev pub with_nothing : Guest → Unit {0} → Value × Guest
+with_nothing g done = (Nothing, g)
+
+-- what is asked of a directory at a path
+abbrev pub changes_at : Option ErrorCode → ℕ → List ℕ → PlaceCall → Guest → Row (Program (Value × Guest))
+changes_at own start text what g = tail own (Path (AtPlace start text what)) (λ _. give tt) with_nothing g
+
+done_asks : (g : Guest) (fd path len : ℕ) (what : PlaceCall) {text : List ℕ} {d : OpenDirectory}
+    → Ok d ≡ start_in (slice_get g.places fd) → Ok text ≡ text_in g.memory path len
+    → changes_at (may_change d.perms) d.node text what g ≡ done_at g fd path len what
+done_asks g fd path len what within found = rw (← within, ← found) refl
+
+pub path_create_directory_asks : (g : Guest) (fd path len : ℕ) {text : List ℕ} {d : OpenDirectory}
+    → Ok d ≡ start_in (slice_get g.places fd) → Ok text ≡ text_in g.memory path len
+    → changes_at (may_change d.perms) d.node text CreateDir g ≡ path_create_directory g fd path len
+unfolding path_create_directory
+path_create_directory_asks g fd path len = done_asks g fd path len CreateDir
+
+pub path_remove_directory_asks : (g : Guest) (fd path len : ℕ) {text : List ℕ} {d : OpenDirectory}
+    → Ok d ≡ start_in (slice_get g.places fd) → Ok text ≡ text_in g.memory path len
+    → changes_at (may_change d.perms) d.node text RemoveDir g ≡ path_remove_directory g fd path len
+unfolding path_remove_directory
+path_remove_directory_asks g fd path len = done_asks g fd path len RemoveDir
+
+pub path_unlink_file_asks : (g : Guest) (fd path len : ℕ) {text : List ℕ} {d : OpenDirectory}
+    → Ok d ≡ start_in (slice_get g.places fd) → Ok text ≡ text_in g.memory path len
+    → changes_at (may_change d.perms) d.node text RemoveFile g ≡ path_unlink_file g fd path len
+unfolding path_unlink_file
+path_unlink_file_asks g fd path len = done_asks g fd path len RemoveFile
+
+pub path_symlink_asks : (g : Guest) (old_path old_len fd new_path new_len : ℕ) {target text : List ℕ}
+    {d : OpenDirectory}
+    → Ok d ≡ start_in (slice_get g.places fd) → Ok target ≡ text_in g.memory old_path old_len
+    → Ok text ≡ text_in g.memory new_path new_len
+    → changes_at (may_link d.perms target) d.node text (Symlink target) g
+    ≡ path_symlink g old_path old_len fd new_path new_len
+unfolding path_symlink
+path_symlink_asks g old_path old_len fd new_path new_len within told found = rw (← within, ← told, ← found) refl
+
+-- what `path_readlink` asks
+pub path_readlink_asks : (g : Guest) (fd path len buf buf_len : ℕ) {text : List ℕ} {d : OpenDirectory}
+    → Ok d ≡ start_in (slice_get g.places fd) → Ok text ≡ text_in g.memory path len
+    → ask (Path (AtPlace d.node text ReadLink))
+    (λ link. text_to g.memory buf (take buf_len link) >>= (λ p. give (with_text g p)))
+    ≡ path_readlink g fd path len buf buf_len
+unfolding path_readlink
+path_readlink_asks g fd path len buf buf_len within found = rw (← within, ← found) refl
+
+-- what `path_filestat_get` asks
+pub path_filestat_get_asks : (g : Guest) (fd flags path len : ℕ) {follow : Bool} {text : List ℕ} {d : OpenDirectory}
+    → Ok follow ≡ follow_asked flags → Ok d ≡ start_in (slice_get g.places fd) → Ok text ≡ text_in g.memory path len
+    → ask (Path (LookPath d.node text follow))
+    (λ metadata. filestat_in (stat_both metadata) >>= (λ stat. give (with_filestat g stat)))
+    ≡ path_filestat_get g fd flags path len
+unfolding path_filestat_get
+path_filestat_get_asks g fd flags path len known within found = rw (← known, ← within, ← found) refl
+
+-- a number beside the memory after it, as an answer: the file's position is behind what was read
+abbrev pub with_memory : ℕ → OpenFile → Guest → ℕ × List ℕ → Value × Guest
+with_memory fd f g p = (Number p.0, record g { memory = p.1; places = slice_set g.places fd (moved f p.0) })
+
+-- what `fd_read` asks
+abbrev pub reads_at : Guest → ℕ → OpenFile → Iovec → Row (Program (Value × Guest))
+reads_at g fd f buffer = ask (Read (held_by f) f.position buffer.buf_len)
+    (λ bytes. filled_at g.memory buffer.buf bytes >>= (λ p. give (with_memory fd f g p)))
+
+pub fd_read_asks : (g : Guest) (fd iovs n : ℕ) {buffer : Iovec} {f : OpenFile} {part : List ℕ}
+    → Ok buffer ≡ buffer_in g.memory iovs n → Ok f ≡ file_in (slice_get g.places fd)
+    → Ok part ≡ range g.memory buffer.buf buffer.buf_len
+    → reads_at g fd f buffer ≡ fd_read g fd iovs n
+unfolding fd_read
+fd_read_asks g fd iovs n found within inside = rw (← found, ← within, ← inside) refl
+
+-- a number as an answer: the file's position is behind what was written
+abbrev pub with_position : ℕ → OpenFile → Guest → ℕ → Value × Guest
+with_position fd f g count = (Number count, record g { places = slice_set g.places fd (moved f count) })
+
+-- what `fd_write` asks
+abbrev pub writes_at : Guest → ℕ → OpenFile → List ℕ → Row (Program (Value × Guest))
+writes_at g fd f piece =
+    ask (Write (held_by f) f.position piece) (λ count. give count >>= (λ n. give (with_position fd f g n)))
+
+pub fd_write_asks : (g : Guest) (fd iovs n : ℕ) {buffer : Iovec} {f : OpenFile} {piece : List ℕ}
+    → Ok buffer ≡ buffer_in g.memory iovs n → Ok f ≡ file_in (slice_get g.places fd)
+    → Ok piece ≡ range g.memory buffer.buf buffer.buf_len → Ok tt ≡ may_write f.perms
+    → writes_at g fd f piece ≡ fd_write g fd iovs n
+unfolding fd_write
+fd_write_asks g fd iovs n found within inside may = rw (← found, ← within, ← inside, ← may) refl

@@ -1,0 +1,127 @@
+//! How a path is opened or looked at.
+ghost use Rattle.std.specs.Prelude.{◌≡◌, ◌||◌, false, IfErr};
+ghost use Rattle.std.specs.Result.{result_map_both};
+ghost use Rattle.wasi_fs.specs.OpenHow.{is_followed};
+ghost use Rattle.wasi_fs.specs.OpenHow.{how_of};
+ghost use Rattle.wasi_fs.specs.OpenFlags.{open_flag_bits, descriptor_flag_bits, includes};
+ghost use Rattle.wasi_fs.specs.declared.open_flags.TheConstants.OpenFlags as of_open;
+ghost use Rattle.wasi_fs.specs.declared.open_flags.TheConstants.DescriptorFlags as of_descriptor;
+ghost use Rattle.wasi_guest.specs.FlagSets.{lookupflag_bits, oflag_bits, fdflag_bits, right_bits};
+ghost use Rattle.wasi_guest.specs.Flags as flag;
+ghost use Rattle.wasi_guest.specs.Flags.{has};
+ghost use Rattle.wasi_p1.specs.RawFlags.{open_how, follow_asked};
+ghost use Rattle.wasi_p1.specs.CallParts.{is_failure};
+
+use crate::error::P1Error;
+use bitflags::Flags;
+use wasi_fs::{DescriptorFlags, OpenFlags, PathFlags};
+use wasi_guest::{Errno, FdFlags, LookupFlags, OFlags, Rights};
+
+const UNKNOWN: P1Error = P1Error::Errno(Errno::Inval);
+
+/// What the flags and rights of `path_open` ask for, as the flags of an open below a directory.
+#[derive(Clone, Copy, Debug, PartialEq, Eq)]
+pub struct OpenWith {
+    pub path_flags: PathFlags,
+    pub open_flags: OpenFlags,
+    pub flags: DescriptorFlags,
+}
+
+impl OpenWith {
+    /// What these raw numbers ask for. Refusal: Inval where one of them has a bit that preview1 doesn't know. The other
+    /// rights, append and nonblock ask for nothing.
+    #[tactic(auto, unfolding(crate::specs::RawFlags::open_how))]
+    pub fn of(
+        dirflags: u32,
+        oflags: u32,
+        base: u64,
+        inheriting: u64,
+        fdflags: u32,
+    ) -> Result<OpenWith, P1Error>
+        ensures row { result_map_both (λ with. how_of with.path_flags with.open_flags with.flags) (λ e. e) result
+            ≡ open_how dirflags oflags base inheriting fdflags }
+        ensures refusal { IfErr result (λ e. is_failure e ≡ false) }
+    {
+        let lookups = LookupFlags::from_bits(dirflags).ok_or(UNKNOWN)?;
+        let oflags = OFlags::from_bits(oflags).ok_or(UNKNOWN)?;
+        let rights = Rights::from_bits(base).ok_or(UNKNOWN)?;
+        Rights::from_bits(inheriting).ok_or(UNKNOWN)?;
+        let fdflags = FdFlags::from_bits(fdflags).ok_or(UNKNOWN)?;
+        Ok(OpenWith {
+            path_flags: path_flags(lookups),
+            open_flags: open_flags(oflags),
+            flags: descriptor_flags(rights, fdflags),
+        })
+    }
+}
+
+/// How a path is looked up by a raw number. Refusal: Inval where it has a bit that preview1 doesn't know.
+#[tactic(auto, unfolding(crate::specs::RawFlags::follow_asked))]
+pub fn path_flags_of(flags: u32) -> Result<PathFlags, P1Error>
+    ensures row { result_map_both is_followed (λ e. e) result ≡ follow_asked flags }
+    ensures refusal { IfErr result (λ e. is_failure e ≡ false) }
+{
+    let lookups = LookupFlags::from_bits(flags).ok_or(UNKNOWN)?;
+    Ok(path_flags(lookups))
+}
+
+/// The flag of the same name.
+fn path_flags(lookups: LookupFlags) -> PathFlags
+    ensures follow { is_followed result ≡ has (lookupflag_bits lookups) flag.symlink_follow }
+{
+    let mut flags = PathFlags::empty();
+    flags.set(
+        PathFlags::SYMLINK_FOLLOW,
+        lookups.contains(LookupFlags::SYMLINK_FOLLOW),
+    );
+    flags
+}
+
+/// The flags of the same names.
+fn open_flags(oflags: OFlags) -> OpenFlags
+    ensures create { includes (open_flag_bits result) (open_flag_bits of_open.CREATE) ≡ has (oflag_bits oflags) flag.creat }
+    ensures directory { includes (open_flag_bits result) (open_flag_bits of_open.DIRECTORY)
+        ≡ has (oflag_bits oflags) flag.directory }
+    ensures exclusive { includes (open_flag_bits result) (open_flag_bits of_open.EXCLUSIVE)
+        ≡ has (oflag_bits oflags) flag.excl }
+    ensures truncate { includes (open_flag_bits result) (open_flag_bits of_open.TRUNCATE)
+        ≡ has (oflag_bits oflags) flag.trunc }
+{
+    let mut flags = OpenFlags::empty();
+    flags.set(OpenFlags::CREATE, oflags.contains(OFlags::CREAT));
+    flags.set(OpenFlags::DIRECTORY, oflags.contains(OFlags::DIRECTORY));
+    flags.set(OpenFlags::EXCLUSIVE, oflags.contains(OFlags::EXCL));
+    flags.set(OpenFlags::TRUNCATE, oflags.contains(OFlags::TRUNC));
+    flags
+}
+
+/// The flags that the rights to read and write, and the flags of integrity, ask for.
+fn descriptor_flags(rights: Rights, fdflags: FdFlags) -> DescriptorFlags
+    ensures read { includes (descriptor_flag_bits result) (descriptor_flag_bits of_descriptor.READ)
+        ≡ has (right_bits rights) flag.fd_read }
+    ensures write { includes (descriptor_flag_bits result) (descriptor_flag_bits of_descriptor.WRITE)
+        ≡ has (right_bits rights) flag.fd_write }
+    ensures sync { includes (descriptor_flag_bits result) (descriptor_flag_bits of_descriptor.FILE_INTEGRITY_SYNC)
+        ≡ has (fdflag_bits fdflags) flag.sync }
+    ensures dsync { includes (descriptor_flag_bits result) (descriptor_flag_bits of_descriptor.DATA_INTEGRITY_SYNC)
+        ≡ has (fdflag_bits fdflags) flag.dsync }
+    ensures rsync { includes (descriptor_flag_bits result) (descriptor_flag_bits of_descriptor.REQUESTED_WRITE_SYNC)
+        ≡ has (fdflag_bits fdflags) flag.rsync }
+{
+    let mut flags = DescriptorFlags::empty();
+    flags.set(DescriptorFlags::READ, rights.contains(Rights::FD_READ));
+    flags.set(DescriptorFlags::WRITE, rights.contains(Rights::FD_WRITE));
+    flags.set(
+        DescriptorFlags::FILE_INTEGRITY_SYNC,
+        fdflags.contains(FdFlags::SYNC),
+    );
+    flags.set(
+        DescriptorFlags::DATA_INTEGRITY_SYNC,
+        fdflags.contains(FdFlags::DSYNC),
+    );
+    flags.set(
+        DescriptorFlags::REQUESTED_WRITE_SYNC,
+        fdflags.contains(FdFlags::RSYNC),
+    );
+    flags
+}

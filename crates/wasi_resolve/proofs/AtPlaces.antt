@@ -1,0 +1,222 @@
+-- What is done at a place: from the open of its directory over the host's one call to the directory's close.
+use Rattle.std.proofs.Common.{ℕ, ◌≡◌, ◌⊎◌, inl, inr, true, false, cond, Bool, List, [], ◌∷◌, ◌++◌, Option, Some, None, Result, Ok, Err, refl, sym, ap, subst, ◌∙◌, arith, length-set, slice_set}
+use Rattle.std.specs.Prelude.{All, Contains, option_to_list}
+use Rattle.std.specs.FinSet.{contains, remove}
+use Rattle.std.proofs.lemmas.List.Elements.{All-nil, All-cons, All-append, Contains-push, Contains-append_left, Contains-append_right}
+use Rattle.wasi_paths.specs.Parts.{has_root}
+use Rattle.wasi_paths.specs.Text.{is_dot_text}
+use Rattle.wasi_host.specs.Tree.{Tree, Node, Content, child, next_of, node_at}
+use Rattle.wasi_host.specs.Agree.{IsMade}
+use Rattle.wasi_host.specs.HostCall.{ReadLinkAt, Close}
+use Rattle.wasi_host.specs.Answer.{HostAnswer, link_answer}
+use Rattle.wasi_host.specs.Step.{step, found_by, made_by, dropped_step, without_name, new_directory, new_link, one_name_less, made_gone, unlink_step, remove_step}
+use Rattle.wasi_host.specs.Steps.{◌>>=◌}
+use Rattle.wasi_host.specs.Meaning.{World, Handles, Told, answered}
+use Rattle.wasi_host.specs.Lineage.{Traced, Only, Nothing}
+use Rattle.wasi_host.specs.declared.lookup.Lookup.{Lookup}
+use Rattle.wasi_host.specs.declared.errors.ErrorCode.TheVariants.{NotPermitted}
+use Rattle.wasi_host.specs.declared.errors.HostError.{HostError}
+use Rattle.wasi_host.specs.declared.errors.HostError.TheVariants.{Code}
+use Rattle.wasi_host.proofs.Leaving.{Leaves, named_in, same_leaves, node_made_leaves, dropped_leaves, made_next, fewer_names, gone_names}
+use Rattle.wasi_host.proofs.Tracing.{traced_kept, traced_last}
+use Rattle.wasi_resolve.specs.Laws.{From, GivesIn}
+use Rattle.wasi_resolve.specs.Paths.{Place}
+use Rattle.wasi_resolve.specs.Resolved.{Resolved}
+use Rattle.wasi_resolve.specs.Parents.{directory_of, places_at, released, shown_place, GotIn, LiveIn}
+use Rattle.wasi_resolve.specs.AtPlace.{PlaceCall, CreateDir, RemoveFile, RemoveDir, Symlink, ReadLink, PlaceAnswer, call_at, unrooted, place_text, ends_in, done_in, does_at}
+use Rattle.wasi_resolve.specs.WalkSteps.{Stayed}
+use Rattle.wasi_resolve.specs.declared.parent.MaybeOwned.{MaybeOwned}
+use Rattle.wasi_resolve.specs.declared.parent.MaybeOwned.TheVariants.{Borrowed, Owned}
+use Rattle.wasi_resolve.specs.declared.parent.Parent.{Parent}
+use Rattle.wasi_resolve.proofs.LawProofs.{paths_stay_in_reach}
+use Rattle.wasi_resolve.proofs.Calls.{call_meant, call_ok, call_err, close_stays, err_means, looks_of, means_then, resolved_err, resolved_stay, resolved_then, same_live}
+use Rattle.wasi_resolve.proofs.Stacks.{was_live}
+
+-- ---- the nodes at which a call at a place ends are touched
+
+-- a name held its node before, or holds one that was made
+child_leaves : {t t' : Tree} (d n : ℕ) (name : List ℕ) → Leaves t t' → child t' d name ≡ Some n
+    → (child t d name ≡ Some n) ⊎ IsMade t t' n
+unfolding child
+child_leaves {t} {t'} d n name leaves is = by (is_dot_text name) is
+  where
+    by : (dot : Bool) → cond dot (Some d) (named_in (node_at t' d) name) ≡ Some n
+        → (cond dot (Some d) (named_in (node_at t d) name) ≡ Some n) ⊎ IsMade t t' n
+    by true same = inl same
+    by false has = leaves.names d n name has
+
+dropped_next : (t : Tree) (d : ℕ) (name : List ℕ) (change : Content → Content) (c : Option ℕ)
+    → next_of (dropped_step t d name change c) ≡ next_of t
+dropped_next t d name change None = refl
+dropped_next t d name change (Some n) =
+    let bare : Node = without_name (node_at t d) name in
+    let changed : Node = record (node_at t n) { content = change (node_at t n).content } in
+    length-set (slice_set t.nodes d bare) n changed ∙ length-set t.nodes d bare
+
+call_leaves : (t : Tree) (c : PlaceCall) (p : Place) → Leaves t (step t (call_at c p))
+unfolding unlink_step remove_step
+call_leaves t CreateDir p = node_made_leaves t p.directory p.name new_directory refl
+call_leaves t RemoveFile p = dropped_leaves t p.directory p.name one_name_less (child t p.directory p.name) fewer_names
+call_leaves t RemoveDir p = dropped_leaves t p.directory p.name made_gone (child t p.directory p.name) gone_names
+call_leaves t (Symlink text) p = node_made_leaves t p.directory p.name (new_link text) refl
+call_leaves t ReadLink p = same_leaves t
+
+next_known : (t : Tree) (n : ℕ) → n ≡ next_of t → Contains (next_of t ∷ []) n
+next_known t n is = subst (Contains (next_of t ∷ [])) (sym is) (Contains-push [] (next_of t))
+
+-- what a call made is known of it
+made_known : (t : Tree) (c : PlaceCall) (p : Place) (n : ℕ) → IsMade t (step t (call_at c p)) n
+    → Contains (made_by t (call_at c p)) n
+unfolding unlink_step remove_step
+made_known t CreateDir p n made =
+    next_known t n (omega (arith, made.fresh, made.there, made_next t p.directory p.name new_directory))
+made_known t RemoveFile p n made =
+    let same = dropped_next t p.directory p.name one_name_less (child t p.directory p.name) in
+    absurd (omega (arith, made.fresh, made.there, same))
+made_known t RemoveDir p n made =
+    let same = dropped_next t p.directory p.name made_gone (child t p.directory p.name) in
+    absurd (omega (arith, made.fresh, made.there, same))
+made_known t (Symlink text) p n made =
+    next_known t n (omega (arith, made.fresh, made.there, made_next t p.directory p.name (new_link text)))
+made_known t ReadLink p n made = absurd (omega (arith, made.fresh, made.there))
+
+found_at : (t : Tree) (c : PlaceCall) (p : Place)
+    → found_by t (call_at c p) ≡ p.directory ∷ option_to_list (child t p.directory p.name)
+found_at t CreateDir p = refl
+found_at t RemoveFile p = refl
+found_at t RemoveDir p = refl
+found_at t (Symlink text) p = refl
+found_at t ReadLink p = refl
+
+-- of what a name holds
+all_held : (P : ℕ → Type 0) (c : Option ℕ) → ((n : ℕ) → c ≡ Some n → P n) → All P (option_to_list c)
+all_held P None each = All-nil P
+all_held P (Some n) each = All-cons P n [] (each n refl) (All-nil P)
+
+-- the directory, and what its name holds before the call and after it
+ends_known : (t : Tree) (c : PlaceCall) (p : Place)
+    → All (Contains (found_by t (call_at c p) ++ made_by t (call_at c p))) (ends_in t (step t (call_at c p)) (Ok p))
+ends_known t c p =
+    All-cons Known p.directory _
+    (found (Contains-append_left (p.directory ∷ []) _ p.directory (Contains-push [] p.directory)))
+    (All-append Known _ _ (all_held Known (child t p.directory p.name) before)
+    (all_held Known (child (step t (call_at c p)) p.directory p.name) after))
+  where
+    Known : ℕ → Type 0
+    Known = Contains (found_by t (call_at c p) ++ made_by t (call_at c p))
+
+    found : {n : ℕ} → Contains (p.directory ∷ option_to_list (child t p.directory p.name)) n → Known n
+    found {n} has =
+        Contains-append_left (found_by t (call_at c p)) (made_by t (call_at c p)) n
+        (subst (λ l. Contains l n) (sym (found_at t c p)) has)
+
+    before : (n : ℕ) → child t p.directory p.name ≡ Some n → Known n
+    before n is =
+        found (Contains-append_right (p.directory ∷ []) (option_to_list (child t p.directory p.name)) n
+        (subst (λ o. Contains (option_to_list o) n) (sym is) (Contains-push [] n)))
+
+    after : (n : ℕ) → child (step t (call_at c p)) p.directory p.name ≡ Some n → Known n
+    after n is = elim (child_leaves p.directory n p.name (call_leaves t c p) is) [
+      | inl was ↦ before n was
+      | inr made ↦
+          Contains-append_right (found_by t (call_at c p)) (made_by t (call_at c p)) n (made_known t c p n made)
+    ]
+
+-- ---- the call of the host
+
+-- it means what the host's table says, and ends at the place
+pub call_done : {A : Type 0} {old new : Handles} {w v : World} (c : PlaceCall) (p : Place)
+    {shown : A → HostAnswer (call_at c p)} (r : Result A HostError) → new ≡ old
+    → Told old new w v (call_at c p) shown r
+    → Resolved old w v (call_meant w.tree (call_at c p) (ends_in w.tree (step w.tree (call_at c p)) (Ok p))) shown r
+call_done {w = w} c p {shown} (Ok a) same told =
+    call_ok {call = call_at c p} {shown = shown} (ends_in w.tree (step w.tree (call_at c p)) (Ok p))
+    (ends_known w.tree c p) (same_live same) told
+call_done {w = w} c p {shown} (Err e) same told =
+    call_err {call = call_at c p} {shown = shown} e (ends_in w.tree (step w.tree (call_at c p)) (Ok p)) same told
+
+-- ---- the directory is closed
+
+pub closed_stays : {live new : Handles} {w v : World} (h : ℕ) → new ≡ remove live h
+    → Told live new w v Close (λ unit. unit) answered → Stayed (remove live h) w v
+closed_stays {live} h closed told =
+    close_stays told (λ q is.
+    let still = subst (λ l. contains l q ≡ true) (sym closed) is in (was_live live h closed q still, still))
+
+-- what is live without it was live
+released_live : (live : Handles) (d : MaybeOwned) (q : ℕ) → contains (released live d) q ≡ true
+    → contains live q ≡ true
+released_live live (Borrowed h) q is = is
+released_live live (Owned h) q is = was_live live h refl q is
+
+-- ---- the whole
+
+module _ {A : Type 0} {first : Handles} {w v : World} (s : ℕ) (text : List ℕ) (c : PlaceCall)
+    {shown : A → PlaceAnswer c} where
+  -- A place was found, its call made, and its directory closed. The directory is reached from the start.
+  pub done_at_place : {mid : Handles} {u z : World} {r : Result A HostError} (p : Parent)
+      → released mid p.directory ≡ first
+      → Resolved first w v (places_at w.tree s (place_text c text)) (shown_place v.held) (Ok p)
+      → Resolved mid v u (done_in v.tree (v.held (directory_of p.directory)).node (Ok (shown_place v.held p)) c) shown r
+      → Stayed (released mid p.directory) u z
+      → Resolved first w z (does_at w.tree s text c) shown r
+  done_at_place {mid = mid} {u = u} {z = z} {r = r} p closes placed done closed =
+      let looks = looks_of (Ok p) (λ is. refl) placed in
+      let near : From w.tree s (v.held (directory_of p.directory)).node =
+      subst (GivesIn (From w.tree s) (λ (at : Place). at.directory)) placed.answer
+      (paths_stay_in_reach w.tree s (place_text c text)).places in
+      let at : Resolved first w u (done_in v.tree s (Ok (shown_place v.held p)) c) shown r =
+      resolved_then looks near
+      (λ q is. released_live mid p.directory q (subst (λ l. contains l q ≡ true) (sym closes) is)) refl done in
+      let there : Resolved first w u (done_in w.tree s (Ok (shown_place v.held p)) c) shown r =
+      subst (λ t. Resolved first w u (done_in t s (Ok (shown_place v.held p)) c) shown r) looks.tree at in
+      resolved_stay
+      (subst (λ q. Resolved first w u (done_in w.tree s q c) shown r) (sym placed.answer) there)
+      (subst (λ l. Stayed l u z) closes closed)
+
+-- ---- where the look-ups begin
+
+-- at a place's directory
+pub traced_at_place : {start : ℕ} {a b d : List Lookup} (p : Parent) (first mid : Handles)
+    → LiveIn start first p.directory mid
+    → Traced (Only start) Nothing (GotIn p.directory) a b
+    → Traced (Only (directory_of p.directory)) Nothing Nothing b d
+    → Traced (Only start) Nothing Nothing a d
+traced_at_place {start} p first mid live opened called =
+    traced_last (known p.directory live)
+    (traced_kept (Only start) (λ h. (h ≡ start) ⊎ GotIn p.directory h) (λ h has. has) opened) called
+  where
+    known : (d : MaybeOwned) → LiveIn start first d mid → (h : ℕ) → h ≡ directory_of d
+        → (h ≡ start) ⊎ GotIn d h
+    known (Borrowed q) live h is = inl (is ∙ live.0)
+    known (Owned q) live h is = inr is
+
+-- ---- a link's text, where it has no root
+
+module _ {A : Type 0} {old new : Handles} {w v : World} (p : Place) {text_of : A → List ℕ} (same : new ≡ old) where
+  -- it is not read
+  pub unread : (e : HostError) → Told old new w v (ReadLinkAt p.directory p.name) text_of (Err e)
+      → Resolved old w v (done_in w.tree p.directory (Ok p) ReadLink) text_of (Err e)
+  unread e told =
+      resolved_err (done_in w.tree p.directory (Ok p) ReadLink) text_of e refl
+      (means_then (link_answer w.tree p.directory p.name) unrooted e told.meaning)
+      (looks_of (Err e) (λ is. refl) (call_done ReadLink p (Err e) same told))
+
+  module _ {a : A} (told : Told old new w v (ReadLinkAt p.directory p.name) text_of (Ok a)) where
+    by_root : (rooted : Bool) → has_root (text_of a) ≡ rooted
+        → link_answer w.tree p.directory p.name >>= unrooted ≡ cond rooted (Err NotPermitted) (Ok (text_of a))
+    by_root rooted is =
+        ap (λ x. x >>= unrooted) told.meaning ∙ ap (λ b. cond b (Err NotPermitted) (Ok (text_of a))) is
+
+    pub text_refused : has_root (text_of a) ≡ true
+        → Resolved {A = A} old w v (done_in w.tree p.directory (Ok p) ReadLink) text_of (Err (Code NotPermitted))
+    text_refused is =
+        resolved_err (done_in w.tree p.directory (Ok p) ReadLink) text_of (Code NotPermitted) refl
+        (err_means _ NotPermitted (by_root true is))
+        (looks_of (Ok a) (λ is. refl) (call_done ReadLink p (Ok a) same told))
+
+    pub text_given : has_root (text_of a) ≡ false
+        → Resolved old w v (done_in w.tree p.directory (Ok p) ReadLink) text_of (Ok a)
+    text_given is =
+        let read = call_done ReadLink p (Ok a) same told in
+        record { answer = by_root false is; tree = read.tree; touched = read.touched; keeps = read.keeps }

@@ -1,0 +1,16 @@
+use Rattle.wasi_host.proofs.Tracing.{traced_same}
+use Rattle.wasi_resolve.specs.AtPlace.{ReadLink}
+use Rattle.wasi_resolve.proofs.AtPlaces.{done_at_place, traced_at_place}
+use Rattle.wasi_resolve.proofs.at_place.read_link.Goals as goal
+
+pub returns-clause-lineage : goal.returns-clause-lineage
+returns-clause-lineage g c =
+    traced_same _ c.release.ensures.logged
+    (traced_at_place c.in-Ok.place _ _ c.in-Ok.ensures.live c.in-Ok.ensures.lineage
+    (rw c.handle.ensures.handle at c.unrooted_link_at-text.ensures.lineage))
+
+pub returns-clause-told : goal.returns-clause-told
+returns-clause-told g c told =
+    done_at_place _ c.args.path.now ReadLink c.in-Ok.place c.in-Ok.ensures.closes (c.in-Ok.ensures.told told)
+    (rw c.handle.ensures.handle at (c.unrooted_link_at-text.ensures.told told))
+    (rw c.unrooted_link_at-text.ensures.live at (c.release.ensures.told told))
