@@ -1,22 +1,24 @@
 -- What is known of an accepted script.
 use Rattle.std.proofs.Common.{ℕ, List, ◌≡◌, ◌+◌, ◌≤◌, ◌<◌, length, Bool, Option, Some, None, Result, Ok, Err, refl, sym, ap, ◌∙◌, true, false, arith, subst, map}
-use Rattle.std.specs.Prelude.{sum_by, nat_le}
+use Rattle.std.specs.Prelude.{sum_by, nat_le, IfSome}
 use Rattle.std.specs.Bool.{Decides}
 use Rattle.std.specs.List.{list_all}
 use Rattle.std.proofs.lemmas.Bool.{and_parts, leb-true}
 use Rattle.std.proofs.lemmas.Bool.Decides.{same_from_decides}
 use Rattle.serde_json.specs.Data.{Data}
 use Rattle.wasi_host.specs.Steps.{◌>>=◌}
+use Rattle.wasi_host.specs.ValidTree.{AreLimits}
 use Rattle.wasi_tree.specs.Given.{given}
 use Rattle.wasi_tree.specs.Fit.{AreFit}
 use Rattle.wasi_tree.specs.declared.node.NewNode.{NewNode}
 use Rattle.wasi_form.specs.Plan.{Plan, plan}
 use Rattle.wasi_form.specs.ScriptForm.{script_of}
-use Rattle.wasi_form.specs.Built.{default_limits, default_table, most_memory, are_preopens_directories, is_piece_within, is_shown_within, is_built_call, is_built, is_within_limits, is_built_script}
+use Rattle.wasi_form.specs.Built.{default_table, most_memory, are_preopens_directories, is_piece_within, is_shown_within, is_built_call, is_built, is_within_limits, is_built_script}
 use Rattle.wasi_form.specs.Verdict.{holds, found, value_of, built, plan_in, built_plan, most_script, verdict_of, IsFitFor, IsVerdict, Reads}
 use Rattle.wasi_form.specs.declared.verdict.Refusal.{Refusal}
 use Rattle.wasi_form.specs.declared.verdict.Refusal.TheVariants.{Long, Shape, Later, Tree, Limit}
 use Rattle.wasi_form.specs.declared.script.Script.{Script}
+use Rattle.wasi_form.proofs.ScriptLimits.{IsInRange, FormInRange, script_in_range}
 use Rattle.wasi_form.specs.declared.verdict.ScriptError.{ScriptError}
 use Rattle.wasi_form.specs.declared.verdict.ScriptError.TheVariants.{Refused, Memory}
 
@@ -41,32 +43,38 @@ reads_within (Ok s) bytes fits reads = not_too_many bytes _ fits reads
 reads_within (Err (Refused refusal)) bytes fits reads = not_too_many bytes _ fits reads
 reads_within (Err Memory) bytes fits reads = reads
 
-built_is : (q p : Plan) (is : Bool) → is_built q ≡ is → built q ≡ Ok p → is_built p ≡ true
-built_is q p true is e =
+-- a plan whose calls are built, and whose limits are within their range
+pub record AreForms (p : Plan) : Type 0 where
+  pub built : is_built p ≡ true
+  pub limits : AreLimits p.limits
+
+built_is : (q p : Plan) (is : Bool) → is_built q ≡ is → IsInRange q → built q ≡ Ok p → AreForms p
+built_is q p true is range e =
     let kept : built q ≡ Ok q = rw is refl in
     let same : q ≡ p = cc in
-    rw (← same, is) refl
-built_is q p false is e = let refused = rw is at e in absurd (cc)
+    subst AreForms same (record { built = is; limits = range.limits })
+built_is q p false is range e = let refused = rw is at e in absurd (cc)
 
-form_built : (form : Option Plan) (p : Plan) → (found Later form >>= built) ≡ Ok p → is_built p ≡ true
-form_built None p e = absurd (cc)
-form_built (Some q) p e = built_is q p (is_built q) refl e
+form_built : (form : Option Plan) (p : Plan) → FormInRange form → (found Later form >>= built) ≡ Ok p → AreForms p
+form_built None p range e = absurd (cc)
+form_built (Some q) p range e = built_is q p (is_built q) refl range e
 
-shape_built : (form : Option (Option Plan)) (p : Plan) → (found Shape form >>= (λ f. found Later f >>= built)) ≡ Ok p
-    → is_built p ≡ true
-shape_built None p e = absurd (cc)
-shape_built (Some form) p e = form_built form p e
+shape_built : (form : Option (Option Plan)) (p : Plan) → IfSome form FormInRange
+    → (found Shape form >>= (λ f. found Later f >>= built)) ≡ Ok p
+    → AreForms p
+shape_built None p range e = absurd (cc)
+shape_built (Some form) p range e = form_built form p range e
 
-value_built : (d : Option Data) (p : Plan) → plan_in d ≡ Ok p → is_built p ≡ true
+value_built : (d : Option Data) (p : Plan) → plan_in d ≡ Ok p → AreForms p
 value_built None p e = absurd (cc)
-value_built (Some d) p e = shape_built (script_of d) p e
+value_built (Some d) p e = shape_built (script_of d) p (script_in_range d) e
 
 within_built : (fits : Bool) (d : Option Data) (p : Plan) → (holds Long fits >>= (λ _. plan_in d)) ≡ Ok p
-    → is_built p ≡ true
+    → AreForms p
 within_built false d p e = absurd (cc)
 within_built true d p e = value_built d p e
 
-plan_is_built : (bytes : List ℕ) (p : Plan) → built_plan bytes ≡ Ok p → is_built p ≡ true
+plan_is_built : (bytes : List ℕ) (p : Plan) → built_plan bytes ≡ Ok p → AreForms p
 unfolding built_plan
 plan_is_built bytes p e = within_built (nat_le (length bytes) most_script) (value_of bytes) p e
 
@@ -85,10 +93,10 @@ unread_before bytes Memory is = tt
 -- bytes whose nodes were tested
 pub record IsTested (bytes : List ℕ) (p : Plan) (fit : Bool) : Type 0 where
   pub plan_is : built_plan bytes ≡ Ok p
-  pub decides : Decides fit (AreFit default_limits p.nodes)
+  pub decides : Decides fit (AreFit p.limits p.nodes)
 
 pub tested : {bytes : List ℕ} {nodes : List NewNode} {fit : Bool} (s : Script) → built_plan bytes ≡ Ok (plan s)
-    → nodes ≡ s.nodes.items → Decides fit (AreFit default_limits (map given nodes)) → IsTested bytes (plan s) fit
+    → nodes ≡ s.nodes.items → Decides fit (AreFit s.limits (map given nodes)) → IsTested bytes (plan s) fit
 tested s is nodes-are decides = record { plan_is = is; decides = rw nodes-are at decides }
 
 pub no_tree : {bytes : List ℕ} {p : Plan} {fit : Bool} → IsTested bytes p fit → fit ≡ false → IsVerdict bytes (Err Tree)
@@ -130,19 +138,20 @@ one_verdict bytes verdict other is also =
 -- a plan that is accepted can be run today
 pub record IsAccepted (p : Plan) : Type 0 where
   pub script : is_built_script p ≡ true
-  pub fit : AreFit default_limits p.nodes
+  pub limits : AreLimits p.limits
+  pub fit : AreFit p.limits p.nodes
 
-accepted_within : (q p : Plan) (within : Bool) → is_within_limits q ≡ within → AreFit default_limits q.nodes
-    → is_built q ≡ true → past_forms true q ≡ Ok p → IsAccepted p
+accepted_within : (q p : Plan) (within : Bool) → is_within_limits q ≡ within → AreFit q.limits q.nodes
+    → AreForms q → past_forms true q ≡ Ok p → IsAccepted p
 unfolding is_built_script
 accepted_within q p true within fit is e =
     let kept : past_forms true q ≡ Ok q = rw within refl in
     let same : q ≡ p = cc in
-    subst IsAccepted same (record { script = rw (is, within) refl; fit = fit })
+    subst IsAccepted same (record { script = rw (is.built, within) refl; limits = is.limits; fit = fit })
 accepted_within q p false within fit is e = let refused = rw within at e in absurd (cc)
 
 accepted_plan : (first : Result Plan Refusal) (fit : Bool) (p : Plan) → IsFitFor fit first
-    → ((q : Plan) → first ≡ Ok q → is_built q ≡ true) → (first >>= past_forms fit) ≡ Ok p → IsAccepted p
+    → ((q : Plan) → first ≡ Ok q → AreForms q) → (first >>= past_forms fit) ≡ Ok p → IsAccepted p
 accepted_plan (Err refusal) fit p test is e = absurd (cc)
 accepted_plan (Ok q) true p test is e = accepted_within q p (is_within_limits q) refl (test.0 refl) (is q refl) e
 accepted_plan (Ok q) false p test is e = absurd (cc)

@@ -14,6 +14,7 @@ use Rattle.wasi_tree.specs.GivenTests.{are_distinct}
 use Rattle.wasi_form.specs.declared.waiting.Kind.{Kind}
 use Rattle.wasi_form.specs.Shapes.{u32_of, has_key, all_keys}
 use Rattle.wasi_form.specs.Lists.{needed, optional, always, forms_of}
+use Rattle.wasi_form.specs.LimitsForm.{default_limits, limits_of}
 use Rattle.wasi_form.specs.NodeForm.{script_node}
 use Rattle.wasi_form.specs.PreopenForm.{preopen_of}
 use Rattle.wasi_form.specs.MemoryForm.{no_memory, piece_of, memory_keys, MemoryFound, memory_in, memory_of, shown_of}
@@ -171,11 +172,12 @@ pub found_in-put : (k : List ℕ) (d : Data) (ms : Members) → found_in (put k 
 unfolding with_member
 found_in-put k d ms = λ i. record {
   known = all_keys-put script_keys k d ms i;
-  nodes = made-put (needed (forms_of script_node)) (codes "nodes") k d ms i;
+  nodes = made-put (needed (forms_of (always script_node))) (codes "nodes") k d ms i;
   preopens = made-put (needed (forms_of (always preopen_of))) (codes "preopens") k d ms i;
   calls = made-put (needed (forms_of call_of)) (codes "calls") k d ms i;
   memory = made-put (optional memory_of (Some no_memory)) (codes "memory") k d ms i;
   show = made-put (optional (forms_of (always shown_of)) (Some [])) (codes "show") k d ms i;
+  limits = made-put (optional limits_of default_limits) (codes "limits") k d ms i;
   waiting = waiting-put k d ms (waiting_key k) refl i;
 }
 
@@ -183,10 +185,10 @@ at_key : (P : List ℕ → Type 0) (key name : List ℕ) → bytes_eq key name �
 at_key P key name is here = subst P (sym (same_texts key name is)) here
 
 pub with_nodes : (key : List ℕ) (d : Data) (found : Found) → bytes_eq key (codes "nodes") ≡ true
-    → record found { nodes = forms_of script_node d } ≡ with_member key d found
+    → record found { nodes = forms_of (always script_node) d } ≡ with_member key d found
 unfolding with_member script_keys waiting_key
 with_nodes key d found is =
-    at_key (λ k. record found { nodes = forms_of script_node d } ≡ with_member k d found) key (codes "nodes") is refl
+    at_key (λ k. record found { nodes = forms_of (always script_node) d } ≡ with_member k d found) key (codes "nodes") is refl
 
 pub with_preopens : (key : List ℕ) (d : Data) (found : Found) → bytes_eq key (codes "preopens") ≡ true
     → record found { preopens = forms_of (always preopen_of) d } ≡ with_member key d found
@@ -214,6 +216,12 @@ with_show key d found is =
     at_key (λ k. record found { show = forms_of (always shown_of) d } ≡ with_member k d found)
     key (codes "show") is refl
 
+pub with_limits : (key : List ℕ) (d : Data) (found : Found) → bytes_eq key (codes "limits") ≡ true
+    → record found { limits = limits_of d } ≡ with_member key d found
+unfolding with_member script_keys waiting_key
+with_limits key d found is =
+    at_key (λ k. record found { limits = limits_of d } ≡ with_member k d found) key (codes "limits") is refl
+
 -- at no key of a part that is used
 pub record IsOther (key : List ℕ) : Type 0 where
   pub nodes : bytes_eq key (codes "nodes") ≡ false
@@ -221,6 +229,7 @@ pub record IsOther (key : List ℕ) : Type 0 where
   pub calls : bytes_eq key (codes "calls") ≡ false
   pub memory : bytes_eq key (codes "memory") ≡ false
   pub show : bytes_eq key (codes "show") ≡ false
+  pub limits : bytes_eq key (codes "limits") ≡ false
 
 has_waiting : (key : List ℕ) (d : Data) (ms : Members) (place : Option (ℕ × Kind)) → waiting_key key ≡ place
     → has_key (names waiting_keys) key ≡ is_some place
@@ -233,7 +242,7 @@ pub with_other : (key : List ℕ) (d : Data) (found : Found) → IsOther key
 unfolding with_member script_keys
 with_other key d found other =
     let has = has_waiting key d no_members (waiting_key key) refl in
-    rw (other.nodes, other.preopens, other.calls, other.memory, other.show, has) refl
+    rw (other.nodes, other.preopens, other.calls, other.memory, other.show, other.limits, has) refl
 
 -- ---- the members of a memory
 

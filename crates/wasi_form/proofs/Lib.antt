@@ -7,6 +7,8 @@ pub mod Keys
 pub mod Entries
 pub mod Lengths
 pub mod Places
+pub mod Moments
+pub mod ScriptLimits
 pub mod Arguments
 pub mod Values
 pub mod BuiltScripts

@@ -1,18 +1,13 @@
 -- Which forms are built, and which plans are within the limits.
 use Rattle.std.specs.Prelude.{ℕ, ◌+◌, List, length, slice_get, sum_by, Bool, true, false, ◌&&◌, nat_eq, nat_le, Option, Some, None}
 use Rattle.std.specs.List.{list_all}
-use Rattle.wasi_host.specs.declared.limits.Limits.{Limits}
 use Rattle.wasi_tree.specs.Given.{Given}
 use Rattle.wasi_tree.specs.GivenTests.{is_dir_content}
 use Rattle.wasi_guest.specs.declared.call.Call.{Call}
-use Rattle.wasi_guest.specs.declared.call.Call.TheVariants.{FdClose, FdRead, FdWrite, PathCreateDirectory, PathFilestatGet, PathOpen, PathReadlink, PathRemoveDirectory, PathUnlinkFile, PathSymlink}
-use Rattle.wasi_form.specs.declared.built.TheConstants.{MOST_MEMORY, DEFAULT_LIMITS, DEFAULT_TABLE}
+use Rattle.wasi_guest.specs.declared.call.Call.TheVariants.{FdClose, FdFilestatSetTimes, FdRead, FdWrite, PathCreateDirectory, PathFilestatGet, PathFilestatSetTimes, PathLink, PathOpen, PathReadlink, PathRemoveDirectory, PathUnlinkFile, PathRename, PathSymlink}
+use Rattle.wasi_form.specs.declared.built.TheConstants.{MOST_MEMORY, DEFAULT_TABLE}
 use Rattle.wasi_form.specs.declared.script.Shown.{Shown}
 use Rattle.wasi_form.specs.Plan.{PlannedPreopen, PlannedPiece, Plan}
-
--- the limits of a tree
-abbrev pub default_limits : Limits
-default_limits = DEFAULT_LIMITS
 
 -- how many descriptors there may be
 abbrev pub default_table : ℕ
@@ -22,17 +17,21 @@ default_table = DEFAULT_TABLE
 abbrev pub most_memory : ℕ
 most_memory = MOST_MEMORY
 
--- An open with flags of the descriptor waits, and so does a call on a standard stream.
+-- An open with flags of the descriptor waits, and so does a read, a write or a close of a standard stream.
 abbrev pub is_built_call : Call → Bool
 is_built_call (FdClose fd) = nat_le 3 fd
+is_built_call (FdFilestatSetTimes fd atim mtim fst_flags) = true
 is_built_call (FdRead fd iovs iovs_len) = nat_le 3 fd
 is_built_call (FdWrite fd iovs iovs_len) = nat_le 3 fd
 is_built_call (PathCreateDirectory fd path path_len) = true
 is_built_call (PathFilestatGet fd flags path path_len) = true
+is_built_call (PathFilestatSetTimes fd flags path path_len atim mtim fst_flags) = true
+is_built_call (PathLink old_fd old_flags old_path old_path_len new_fd new_path new_path_len) = true
 is_built_call (PathOpen fd dirflags path path_len oflags base inheriting fdflags) = nat_eq fdflags 0
 is_built_call (PathReadlink fd path path_len buf buf_len) = true
 is_built_call (PathRemoveDirectory fd path path_len) = true
 is_built_call (PathUnlinkFile fd path path_len) = true
+is_built_call (PathRename old_fd old_path old_path_len new_fd new_path new_path_len) = true
 is_built_call (PathSymlink old_path old_path_len fd new_path new_path_len) = true
 
 -- all its calls are built

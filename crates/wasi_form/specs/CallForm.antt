@@ -4,7 +4,7 @@ use Rattle.std.specs.Str.{bytes_eq}
 use Rattle.serde_json.specs.Data.{Data, Items, no_items, item}
 use Rattle.serde_json.specs.Find as find
 use Rattle.wasi_guest.specs.declared.call.Call.{Call}
-use Rattle.wasi_guest.specs.declared.call.Call.TheVariants.{FdClose, FdRead, FdWrite, PathCreateDirectory, PathFilestatGet, PathOpen, PathReadlink, PathRemoveDirectory, PathUnlinkFile, PathSymlink}
+use Rattle.wasi_guest.specs.declared.call.Call.TheVariants.{FdClose, FdFilestatSetTimes, FdRead, FdWrite, PathCreateDirectory, PathFilestatGet, PathFilestatSetTimes, PathLink, PathOpen, PathReadlink, PathRemoveDirectory, PathUnlinkFile, PathRename, PathSymlink}
 use Rattle.wasi_form.specs.declared.calls.Argument.{Argument}
 use Rattle.wasi_form.specs.declared.calls.Argument.TheVariants.{U32, U64, I64}
 use Rattle.wasi_form.specs.Lists.{◌>>=◌, only_if}
@@ -119,6 +119,14 @@ fd_close_of ds = do
   fd ← u32_at 0 ds
   Some (FdClose fd)
 
+unfoldable pub fd_filestat_set_times_of : Items → Option Call
+fd_filestat_set_times_of ds = do
+  fd ← u32_at 0 ds
+  atim ← u64_at 1 ds
+  mtim ← u64_at 2 ds
+  fst_flags ← u32_at 3 ds
+  Some (FdFilestatSetTimes fd atim mtim fst_flags)
+
 unfoldable pub path_create_directory_of : Items → Option Call
 path_create_directory_of ds = do
   fd ← u32_at 0 ds
@@ -133,6 +141,29 @@ path_filestat_get_of ds = do
   path ← u32_at 2 ds
   path_len ← u32_at 3 ds
   Some (PathFilestatGet fd flags path path_len)
+
+unfoldable pub path_filestat_set_times_of : Items → Option Call
+path_filestat_set_times_of ds = do
+  fd ← u32_at 0 ds
+  flags ← u32_at 1 ds
+  path ← u32_at 2 ds
+  path_len ← u32_at 3 ds
+  atim ← u64_at 4 ds
+  mtim ← u64_at 5 ds
+  fst_flags ← u32_at 6 ds
+  Some (PathFilestatSetTimes fd flags path path_len atim mtim fst_flags)
+
+-- the place of the node comes before where its new name is made
+unfoldable pub path_link_of : Items → Option Call
+path_link_of ds = do
+  old_fd ← u32_at 0 ds
+  old_flags ← u32_at 1 ds
+  old_path ← u32_at 2 ds
+  old_path_len ← u32_at 3 ds
+  new_fd ← u32_at 4 ds
+  new_path ← u32_at 5 ds
+  new_path_len ← u32_at 6 ds
+  Some (PathLink old_fd old_flags old_path old_path_len new_fd new_path new_path_len)
 
 unfoldable pub path_readlink_of : Items → Option Call
 path_readlink_of ds = do
@@ -157,6 +188,17 @@ path_unlink_file_of ds = do
   path_len ← u32_at 2 ds
   Some (PathUnlinkFile fd path path_len)
 
+-- the name that is moved comes before where it is moved to
+unfoldable pub path_rename_of : Items → Option Call
+path_rename_of ds = do
+  old_fd ← u32_at 0 ds
+  old_path ← u32_at 1 ds
+  old_path_len ← u32_at 2 ds
+  new_fd ← u32_at 3 ds
+  new_path ← u32_at 4 ds
+  new_path_len ← u32_at 5 ds
+  Some (PathRename old_fd old_path old_path_len new_fd new_path new_path_len)
+
 -- the text of the link comes before where it is made
 unfoldable pub path_symlink_of : Items → Option Call
 path_symlink_of ds = do
@@ -171,14 +213,18 @@ path_symlink_of ds = do
 abbrev pub built_rows : List (List ℕ × (Items → Option Call))
 built_rows =
     (codes "fd_close", fd_close_of)
+    ∷ (codes "fd_filestat_set_times", fd_filestat_set_times_of)
     ∷ (codes "fd_read", fd_read_of)
     ∷ (codes "fd_write", fd_write_of)
     ∷ (codes "path_create_directory", path_create_directory_of)
     ∷ (codes "path_filestat_get", path_filestat_get_of)
+    ∷ (codes "path_filestat_set_times", path_filestat_set_times_of)
+    ∷ (codes "path_link", path_link_of)
     ∷ (codes "path_open", path_open_of)
     ∷ (codes "path_readlink", path_readlink_of)
     ∷ (codes "path_remove_directory", path_remove_directory_of)
     ∷ (codes "path_unlink_file", path_unlink_file_of)
+    ∷ (codes "path_rename", path_rename_of)
     ∷ (codes "path_symlink", path_symlink_of)
     ∷ []
 

@@ -12,6 +12,7 @@ use Rattle.wasi_form.specs.NodeForm.{script_node}
 use Rattle.wasi_form.specs.PreopenForm.{preopen_of}
 use Rattle.wasi_form.specs.MemoryForm.{piece_of, memory_keys, MemoryFound, memory_of, shown_of}
 use Rattle.wasi_form.specs.CallForm.{call_of}
+use Rattle.wasi_form.specs.LimitsForm.{limits_of}
 use Rattle.wasi_form.specs.WaitingForm.{has_kind, waiting_key}
 use Rattle.wasi_form.specs.Shapes.{u32_of, has_key}
 use Rattle.wasi_form.specs.ScriptForm.{script_keys, Found}
@@ -25,6 +26,7 @@ found_of parts = record {
   calls = forms_seen same parts.calls;
   memory = option_map (λ memory. option_map planned_memory memory) parts.memory;
   show = forms_seen same parts.show;
+  limits = option_map same parts.limits;
   waiting = parts.waiting.found;
 }
 
@@ -42,11 +44,12 @@ with_waiting place d found =
 unfoldable pub with_member : List ℕ → Data → Found → Found
 with_member key d found = record {
   known = has_key script_keys key && found.known;
-  nodes = if bytes_eq key (codes "nodes") then forms_of script_node d else found.nodes;
+  nodes = if bytes_eq key (codes "nodes") then forms_of (always script_node) d else found.nodes;
   preopens = if bytes_eq key (codes "preopens") then forms_of (always preopen_of) d else found.preopens;
   calls = if bytes_eq key (codes "calls") then forms_of call_of d else found.calls;
   memory = if bytes_eq key (codes "memory") then memory_of d else found.memory;
   show = if bytes_eq key (codes "show") then forms_of (always shown_of) d else found.show;
+  limits = if bytes_eq key (codes "limits") then limits_of d else found.limits;
   waiting = waiting_with (waiting_key key) d found.waiting;
 }
 

@@ -5,6 +5,7 @@ pub mod Plan
 pub mod NodeForm
 pub mod PreopenForm
 pub mod MemoryForm
+pub mod LimitsForm
 pub mod CallForm
 pub mod WaitingForm
 pub mod ScriptForm

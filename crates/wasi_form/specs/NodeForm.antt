@@ -1,11 +1,15 @@
 -- The form of a node: an object with one of `"dir": {NAME: NODE ..}`, `"file": HEX` and `"link": TEXT`, and with
--- `"bits": "rwx"` and `"times": [TIME, TIME, TIME]` where they are wanted. A node with times waits.
-use Rattle.std.specs.Prelude.{ℕ, List, [], ◌∷◌, Bool, true, false, nat_eq, nat_lt, codes, if◌then◌else◌, Option, Some, None, option_map, is_some}
+-- `"bits": "rwx"` and `"times": [TIME, TIME, TIME]` where they are wanted.
+use Rattle.std.specs.Prelude.{◌≡◌, refl, ℕ, ℤ, List, [], ◌∷◌, Bool, true, false, nat_eq, nat_lt, codes, if◌then◌else◌, Option, Some, None, option_map}
+use Rattle.std.proofs.lemmas.Bool.{ltb-true}
 use Rattle.serde_json.specs.Data.{Data, Members, no_members, member}
 use Rattle.serde_json.specs.Find as find
+use Rattle.wasi_host.specs.Time.{zero_time}
 use Rattle.wasi_host.specs.declared.TheConstants.{NANOSECONDS}
 use Rattle.wasi_host.specs.declared.bits.Bits.{Bits}
+use Rattle.wasi_host.specs.declared.system_time.SystemTime.{SystemTime}
 use Rattle.wasi_tree.specs.Given.{Given, GivenContent, file, directory, link, new_given}
+use Rattle.wasi_form.specs.declared.nodes.NodeTimes.{NodeTimes}
 use Rattle.wasi_form.specs.declared.shapes.Form.TheVariants as forms
 use Rattle.wasi_form.specs.Lists.{◌>>=◌, only_if, optional}
 use Rattle.wasi_form.specs.Shapes.{u64_of, i64_of, hex_of, two_of, three_of, is_object}
@@ -51,31 +55,48 @@ bits_in (r ∷ w ∷ x ∷ c ∷ cs) = None
 abbrev pub bits_of : Data → Option Bits
 bits_of d = find.as_str d >>= bits_in
 
+-- the moment of so many seconds and nanoseconds, by the test that the nanoseconds make no second
+abbrev pub moment_by : ℤ → (nanoseconds : ℕ) → (test : Bool) → nat_lt nanoseconds NANOSECONDS ≡ test → Option SystemTime
+moment_by seconds nanoseconds true below =
+    Some (record { seconds = seconds; nanoseconds = nanoseconds; is_time = ltb-true nanoseconds NANOSECONDS below })
+moment_by seconds nanoseconds false below = None
+
+-- none where the nanoseconds make a second
+unfoldable pub moment_at : ℤ → ℕ → Option SystemTime
+moment_at seconds nanoseconds = moment_by seconds nanoseconds (nat_lt nanoseconds NANOSECONDS) refl
+
 -- `[SECONDS, NANOSECONDS]`, the seconds with a sign
-abbrev pub time_of : Data → Option (Unit {0})
+abbrev pub time_of : Data → Option SystemTime
 time_of d = do
   two ← two_of d
-  _ ← i64_of two.0
+  seconds ← i64_of two.0
   nanoseconds ← u64_of two.1
-  only_if (nat_lt nanoseconds NANOSECONDS)
+  moment_at seconds nanoseconds
 
 -- when it was accessed, modified and created
-abbrev pub times_of : Data → Option (Unit {0})
+abbrev pub times_of : Data → Option NodeTimes
 times_of d = do
   three ← three_of d
-  _ ← time_of three.0
-  _ ← time_of three.1
-  time_of three.2
+  accessed ← time_of three.0
+  modified ← time_of three.1
+  created ← time_of three.2
+  Some (record { accessed = accessed; modified = modified; created = created })
 
--- a node that has its times waits
-abbrev pub waits : Data → Bool
-waits d = is_some (find.get (codes "times") d)
+-- where nothing is said of its times
+abbrev pub no_times : NodeTimes
+no_times = record { accessed = zero_time; modified = zero_time; created = zero_time }
 
--- its bits are those of a new node where none are given
-abbrev pub script_node : Data → Option (Option Given)
+-- its bits and times are those of a new node where none are given
+abbrev pub script_node : Data → Option Given
 script_node d = do
   _ ← only_if (is_object forms.Node d)
   content ← script_content (find.get (codes "dir") d) (find.get (codes "file") d) (find.get (codes "link") d)
   bits ← optional bits_of (new_given content).bits (find.get (codes "bits") d)
-  _ ← optional times_of tt (find.get (codes "times") d)
-  Some (if waits d then None else Some (record (new_given content) { bits = bits }))
+  times ← optional times_of no_times (find.get (codes "times") d)
+  Some (record {
+    content = content;
+    bits = bits;
+    atime = times.accessed;
+    mtime = times.modified;
+    btime = times.created;
+  })

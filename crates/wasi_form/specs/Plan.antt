@@ -1,6 +1,7 @@
 -- A script as plain data.
 use Rattle.std.specs.Prelude.{ℕ, List, map}
 use Rattle.std.specs.String.{string_bytes}
+use Rattle.wasi_host.specs.declared.limits.Limits.{Limits}
 use Rattle.wasi_tree.specs.Given.{Given, given}
 use Rattle.wasi_fs.specs.declared.perms.FsPerms.{FsPerms}
 use Rattle.wasi_guest.specs.declared.call.Call.{Call}
@@ -29,6 +30,7 @@ pub record PlannedMemory : Type 0 where
 -- a script as plain data
 pub record Plan : Type 0 where
   pub nodes : List Given
+  pub limits : Limits
   pub preopens : List PlannedPreopen
   pub size : ℕ
   pub pieces : List PlannedPiece
@@ -48,6 +50,7 @@ planned_memory memory = record { size = memory.size; pieces = map planned_piece 
 abbrev pub plan : Script → Plan
 plan s = record {
   nodes = map given s.nodes.items;
+  limits = s.limits;
   preopens = map planned_preopen s.preopens.items;
   size = s.size;
   pieces = map planned_piece s.pieces.items;

@@ -5,6 +5,7 @@ use Rattle.serde_json.specs.Data.{Data, Members}
 use Rattle.serde_json.specs.Find as find
 use Rattle.serde_json.specs.Find.{get_member}
 use Rattle.wasi_guest.specs.declared.call.Call.{Call}
+use Rattle.wasi_host.specs.declared.limits.Limits.{Limits}
 use Rattle.wasi_tree.specs.Given.{Given}
 use Rattle.wasi_form.specs.declared.script.Shown.{Shown}
 use Rattle.wasi_form.specs.Lists.{◌>>=◌, only_if, needed, optional, always, forms_of}
@@ -12,13 +13,15 @@ use Rattle.wasi_form.specs.Shapes.{all_keys}
 use Rattle.wasi_form.specs.Plan.{PlannedPreopen, PlannedMemory, Plan}
 use Rattle.wasi_form.specs.NodeForm.{script_node}
 use Rattle.wasi_form.specs.PreopenForm.{preopen_of}
+use Rattle.wasi_form.specs.LimitsForm.{default_limits, limits_of}
 use Rattle.wasi_form.specs.MemoryForm.{no_memory, memory_of, shown_of}
 use Rattle.wasi_form.specs.CallForm.{call_of}
 use Rattle.wasi_form.specs.WaitingForm.{waiting_keys, waiting_in}
 
 unfoldable pub script_keys : List (List ℕ)
 script_keys =
-    codes "nodes" ∷ codes "preopens" ∷ codes "calls" ∷ codes "memory" ∷ codes "show" ∷ map (λ row. row.0) waiting_keys
+    codes "nodes" ∷ codes "preopens" ∷ codes "calls" ∷ codes "memory" ∷ codes "show" ∷ codes "limits"
+    ∷ map (λ row. row.0) waiting_keys
 
 -- Whether all keys are those of a script, and what stands at them. A part is `None` where it is of another shape, or is
 -- missing and has to be there, and `Some None` where a form in it waits. At a key that waits: nothing, or whether what
@@ -30,30 +33,32 @@ pub record Found : Type 0 where
   pub calls : Option (Option (List Call))
   pub memory : Option (Option PlannedMemory)
   pub show : Option (Option (List Shown))
+  pub limits : Option Limits
   pub waiting : List (Option Bool)
 
 -- of all members
 abbrev pub found_in : Members → Found
 found_in ms = record {
   known = all_keys script_keys ms;
-  nodes = needed (forms_of script_node) (get_member (codes "nodes") ms);
+  nodes = needed (forms_of (always script_node)) (get_member (codes "nodes") ms);
   preopens = needed (forms_of (always preopen_of)) (get_member (codes "preopens") ms);
   calls = needed (forms_of call_of) (get_member (codes "calls") ms);
   memory = optional memory_of (Some no_memory) (get_member (codes "memory") ms);
   show = optional (forms_of (always shown_of)) (Some []) (get_member (codes "show") ms);
+  limits = optional limits_of default_limits (get_member (codes "limits") ms);
   waiting = waiting_in ms;
 }
 
 -- the plan of these parts, where none of them waits
-abbrev pub planned : Option (List Given) → Option (List PlannedPreopen) → Option (List Call) → Option PlannedMemory
+abbrev pub planned : Limits → Option (List Given) → Option (List PlannedPreopen) → Option (List Call) → Option PlannedMemory
     → Option (List Shown) → Option Plan
-planned nodes preopens calls memory show = do
+planned limits nodes preopens calls memory show = do
   ns ← nodes
   ps ← preopens
   cs ← calls
   m ← memory
   ss ← show
-  Some (record { nodes = ns; preopens = ps; size = m.size; pieces = m.pieces; show = ss; calls = cs })
+  Some (record { nodes = ns; limits = limits; preopens = ps; size = m.size; pieces = m.pieces; show = ss; calls = cs })
 
 -- the plan of what was found, where it is of the shape of a script; `Some None` where a form in it waits
 unfoldable pub script_found : Found → Option (Option Plan)
@@ -64,7 +69,8 @@ script_found found = do
   calls ← found.calls
   memory ← found.memory
   show ← found.show
-  Some (if list_any is_some found.waiting then None else planned nodes preopens calls memory show)
+  limits ← found.limits
+  Some (if list_any is_some found.waiting then None else planned limits nodes preopens calls memory show)
 
 abbrev pub script_of : Data → Option (Option Plan)
 script_of d = find.as_object d >>= (λ ms. script_found (found_in ms))

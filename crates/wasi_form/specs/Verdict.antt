@@ -15,7 +15,7 @@ use Rattle.wasi_form.specs.declared.verdict.ScriptError.{ScriptError}
 use Rattle.wasi_form.specs.declared.verdict.ScriptError.TheVariants.{Refused, Memory}
 use Rattle.wasi_form.specs.Plan.{Plan, plan}
 use Rattle.wasi_form.specs.ScriptForm.{script_of}
-use Rattle.wasi_form.specs.Built.{default_limits, is_built, is_within_limits}
+use Rattle.wasi_form.specs.Built.{is_built, is_within_limits}
 
 -- a step that refuses where the test fails
 abbrev pub holds : Refusal → Bool → Result (Unit {0}) Refusal
@@ -63,7 +63,7 @@ verdict_of fit bytes = do
   Ok p
 
 abbrev pub IsFitFor : Bool → Result Plan Refusal → Type 0
-IsFitFor fit (Ok p) = Decides fit (AreFit default_limits p.nodes)
+IsFitFor fit (Ok p) = Decides fit (AreFit p.limits p.nodes)
 IsFitFor fit (Err refusal) = Unit {0}
 
 -- Whether a tree can be made of the nodes of the plan. Bytes that are refused before have none to ask of.

@@ -1,27 +1,14 @@
 -- The keys of a script that wait: what stands there is to be of its kind, and isn't used yet.
-use Rattle.std.specs.Prelude.{ℕ, ◌+◌, ◌^◌, List, [], ◌∷◌, map, Bool, true, false, ◌&&◌, ◌||◌, nat_lt, nat_le, codes, if◌then◌else◌, Option, Some, None, option_map, is_some}
+use Rattle.std.specs.Prelude.{ℕ, ◌+◌, ◌^◌, List, [], ◌∷◌, map, Bool, true, false, ◌&&◌, ◌||◌, nat_lt, codes, if◌then◌else◌, Option, Some, None, option_map, is_some}
 use Rattle.std.specs.Str.{bytes_eq}
 use Rattle.serde_json.specs.Data.{Data, Members}
 use Rattle.serde_json.specs.Find as find
 use Rattle.serde_json.specs.Find.{get_member}
 use Rattle.wasi_host.specs.declared.TheConstants.{NANOSECONDS}
-use Rattle.wasi_form.specs.declared.shapes.Form.TheVariants as forms
 use Rattle.wasi_form.specs.declared.waiting.Kind.{Kind}
-use Rattle.wasi_form.specs.declared.waiting.Kind.TheVariants.{U64, U32, Limits, Faults, Hex, Texts, Pairs, Moment}
-use Rattle.wasi_form.specs.Lists.{◌>>=◌, only_if, needed, always, forms_of}
-use Rattle.wasi_form.specs.Shapes.{u64_of, u32_of, hex_of, is_text, two_of, is_object}
-
--- from 1 to 2^32
-abbrev pub is_limit : ℕ → Bool
-is_limit n = nat_le 1 n && nat_le n (2 ^ 32)
-
--- `{"nodes": LIMIT, "links": LIMIT}`
-abbrev pub limits_of : Data → Option (Unit {0})
-limits_of d = do
-  _ ← only_if (is_object forms.Limits d)
-  nodes ← needed u64_of (find.get (codes "nodes") d)
-  links ← needed u64_of (find.get (codes "links") d)
-  only_if (is_limit nodes && is_limit links)
+use Rattle.wasi_form.specs.declared.waiting.Kind.TheVariants.{U64, U32, Faults, Hex, Texts, Pairs, Moment}
+use Rattle.wasi_form.specs.Lists.{◌>>=◌, only_if, always, forms_of}
+use Rattle.wasi_form.specs.Shapes.{u64_of, u32_of, hex_of, is_text, two_of}
 
 -- the number of `[NUMBER, "before"]` or `[NUMBER, "after"]`
 abbrev pub fault_of : Data → Option ℕ
@@ -67,7 +54,6 @@ moment_of d = do
 abbrev pub has_kind : Kind → Data → Bool
 has_kind U64 d = is_some (u64_of d)
 has_kind U32 d = is_some (u32_of d)
-has_kind Limits d = is_some (limits_of d)
 has_kind Faults d = rise (forms_of (always fault_of) d)
 has_kind Hex d = is_some (hex_of d)
 has_kind Texts d = is_some (forms_of text_of d)
@@ -79,7 +65,6 @@ abbrev pub waiting_keys : List (List ℕ × Kind)
 waiting_keys =
     (codes "fuel", U64)
     ∷ (codes "table", U32)
-    ∷ (codes "limits", Limits)
     ∷ (codes "faults", Faults)
     ∷ (codes "stdin", Hex)
     ∷ (codes "random", Hex)

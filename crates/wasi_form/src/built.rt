@@ -8,14 +8,7 @@ ghost use Rattle.wasi_form.specs.Built.{default_table, most_memory};
 
 use crate::script::{Piece, Script, ScriptPreopen, Shown};
 use wasi_guest::Call;
-use wasi_host::Limits;
 use wasi_tree::{NewContent, NewNode};
-
-/// The limits of a tree whose script doesn't set them.
-pub const DEFAULT_LIMITS: Limits = Limits {
-    nodes: 1_048_576,
-    links: 65_000,
-};
 
 /// How many descriptors there are at most in a script that doesn't say it.
 pub const DEFAULT_TABLE: u32 = 1_024;
@@ -107,11 +100,15 @@ fn is_built_call(call: Call) -> bool
         Call::FdRead { fd, .. } => fd >= 3,
         Call::FdWrite { fd, .. } => fd >= 3,
         Call::PathOpen { fdflags, .. } => fdflags == 0,
-        Call::PathCreateDirectory { .. }
+        Call::FdFilestatSetTimes { .. }
+        | Call::PathCreateDirectory { .. }
         | Call::PathFilestatGet { .. }
+        | Call::PathFilestatSetTimes { .. }
+        | Call::PathLink { .. }
         | Call::PathReadlink { .. }
         | Call::PathRemoveDirectory { .. }
         | Call::PathUnlinkFile { .. }
+        | Call::PathRename { .. }
         | Call::PathSymlink { .. } => true,
     }
 }

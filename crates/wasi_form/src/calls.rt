@@ -190,6 +190,18 @@ fn fd_close(arguments: &[Value]) -> Option<Call>
     })
 }
 
+#[tactic(auto, unfolding(crate::specs::CallForm::fd_filestat_set_times_of))]
+fn fd_filestat_set_times(arguments: &[Value]) -> Option<Call>
+    ensures { result ≡ specs.fd_filestat_set_times_of (items_view arguments.now) }
+{
+    Some(Call::FdFilestatSetTimes {
+        fd: u32_at(arguments, 0)?,
+        atim: u64_at(arguments, 1)?,
+        mtim: u64_at(arguments, 2)?,
+        fst_flags: u32_at(arguments, 3)?,
+    })
+}
+
 #[tactic(auto, unfolding(crate::specs::CallForm::path_create_directory_of))]
 fn path_create_directory(arguments: &[Value]) -> Option<Call>
     ensures { result ≡ specs.path_create_directory_of (items_view arguments.now) }
@@ -210,6 +222,36 @@ fn path_filestat_get(arguments: &[Value]) -> Option<Call>
         flags: u32_at(arguments, 1)?,
         path: u32_at(arguments, 2)?,
         path_len: u32_at(arguments, 3)?,
+    })
+}
+
+#[tactic(auto, unfolding(crate::specs::CallForm::path_filestat_set_times_of))]
+fn path_filestat_set_times(arguments: &[Value]) -> Option<Call>
+    ensures { result ≡ specs.path_filestat_set_times_of (items_view arguments.now) }
+{
+    Some(Call::PathFilestatSetTimes {
+        fd: u32_at(arguments, 0)?,
+        flags: u32_at(arguments, 1)?,
+        path: u32_at(arguments, 2)?,
+        path_len: u32_at(arguments, 3)?,
+        atim: u64_at(arguments, 4)?,
+        mtim: u64_at(arguments, 5)?,
+        fst_flags: u32_at(arguments, 6)?,
+    })
+}
+
+#[tactic(auto, unfolding(crate::specs::CallForm::path_link_of))]
+fn path_link(arguments: &[Value]) -> Option<Call>
+    ensures { result ≡ specs.path_link_of (items_view arguments.now) }
+{
+    Some(Call::PathLink {
+        old_fd: u32_at(arguments, 0)?,
+        old_flags: u32_at(arguments, 1)?,
+        old_path: u32_at(arguments, 2)?,
+        old_path_len: u32_at(arguments, 3)?,
+        new_fd: u32_at(arguments, 4)?,
+        new_path: u32_at(arguments, 5)?,
+        new_path_len: u32_at(arguments, 6)?,
     })
 }
 
@@ -248,6 +290,20 @@ fn path_unlink_file(arguments: &[Value]) -> Option<Call>
     })
 }
 
+#[tactic(auto, unfolding(crate::specs::CallForm::path_rename_of))]
+fn path_rename(arguments: &[Value]) -> Option<Call>
+    ensures { result ≡ specs.path_rename_of (items_view arguments.now) }
+{
+    Some(Call::PathRename {
+        old_fd: u32_at(arguments, 0)?,
+        old_path: u32_at(arguments, 1)?,
+        old_path_len: u32_at(arguments, 2)?,
+        new_fd: u32_at(arguments, 3)?,
+        new_path: u32_at(arguments, 4)?,
+        new_path_len: u32_at(arguments, 5)?,
+    })
+}
+
 #[tactic(auto, unfolding(crate::specs::CallForm::path_symlink_of))]
 fn path_symlink(arguments: &[Value]) -> Option<Call>
     ensures { result ≡ specs.path_symlink_of (items_view arguments.now) }
@@ -267,14 +323,18 @@ fn call_named(name: &str, arguments: &[Value]) -> Option<Call>
 {
     match name {
         "fd_close" => fd_close(arguments),
+        "fd_filestat_set_times" => fd_filestat_set_times(arguments),
         "fd_read" => fd_read(arguments),
         "fd_write" => fd_write(arguments),
         "path_create_directory" => path_create_directory(arguments),
         "path_filestat_get" => path_filestat_get(arguments),
+        "path_filestat_set_times" => path_filestat_set_times(arguments),
+        "path_link" => path_link(arguments),
         "path_open" => path_open(arguments),
         "path_readlink" => path_readlink(arguments),
         "path_remove_directory" => path_remove_directory(arguments),
         "path_unlink_file" => path_unlink_file(arguments),
+        "path_rename" => path_rename(arguments),
         "path_symlink" => path_symlink(arguments),
         _ => None,
     }

@@ -3,6 +3,7 @@
 
 mod built;
 mod calls;
+mod limits;
 mod lists;
 mod memory;
 mod nodes;
@@ -15,6 +16,7 @@ mod tokens;
 mod verdict;
 mod waiting;
 
-pub use built::{DEFAULT_LIMITS, DEFAULT_TABLE};
+pub use built::DEFAULT_TABLE;
+pub use limits::DEFAULT_LIMITS;
 pub use script::{Piece, Script, ScriptPreopen, Shown};
 pub use verdict::{Refusal, ScriptError, read_script, verdicts_are_one};

@@ -10,7 +10,8 @@ ghost use Rattle.wasi_form.specs.ScriptForm.{planned, script_found, script_of};
 ghost use Rattle.wasi_form.specs.Tokens.{next_value};
 ghost use Rattle.wasi_form.specs.WaitingForm.{waiting_key};
 
-use crate::lists::{Forms, list};
+use crate::limits::DEFAULT_LIMITS;
+use crate::lists::{Forms, item, list};
 use crate::memory::{ScriptMemory, memory, no_memory};
 use crate::objects::{Fields, object};
 use crate::script::{Script, ScriptPreopen, Shown};
@@ -20,6 +21,7 @@ use crate::waiting::{Waiting, is_of_kind, waiting_key};
 use json::Reader;
 use std::alloc::Global;
 use wasi_guest::Call;
+use wasi_host::Limits;
 use wasi_tree::NewNode;
 
 // How deep lists and objects nest in a script.
@@ -34,6 +36,7 @@ struct Parts {
     calls: Forms<Call>,
     memory: Option<Option<ScriptMemory>>,
     show: Forms<Shown>,
+    limits: Option<Limits>,
     waiting: Waiting,
 }
 
@@ -57,6 +60,7 @@ impl Fields for Parts {
             calls: None,
             memory: Some(Some(no_memory(alloc))),
             show: Some(Some(Vec::new(alloc))),
+            limits: Some(DEFAULT_LIMITS),
             waiting: Waiting::none(),
         }
     }
@@ -83,6 +87,9 @@ impl Fields for Parts {
         } else if key == "show" {
             let show = list(alloc, reader, depth)?;
             Ok(Parts { show, ..self })
+        } else if key == "limits" {
+            let limits = item(alloc, reader, depth)?;
+            Ok(Parts { limits, ..self })
         } else {
             self.with_waiting(alloc, key, reader, depth)
         }
@@ -127,6 +134,7 @@ impl Parts {
             calls,
             memory,
             show,
+            limits,
             waiting,
         } = self;
         if !(known && waiting.are_of_their_kinds()) {
@@ -137,23 +145,25 @@ impl Parts {
         let calls = calls?;
         let memory = memory?;
         let show = show?;
+        let limits = limits?;
         if waiting.is_any_there() {
             return Some(None);
         }
-        Some(built(nodes, preopens, calls, memory, show))
+        Some(built(limits, nodes, preopens, calls, memory, show))
     }
 }
 
 // The script of these parts, `None` where one of them waits.
 #[tactic(auto, using(crate::proofs::Items::map_same))]
 fn built(
+    limits: Limits,
     nodes: Option<Vec<NewNode>>,
     preopens: Option<Vec<ScriptPreopen>>,
     calls: Option<Vec<Call>>,
     memory: Option<ScriptMemory>,
     show: Option<Vec<Shown>>,
 ) -> Option<Script>
-    ensures { option_map plan result ≡ planned (option_map (λ v. map given v.items) nodes)
+    ensures { option_map plan result ≡ planned limits (option_map (λ v. map given v.items) nodes)
         (option_map (λ v. map planned_preopen v.items) preopens) (option_map (λ v. map same v.items) calls)
         (option_map planned_memory memory) (option_map (λ v. map same v.items) show) }
 {
@@ -164,6 +174,7 @@ fn built(
     let show = show?;
     Some(Script {
         nodes,
+        limits,
         preopens,
         size,
         pieces,

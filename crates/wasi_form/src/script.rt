@@ -2,6 +2,7 @@
 
 use wasi_fs::FsPerms;
 use wasi_guest::Call;
+use wasi_host::Limits;
 use wasi_tree::NewNode;
 
 /// A directory that the guest is given: its node's number, the name under which the guest knows it, and what may be
@@ -27,11 +28,12 @@ pub struct Shown {
     pub len: u32,
 }
 
-/// A tree of files, the directories that the guest is given, the size of its memory in bytes, the pieces that are
-/// written there before the run, the ranges that are shown after it, and the calls.
+/// A tree of files and how large it may grow, the directories that the guest is given, the size of its memory in bytes,
+/// the pieces that are written there before the run, the ranges that are shown after it, and the calls.
 #[derive(Drop)]
 pub struct Script {
     pub nodes: Vec<NewNode>,
+    pub limits: Limits,
     pub preopens: Vec<ScriptPreopen>,
     pub size: u32,
     pub pieces: Vec<Piece>,

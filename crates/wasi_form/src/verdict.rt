@@ -7,7 +7,7 @@ ghost use Rattle.wasi_form.specs.ScriptForm.{script_of};
 ghost use Rattle.wasi_form.specs.declared.verdict.Refusal.{Refusal};
 ghost use Rattle.wasi_form.specs.Verdict.{Reads, IsVerdict, value_of, built, plan_in, built_plan};
 
-use crate::built::{DEFAULT_LIMITS, is_built, is_within_limits};
+use crate::built::{is_built, is_within_limits};
 use crate::parts::script;
 use crate::script::Script;
 use crate::shapes::Unread;
@@ -54,24 +54,27 @@ impl From<AllocError> for ScriptError {
     }
 }
 
-/// The script that bytes are: the text of a JSON object with the keys `nodes`, `preopens` and `calls`, and with `memory`
-/// and `show` where they are wanted. Numbers are whole, of 64 or 32 bits. Of equal keys the last counts.
+/// The script that bytes are: the text of a JSON object with the keys `nodes`, `preopens` and `calls`, and with `memory`,
+/// `show` and `limits` where they are wanted. Numbers are whole, of 64 or 32 bits. Of equal keys the last counts.
 ///
-/// A node is `{"dir": {NAME: NODE ..}}`, `{"file": HEX}` or `{"link": TEXT}`, with `"bits"` beside it where they aren't
-/// those of a new node, as `"r--"`; a preopen is `{"node": NODE, "name": NAME, "perms": "ro"}` or `"rw"`, the memory `{"size": BYTES, "pieces": [PIECE ..]}`, a piece `[OFFSET, "hex", HEX]` or
-/// `[OFFSET, "text", TEXT]`, a shown range `[PTR, LEN]`, and a call a list of its name and its arguments.
+/// A node is `{"dir": {NAME: NODE ..}}`, `{"file": HEX}` or `{"link": TEXT}`, with `"bits"` beside it, as `"r--"`, and
+/// `"times"`, `[ACCESSED, MODIFIED, CREATED]`, where they aren't those of a new node. A time is `[SECONDS, NANOSECONDS]`
+/// from the epoch on, the seconds with a sign, the nanoseconds below 1,000,000,000. A preopen is
+/// `{"node": NODE, "name": NAME, "perms": "ro"}` or `"rw"`, the memory `{"size": BYTES, "pieces": [PIECE ..]}`, a piece
+/// `[OFFSET, "hex", HEX]` or `[OFFSET, "text", TEXT]`, a shown range `[PTR, LEN]`, and a call a list of its name and its
+/// arguments. The limits of the tree are `{"nodes": NODES, "links": LINKS}`, each 1 to 2^32.
 ///
-/// Forms that aren't built yet are refused as `Later`, where all else is of the shape of a script: the times of nodes; the
-/// keys `fuel`, `table`, `limits`, `faults`, `stdin`, `random`, `args`, `env`, `wall`, `wall_res`, `mono` and `mono_res`;
-/// calls but `path_open`, `fd_read`, `fd_write` and `fd_close`, those of the latter three whose descriptor is below 3, and
-/// `path_open` with flags of the descriptor.
+/// Forms that aren't built yet are refused as `Later`, where all else is of the shape of a script: the keys `fuel`,
+/// `table`, `faults`, `stdin`, `random`, `args`, `env`, `wall`, `wall_res`, `mono` and `mono_res`; calls that
+/// `wasi_guest::Call` doesn't have; `fd_read`, `fd_write` and `fd_close` of a descriptor below 3; and `path_open` with
+/// flags of the descriptor.
 ///
 /// More than 16,777,216 bytes are refused unread.
 pub fn read_script(alloc: Global, bytes: &[u8]) -> Result<Script, ScriptError>
     ensures verdict { Reads result (IsVerdict bytes.now) }
 {
     let script = built_script(alloc, bytes)?;
-    if !are_fit(alloc, script.nodes.as_slice(), DEFAULT_LIMITS)? {
+    if !are_fit(alloc, script.nodes.as_slice(), script.limits)? {
         return Err(ScriptError::Refused(Refusal::Tree));
     }
     if !is_within_limits(&script) {

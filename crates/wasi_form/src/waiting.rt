@@ -11,7 +11,7 @@ ghost use Rattle.wasi_form.specs.Tokens.{next_value};
 ghost use Rattle.wasi_form.specs.WaitingForm as specs;
 
 use crate::lists::{Forms, item, list};
-use crate::shapes::{Form, Item, Shaped, Unread, hex_bytes, is_text, needed, require, two};
+use crate::shapes::{Item, Shaped, Unread, hex_bytes, is_text, require, two};
 use json::Reader;
 use serde_json::Value;
 use std::alloc::Global;
@@ -22,7 +22,6 @@ use wasi_host::NANOSECONDS;
 pub enum Kind {
     U64,
     U32,
-    Limits,
     Faults,
     Hex,
     Texts,
@@ -31,13 +30,12 @@ pub enum Kind {
 }
 
 // How many keys wait.
-const COUNT: usize = 12;
+const COUNT: usize = 11;
 
 // The keys that wait, each with the kind of its value.
 const WAITING: [(&str, Kind); COUNT] = [
     ("fuel", Kind::U64),
     ("table", Kind::U32),
-    ("limits", Kind::Limits),
     ("faults", Kind::Faults),
     ("stdin", Kind::Hex),
     ("random", Kind::Hex),
@@ -110,32 +108,6 @@ pub fn waiting_key(key: &str) -> Option<(usize, Kind)>
     ensures within { IfSome result (λ place. place.0 < COUNT) }
 {
     place_in(&WAITING, key)
-}
-
-// The limits of a tree.
-#[derive(Drop)]
-struct Limits;
-
-impl Shaped for Limits {
-    ghost Seen = { Unit {0} };
-
-    ghost see = { λ limits. tt };
-
-    ghost of = { specs.limits_of };
-
-    fn read(alloc: Global, value: &Value) -> Result<Limits, Unread> {
-        require(Form::Limits.is_of(value))?;
-        let nodes = needed(alloc, value.get("nodes"))?;
-        let links = needed(alloc, value.get("links"))?;
-        require(is_limit(nodes) && is_limit(links))?;
-        Ok(Limits)
-    }
-}
-
-fn is_limit(n: u64) -> bool
-    ensures { result ≡ specs.is_limit n }
-{
-    1 <= n && n <= 1 << 32
 }
 
 // The number of a call of the host that is to fail.
@@ -292,7 +264,6 @@ pub fn is_of_kind(
     match kind {
         Kind::U64 => is_item::<u64>(alloc, reader, depth),
         Kind::U32 => is_item::<u32>(alloc, reader, depth),
-        Kind::Limits => is_item::<Limits>(alloc, reader, depth),
         Kind::Faults => are_faults(alloc, reader, depth),
         Kind::Hex => is_item::<Hex>(alloc, reader, depth),
         Kind::Texts => is_list::<String>(alloc, reader, depth),

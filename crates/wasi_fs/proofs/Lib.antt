@@ -1,2 +1,3 @@
 mod Looking
 mod Opening
+mod Setting

@@ -54,7 +54,7 @@ opened_in t held = record { held = held; is_dir = is_directory (node_at t held.n
 -- what the resolver means
 abbrev resolver_opens : Tree → ℕ → List ℕ → OpenHow → Meant Held
 resolver_opens t s text how = record {
-  start = s;
+  starts = s ∷ [];
   answer = opened t s text (options_of how) how.follow;
   stepped = stepped t s text how;
   ends = ends_by (opened_node t) (opening t s text (options_of how) how.follow);
@@ -68,7 +68,7 @@ resolver_is : (t : Tree) (s : ℕ) (text : List ℕ) (how : OpenHow)
     → opens_at t s text (options_of how) ≡ resolver_opens t s text how
 resolver_is t s text how =
     ap (λ b. let m : Meant Held = record {
-      start = s;
+      starts = s ∷ [];
       answer = opened t s text (options_of how) b;
       stepped = after_open t s text (options_of how) b;
       ends = ends_by (opened_node t) (opening t s text (options_of how) b);

@@ -6,19 +6,21 @@ use Rattle.wasi_host.specs.Agree.{Touches}
 use Rattle.wasi_host.specs.Tree.{Tree}
 use Rattle.wasi_host.specs.Refusal.{first_row}
 use Rattle.wasi_host.specs.Answer.{stat_answer}
+use Rattle.wasi_host.specs.Step.{times_set}
 use Rattle.wasi_host.specs.Steps.{◌>>=◌}
 use Rattle.wasi_host.specs.Meaning.{World, Handles, Means}
 use Rattle.wasi_host.specs.declared.errors.ErrorCode.{ErrorCode}
-use Rattle.wasi_host.specs.declared.errors.ErrorCode.TheVariants.{NotPermitted}
+use Rattle.wasi_host.specs.declared.errors.ErrorCode.TheVariants.{Invalid, NotPermitted}
 use Rattle.wasi_host.specs.declared.errors.HostError.{HostError}
 use Rattle.wasi_host.specs.declared.errors.HostError.TheVariants.{Code, Memory}
 use Rattle.wasi_host.specs.declared.held.Held.{Held}
 use Rattle.wasi_host.specs.declared.metadata.Metadata.{Metadata}
-use Rattle.wasi_resolve.specs.PathRequest.{PathRequest, OpenPath, LookPath, Opened}
+use Rattle.wasi_host.specs.declared.system_time.SystemTime.{SystemTime}
+use Rattle.wasi_resolve.specs.PathRequest.{PathRequest, OpenPath, LookPath, TimesPath, Opened}
 use Rattle.wasi_resolve.specs.Resolved.{Meant, Resolved}
 use Rattle.wasi_fs.specs.DescriptorStat.{descriptor_type}
 use Rattle.wasi_fs.specs.OpenHow.{OpenHow, is_followed, options_of}
-use Rattle.wasi_fs.specs.Perms.{is_read_only}
+use Rattle.wasi_fs.specs.Perms.{is_read_only, differ}
 use Rattle.wasi_fs.specs.declared.descriptor.Descriptor.{Descriptor}
 use Rattle.wasi_fs.specs.declared.descriptor.Descriptor.TheVariants as descriptors
 use Rattle.wasi_fs.specs.declared.descriptor_stat.DescriptorType.{DescriptorType}
@@ -36,6 +38,23 @@ may_change perms = first_row ((is_read_only perms, NotPermitted) ∷ [])
 -- nor is a link made there, and none anywhere whose text has a root
 unfoldable pub may_link : FsPerms → List ℕ → Option ErrorCode
 may_link perms target = first_row ((is_read_only perms, NotPermitted) ∷ (has_root target, NotPermitted) ∷ [])
+
+-- a name moves only where both directories may be changed, and under the same permissions
+unfoldable pub may_rename : FsPerms → FsPerms → Option ErrorCode
+may_rename old new = first_row (
+    (is_read_only old, NotPermitted) ∷
+    (is_read_only new, NotPermitted) ∷
+    (differ old new, NotPermitted) ∷
+    [])
+
+-- and so a name is added, but that a link isn't followed
+unfoldable pub may_add_name : FsPerms → FsPerms → Bool → Option ErrorCode
+may_add_name old new follow = first_row (
+    (is_read_only old, NotPermitted) ∷
+    (is_read_only new, NotPermitted) ∷
+    (follow, Invalid) ∷
+    (differ old new, NotPermitted) ∷
+    [])
 
 -- a call that isn't permitted is refused so, and the host is as it was: nothing was asked of it
 abbrev pub Refuses : {A H : Type 0} → Option ErrorCode → Result A HostError → H → H → Type 0
@@ -91,10 +110,14 @@ opens d text how = OpenPath d text (options_of how) how.follow how.directory
 abbrev pub looks : ℕ → List ℕ → PathFlags → PathRequest
 looks d text flags = LookPath d text (is_followed flags)
 
+-- the request of setting times below a directory
+abbrev pub sets_times : ℕ → List ℕ → PathFlags → Option SystemTime → Option SystemTime → PathRequest
+sets_times d text flags atime mtime = TimesPath d text (is_followed flags) atime mtime
+
 -- what is made of an answer
 abbrev pub meant_as : {B C : Type 0} → (B → C) → Meant B → Meant C
 meant_as shown m = record {
-  start = m.start;
+  starts = m.starts;
   answer = m.answer >>= (λ b. Ok (shown b));
   stepped = m.stepped;
   ends = m.ends;
@@ -102,7 +125,11 @@ meant_as shown m = record {
 
 -- the metadata of a node
 abbrev pub stats : Tree → ℕ → Meant Metadata
-stats t n = record { start = n; answer = stat_answer t n; stepped = t; ends = n ∷ [] }
+stats t n = record { starts = n ∷ []; answer = stat_answer t n; stepped = t; ends = n ∷ [] }
+
+-- the times of a node
+abbrev pub sets : Tree → ℕ → Option SystemTime → Option SystemTime → Meant (Unit {0})
+sets t n atime mtime = record { starts = n ∷ []; answer = Ok tt; stepped = times_set t n atime mtime; ends = n ∷ [] }
 
 -- Whether two nodes are one: the tree stays, no node but these two is touched, and both where it is answered; and the
 -- handles that are live stand for what they stood for

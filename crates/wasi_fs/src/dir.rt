@@ -83,7 +83,7 @@ impl Dir {
             (meant_by (H.world host.old).tree (AtPlace ((H.world host.old).held self.now.dir).node path.now CreateDir))
             (λ unit. unit) result }
     {
-        self.check_change()?;
+        self.perms.check_change()?;
         wasi_resolve::create_dir(alloc, host, self.dir, path)
     }
 
@@ -105,7 +105,7 @@ impl Dir {
             (meant_by (H.world host.old).tree (AtPlace ((H.world host.old).held self.now.dir).node path.now RemoveDir))
             (λ unit. unit) result }
     {
-        self.check_change()?;
+        self.perms.check_change()?;
         wasi_resolve::remove_dir(alloc, host, self.dir, path)
     }
 
@@ -127,7 +127,7 @@ impl Dir {
             (meant_by (H.world host.old).tree (AtPlace ((H.world host.old).held self.now.dir).node path.now RemoveFile))
             (λ unit. unit) result }
     {
-        self.check_change()?;
+        self.perms.check_change()?;
         wasi_resolve::remove_file(alloc, host, self.dir, path)
     }
 
@@ -152,7 +152,7 @@ impl Dir {
             (AtPlace ((H.world host.old).held self.now.dir).node dest_path.now (Symlink src_path.now)))
             (λ unit. unit) result }
     {
-        self.check_change()?;
+        self.perms.check_change()?;
         wasi_resolve::symlink(alloc, host, src_path, self.dir, dest_path)
     }
 
@@ -222,18 +222,6 @@ impl Dir {
     {
         let metadata = self.look_at(alloc, host, path_flags, path)?;
         Ok(MetadataHashValue::new(&metadata))
-    }
-
-    /// Whether anything may be changed below this directory; NotPermitted under read-only permissions.
-    #[tactic(auto, unfolding(crate::specs::Calls::may_change))]
-    fn check_change(&self) -> Result<(), ErrorCode>
-        ensures row { result_err result ≡ may_change self.now.perms }
-        ensures code { IfErr result (λ code. code ≡ codes.NotPermitted) }
-    {
-        if self.perms.write_not_permitted() {
-            return Err(ErrorCode::NotPermitted);
-        }
-        Ok(())
     }
 
     /// The metadata of the node that a path names, where SYMLINK_FOLLOW follows a link under its last name.

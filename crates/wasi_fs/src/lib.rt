@@ -10,6 +10,8 @@ mod open_flags;
 mod open_how;
 mod open_mode;
 mod perms;
+mod times;
+mod two_places;
 
 pub use bitflags::Flags;
 pub use descriptor::{Descriptor, Dir, File};

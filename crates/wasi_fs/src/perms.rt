@@ -1,6 +1,11 @@
 //! Permissions of a directory that a guest is given, and of all that is opened below it.
-ghost use Rattle.std.specs.Prelude.{◌≡◌};
-ghost use Rattle.wasi_fs.specs.Perms.{is_read_only};
+ghost use Rattle.std.specs.Prelude.{◌≡◌, ◌⊎◌, IfErr};
+ghost use Rattle.std.specs.Result.{result_err};
+ghost use Rattle.wasi_host.specs.declared.errors.ErrorCode.TheVariants as codes;
+ghost use Rattle.wasi_fs.specs.Calls.{may_change, may_rename, may_add_name};
+ghost use Rattle.wasi_fs.specs.Perms.{is_read_only, differ};
+
+use wasi_host::ErrorCode;
 
 /// What may be done below a directory: the crate's `FsPerms` of `filesystem.rs`.
 #[derive(Clone, Copy, Debug, PartialEq, Eq)]
@@ -18,6 +23,61 @@ impl FsPerms {
         match self {
             FsPerms::ReadOnly => true,
             FsPerms::ReadWrite => false,
+        }
+    }
+
+    /// Whether anything may be changed; NotPermitted under read-only permissions.
+    #[tactic(auto, unfolding(crate::specs::Calls::may_change))]
+    pub(crate) fn check_change(self) -> Result<(), ErrorCode>
+        ensures row { result_err result ≡ may_change self }
+        ensures code { IfErr result (λ code. code ≡ codes.NotPermitted) }
+    {
+        if self.write_not_permitted() {
+            return Err(ErrorCode::NotPermitted);
+        }
+        Ok(())
+    }
+
+    /// Whether a name may move from a directory of these permissions to one of those; NotPermitted otherwise.
+    #[tactic(auto, unfolding(crate::specs::Calls::may_change, crate::specs::Calls::may_rename))]
+    pub(crate) fn check_rename(self, new: FsPerms) -> Result<(), ErrorCode>
+        ensures row { result_err result ≡ may_rename self new }
+        ensures code { IfErr result (λ code. code ≡ codes.NotPermitted) }
+    {
+        self.check_change()?;
+        new.check_change()?;
+        if self.differs_from(new) {
+            return Err(ErrorCode::NotPermitted);
+        }
+        Ok(())
+    }
+
+    /// Whether a node in a directory of these permissions may get a name in one of those: as `check_rename`, but that
+    /// a link isn't followed, which is Invalid.
+    #[tactic(auto, unfolding(crate::specs::Calls::may_change, crate::specs::Calls::may_add_name))]
+    pub(crate) fn check_link(self, new: FsPerms, follow: bool) -> Result<(), ErrorCode>
+        ensures row { result_err result ≡ may_add_name self new follow }
+        ensures code { IfErr result (λ code. (code ≡ codes.NotPermitted) ⊎ (code ≡ codes.Invalid)) }
+    {
+        self.check_change()?;
+        new.check_change()?;
+        if follow {
+            return Err(ErrorCode::Invalid);
+        }
+        if self.differs_from(new) {
+            return Err(ErrorCode::NotPermitted);
+        }
+        Ok(())
+    }
+
+    fn differs_from(self, other: FsPerms) -> bool
+        ensures { result ≡ differ self other }
+    {
+        match (self, other) {
+            (FsPerms::ReadOnly, FsPerms::ReadOnly) => false,
+            (FsPerms::ReadWrite, FsPerms::ReadWrite) => false,
+            (FsPerms::ReadOnly, FsPerms::ReadWrite) => true,
+            (FsPerms::ReadWrite, FsPerms::ReadOnly) => true,
         }
     }
 }

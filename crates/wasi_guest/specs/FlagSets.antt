@@ -3,6 +3,7 @@ use Rattle.std.specs.Prelude.{ℕ}
 use Rattle.wasi_guest.specs.declared.flags.LookupFlags.{LookupFlags}
 use Rattle.wasi_guest.specs.declared.flags.OFlags.{OFlags}
 use Rattle.wasi_guest.specs.declared.flags.FdFlags.{FdFlags}
+use Rattle.wasi_guest.specs.declared.flags.FstFlags.{FstFlags}
 use Rattle.wasi_guest.specs.declared.flags.Rights.{Rights}
 
 -- the number of a set's bits
@@ -14,6 +15,9 @@ oflag_bits set = set.0
 
 abbrev pub fdflag_bits : FdFlags → ℕ
 fdflag_bits set = set.0
+
+abbrev pub fstflag_bits : FstFlags → ℕ
+fstflag_bits set = set.0
 
 abbrev pub right_bits : Rights → ℕ
 right_bits set = set.0

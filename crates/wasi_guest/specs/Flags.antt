@@ -61,6 +61,23 @@ sync = 2 ^ 4
 abbrev pub known_fdflags : ℕ
 known_fdflags = append + dsync + nonblock + rsync + sync
 
+-- ---- fstflags
+
+abbrev pub atim : ℕ
+atim = 2 ^ 0
+
+abbrev pub atim_now : ℕ
+atim_now = 2 ^ 1
+
+abbrev pub mtim : ℕ
+mtim = 2 ^ 2
+
+abbrev pub mtim_now : ℕ
+mtim_now = 2 ^ 3
+
+abbrev pub known_fstflags : ℕ
+known_fstflags = atim + atim_now + mtim + mtim_now
+
 -- ---- rights
 
 abbrev pub fd_datasync : ℕ

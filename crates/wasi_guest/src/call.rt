@@ -8,6 +8,12 @@ pub enum Call {
     FdClose {
         fd: u32,
     },
+    FdFilestatSetTimes {
+        fd: u32,
+        atim: u64,
+        mtim: u64,
+        fst_flags: u32,
+    },
     FdRead {
         fd: u32,
         iovs: u32,
@@ -28,6 +34,24 @@ pub enum Call {
         flags: u32,
         path: u32,
         path_len: u32,
+    },
+    PathFilestatSetTimes {
+        fd: u32,
+        flags: u32,
+        path: u32,
+        path_len: u32,
+        atim: u64,
+        mtim: u64,
+        fst_flags: u32,
+    },
+    PathLink {
+        old_fd: u32,
+        old_flags: u32,
+        old_path: u32,
+        old_path_len: u32,
+        new_fd: u32,
+        new_path: u32,
+        new_path_len: u32,
     },
     PathOpen {
         fd: u32,
@@ -55,6 +79,14 @@ pub enum Call {
         fd: u32,
         path: u32,
         path_len: u32,
+    },
+    PathRename {
+        old_fd: u32,
+        old_path: u32,
+        old_path_len: u32,
+        new_fd: u32,
+        new_path: u32,
+        new_path_len: u32,
     },
     /// The old path is the text that the new link gets.
     PathSymlink {

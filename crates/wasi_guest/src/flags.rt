@@ -1,8 +1,8 @@
 //! The flag sets of preview1. In a set each flag is one bit.
 ghost use Rattle.std.specs.Prelude.{◌≡◌, ⊤, [], ◌∷◌, codes, option_map};
-ghost use Rattle.wasi_guest.specs.Flags.{flags_in, known_lookupflags, known_oflags, known_fdflags, known_rights};
+ghost use Rattle.wasi_guest.specs.Flags.{flags_in, known_lookupflags, known_oflags, known_fdflags, known_fstflags, known_rights};
 ghost use Rattle.wasi_guest.specs.Flags as flag;
-ghost use Rattle.wasi_guest.specs.FlagSets.{lookupflag_bits, oflag_bits, fdflag_bits, right_bits};
+ghost use Rattle.wasi_guest.specs.FlagSets.{lookupflag_bits, oflag_bits, fdflag_bits, fstflag_bits, right_bits};
 
 use bitflags::{Flag, Flags, bitflag_items};
 
@@ -155,6 +155,60 @@ impl FdFlags {
         ensures set { option_map fdflag_bits result ≡ flags_in known_fdflags bits }
     {
         <FdFlags as Flags>::from_bits(bits)
+    }
+}
+
+/// Which times a call that sets them gives, and which are the time of the call: preview1's `fstflags`. Contracts see the
+/// number of its bits as `fstflag_bits`.
+#[derive(Clone, Copy, Debug, PartialEq, Eq)]
+pub struct FstFlags(u32);
+
+bitflag_items! {
+    impl FstFlags: u32 {
+        /// The time of the last access is the given one.
+        const ATIM = 1 << 0;
+        /// The time of the last access is now.
+        const ATIM_NOW = 1 << 1;
+        /// The time of the last write is the given one.
+        const MTIM = 1 << 2;
+        /// The time of the last write is now.
+        const MTIM_NOW = 1 << 3;
+    }
+}
+
+impl Flags for FstFlags {
+    type Bits = u32;
+
+    ghost exact = { ⊤ };
+
+    ghost table = { (codes "ATIM", flag.atim) ∷
+        (codes "ATIM_NOW", flag.atim_now) ∷
+        (codes "MTIM", flag.mtim) ∷
+        (codes "MTIM_NOW", flag.mtim_now) ∷
+        [] };
+
+    ghost set_of = { fstflag_bits };
+
+    fn flags<'a>() -> &'a [Flag<FstFlags>] {
+        FstFlags::FLAGS
+    }
+
+    fn bits(&self) -> u32 {
+        self.0
+    }
+
+    fn from_bits_retain(bits: u32) -> FstFlags {
+        FstFlags(bits)
+    }
+}
+
+impl FstFlags {
+    /// The set of these bits, `None` exactly where one of them is no flag.
+    #[tactic(auto, using(crate::proofs::FlagSets::set_of_known), unfolding(bitflags::specs::Sets::known_from))]
+    pub fn from_bits(bits: u32) -> Option<FstFlags>
+        ensures set { option_map fstflag_bits result ≡ flags_in known_fstflags bits }
+    {
+        <FstFlags as Flags>::from_bits(bits)
     }
 }
 

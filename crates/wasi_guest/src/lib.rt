@@ -18,6 +18,6 @@ pub use call::Call;
 pub use errno::Errno;
 pub use filestat::Filestat;
 pub use filetype::Filetype;
-pub use flags::{FdFlags, LookupFlags, OFlags, Rights};
+pub use flags::{FdFlags, FstFlags, LookupFlags, OFlags, Rights};
 pub use iovec::Iovec;
 pub use memory::GuestMemory;

@@ -1,20 +1,40 @@
 -- A call of a host is answered alike over two trees with equal nodes where its handles stand, and its step leaves them
 -- with equal nodes there.
-use Rattle.std.proofs.Common.{ℕ, zero, suc, ◌+◌, ◌<◌, ◌≤◌, ◌≡◌, ◌⊎◌, inl, inr, true, false, cond, Bool, List, [], ◌∷◌, ◌++◌, length, refl, ap, sym, ◌∙◌, subst, arith, Option, Some, None, Ok, slice_set, slice_index_or}
+use Rattle.std.proofs.Common.{ℕ, zero, suc, ◌+◌, ◌<◌, ◌≤◌, ◌≡◌, ◌⊎◌, inl, inr, true, false, cond, Bool, not, ◌&&◌, ◌||◌, nat_eq, List, [], ◌∷◌, ◌++◌, length, map, get_or, refl, ap, sym, ◌∙◌, subst, arith, Option, Some, None, Ok, nat_le, slice_set, slice_index_or}
 use Rattle.std.specs.Prelude.{Contains}
+use Rattle.std.specs.FinMap as maps
+use Rattle.std.specs.List.{list_any}
 use Rattle.std.proofs.lemmas.List.{length-set, get_or_push}
 use Rattle.std.proofs.lemmas.List.Elements.{Contains-push, Contains-push_cases}
 use Rattle.wasi_paths.specs.Text.{is_dot_text}
 use Rattle.wasi_host.specs.Options.{Options}
-use Rattle.wasi_host.specs.Tree.{Tree, Node, Nodes, Content, node_at, next_of, child, is_link, is_directory, stray}
+use Rattle.wasi_host.specs.Tree.{Tree, Node, Nodes, Names, Content, node_at, next_of, names_of, child, hold_one, is_link, is_directory, links_of, stray}
 use Rattle.wasi_host.specs.ValidTree.{Reached, root, held}
+use Rattle.wasi_host.specs.Below.{is_within, is_below}
 use Rattle.wasi_host.specs.Agree.{IsClosed, AgreeOn, IsMade, OrMade}
-use Rattle.wasi_host.specs.HostCall.{HostCall, OpenAt, StatAt, ReadLinkAt, MakeDirAt, SymlinkAt, UnlinkAt, RemoveDirAt, Access, Stat, Pread, Pwrite, Dup, Close}
-use Rattle.wasi_host.specs.Refusal.{refusal, holds, is_bare}
-use Rattle.wasi_host.specs.Step.{step, open_step, opened_step, unlink_step, remove_step, dropped_step, node_made, file_cut, name_dropped, is_cut, with_name, without_name, with_nodes, new_file, new_directory, new_link, one_name_less, made_gone, write_step}
-use Rattle.wasi_host.specs.Answer.{reached, or_next, unless, text_held, link_text}
+use Rattle.wasi_host.specs.HostCall.{HostCall, OpenAt, StatAt, ReadLinkAt, MakeDirAt, SymlinkAt, LinkAt, RenameAt, UnlinkAt, RemoveDirAt, TimesAt, Access, Stat, SetTimes, Pread, Pwrite, ListDir, Dup, Close}
+use Rattle.wasi_host.specs.Refusal.{refusal, passes, holds, holds_above, is_bare}
+use Rattle.wasi_host.specs.Step.{step, open_step, opened_step, unlink_step, remove_step, rename_step, moved_step, link_step, added_step, times_step, times_set, times_set_if, dropped_step, node_made, file_cut, name_dropped, is_cut, with_name, without_name, with_times, with_nodes, new_file, new_directory, new_link, name_lost, name_taken, name_moved, one_name_more, one_name_less, made_gone, write_step}
+use Rattle.wasi_host.specs.Answer.{kind_of, reached, or_next, unless, text_held, link_text, listed, listing}
 use Rattle.wasi_host.specs.declared.errors.ErrorCode.{ErrorCode}
-use Rattle.wasi_host.proofs.Leaving.{named_in, no_name, made_next, next_is_made, emptied, put_into, node_put, starts_of, step_leaves}
+use Rattle.wasi_host.specs.declared.system_time.SystemTime.{SystemTime}
+use Rattle.wasi_host.proofs.EntryLemmas.{get_entry}
+use Rattle.wasi_host.proofs.Leaving.{next_of-moved, next_of-dropped_step, Contains-here, named_in, no_name, made_next, next_is_made, emptied, put_into, node_put, starts_of, step_leaves}
+
+map_same : {X Y : Type 0} (f g : X → Y) (xs : List X)
+    → ((i : ℕ) (d : X) → i < length xs → f (get_or xs i d) ≡ g (get_or xs i d)) → map f xs ≡ map g xs
+map_same f g [] same = refl
+map_same f g (x ∷ xs) same =
+    let first = same 0 x (omega arith) in
+    let rest = map_same f g xs (λ i d short. same (suc i) d (omega arith)) in
+    λ i. first i ∷ rest i
+
+any_same : {X : Type 0} (p q : X → Bool) (xs : List X)
+    → ((i : ℕ) (d : X) → i < length xs → p (get_or xs i d) ≡ q (get_or xs i d)) → list_any p xs ≡ list_any q xs
+any_same p q [] same = refl
+any_same p q (x ∷ xs) same =
+    ap (λ b. b || list_any p xs) (same 0 x (omega arith))
+    ∙ ap (λ b. q x || b) (any_same p q xs (λ i d short. same (suc i) d (omega arith)))
 
 -- ---- lists of nodes that are equal at a number
 
@@ -93,6 +113,44 @@ unless_value (Some code) is = absurd (cc)
 pub one : {m n : ℕ} → Contains (m ∷ []) n → m ≡ n
 one {m} {n} has = elim (Contains-push_cases [] m n has) [ inl none ↦ absurd (omega (arith, none.1)) | inr same ↦ same ]
 
+-- ---- a node in the place of another
+
+-- the same one, in both trees
+put_same : {Seen : ℕ → Type 0} {t u : Tree} → AgreeOn Seen t u → (m : ℕ) (x y : Node) (worked worked' : Nodes) → x ≡ y
+    → AgreeOn Seen (node_put t m x worked) (node_put u m y worked')
+unfolding node_at
+put_same {t = t} {u = u} agree m x y worked worked' same = record {
+  nodes = λ n seen. set_same t.nodes u.nodes m n x stray agree.next (agree.nodes n seen)
+      ∙ ap (λ z. slice_index_or (slice_set u.nodes m z) n stray) same;
+  next = length-set t.nodes m x ∙ agree.next ∙ sym (length-set u.nodes m y);
+  limits = agree.limits;
+}
+
+-- nothing is made
+unmade_agree : {Seen : ℕ → Type 0} (t : Tree) {v w : Tree} → next_of v ≡ next_of t → AgreeOn Seen v w
+    → AgreeOn (OrMade Seen t v) v w
+unmade_agree t same agree = record {
+  nodes = λ n has. elim has [ inl old ↦ agree.nodes n old | inr made ↦ absurd (unmade same made) ];
+  next = agree.next;
+  limits = agree.limits;
+}
+
+-- where nothing was made the set alone is left
+only_seen : {Seen : ℕ → Type 0} (t : Tree) {v w : Tree} → AgreeOn (OrMade Seen t v) v w → AgreeOn Seen v w
+only_seen t agree = record { nodes = λ n has. agree.nodes n (inl has); next = agree.next; limits = agree.limits }
+
+-- a name is moved alike
+moved_same : {Seen : ℕ → Type 0} {t u : Tree} → AgreeOn Seen t u → (old : ℕ) (old_name : List ℕ) (new : ℕ)
+    (new_name : List ℕ) (n : ℕ) → Seen old → Seen new
+    → AgreeOn Seen (name_moved t old old_name new new_name n) (name_moved u old old_name new new_name n)
+moved_same {t = t} {u = u} agree old old_name new new_name n seen has =
+    let one = put_same agree old (without_name (node_at t old) old_name) (without_name (node_at u old) old_name)
+    t.worked u.worked (ap (λ node. without_name node old_name) (agree.nodes old seen)) in
+    put_same one new (with_name (node_at (name_taken t old old_name) new) new_name n)
+    (with_name (node_at (name_taken u old old_name) new) new_name n)
+    (with_nodes t.worked (old ∷ new ∷ [])) (with_nodes u.worked (old ∷ new ∷ []))
+    (ap (λ node. with_name node new_name n) (one.nodes new has))
+
 -- ---- in a closed set
 
 module _ {Seen : ℕ → Type 0} {t : Tree} (closed : IsClosed Seen t) where
@@ -156,6 +214,38 @@ module _ {Seen : ℕ → Type 0} {t u : Tree} (closed : IsClosed Seen t) (agree 
       by (Some n) is =
           rw (sym (child_same d name seen) ∙ is, is, agree.nodes n (child_seen closed d n name seen is)) refl
 
+  -- a test of the number of the node under a name
+  passes_same : (d : ℕ) (name : List ℕ) (p q : ℕ → Bool) → Seen d → ((n : ℕ) → Seen n → p n ≡ q n)
+      → passes p (child t d name) ≡ passes q (child u d name)
+  passes_same d name p q seen same = by (child t d name) refl
+    where
+      by : (c : Option ℕ) → child t d name ≡ c → passes p (child t d name) ≡ passes q (child u d name)
+      by None is = rw (sym (child_same d name seen) ∙ is, is) refl
+      by (Some n) is =
+          rw (sym (child_same d name seen) ∙ is, is) (same n (child_seen closed d n name seen is))
+
+  -- what is below a node
+  within_same : (names top n : ℕ) → Seen top → is_within t names top n ≡ is_within u names top n
+  unfolding is_within
+  within_same zero top n seen = refl
+  within_same (suc names) top n seen =
+      let held : Names = names_of (node_at t top).content in
+      ap (λ b. nat_eq n top || b)
+      (any_same (λ e. is_within t names e.1 n) (λ e. is_within u names e.1 n) (maps.entries held) (λ i e short.
+      within_same names (get_or (maps.entries held) i e).1 n
+      (closed.under top (get_or (maps.entries held) i e).1 (get_or (maps.entries held) i e).0 seen
+      (get_entry held i e short))))
+      ∙ ap (λ (x : Node). nat_eq n top || list_any (λ e. is_within u names e.1 n) (maps.entries (names_of x.content)))
+      (agree.nodes top seen)
+
+  pub below_same : (top n : ℕ) → Seen top → is_below t top n ≡ is_below u top n
+  below_same top n seen =
+      within_same (next_of t) top n seen ∙ ap (λ names. is_within u names top n) agree.next
+
+  above_same : (d : ℕ) (name : List ℕ) (n : ℕ) → Seen d → holds_above t d name n ≡ holds_above u d name n
+  above_same d name n seen =
+      passes_same d name (λ top. is_below t top n) (λ top. is_below u top n) seen (λ top has. below_same top n has)
+
   -- a call is refused alike
   pub refused_same : (call : HostCall) → ((n : ℕ) → Contains (starts_of call) n → Seen n)
       → refusal t call ≡ refusal u call
@@ -181,6 +271,34 @@ module _ {Seen : ℕ → Type 0} {t u : Tree} (closed : IsClosed Seen t) (agree 
   refused_same (SymlinkAt text d name) from =
       let seen = from d (Contains-push [] d) in
       rw (child_same d name seen, agree.nodes d seen, agree.next, agree.limits) refl
+  refused_same (LinkAt old old_name new new_name) from =
+      let seen = from old (Contains-here old (new ∷ [])) in
+      let has = from new (Contains-push (old ∷ []) new) in
+      rw (
+        holds_same old old_name (λ n. is_directory n.content) seen,
+        holds_same old old_name (λ n. nat_le t.limits.links (links_of n.content)) seen,
+        child_same old old_name seen,
+        child_same new new_name has,
+        agree.nodes old seen,
+        agree.nodes new has,
+        agree.limits,
+      ) refl
+  refused_same (RenameAt old old_name new new_name requires_dir) from =
+      let seen = from old (Contains-here old (new ∷ [])) in
+      let has = from new (Contains-push (old ∷ []) new) in
+      rw (
+        above_same old old_name new seen,
+        above_same new new_name old has,
+        holds_same old old_name (λ n. is_directory n.content) seen,
+        holds_same old old_name (λ n. is_directory n.content && not n.bits.w) seen,
+        holds_same new new_name (λ n. is_directory n.content) has,
+        holds_same new new_name (λ n. not (is_directory n.content)) has,
+        holds_same new new_name (λ n. is_directory n.content && not (is_bare n)) has,
+        child_same old old_name seen,
+        child_same new new_name has,
+        agree.nodes old seen,
+        agree.nodes new has,
+      ) refl
   refused_same (UnlinkAt d name) from =
       let seen = from d (Contains-push [] d) in
       rw (holds_same d name (λ n. is_directory n.content) seen, child_same d name seen, agree.nodes d seen) refl
@@ -192,10 +310,14 @@ module _ {Seen : ℕ → Type 0} {t u : Tree} (closed : IsClosed Seen t) (agree 
         child_same d name seen,
         agree.nodes d seen,
       ) refl
+  refused_same (TimesAt d name atime mtime) from =
+      let seen = from d (Contains-push [] d) in rw (child_same d name seen, agree.nodes d seen) refl
   refused_same (Access d) from = rw (agree.nodes d (from d (Contains-push [] d))) refl
   refused_same (Stat n) from = refl
+  refused_same (SetTimes n atime mtime) from = refl
   refused_same (Pread file offset n) from = rw (agree.nodes file.node (from file.node (Contains-push [] file.node))) refl
   refused_same (Pwrite file offset piece) from = refl
+  refused_same (ListDir stands) from = rw (agree.nodes stands.node (from stands.node (Contains-push [] stands.node))) refl
   refused_same (Dup copied) from = refl
   refused_same Close from = refl
 
@@ -208,6 +330,21 @@ module _ {Seen : ℕ → Type 0} {t u : Tree} (closed : IsClosed Seen t) (agree 
       by None is = rw (sym (child_same d name seen) ∙ is, is) refl
       by (Some n) is =
           rw (sym (child_same d name seen) ∙ is, is, agree.nodes n (child_seen closed d n name seen is)) refl
+
+  -- an entry is listed alike
+  listed_same : (d : ℕ) (entry : List ℕ × ℕ) → Seen d → named_in (node_at t d) entry.0 ≡ Some entry.1
+      → listed t entry ≡ listed u entry
+  listed_same d entry seen is =
+      ap (λ (x : Node). (entry.0, kind_of x.content)) (agree.nodes entry.1 (closed.under d entry.1 entry.0 seen is))
+
+  -- and so is a directory
+  pub listing_same : (d : ℕ) → Seen d → listing t d ≡ listing u d
+  unfolding listing
+  listing_same d seen =
+      let names : Names = names_of (node_at t d).content in
+      map_same (listed t) (listed u) (maps.entries names) (λ i e short.
+      listed_same d (get_or (maps.entries names) i e) seen (get_entry names i e short))
+      ∙ ap (λ (x : Node). map (listed u) (maps.entries (names_of x.content))) (agree.nodes d seen)
 
   -- a name comes to one node
   pub reached_same : (d : ℕ) (name : List ℕ) → Seen d → reached t d name ≡ reached u d name
@@ -246,17 +383,22 @@ module _ {Seen : ℕ → Type 0} {t u : Tree} (closed : IsClosed Seen t) (agree 
   put_agree : (m : ℕ) (change : Node → Node) (worked worked' : Nodes) → Seen m
       → AgreeOn (OrMade Seen t (node_put t m (change (node_at t m)) worked))
       (node_put t m (change (node_at t m)) worked) (node_put u m (change (node_at u m)) worked')
-  unfolding node_at
   put_agree m change worked worked' seen =
-      let put : Node = change (node_at t m) in record {
-        nodes = λ n has. elim has [
-          | inl old ↦ set_same t.nodes u.nodes m n put stray agree.next (agree.nodes n old)
-              ∙ ap (λ x. slice_index_or (slice_set u.nodes m (change x)) n stray) (agree.nodes m seen)
-          | inr made ↦ absurd (unmade (length-set t.nodes m put) made)
-        ];
-        next = length-set t.nodes m put ∙ agree.next ∙ sym (length-set u.nodes m (change (node_at u m)));
-        limits = agree.limits;
-      }
+      let x : Node = change (node_at t m) in
+      unmade_agree t (length-set t.nodes m x)
+      (put_same agree m x (change (node_at u m)) worked worked' (ap change (agree.nodes m seen)))
+
+  -- two nodes are
+  both_agree : (d n : ℕ) (first second : Node → Node) (worked worked' : Nodes) → Seen d → Seen n
+      → AgreeOn (OrMade Seen t (node_put (node_put t d (first (node_at t d)) t.worked) n (second (node_at t n)) worked))
+      (node_put (node_put t d (first (node_at t d)) t.worked) n (second (node_at t n)) worked)
+      (node_put (node_put u d (first (node_at u d)) u.worked) n (second (node_at u n)) worked')
+  both_agree d n first second worked worked' seen has =
+      let x : Node = first (node_at t d) in
+      let y : Node = second (node_at t n) in
+      let one = put_same agree d x (first (node_at u d)) t.worked u.worked (ap first (agree.nodes d seen)) in
+      unmade_agree t (length-set (slice_set t.nodes d x) n y ∙ length-set t.nodes d x)
+      (put_same one n y (second (node_at u n)) worked worked' (ap second (agree.nodes n has)))
 
   cut_agree : (m : ℕ) → Seen m → AgreeOn (OrMade Seen t (file_cut t m)) (file_cut t m) (file_cut u m)
   cut_agree m seen = put_agree m emptied (with_nodes t.worked (m ∷ [])) (with_nodes u.worked (m ∷ [])) seen
@@ -293,29 +435,9 @@ module _ {Seen : ℕ → Type 0} {t u : Tree} (closed : IsClosed Seen t) (agree 
   drop_agree : (d n : ℕ) (name : List ℕ) (change : Content → Content) → Seen d → Seen n
       → AgreeOn (OrMade Seen t (name_dropped t d name change n)) (name_dropped t d name change n)
       (name_dropped u d name change n)
-  unfolding node_at
   drop_agree d n name change seen has =
-      let bare : Node = without_name (node_at t d) name in
-      let left : Node = record (node_at t n) { content = change (node_at t n).content } in
-      let next : length (slice_set (slice_set t.nodes d bare) n left) ≡ next_of t =
-      length-set (slice_set t.nodes d bare) n left ∙ length-set t.nodes d bare in
-      let next' : next_of (name_dropped u d name change n) ≡ next_of u =
-      length-set (slice_set u.nodes d (without_name (node_at u d) name)) n _
-      ∙ length-set u.nodes d (without_name (node_at u d) name) in record {
-        nodes = λ k is. elim is [
-          | inl old ↦
-              set_same (slice_set t.nodes d bare) (slice_set u.nodes d bare) n k left stray
-              (length-set t.nodes d bare ∙ agree.next ∙ sym (length-set u.nodes d bare))
-              (set_same t.nodes u.nodes d k bare stray agree.next (agree.nodes k old))
-              ∙ ap (λ (x : Node). slice_index_or (slice_set (slice_set u.nodes d (without_name x name)) n left) k stray)
-              (agree.nodes d seen)
-              ∙ ap (λ (x : Node). slice_index_or (slice_set (slice_set u.nodes d (without_name (node_at u d) name)) n
-              (record x { content = change x.content })) k stray) (agree.nodes n has)
-          | inr made ↦ absurd (unmade next made)
-        ];
-        next = next ∙ agree.next ∙ sym next';
-        limits = agree.limits;
-      }
+      both_agree d n (λ node. without_name node name) (λ node. record node { content = change node.content })
+      (with_nodes t.worked (d ∷ n ∷ [])) (with_nodes u.worked (d ∷ n ∷ [])) seen has
 
   dropped_agree : (d : ℕ) (name : List ℕ) (change : Content → Content) → Seen d
       → AgreeOn (OrMade Seen t (dropped_step t d name change (child t d name)))
@@ -328,22 +450,101 @@ module _ {Seen : ℕ → Type 0} {t u : Tree} (closed : IsClosed Seen t) (agree 
       by None is = same_agree
       by (Some n) is = drop_agree d n name change seen (child_seen closed d n name seen is)
 
+  -- a name is added alike
+  added_agree : (old new : ℕ) (old_name new_name : List ℕ) → Seen old → Seen new
+      → AgreeOn (OrMade Seen t (added_step t new new_name (child t old old_name)))
+      (added_step t new new_name (child t old old_name)) (added_step u new new_name (child u old old_name))
+  added_agree old new old_name new_name seen has =
+      rw (← child_same old old_name seen) (by (child t old old_name) refl)
+    where
+      by : (c : Option ℕ) → child t old old_name ≡ c
+          → AgreeOn (OrMade Seen t (added_step t new new_name c)) (added_step t new new_name c)
+          (added_step u new new_name c)
+      by None is = same_agree
+      by (Some n) is =
+          both_agree new n (λ node. with_name node new_name n)
+          (λ node. record node { content = one_name_more node.content })
+          (with_nodes t.worked (new ∷ n ∷ [])) (with_nodes u.worked (new ∷ n ∷ [])) has
+          (child_seen closed old n old_name seen is)
+
+  -- a name is moved alike
+  moves_agree : (old : ℕ) (old_name : List ℕ) (new : ℕ) (new_name : List ℕ) → Seen old → Seen new
+      → AgreeOn (OrMade Seen t (moved_step t old old_name new new_name (child t old old_name)))
+      (moved_step t old old_name new new_name (child t old old_name))
+      (moved_step u old old_name new new_name (child u old old_name))
+  moves_agree old old_name new new_name seen has =
+      rw (← child_same old old_name seen) (by (child t old old_name) refl)
+    where
+      by : (c : Option ℕ) → child t old old_name ≡ c
+          → AgreeOn (OrMade Seen t (moved_step t old old_name new new_name c))
+          (moved_step t old old_name new new_name c) (moved_step u old old_name new new_name c)
+      by None is = same_agree
+      by (Some n) is =
+          let before : Tree = dropped_step t new new_name name_lost (child t new new_name) in
+          unmade_agree t
+          (next_of-moved before old old_name new new_name n
+          ∙ next_of-dropped_step t new new_name name_lost (child t new new_name))
+          (moved_same (only_seen t (dropped_agree new new_name name_lost has)) old old_name new new_name n seen has)
+
+  renamed_agree : (old : ℕ) (old_name : List ℕ) (new : ℕ) (new_name : List ℕ) → Seen old → Seen new
+      → AgreeOn (OrMade Seen t (rename_step t old old_name new new_name)) (rename_step t old old_name new new_name)
+      (rename_step u old old_name new new_name)
+  unfolding rename_step
+  renamed_agree old old_name new new_name seen has =
+      let one : Bool = hold_one (child t old old_name) (child t new new_name) in
+      let same : one ≡ hold_one (child u old old_name) (child u new new_name) =
+      ap (λ c. hold_one c (child t new new_name)) (child_same old old_name seen)
+      ∙ ap (hold_one (child u old old_name)) (child_same new new_name has) in
+      let moved : Tree = moved_step t old old_name new new_name (child t old old_name) in
+      let moved' : Tree = moved_step u old old_name new new_name (child u old old_name) in
+      subst (λ b. AgreeOn (OrMade Seen t (cond one t moved)) (cond one t moved) (cond b u moved')) same
+      (either one moved moved' (moves_agree old old_name new new_name seen has))
+    where
+      either : (b : Bool) (v w : Tree) → AgreeOn (OrMade Seen t v) v w
+          → AgreeOn (OrMade Seen t (cond b t v)) (cond b t v) (cond b u w)
+      either true v w moved = same_agree
+      either false v w moved = moved
+
+  -- times are set alike
+  times_agree : (n : ℕ) (atime mtime : Option SystemTime) → Seen n
+      → AgreeOn (OrMade Seen t (times_set t n atime mtime)) (times_set t n atime mtime) (times_set u n atime mtime)
+  times_agree n atime mtime seen =
+      put_agree n (λ node. with_times node atime mtime) (with_nodes t.worked (n ∷ [])) (with_nodes u.worked (n ∷ [])) seen
+
+  times_at_agree : (d : ℕ) (name : List ℕ) (atime mtime : Option SystemTime) → Seen d
+      → AgreeOn (OrMade Seen t (times_set_if t atime mtime (child t d name)))
+      (times_set_if t atime mtime (child t d name)) (times_set_if u atime mtime (child u d name))
+  times_at_agree d name atime mtime seen = rw (← child_same d name seen) (by (child t d name) refl)
+    where
+      by : (c : Option ℕ) → child t d name ≡ c
+          → AgreeOn (OrMade Seen t (times_set_if t atime mtime c)) (times_set_if t atime mtime c)
+          (times_set_if u atime mtime c)
+      by None is = same_agree
+      by (Some n) is = times_agree n atime mtime (child_seen closed d n name seen is)
+
   -- ---- any call
 
   -- the trees after a call are again equal on the set and on what was made
   pub step_agree : (call : HostCall) → ((n : ℕ) → Contains (starts_of call) n → Seen n)
       → AgreeOn (OrMade Seen t (step t call)) (step t call) (step u call)
-  unfolding unlink_step remove_step
+  unfolding unlink_step remove_step link_step rename_step times_step
   step_agree (OpenAt d name o) from = opened_agree d name o (from d (Contains-push [] d))
   step_agree (StatAt d name) from = same_agree
   step_agree (ReadLinkAt d name) from = same_agree
   step_agree (MakeDirAt d name) from = made_agree d name new_directory (from d (Contains-push [] d))
   step_agree (SymlinkAt text d name) from = made_agree d name (new_link text) (from d (Contains-push [] d))
+  step_agree (LinkAt old old_name new new_name) from =
+      added_agree old new old_name new_name (from old (Contains-here old (new ∷ []))) (from new (Contains-push (old ∷ []) new))
+  step_agree (RenameAt old old_name new new_name requires_dir) from =
+      renamed_agree old old_name new new_name (from old (Contains-here old (new ∷ []))) (from new (Contains-push (old ∷ []) new))
   step_agree (UnlinkAt d name) from = dropped_agree d name one_name_less (from d (Contains-push [] d))
   step_agree (RemoveDirAt d name) from = dropped_agree d name made_gone (from d (Contains-push [] d))
+  step_agree (TimesAt d name atime mtime) from = times_at_agree d name atime mtime (from d (Contains-push [] d))
   step_agree (Access d) from = same_agree
   step_agree (Stat n) from = same_agree
+  step_agree (SetTimes n atime mtime) from = times_agree n atime mtime (from n (Contains-push [] n))
   step_agree (Pread file offset n) from = same_agree
   step_agree (Pwrite file offset piece) from = write_agree file.node offset piece (from file.node (Contains-push [] file.node))
+  step_agree (ListDir stands) from = same_agree
   step_agree (Dup copied) from = same_agree
   step_agree Close from = same_agree

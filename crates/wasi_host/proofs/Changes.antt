@@ -3,7 +3,9 @@ use Rattle.std.proofs.Common.{◌≡◌, ◌≢◌, ℕ, ◌+◌, ◌<◌, ◌�
 use Rattle.std.proofs.Math.Seq.{get_or-append_seam}
 use Rattle.std.proofs.lemmas.Bool.{true≢false, cases_eq, cases_lt}
 use Rattle.std.proofs.lemmas.List.{length-set, length-append, get_or-set_same, get_or-set_other, get_or_append_left, get_or_past}
+use Rattle.std.proofs.lemmas.List.Sums.{sum_by-set}
 use Rattle.wasi_host.specs.Tree.{Tree, Node, Nodes, node_at, next_of, is_directory, stray}
+use Rattle.wasi_host.specs.ValidTree.{names_for, name_count}
 use Rattle.wasi_host.specs.Step.{with_name, node_made}
 
 pub node_at-past : (t : Tree) (n : ℕ) → next_of t ≤ n → node_at t n ≡ stray
@@ -44,6 +46,57 @@ module _ (t : Tree) (n : ℕ) (node : Node) (worked : Nodes) (within : n < next_
         ∙ ap (λ j. f (node_at t j)) (sym here)
     | inr other ↦ ap f (node_at-other k other)
   ]
+
+-- ---- two nodes are others
+
+module _ (t : Tree) (d n : ℕ) (parent other : Node) (worked : Nodes) (first : d < next_of t) (second : n < next_of t)
+    (apart : d ≢ n) where
+  -- before the second
+  abbrev half : Tree
+  half = changed t d parent worked
+
+  abbrev both : Tree
+  both = changed half n other worked
+
+  half_within : n < next_of half
+  half_within = omega (arith, second, next_of-changed t d parent worked)
+
+  pub next_of-both : next_of both ≡ next_of t
+  next_of-both = next_of-changed half n other worked ∙ next_of-changed t d parent worked
+
+  node_at-not : (k : ℕ) → k ≢ n → node_at both k ≡ node_at half k
+  node_at-not k not_second = node_at-other half n other worked half_within k not_second
+
+  pub node_at-second : node_at both n ≡ other
+  node_at-second = node_at-changed half n other worked half_within
+
+  pub node_at-first : node_at both d ≡ parent
+  node_at-first = node_at-not d apart ∙ node_at-changed t d parent worked first
+
+  pub node_at-neither : (k : ℕ) → k ≢ d → k ≢ n → node_at both k ≡ node_at t k
+  node_at-neither k not_first not_second =
+      node_at-not k not_second ∙ node_at-other t d parent worked first k not_first
+
+  -- what the first keeps stays everywhere but at the second
+  pub node_at-both : {B : Type 0} (f : Node → B) → f parent ≡ f (node_at t d) → (k : ℕ) → k ≢ n
+      → f (node_at both k) ≡ f (node_at t k)
+  node_at-both f same k not_second =
+      ap f (node_at-not k not_second) ∙ node_at-same t d parent worked first f same k
+
+  -- how many names hold a node, where the second keeps its names
+  pub name_count-both : (k : ℕ) → names_for k other ≡ names_for k (node_at t n)
+      → name_count both k + names_for k (node_at t d) ≡ name_count t k + names_for k parent
+  unfolding node_at
+  name_count-both k same =
+      let before : names_for k (node_at half n) ≡ names_for k (node_at t n) =
+      ap (names_for k) (node_at-other t d parent worked first n (λ here. apart (sym here))) in
+      omega (
+        arith,
+        same,
+        before,
+        sum_by-set (names_for k) t.nodes d parent stray first,
+        sum_by-set (names_for k) half.nodes n other stray half_within,
+      )
 
 -- ---- one node more, under a name of a directory
 

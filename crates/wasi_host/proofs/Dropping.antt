@@ -3,12 +3,12 @@ use Rattle.std.proofs.Common.{◌≡◌, ◌≢◌, ℕ, ◌+◌, ◌-◌, ◌<�
 use Rattle.std.specs.List.{All}
 use Rattle.std.specs.FinMap as maps
 use Rattle.std.proofs.lemmas.Bool.{true≢false, cases_eq, ne_eqb}
-use Rattle.std.proofs.lemmas.List.Sums.{sum_by-set}
-use Rattle.wasi_host.specs.Tree.{Tree, Node, Content, File, Directory, Link, Names, node_at, next_of, names_of, is_directory, is_gone, stray}
+use Rattle.wasi_host.specs.Tree.{Tree, Node, Content, File, Directory, Link, Names, node_at, next_of, names_of, is_directory, is_gone}
 use Rattle.wasi_host.specs.ValidTree.{names_for, name_count, IsEntry, IsValidContent, IsValidTree}
 use Rattle.wasi_host.specs.Step.{without_name, one_name_less, made_gone, name_dropped}
 use Rattle.wasi_host.specs.declared.limits.Limits.{Limits}
-use Rattle.wasi_host.proofs.Changes.{changed, next_of-changed, node_at-changed, node_at-other, node_at-same, directory_within}
+use Rattle.wasi_host.proofs.Changes as changes
+use Rattle.wasi_host.proofs.Changes.{directory_within}
 use Rattle.wasi_host.proofs.EntryLemmas.{times, once, All-no_names, unnamed, times-removed, All-removed, get-left, nat_eq-refl}
 use Rattle.wasi_host.proofs.Leaving.{fewer_names, gone_names}
 use Rattle.wasi_host.proofs.Carrying.{Carries, StillNamed, entries_still, content_still, directory_still, valid_still, reached_among, valid_entries, named_within, stays_or_gone}
@@ -66,59 +66,42 @@ module _ {t : Tree} {d n : ℕ} {name : List ℕ} (drops : Drops t d name n) (va
   abbrev dropped : Tree
   dropped = name_dropped t d name change n
 
-  -- without the name, and before the change
-  abbrev half : Tree
-  half = changed t d parent dropped.worked
-
   within_tree : d < next_of t
   within_tree = directory_within t d drops.directory
 
-  half_within : n < next_of half
-  half_within =
-      let within : n < next_of t = named_within t d valid drops.directory name n drops.named in
-      omega (arith, within, next_of-changed t d parent dropped.worked)
+  within_node : n < next_of t
+  within_node = named_within t d valid drops.directory name n drops.named
 
-  apart : d ≢ n
+  pub apart : d ≢ n
   apart same = unnamed names name n (ap (λ k. names_of (node_at t k).content) same ∙ drops.bare) drops.named
 
-  next_of-dropped : next_of dropped ≡ next_of t
-  next_of-dropped = next_of-changed half n other dropped.worked ∙ next_of-changed t d parent dropped.worked
-
-  node_at-half : (k : ℕ) → k ≢ d → node_at half k ≡ node_at t k
-  node_at-half k not_parent = node_at-other t d parent dropped.worked within_tree k not_parent
-
-  node_at-not : (k : ℕ) → k ≢ n → node_at dropped k ≡ node_at half k
-  node_at-not k not_node = node_at-other half n other dropped.worked half_within k not_node
+  pub next_of-dropped : next_of dropped ≡ next_of t
+  next_of-dropped = changes.next_of-both t d n parent other dropped.worked within_tree within_node apart
 
   pub node_at-dropped : node_at dropped n ≡ other
-  node_at-dropped = node_at-changed half n other dropped.worked half_within
+  node_at-dropped = changes.node_at-second t d n parent other dropped.worked within_tree within_node apart
 
-  node_at-parent : node_at dropped d ≡ parent
-  node_at-parent = node_at-not d apart ∙ node_at-changed t d parent dropped.worked within_tree
+  pub node_at-parent : node_at dropped d ≡ parent
+  node_at-parent = changes.node_at-first t d n parent other dropped.worked within_tree within_node apart
 
   node_at-apart : (k : ℕ) → k ≢ d → k ≢ n → node_at dropped k ≡ node_at t k
-  node_at-apart k not_parent not_node = node_at-not k not_node ∙ node_at-half k not_parent
+  node_at-apart k not_parent not_node =
+      changes.node_at-neither t d n parent other dropped.worked within_tree within_node apart k not_parent not_node
 
   -- what the directory keeps stays everywhere but at the node
   node_at-kept : {B : Type 0} (f : Node → B) → f parent ≡ f (node_at t d) → (k : ℕ) → k ≢ n
       → f (node_at dropped k) ≡ f (node_at t k)
   node_at-kept f same k not_node =
-      ap f (node_at-not k not_node) ∙ node_at-same t d parent dropped.worked within_tree f same k
+      changes.node_at-both t d n parent other dropped.worked within_tree within_node apart f same k not_node
 
   name_count-dropped : (k : ℕ) → once (nat_eq n k) + name_count dropped k ≡ name_count t k
-  unfolding node_at
   name_count-dropped k =
       let same : names_for k other ≡ names_for k (node_at t n) =
       ap (λ (m : Names). times k (maps.values m)) (keeps (node_at t n).content) in
-      let before : names_for k (node_at half n) ≡ names_for k (node_at t n) =
-      ap (names_for k) (node_at-half n (λ here. apart (sym here))) in
       omega (
         arith,
-        same,
-        before,
         times-removed names name n drops.named k,
-        sum_by-set (names_for k) t.nodes d parent stray within_tree,
-        sum_by-set (names_for k) half.nodes n other stray half_within,
+        changes.name_count-both t d n parent other dropped.worked within_tree within_node apart k same,
       )
 
   pub one_less : HasOneLess t dropped n
@@ -128,7 +111,7 @@ module _ {t : Tree} {d n : ℕ} {name : List ℕ} (drops : Drops t d name n) (va
   }
 
   -- no way to another node leads over this one, or by this name
-  still_named : StillNamed t dropped (λ k. k ≢ n)
+  pub still_named : StillNamed t dropped (λ k. k ≢ n)
   still_named = record {
     names = λ e m q other is.
         let at_node : e ≢ n = λ here. unnamed (names_of (node_at t n).content) q m drops.bare (rw here at is) in (
@@ -147,7 +130,7 @@ module _ {t : Tree} {d n : ℕ} {name : List ℕ} (drops : Drops t d name n) (va
     | inr gone ↦ absurd (unnamed names name n gone.1 drops.named)
   ]
 
-  carries-dropped : (k : ℕ) → k ≢ n → Carries t dropped k
+  pub carries-dropped : (k : ℕ) → k ≢ n → Carries t dropped k
   carries-dropped k not_node = record {
     limits = refl;
     next = omega (arith, next_of-dropped);

@@ -1,7 +1,9 @@
 -- Lemmas on the entries of a directory: as lists of names with the numbers that they hold, and as its names.
-use Rattle.std.proofs.Common.{◌≡◌, ◌≢◌, ◌⊎◌, ℕ, suc, ◌+◌, Bool, true, false, cond, List, [], ◌∷◌, map, length, nat_eq, count_by, Option, Some, None, inl, inr, refl, sym, ap, ◌∙◌, subst, arith}
+use Rattle.std.proofs.Common.{◌≡◌, ◌≢◌, ◌⊎◌, ℕ, zero, suc, ◌+◌, ◌<◌, Bool, true, false, cond, ◌&&◌, List, [], ◌∷◌, map, length, nat_eq, count_by, get_or, Option, Some, None, inl, inr, refl, sym, ap, ◌∙◌, subst, arith}
+use Rattle.std.specs.Prelude.{T}
 use Rattle.std.specs.List.{All}
-use Rattle.std.specs.Ordering.{nat_cmp, is_eq, eq_by_cmp}
+use Rattle.std.specs.Ordering.{nat_cmp, is_lt, is_eq, eq_by_cmp}
+use Rattle.std.specs.declared.cmp.Ordering.{Ordering}
 use Rattle.std.specs.declared.cmp.Ordering.TheVariants.{Less, Equal, Greater}
 use Rattle.std.specs.Cmp.Lexicographic.{slice_cmp, nat_list_cmp_total}
 use Rattle.std.specs.FinMap as maps
@@ -121,6 +123,50 @@ ties q name = by (bytes_eq q name) refl
 ties_itself : (name : List ℕ) → tie name name ≡ true
 ties_itself name = is_eq-slice_cmp name name ∙ (bytes_eq-Decides name name).1 refl
 
+below_all : List ℕ → List (List ℕ × ℕ) → Bool
+below_all name es = maps.Entries.below_all (slice_cmp nat_cmp) name es
+
+both_hold : (a b : Bool) → T (a && b) → T a × T b
+both_hold true b is = (tt, is)
+both_hold false b is = absurd is
+
+lesser_or_equal : (r : Ordering) → T (is_lt r) → is_eq r ≡ true → ⊥
+lesser_or_equal Less lesser equal = absurd (cc)
+lesser_or_equal Equal lesser equal = absurd lesser
+lesser_or_equal Greater lesser equal = absurd lesser
+
+-- a name that all are above isn't among them
+above : (name : List ℕ) (es : List (List ℕ × ℕ)) (i : ℕ) (d : List ℕ × ℕ) → T (below_all name es)
+    → i < length es → tie (get_or es i d).0 name ≡ false
+unfolding below_all
+above name [] i d below short = absurd (omega arith)
+above name (e ∷ es) zero d below short = elim (ties e.0 name) [
+  | inl same ↦
+      let lesser = (both_hold (is_lt (slice_cmp nat_cmp name e.0)) (below_all name es) below).0 in
+      absurd (lesser_or_equal (slice_cmp nat_cmp name name)
+      (subst (λ (q : List ℕ). T (is_lt (slice_cmp nat_cmp name q))) same.0 lesser) (ties_itself name))
+  | inr other ↦ other
+]
+above name (e ∷ es) (suc i) d below short =
+    above name es i d (both_hold (is_lt (slice_cmp nat_cmp name e.0)) (below_all name es) below).1 (omega arith)
+
+-- an entry of a list in order is the first of its name
+find_at : (es : List (List ℕ × ℕ)) (i : ℕ) (d : List ℕ × ℕ) → T (maps.is_sorted (slice_cmp nat_cmp) es)
+    → i < length es → find_in (get_or es i d).0 es ≡ Some (get_or es i d).1
+unfolding below_all
+find_at [] i d sorted short = absurd (omega arith)
+find_at (e ∷ es) zero d sorted short = ap (λ b. cond b (Some e.1) (find_in e.0 es)) (ties_itself e.0)
+find_at (e ∷ es) (suc i) d sorted short =
+    let parts = both_hold (maps.Entries.below_all (slice_cmp nat_cmp) e.0 es) (maps.is_sorted (slice_cmp nat_cmp) es) sorted in
+    ap (λ b. cond b (Some e.1) (find_in (get_or es i d).0 es)) (above e.0 es i d parts.0 (omega arith))
+    ∙ find_at es i d parts.1 (omega arith)
+
+pub get_entry : (names : Names) (i : ℕ) (d : List ℕ × ℕ) → i < length (maps.entries names)
+    → maps.get names (get_or (maps.entries names) i d).0 ≡ Some (get_or (maps.entries names) i d).1
+get_entry names i d short =
+    maps.get-entries names (get_or (maps.entries names) i d).0
+    ∙ find_at (maps.entries names) i d (maps.entries_sorted names) short
+
 -- a name more, which holds a number
 module _ (names : Names) (name : List ℕ) (k : ℕ) (none : maps.get names name ≡ None) where
   abbrev more : Names
@@ -154,12 +200,18 @@ module _ (names : Names) (name : List ℕ) (k : ℕ) (none : maps.get names name
     | inr other ↦ ap (λ b. cond b (Some k) (maps.get names q)) other ∙ is
   ]
 
+-- a name that is missing is so without another
+pub get-still_none : (names : Names) (name q : List ℕ) → maps.get names q ≡ None
+    → maps.get (maps.remove names name) q ≡ None
+get-still_none names name q none = maps.get-remove nat_list_cmp_total names name q ∙ elim (tie q name) as (λ b.
+    cond b None (maps.get names q) ≡ None) [ true ↦ refl | false ↦ none ]
+
 -- a name less, which held a number
 module _ (names : Names) (name : List ℕ) (k : ℕ) (some : maps.get names name ≡ Some k) where
   abbrev less : Names
   less = maps.remove names name
 
-  get-removed : maps.get less name ≡ None
+  pub get-removed : maps.get less name ≡ None
   get-removed =
       maps.get-remove nat_list_cmp_total names name name
       ∙ ap (λ b. cond b None (maps.get names name)) (ties_itself name)

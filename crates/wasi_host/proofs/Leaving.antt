@@ -1,16 +1,19 @@
 -- What a step leaves of any tree: which nodes the names hold after it.
 use Rattle.std.proofs.Common.{ℕ, zero, suc, ◌+◌, ◌≤◌, ◌≡◌, ◌⊎◌, inl, inr, true, false, cond, Bool, List, [], ◌∷◌, ◌++◌, refl, ap, sym, ◌∙◌, subst, arith, Option, Some, None, slice_set, slice_index_or, length-append}
+use Rattle.std.specs.Prelude.{Contains}
 use Rattle.std.specs.Cmp.Lexicographic.{slice_cmp}
 use Rattle.std.specs.Ordering.{nat_cmp, eq_by_cmp}
 use Rattle.std.proofs.lemmas.Cmp.{nat_list_cmp_total}
 use Rattle.std.proofs.lemmas.List.{length-set}
 use Rattle.std.specs.FinMap as maps
+use Rattle.wasi_paths.specs.Text.{is_dot_text}
 use Rattle.wasi_host.specs.Options.{Options}
-use Rattle.wasi_host.specs.Tree.{Tree, Node, Nodes, Content, File, Directory, Link, node_at, next_of, names_of, child, stray}
-use Rattle.wasi_host.specs.ValidTree.{Reached}
+use Rattle.wasi_host.specs.Tree.{Tree, Node, Nodes, Content, File, Directory, Link, node_at, next_of, names_of, child, hold_one, stray}
+use Rattle.wasi_host.specs.ValidTree.{Reached, root, held}
 use Rattle.wasi_host.specs.Agree.{IsMade}
-use Rattle.wasi_host.specs.HostCall.{HostCall, OpenAt, StatAt, ReadLinkAt, MakeDirAt, SymlinkAt, UnlinkAt, RemoveDirAt, Access, Stat, Pread, Pwrite, Dup, Close}
-use Rattle.wasi_host.specs.Step.{step, open_step, opened_step, unlink_step, remove_step, dropped_step, node_made, file_cut, name_dropped, is_cut, with_name, without_name, with_nodes, new_file, new_directory, new_link, no_bytes, one_name_less, made_gone, piece_in, write_step}
+use Rattle.wasi_host.specs.HostCall.{HostCall, OpenAt, StatAt, ReadLinkAt, MakeDirAt, SymlinkAt, LinkAt, RenameAt, UnlinkAt, RemoveDirAt, TimesAt, Access, Stat, SetTimes, Pread, Pwrite, ListDir, Dup, Close}
+use Rattle.wasi_host.specs.declared.system_time.SystemTime.{SystemTime}
+use Rattle.wasi_host.specs.Step.{step, open_step, opened_step, unlink_step, remove_step, rename_step, moved_step, link_step, added_step, times_step, times_set, times_set_if, dropped_step, node_made, file_cut, name_dropped, is_cut, with_name, without_name, with_times, with_nodes, new_file, new_directory, new_link, no_bytes, name_added, name_lost, name_taken, name_given, name_moved, one_name_more, one_name_less, made_gone, piece_in, write_step}
 
 -- the node that a name of a directory holds
 abbrev pub named_in : Node → List ℕ → Option ℕ
@@ -205,21 +208,166 @@ pub dropped_leaves : (t : Tree) (d : ℕ) (name : List ℕ) (change : Content �
 dropped_leaves t d name change None keeps = same_leaves t
 dropped_leaves t d name change (Some n) keeps = drop_leaves t d n name change (keeps (node_at t n).content)
 
--- a name held its node before, or holds one that was made, or one that is reached from these
-pub record LeavesNear (t : Tree) (roots : List ℕ) (t' : Tree) : Type 0 where
+times_leaves : (t : Tree) (n : ℕ) (atime mtime : Option SystemTime) → Leaves t (times_set t n atime mtime)
+times_leaves t n atime mtime =
+    put_leaves t n (with_times (node_at t n) atime mtime) (with_nodes t.worked (n ∷ [])) refl
+
+pub times_if_leaves : (t : Tree) (atime mtime : Option SystemTime) (c : Option ℕ) → Leaves t (times_set_if t atime mtime c)
+times_if_leaves t atime mtime None = same_leaves t
+times_if_leaves t atime mtime (Some n) = times_leaves t n atime mtime
+
+pub next_of-dropped_step : (t : Tree) (d : ℕ) (name : List ℕ) (change : Content → Content) (c : Option ℕ)
+    → next_of (dropped_step t d name change c) ≡ next_of t
+next_of-dropped_step t d name change None = refl
+next_of-dropped_step t d name change (Some n) =
+    length-set (slice_set t.nodes d (without_name (node_at t d) name)) n
+    (record (node_at t n) { content = change (node_at t n).content })
+    ∙ length-set t.nodes d (without_name (node_at t d) name)
+
+-- a name held its node before, or holds one that was made, or one of these
+pub record LeavesFor (t : Tree) (Near : ℕ → Type 0) (t' : Tree) : Type 0 where
   pub names : (d n : ℕ) (name : List ℕ) → named_in (node_at t' d) name ≡ Some n
-      → (named_in (node_at t d) name ≡ Some n) ⊎ (IsMade t t' n ⊎ Reached t roots n)
+      → (named_in (node_at t d) name ≡ Some n) ⊎ (IsMade t t' n ⊎ Near n)
   pub grows : next_of t ≤ next_of t'
 
-leaves_near : {t t' : Tree} {roots : List ℕ} → Leaves t t' → LeavesNear t roots t'
+-- or one that is reached from these
+abbrev pub LeavesNear : Tree → List ℕ → Tree → Type 0
+LeavesNear t roots t' = LeavesFor t (Reached t roots) t'
+
+leaves_near : {t t' : Tree} {Near : ℕ → Type 0} → Leaves t t' → LeavesFor t Near t'
 leaves_near leaves = record {
   names = λ d n name has. elim (leaves.names d n name has) [ inl was ↦ inl was | inr made ↦ inr (inl made) ];
   grows = leaves.grows;
 }
 
 -- nothing changes
-pub stays_near : {t : Tree} {roots : List ℕ} → LeavesNear t roots t
+pub stays_near : {t : Tree} {Near : ℕ → Type 0} → LeavesFor t Near t
 stays_near {t = t} = leaves_near (same_leaves t)
+
+-- the node under a name of a root is reached
+pub child_near : (t : Tree) {roots : List ℕ} (d : ℕ) (name : List ℕ) (n : ℕ) → child t d name ≡ Some n
+    → Contains roots d → Reached t roots n
+unfolding child
+child_near t {roots} d name n is has = by (is_dot_text name) is
+  where
+    by : (dot : Bool) → cond dot (Some d) (named_in (node_at t d) name) ≡ Some n → Reached t roots n
+    by true same = let at : d ≡ n = (cc) in subst (Reached t roots) at (root d has)
+    by false at = held d n name (root d has) at
+
+pub Contains-here : (d : ℕ) (ds : List ℕ) → Contains (d ∷ ds) d
+Contains-here d ds = (0, omega arith, refl)
+
+pub more_names : (content : Content) → names_of (one_name_more content) ≡ names_of content
+more_names (File bytes links) = refl
+more_names (Directory names gone) = refl
+more_names (Link text links) = refl
+
+-- a name that is added holds its node
+add_near : (t : Tree) {Near : ℕ → Type 0} (d n : ℕ) (name : List ℕ) → Near n
+    → LeavesFor t Near (name_added t d name n)
+unfolding node_at
+add_near t {Near} d n name near =
+    let parent : Node = with_name (node_at t d) name n in
+    let changed : Node = record (node_at t n) { content = one_name_more (node_at t n).content } in
+    let same : named_in changed ≡ named_in (node_at t n) = ap maps.get (more_names (node_at t n).content) in record {
+      names = λ e m q has. elim (set_cases (slice_set t.nodes d parent) n e changed stray) [
+        | inl old ↦ elim (set_cases t.nodes d e parent stray) [
+          | inl kept ↦ inl (ap (λ x. named_in x q) (sym (old ∙ kept)) ∙ has)
+          | inr (at, set) ↦
+              elim (with_name_cases (node_at t d) name q n m (ap (λ x. named_in x q) (sym (old ∙ set)) ∙ has)) [
+                | inl was ↦ inl (ap (λ k. named_in (node_at t k) q) at ∙ was)
+                | inr here ↦ inr (inr (subst Near (sym here) near))
+              ]
+        ]
+        | inr (at, set) ↦ inl (ap (λ k. named_in (node_at t k) q) at ∙ ap (λ f. f q) (sym same)
+            ∙ ap (λ x. named_in x q) (sym set) ∙ has)
+      ];
+      grows = omega (arith, length-set (slice_set t.nodes d parent) n changed, length-set t.nodes d parent);
+    }
+
+pub added_near : (t : Tree) {Near : ℕ → Type 0} (d : ℕ) (name : List ℕ) (c : Option ℕ)
+    → ((n : ℕ) → c ≡ Some n → Near n) → LeavesFor t Near (added_step t d name c)
+added_near t d name None near = stays_near
+added_near t d name (Some n) near = add_near t d n name (near n refl)
+
+pub lost_names : (content : Content) → names_of (name_lost content) ≡ names_of content
+lost_names (File bytes links) = refl
+lost_names (Directory names gone) = refl
+lost_names (Link text links) = refl
+
+-- a name that is taken leaves the others
+taken_names : (t : Tree) (d : ℕ) (name : List ℕ) (e m : ℕ) (q : List ℕ)
+    → named_in (node_at (name_taken t d name) e) q ≡ Some m → named_in (node_at t e) q ≡ Some m
+unfolding node_at
+taken_names t d name e m q has = elim (set_cases t.nodes d e (without_name (node_at t d) name) stray) [
+  | inl same ↦ ap (λ x. named_in x q) (sym same) ∙ has
+  | inr (at, set) ↦ ap (λ k. named_in (node_at t k) q) at
+      ∙ without_name_names (node_at t d) name q m (ap (λ x. named_in x q) (sym set) ∙ has)
+]
+
+-- one that is given holds its node
+given_names : (t : Tree) (d n : ℕ) (name : List ℕ) (e m : ℕ) (q : List ℕ)
+    → named_in (node_at (name_given t d name n) e) q ≡ Some m → (named_in (node_at t e) q ≡ Some m) ⊎ (m ≡ n)
+unfolding node_at
+given_names t d n name e m q has = elim (set_cases t.nodes d e (with_name (node_at t d) name n) stray) [
+  | inl same ↦ inl (ap (λ x. named_in x q) (sym same) ∙ has)
+  | inr (at, set) ↦
+      elim (with_name_cases (node_at t d) name q n m (ap (λ x. named_in x q) (sym set) ∙ has)) [
+        | inl was ↦ inl (ap (λ k. named_in (node_at t k) q) at ∙ was)
+        | inr here ↦ inr here
+      ]
+]
+
+pub next_of-moved : (t : Tree) (old : ℕ) (old_name : List ℕ) (new : ℕ) (new_name : List ℕ) (n : ℕ)
+    → next_of (name_moved t old old_name new new_name n) ≡ next_of t
+next_of-moved t old old_name new new_name n =
+    length-set (name_taken t old old_name).nodes new (with_name (node_at (name_taken t old old_name) new) new_name n)
+    ∙ length-set t.nodes old (without_name (node_at t old) old_name)
+
+moved_names : (t : Tree) (old : ℕ) (old_name : List ℕ) (new : ℕ) (new_name : List ℕ) (n e m : ℕ) (q : List ℕ)
+    → named_in (node_at (name_moved t old old_name new new_name n) e) q ≡ Some m
+    → (named_in (node_at t e) q ≡ Some m) ⊎ (m ≡ n)
+unfolding node_at
+moved_names t old old_name new new_name n e m q has =
+    elim (given_names (name_taken t old old_name) new n new_name e m q has) [
+      | inl was ↦ inl (taken_names t old old_name e m q was)
+      | inr here ↦ inr here
+    ]
+
+-- a name that moves holds its node
+move_near : (t t' : Tree) {Near : ℕ → Type 0} (old : ℕ) (old_name : List ℕ) (new : ℕ) (new_name : List ℕ) (n : ℕ)
+    → Leaves t t' → Near n → LeavesFor t Near (name_moved t' old old_name new new_name n)
+move_near t t' {Near} old old_name new new_name n leaves near =
+    let moved : Tree = name_moved t' old old_name new new_name n in
+    let next = next_of-moved t' old old_name new new_name n in record {
+      names = λ e m q has. elim (moved_names t' old old_name new new_name n e m q has) [
+        | inl before ↦ elim (leaves.names e m q before) [
+          | inl was ↦ inl was
+          | inr made ↦ inr (inl (record { fresh = made.fresh; there = omega (arith, made.there, next) }))
+        ]
+        | inr here ↦ inr (inr (subst Near (sym here) near))
+      ];
+      grows = omega (arith, leaves.grows, next);
+    }
+
+pub renamed_near : (t : Tree) {Near : ℕ → Type 0} (old : ℕ) (old_name : List ℕ) (new : ℕ) (new_name : List ℕ)
+    → ((n : ℕ) → child t old old_name ≡ Some n → Near n)
+    → LeavesFor t Near (rename_step t old old_name new new_name)
+unfolding rename_step
+renamed_near t {Near} old old_name new new_name near =
+    either (hold_one (child t old old_name) (child t new new_name)) (moves (child t old old_name) refl)
+  where
+    either : (b : Bool) → LeavesFor t Near (moved_step t old old_name new new_name (child t old old_name))
+        → LeavesFor t Near (cond b t (moved_step t old old_name new new_name (child t old old_name)))
+    either true leaves = stays_near
+    either false leaves = leaves
+
+    moves : (c : Option ℕ) → child t old old_name ≡ c → LeavesFor t Near (moved_step t old old_name new new_name c)
+    moves None is = stays_near
+    moves (Some n) is =
+        move_near t (dropped_step t new new_name name_lost (child t new new_name)) old old_name new new_name n
+        (dropped_leaves t new new_name name_lost (child t new new_name) lost_names)
+        (near n is)
 
 -- the nodes of the handles of a call
 abbrev pub starts_of : HostCall → List ℕ
@@ -228,28 +376,40 @@ starts_of (StatAt d name) = d ∷ []
 starts_of (ReadLinkAt d name) = d ∷ []
 starts_of (MakeDirAt d name) = d ∷ []
 starts_of (SymlinkAt text d name) = d ∷ []
+starts_of (LinkAt old old_name new new_name) = old ∷ new ∷ []
+starts_of (RenameAt old old_name new new_name requires_dir) = old ∷ new ∷ []
 starts_of (UnlinkAt d name) = d ∷ []
 starts_of (RemoveDirAt d name) = d ∷ []
+starts_of (TimesAt d name atime mtime) = d ∷ []
 starts_of (Access d) = d ∷ []
 starts_of (Stat n) = n ∷ []
+starts_of (SetTimes n atime mtime) = n ∷ []
 starts_of (Pread file offset n) = file.node ∷ []
 starts_of (Pwrite file offset piece) = file.node ∷ []
-starts_of (Dup held) = held.node ∷ []
+starts_of (ListDir stands) = stands.node ∷ []
+starts_of (Dup stands) = stands.node ∷ []
 starts_of Close = []
 
 -- the step of any call leaves the names so, and gives up no number
 pub step_leaves : (t : Tree) (call : HostCall) → LeavesNear t (starts_of call) (step t call)
-unfolding open_step unlink_step remove_step
+unfolding open_step unlink_step remove_step link_step rename_step times_step
 step_leaves t (OpenAt d name o) = leaves_near (opened_leaves t d name o (child t d name))
 step_leaves t (StatAt d name) = stays_near
 step_leaves t (ReadLinkAt d name) = stays_near
 step_leaves t (MakeDirAt d name) = leaves_near (node_made_leaves t d name new_directory refl)
 step_leaves t (SymlinkAt text d name) = leaves_near (node_made_leaves t d name (new_link text) refl)
+step_leaves t (LinkAt old old_name new new_name) =
+    added_near t new new_name (child t old old_name) (λ n is. child_near t old old_name n is (Contains-here old (new ∷ [])))
+step_leaves t (RenameAt old old_name new new_name requires_dir) =
+    renamed_near t old old_name new new_name (λ n is. child_near t old old_name n is (Contains-here old (new ∷ [])))
 step_leaves t (UnlinkAt d name) = leaves_near (dropped_leaves t d name one_name_less (child t d name) fewer_names)
 step_leaves t (RemoveDirAt d name) = leaves_near (dropped_leaves t d name made_gone (child t d name) gone_names)
+step_leaves t (TimesAt d name atime mtime) = leaves_near (times_if_leaves t atime mtime (child t d name))
 step_leaves t (Access d) = stays_near
 step_leaves t (Stat n) = stays_near
+step_leaves t (SetTimes n atime mtime) = leaves_near (times_leaves t n atime mtime)
 step_leaves t (Pread file offset n) = stays_near
 step_leaves t (Pwrite file offset piece) = leaves_near (write_leaves t file.node offset piece)
-step_leaves t (Dup held) = stays_near
+step_leaves t (ListDir stands) = stays_near
+step_leaves t (Dup stands) = stays_near
 step_leaves t Close = stays_near

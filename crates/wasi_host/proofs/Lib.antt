@@ -5,7 +5,10 @@ pub mod Pieces
 pub mod EntryLemmas
 pub mod Carrying
 pub mod Making
+pub mod Linking
 pub mod Dropping
+pub mod BelowLemmas
+pub mod Moving
 pub mod ValidSteps
 pub mod Times
 pub mod Leaving

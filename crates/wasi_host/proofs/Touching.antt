@@ -1,33 +1,31 @@
 -- Which nodes calls of a host touch.
 use Rattle.std.proofs.Common.{ℕ, ◌≡◌, ◌⊎◌, inl, inr, true, false, cond, Bool, ◌||◌, List, [], ◌∷◌, ◌++◌, Option, Some, None, refl, sym, ap, subst, ◌∙◌, arith, nat_eq}
 use Rattle.std.specs.Prelude.{All, Contains, option_to_list, is_none}
-use Rattle.std.specs.FinMap as map
 use Rattle.std.specs.List.{list_any}
 use Rattle.std.specs.FinSet.{contains}
 use Rattle.std.specs.Cmp.{nat_eq_equiv}
 use Rattle.std.proofs.lemmas.Bool.{eqb-true}
 use Rattle.std.proofs.lemmas.List.Elements.{All-weaker, All-nil, All-cons, Contains-push, Contains-push_cases, Contains-append_cases, Contains-append_right}
 use Rattle.std.proofs.lemmas.Map.Views.{list_any-from_Contains, Contains-from_any}
-use Rattle.wasi_paths.specs.Text.{is_dot_text}
 use Rattle.wasi_host.specs.Options.{Options}
-use Rattle.wasi_host.specs.Tree.{Tree, Nodes, node_at, next_of, names_of, child}
+use Rattle.wasi_host.specs.Tree.{Tree, Nodes, next_of, child}
 use Rattle.wasi_host.specs.ValidTree.{Reached, root, held}
 use Rattle.wasi_host.specs.Agree.{IsMade, OrMade, Touches}
-use Rattle.wasi_host.specs.HostCall.{HostCall, OpenAt, StatAt, ReadLinkAt, MakeDirAt, SymlinkAt, UnlinkAt, RemoveDirAt, Access, Stat, Pread, Pwrite, Dup, Close}
+use Rattle.wasi_host.specs.HostCall.{HostCall, OpenAt, StatAt, ReadLinkAt, MakeDirAt, SymlinkAt, LinkAt, RenameAt, UnlinkAt, RemoveDirAt, TimesAt, Access, Stat, SetTimes, Pread, Pwrite, ListDir, Dup, Close}
 use Rattle.wasi_host.specs.Answer.{reached, or_next}
-use Rattle.wasi_host.specs.Step.{step, open_step, opened_step, directory_made, link_made, new_file, new_directory, new_link, with_nodes, found_by, made_by}
+use Rattle.wasi_host.specs.Step.{step, open_step, opened_step, directory_made, link_made, new_file, new_directory, new_link, with_nodes, found_under, found_by, made_by}
 use Rattle.wasi_host.proofs.Chain.{contains-with_nodes}
-use Rattle.wasi_host.proofs.Leaving.{next_is_made}
+use Rattle.wasi_host.proofs.Leaving.{next_is_made, child_near, Contains-here, starts_of}
 
-or_right : (a b : Bool) → b ≡ true → (a || b) ≡ true
+pub or_right : (a b : Bool) → b ≡ true → (a || b) ≡ true
 or_right true b is = refl
 or_right false b is = is
 
-or_left : (a b : Bool) → a ≡ true → (a || b) ≡ true
+pub or_left : (a b : Bool) → a ≡ true → (a || b) ≡ true
 or_left true b is = refl
 or_left false b is = absurd (cc)
 
-one_of : (a b : Bool) → (a || b) ≡ true → (b ≡ true) ⊎ (a ≡ true)
+pub one_of : (a b : Bool) → (a || b) ≡ true → (b ≡ true) ⊎ (a ≡ true)
 one_of true b is = inr refl
 one_of false b is = inl is
 
@@ -70,15 +68,23 @@ same_node {m} {n} has = elim (Contains-push_cases [] m n has) [ inl none ↦ non
 pub at_root : (t : Tree) (s : ℕ) → Reached t (s ∷ []) s
 at_root t s = root s (Contains-push [] s)
 
-pub reached_on : {t : Tree} {s d n : ℕ} → Reached t (s ∷ []) d → Reached t (d ∷ []) n → Reached t (s ∷ []) n
-reached_on {t} {s} {d} to (root n has) = subst (Reached t (s ∷ [])) (sym (same_node has)) to
-reached_on {t} {s} {d} to (held e n name from at) = held e n name (reached_on to from) at
+-- from nodes that are reached themselves
+pub reached_through : {t : Tree} {roots ds : List ℕ} → ((d : ℕ) → Contains ds d → Reached t roots d) → (n : ℕ)
+    → Reached t ds n → Reached t roots n
+reached_through each _ (root n has) = each n has
+reached_through each _ (held d n name from at) = held d n name (reached_through each d from) at
 
--- first what leaves the tree, and then what is touched from a node that is reached
-pub touches_on : {t t' : Tree} {s d : ℕ} {ends : List ℕ} {a b c : Nodes} → Touches t t (s ∷ []) [] a b
-    → Reached t (s ∷ []) d
-    → Touches t t' (d ∷ []) ends b c → Touches t t' (s ∷ []) ends a c
-touches_on {t} {t'} {s} first to second = record {
+to_one : {t : Tree} {roots : List ℕ} {d : ℕ} → Reached t roots d → (n : ℕ) → Contains (d ∷ []) n → Reached t roots n
+to_one {t} {roots} to n has = subst (Reached t roots) (sym (same_node has)) to
+
+pub reached_on : {t : Tree} {s d n : ℕ} → Reached t (s ∷ []) d → Reached t (d ∷ []) n → Reached t (s ∷ []) n
+reached_on {n = n} to from = reached_through (to_one to) n from
+
+-- first what leaves the tree, and then what is touched from nodes that are reached
+pub touches_through : {t t' : Tree} {roots ds ends : List ℕ} {a b c : Nodes} → Touches t t roots [] a b
+    → ((d : ℕ) → Contains ds d → Reached t roots d)
+    → Touches t t' ds ends b c → Touches t t' roots ends a c
+touches_through first each second = record {
   stays = λ n is. second.stays n (first.stays n is);
   near = λ n is. elim (second.near n is) [
     | inl before ↦ elim (first.near n before) [
@@ -86,63 +92,61 @@ touches_on {t} {t'} {s} first to second = record {
       | inr (inl near) ↦ inr (inl near)
       | inr (inr made) ↦ absurd (omega (arith, made.fresh, made.there))
     ]
-    | inr (inl near) ↦ inr (inl (reached_on to near))
+    | inr (inl near) ↦ inr (inl (reached_through each n near))
     | inr (inr made) ↦ inr (inr made)
   ];
   ends = second.ends;
 }
 
--- ---- the nodes to which a call comes
+pub touches_on : {t t' : Tree} {s d : ℕ} {ends : List ℕ} {a b c : Nodes} → Touches t t (s ∷ []) [] a b
+    → Reached t (s ∷ []) d
+    → Touches t t' (d ∷ []) ends b c → Touches t t' (s ∷ []) ends a c
+touches_on first to second = touches_through first (to_one to) second
 
--- the node from which a call looks up
-abbrev pub from_node : HostCall → ℕ
-from_node (OpenAt d name o) = d
-from_node (StatAt d name) = d
-from_node (ReadLinkAt d name) = d
-from_node (MakeDirAt d name) = d
-from_node (SymlinkAt text d name) = d
-from_node (UnlinkAt d name) = d
-from_node (RemoveDirAt d name) = d
-from_node (Access d) = d
-from_node (Stat n) = n
-from_node (Pread file offset n) = file.node
-from_node (Pwrite file offset piece) = file.node
-from_node (Dup stands) = stands.node
-from_node Close = 0
+-- ---- the nodes to which a call comes
 
 -- the node under a name is reached from its directory
 pub child_reached : (t : Tree) (d n : ℕ) (name : List ℕ) → child t d name ≡ Some n → Reached t (d ∷ []) n
-unfolding child
-child_reached t d n name is = by (is_dot_text name) is
-  where
-    by : (dot : Bool) → cond dot (Some d) (map.get (names_of (node_at t d).content) name) ≡ Some n
-        → Reached t (d ∷ []) n
-    by true same = let at : d ≡ n = (cc) in subst (Reached t (d ∷ [])) at (at_root t d)
-    by false at = held d n name (at_root t d) at
+child_reached t d n name is = child_near t d name n is (Contains-here d [])
 
-near_name : (t : Tree) (d n : ℕ) (name : List ℕ) → Contains (d ∷ option_to_list (child t d name)) n
-    → Reached t (d ∷ []) n
-near_name t d n name has = elim (Contains-append_cases (d ∷ []) (option_to_list (child t d name)) n has) [
-  | inl here ↦ root n here
-  | inr other ↦ by (child t d name) refl other
-]
+near_name : (t : Tree) {roots : List ℕ} (d n : ℕ) (name : List ℕ) → Contains roots d → Contains (found_under t d name) n
+    → Reached t roots n
+near_name t {roots} d n name from has =
+    elim (Contains-append_cases (d ∷ []) (option_to_list (child t d name)) n has) [
+      | inl here ↦ subst (Reached t roots) (sym (same_node here)) (root d from)
+      | inr other ↦ by (child t d name) refl other
+    ]
   where
-    by : (c : Option ℕ) → child t d name ≡ c → Contains (option_to_list c) n → Reached t (d ∷ []) n
+    by : (c : Option ℕ) → child t d name ≡ c → Contains (option_to_list c) n → Reached t roots n
     by None is has' = none_in has'
-    by (Some m) is has' = child_reached t d n name (is ∙ ap Some (sym (same_node has')))
+    by (Some m) is has' = child_near t d name n (is ∙ ap Some (sym (same_node has'))) from
 
-pub found_near : (t : Tree) (call : HostCall) (n : ℕ) → Contains (found_by t call) n → Reached t (from_node call ∷ []) n
-found_near t (OpenAt d name o) n has = near_name t d n name has
-found_near t (StatAt d name) n has = near_name t d n name has
-found_near t (ReadLinkAt d name) n has = near_name t d n name has
-found_near t (MakeDirAt d name) n has = near_name t d n name has
-found_near t (SymlinkAt text d name) n has = near_name t d n name has
-found_near t (UnlinkAt d name) n has = near_name t d n name has
-found_near t (RemoveDirAt d name) n has = near_name t d n name has
+-- from the nodes of its handles
+pub found_near : (t : Tree) (call : HostCall) (n : ℕ) → Contains (found_by t call) n → Reached t (starts_of call) n
+found_near t (OpenAt d name o) n has = near_name t d n name (Contains-here d []) has
+found_near t (StatAt d name) n has = near_name t d n name (Contains-here d []) has
+found_near t (ReadLinkAt d name) n has = near_name t d n name (Contains-here d []) has
+found_near t (MakeDirAt d name) n has = near_name t d n name (Contains-here d []) has
+found_near t (SymlinkAt text d name) n has = near_name t d n name (Contains-here d []) has
+found_near t (LinkAt old old_name new new_name) n has =
+    elim (Contains-append_cases (found_under t old old_name) (found_under t new new_name) n has) [
+      | inl first ↦ near_name t old n old_name (Contains-here old (new ∷ [])) first
+      | inr second ↦ near_name t new n new_name (Contains-push (old ∷ []) new) second
+    ]
+found_near t (RenameAt old old_name new new_name requires_dir) n has =
+    elim (Contains-append_cases (found_under t old old_name) (found_under t new new_name) n has) [
+      | inl first ↦ near_name t old n old_name (Contains-here old (new ∷ [])) first
+      | inr second ↦ near_name t new n new_name (Contains-push (old ∷ []) new) second
+    ]
+found_near t (UnlinkAt d name) n has = near_name t d n name (Contains-here d []) has
+found_near t (RemoveDirAt d name) n has = near_name t d n name (Contains-here d []) has
+found_near t (TimesAt d name atime mtime) n has = near_name t d n name (Contains-here d []) has
 found_near t (Access d) n has = root n has
 found_near t (Stat m) n has = root n has
+found_near t (SetTimes m atime mtime) n has = root n has
 found_near t (Pread file offset m) n has = root n has
 found_near t (Pwrite file offset piece) n has = root n has
+found_near t (ListDir stands) n has = root n has
 found_near t (Dup stands) n has = none_in has
 found_near t Close n has = none_in has
 
@@ -162,12 +166,17 @@ made_new t (MakeDirAt d name) n has =
     subst (IsMade t (directory_made t d name)) (sym (same_node has)) (next_is_made t d name new_directory)
 made_new t (SymlinkAt text d name) n has =
     subst (IsMade t (link_made t d name text)) (sym (same_node has)) (next_is_made t d name (new_link text))
+made_new t (LinkAt old old_name new new_name) n has = none_in has
+made_new t (RenameAt old old_name new new_name requires_dir) n has = none_in has
 made_new t (UnlinkAt d name) n has = none_in has
 made_new t (RemoveDirAt d name) n has = none_in has
+made_new t (TimesAt d name atime mtime) n has = none_in has
 made_new t (Access d) n has = none_in has
 made_new t (Stat m) n has = none_in has
+made_new t (SetTimes m atime mtime) n has = none_in has
 made_new t (Pread file offset m) n has = none_in has
 made_new t (Pwrite file offset piece) n has = none_in has
+made_new t (ListDir stands) n has = none_in has
 made_new t (Dup stands) n has = none_in has
 made_new t Close n has = none_in has
 

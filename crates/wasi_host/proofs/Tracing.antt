@@ -1,8 +1,8 @@
 -- Lemmas for callers of a host, on the look-ups that they add.
 use Rattle.std.proofs.Common.{◌≡◌, ◌⊎◌, inl, inr, ℕ, List, [], ◌∷◌, ◌++◌, Option, Some, None, Result, Ok, Err, refl, sym, ap, ◌∙◌, append_assoc}
 use Rattle.std.proofs.lemmas.List.{append-nil}
-use Rattle.wasi_host.specs.Meaning.{Logged, LoggedErr, MaybeLogged, got_by}
-use Rattle.wasi_host.specs.Lineage.{OrGot, OrGotIn, HasLineage, Traced, Only, Nothing}
+use Rattle.wasi_host.specs.Meaning.{Logged, LoggedErr, MaybeLogged, LoggedTwo, MaybeLoggedTwo, both_looked, got_by}
+use Rattle.wasi_host.specs.Lineage.{OrGot, OrGotIn, HasLineage, Traced, Only, OneOf, Nothing}
 use Rattle.wasi_host.specs.declared.errors.ErrorCode.TheVariants.{Io}
 use Rattle.wasi_host.specs.declared.errors.HostError.{HostError}
 use Rattle.wasi_host.specs.declared.errors.HostError.TheVariants.{Code, Memory}
@@ -101,6 +101,30 @@ traced_call kind from (Ok a) logged = record {
   ends = λ h none. absurd none;
 }
 traced_call {old = old} {new = new} kind from (Err e) logged = traced_err old new kind from e logged
+
+-- a call with two names
+both_traced : {before now : List Lookup} (kind : LookKind) (old new : ℕ) → now ≡ before ++ both_looked kind old new
+    → Traced (OneOf old new) Nothing Nothing before now
+both_traced kind old new adds = record {
+  piece = both_looked kind old new;
+  adds = adds;
+  lineage = (inl refl, (inr refl, tt));
+  ends = λ h none. absurd none;
+}
+
+maybe_both : {before now : List Lookup} (kind : LookKind) (old new : ℕ) → MaybeLoggedTwo before kind old new now
+    → Traced (OneOf old new) Nothing Nothing before now
+maybe_both {before = before} {now = now} kind old new logged = elim logged [
+  | inl same ↦ traced_none (OneOf old new) Nothing Nothing before now same (λ q none. none)
+  | inr adds ↦ both_traced kind old new adds
+]
+
+pub traced_two : {A : Type 0} {before now : List Lookup} (kind : LookKind) (old new : ℕ) (r : Result A HostError)
+    → LoggedTwo before kind old new r now → Traced (OneOf old new) Nothing Nothing before now
+traced_two kind old new (Ok a) logged = both_traced kind old new logged
+traced_two kind old new (Err Memory) logged = maybe_both kind old new logged
+traced_two kind old new (Err (Code Io)) logged = maybe_both kind old new logged
+traced_two kind old new (Err (Code code)) logged = both_traced kind old new logged
 
 -- ---- the same in other words
 

@@ -1,27 +1,32 @@
 -- The step of a call that isn't refused keeps a valid tree valid.
-use Rattle.std.proofs.Common.{◌≡◌, ◌⊎◌, ℕ, ◌+◌, ◌<◌, ◌≤◌, Bool, true, false, cond, List, [], ◌∷◌, ◌++◌, length, Option, Some, None, inl, inr, refl, sym, ap, ◌∙◌, subst, arith}
+use Rattle.std.proofs.Common.{◌≡◌, ◌≢◌, nat_eq, ◌⊎◌, ℕ, ◌+◌, ◌<◌, ◌≤◌, Bool, true, false, cond, List, [], ◌∷◌, ◌++◌, length, Option, Some, None, inl, inr, refl, sym, ap, ◌∙◌, subst, arith}
 use Rattle.std.specs.Prelude.{IsTrue}
 use Rattle.std.specs.FinMap as maps
 use Rattle.std.specs.Str.{IsUtf8}
-use Rattle.std.proofs.lemmas.Bool.{cases_eq, cases_lt}
+use Rattle.std.proofs.lemmas.Bool.{true≢false, cases_eq, cases_lt}
 use Rattle.std.proofs.lemmas.List.{set_past}
 use Rattle.std.proofs.lemmas.List.Sums.{sum_by-set}
 use Rattle.wasi_paths.specs.Text.{is_dot_text, is_long, IsName}
-use Rattle.wasi_host.specs.Tree.{Tree, Node, Nodes, Content, File, Directory, Link, node_at, next_of, names_of, is_file, is_directory, is_gone, stray, child}
+use Rattle.wasi_host.specs.Tree.{Tree, Node, Nodes, Content, File, Directory, Link, node_at, next_of, names_of, is_file, is_directory, is_gone, links_of, stray, child, hold_one}
+use Rattle.wasi_host.specs.Below.{is_below}
 use Rattle.wasi_host.specs.ValidTree.{are_bytes, has_nul, is_entry_name, names_for, name_count, IsValidContent, IsValidTree}
 use Rattle.wasi_host.specs.Options.{Options}
-use Rattle.wasi_host.specs.HostCall.{HostCall, OpenAt, StatAt, ReadLinkAt, MakeDirAt, SymlinkAt, UnlinkAt, RemoveDirAt, Access, Stat, Pread, Pwrite, Dup, Close, CanBeAsked}
-use Rattle.wasi_host.specs.Refusal.{refusal, first_row, directory_row, name_rows, making_rows, text_rows}
-use Rattle.wasi_host.specs.Step.{with_nodes, directory_made, link_made, no_bytes, is_cut, file_cut, opened_step, open_step, piece_in, bytes_put, write_step, one_name_less, made_gone, dropped_step, unlink_step, remove_step, step, with_piece}
+use Rattle.wasi_host.specs.HostCall.{HostCall, OpenAt, StatAt, ReadLinkAt, MakeDirAt, SymlinkAt, LinkAt, RenameAt, UnlinkAt, RemoveDirAt, TimesAt, Access, Stat, SetTimes, Pread, Pwrite, ListDir, Dup, Close, CanBeAsked}
+use Rattle.wasi_host.specs.Refusal.{refusal, first_row, directory_row, name_rows, making_rows, renaming_rows, moving_rows, text_rows}
+use Rattle.wasi_host.specs.Step.{with_nodes, directory_made, link_made, no_bytes, is_cut, file_cut, opened_step, open_step, piece_in, bytes_put, write_step, one_name_less, made_gone, dropped_step, unlink_step, remove_step, rename_step, moved_step, name_lost, name_moved, link_step, added_step, with_times, times_set, times_set_if, times_step, step, with_piece}
 use Rattle.wasi_host.specs.declared.errors.ErrorCode.{ErrorCode}
 use Rattle.wasi_host.specs.declared.held.Held.{Held}
+use Rattle.wasi_host.specs.declared.system_time.SystemTime.{SystemTime}
 use Rattle.wasi_host.specs.declared.limits.TheConstants.{FILE_MAX, LINK_MAX}
 use Rattle.wasi_host.proofs.Changes as changes
 use Rattle.wasi_host.proofs.Changes.{changed, next_of-changed, directory_within}
 use Rattle.wasi_host.proofs.Pieces.{length-with_piece, are_bytes-with_piece}
-use Rattle.wasi_host.proofs.EntryLemmas.{times}
+use Rattle.wasi_host.proofs.EntryLemmas.{times, nat_eq-refl}
 use Rattle.wasi_host.proofs.Carrying.{Carries, content_still, valid_still, reached_still, named_within}
 use Rattle.wasi_host.proofs.Making.{Lacks, valid-file, valid-directory, valid-link}
+use Rattle.wasi_host.proofs.Linking.{valid-added}
+use Rattle.wasi_host.proofs.BelowLemmas.{is_below-Decides}
+use Rattle.wasi_host.proofs.Moving.{valid-moved, valid-replaced}
 use Rattle.wasi_host.proofs.Dropping.{valid-unlinked, valid-removed}
 
 -- ---- a file with other bytes
@@ -58,57 +63,6 @@ valid-piece_in t n (File bytes links) offset piece are fits v =
 valid-piece_in t n (Directory names gone) offset piece are fits v = v
 valid-piece_in t n (Link text links) offset piece are fits v = v
 
-module _ (t : Tree) (n : ℕ) (content : Content) (worked : Nodes) (bytes : HasBytes (node_at t n).content content)
-    (within : n < next_of t) where
-  abbrev other : Node
-  other = record (node_at t n) { content = content }
-
-  abbrev written : Tree
-  written = changed t n other worked
-
-  same_at : {B : Type 0} (f : Node → B) → f other ≡ f (node_at t n) → (k : ℕ) → f (node_at written k) ≡ f (node_at t k)
-  same_at f same k = changes.node_at-same t n other worked within f same k
-
-  names_of-written : (k : ℕ) → names_of (node_at written k).content ≡ names_of (node_at t k).content
-  names_of-written k = same_at (λ node. names_of node.content) bytes.names k
-
-  name_count-written : (k : ℕ) → name_count written k ≡ name_count t k
-  unfolding node_at
-  name_count-written k =
-      let same : names_for k other ≡ names_for k (node_at t n) =
-      ap (λ names. times k (maps.values names)) bytes.names in
-      omega (arith, sum_by-set (names_for k) t.nodes n other stray within, same)
-
-  carries-written : (k : ℕ) → Carries t written k
-  carries-written k = record {
-    limits = refl;
-    next = omega (arith, next_of-changed t n other worked);
-    count = name_count-written k;
-    reached = reached_still t written (λ d m name is. ap (λ names. maps.get names name) (names_of-written d) ∙ is) k;
-    directory = same_at (λ node. is_directory node.content) bytes.directory k;
-    gone = same_at (λ node. is_gone node.content) bytes.gone k;
-    emptied = λ gone. names_of-written k;
-  }
-
-  valid-written : IsValidTree t → IsValidContent t n content → IsValidTree written
-  valid-written valid fits =
-      let next : next_of written ≡ next_of t = next_of-changed t n other worked in
-      valid_still t written (carries-written 0) valid (omega (arith, next, valid.numbers)) (λ k h.
-      let before : k < next_of t = omega (arith, next, h) in
-      elim (cases_eq k n) [
-        | inl here ↦
-            rw (here, changes.node_at-changed t n other worked within) (content_still (carries-written n) content fits)
-        | inr apart ↦
-            rw (changes.node_at-other t n other worked within k apart)
-            (content_still (carries-written k) (node_at t k).content (valid.nodes k before))
-      ])
-
-valid-cut : (t : Tree) (n : ℕ) → n < next_of t → IsValidTree t → IsValidTree (file_cut t n)
-valid-cut t n within valid =
-    let content : Content = (node_at t n).content in
-    valid-written t n (no_bytes content) (with_nodes t.worked (n ∷ [])) (has_no_bytes content) within valid
-    (valid-no_bytes t n content (valid.nodes n within))
-
 -- validity doesn't look at what was worked on
 valid-worked : (t : Tree) (worked : Nodes) → IsValidTree t → IsValidTree (record t { worked = worked })
 unfolding node_at
@@ -126,21 +80,80 @@ valid-worked t worked valid =
     valid_still t u (carries 0) valid valid.numbers (λ k h.
     content_still (carries k) (node_at t k).content (valid.nodes k h))
 
+-- a node in the place of one that has the same names
+module _ (t : Tree) (n : ℕ) (other : Node) (worked : Nodes)
+    (same : HasBytes (node_at t n).content other.content) where
+  abbrev written : Tree
+  written = changed t n other worked
+
+  module _ (within : n < next_of t) where
+    same_at : {B : Type 0} (f : Node → B) → f other ≡ f (node_at t n) → (k : ℕ)
+        → f (node_at written k) ≡ f (node_at t k)
+    same_at f is k = changes.node_at-same t n other worked within f is k
+
+    names_of-written : (k : ℕ) → names_of (node_at written k).content ≡ names_of (node_at t k).content
+    names_of-written k = same_at (λ node. names_of node.content) same.names k
+
+    name_count-written : (k : ℕ) → name_count written k ≡ name_count t k
+    unfolding node_at
+    name_count-written k =
+        let is : names_for k other ≡ names_for k (node_at t n) =
+        ap (λ names. times k (maps.values names)) same.names in
+        omega (arith, sum_by-set (names_for k) t.nodes n other stray within, is)
+
+    carries-written : (k : ℕ) → Carries t written k
+    carries-written k = record {
+      limits = refl;
+      next = omega (arith, next_of-changed t n other worked);
+      count = name_count-written k;
+      reached = reached_still t written (λ d m name is. ap (λ names. maps.get names name) (names_of-written d) ∙ is) k;
+      directory = same_at (λ node. is_directory node.content) same.directory k;
+      gone = same_at (λ node. is_gone node.content) same.gone k;
+      emptied = λ gone. names_of-written k;
+    }
+
+    valid-within : IsValidTree t → IsValidContent t n other.content → IsValidTree written
+    valid-within valid fits =
+        let next : next_of written ≡ next_of t = next_of-changed t n other worked in
+        valid_still t written (carries-written 0) valid (omega (arith, next, valid.numbers)) (λ k h.
+        let before : k < next_of t = omega (arith, next, h) in
+        elim (cases_eq k n) [
+          | inl here ↦
+              rw (here, changes.node_at-changed t n other worked within)
+              (content_still (carries-written n) other.content fits)
+          | inr apart ↦
+              rw (changes.node_at-other t n other worked within k apart)
+              (content_still (carries-written k) (node_at t k).content (valid.nodes k before))
+        ])
+
+  -- nothing changes at a number that is out of range
+  valid-written : IsValidTree t → (n < next_of t → IsValidContent t n other.content) → IsValidTree written
+  valid-written valid fits = elim (cases_lt n (next_of t)) [
+    | inl within ↦ valid-within within valid (fits within)
+    | inr past ↦
+        subst (λ nodes. IsValidTree (record t { nodes = nodes; worked = worked })) (sym (set_past t.nodes n other past))
+        (valid-worked t worked valid)
+  ]
+
+valid-cut : (t : Tree) (n : ℕ) → IsValidTree t → IsValidTree (file_cut t n)
+valid-cut t n valid =
+    let content : Content = (node_at t n).content in
+    valid-written t n (record (node_at t n) { content = no_bytes content }) (with_nodes t.worked (n ∷ []))
+    (has_no_bytes content) valid (λ within. valid-no_bytes t n content (valid.nodes n within))
+
 valid-put : (t : Tree) (n offset : ℕ) (piece : List ℕ) → IsTrue (are_bytes piece) → offset + length piece ≤ FILE_MAX
     → IsValidTree t → IsValidTree (bytes_put t n offset piece)
 valid-put t n offset piece are fits valid =
     let content : Content = (node_at t n).content in
-    elim (cases_lt n (next_of t)) [
-      | inl within ↦
-          valid-written t n (piece_in content offset piece) (with_nodes t.worked (n ∷ []))
-          (has_piece content offset piece) within valid
-          (valid-piece_in t n content offset piece are fits (valid.nodes n within))
-      | inr past ↦
-          let worked : Nodes = with_nodes t.worked (n ∷ []) in
-          let same = set_past t.nodes n (record (node_at t n) { content = piece_in content offset piece }) past in
-          subst (λ nodes. IsValidTree (record t { nodes = nodes; worked = worked })) (sym same)
-          (valid-worked t worked valid)
-    ]
+    valid-written t n (record (node_at t n) { content = piece_in content offset piece }) (with_nodes t.worked (n ∷ []))
+    (has_piece content offset piece) valid
+    (λ within. valid-piece_in t n content offset piece are fits (valid.nodes n within))
+
+valid-times : (t : Tree) (n : ℕ) (atime mtime : Option SystemTime) → IsValidTree t
+    → IsValidTree (times_set t n atime mtime)
+valid-times t n atime mtime valid =
+    valid-written t n (with_times (node_at t n) atime mtime) (with_nodes t.worked (n ∷ []))
+    (record { names = refl; file = refl; directory = refl; gone = refl }) valid (λ within. valid.nodes n within)
 
 -- ---- what the rows leave
 
@@ -221,6 +234,96 @@ removes : (t : Tree) (d n : ℕ) (name : List ℕ) → refusal t (RemoveDirAt d 
 unfolding refusal
 removes t d n name none found = (grind arith, grind arith, grind arith, grind arith)
 
+-- of a name that is to be added to the node of another
+record CanAdd (t : Tree) (old new n : ℕ) (new_name : List ℕ) : Type 0 where
+  pub old_directory : is_directory (node_at t old).content ≡ true
+  pub directory : is_directory (node_at t new).content ≡ true
+  pub no_nul : has_nul new_name ≡ false
+  pub short : is_long new_name ≡ false
+  pub missing : child t new new_name ≡ None
+  pub stays : is_gone (node_at t new).content ≡ false
+  pub leaf : is_directory (node_at t n).content ≡ false
+  pub room : links_of (node_at t n).content < t.limits.links
+
+links : (t : Tree) (old new n : ℕ) (old_name new_name : List ℕ) → refusal t (LinkAt old old_name new new_name) ≡ None
+    → child t old old_name ≡ Some n → CanAdd t old new n new_name
+unfolding refusal
+links t old new n old_name new_name none found = record {
+  old_directory = grind arith;
+  directory = grind arith;
+  no_nul = grind arith;
+  short = grind arith;
+  missing = grind arith;
+  stays = grind arith;
+  leaf = grind arith;
+  room = grind arith;
+}
+
+-- of a name that is to move
+record MayMove (t : Tree) (old : ℕ) (old_name : List ℕ) (new : ℕ) (new_name : List ℕ) (n : ℕ) : Type 0 where
+  pub old_directory : is_directory (node_at t old).content ≡ true
+  pub directory : is_directory (node_at t new).content ≡ true
+  pub no_nul : has_nul new_name ≡ false
+  pub short : is_long new_name ≡ false
+  pub old_plain : is_dot_text old_name ≡ false
+  pub plain : is_dot_text new_name ≡ false
+  pub below : is_below t n new ≡ false
+  pub stays : is_gone (node_at t new).content ≡ false
+  pub bare : (m : ℕ) → child t new new_name ≡ Some m → is_directory (node_at t m).content ≡ true
+      → maps.len (names_of (node_at t m).content) ≡ 0
+
+is_directory_row : (t : Tree) (d : ℕ) → first_row (directory_row t d) ≡ None → is_directory (node_at t d).content ≡ true
+is_directory_row t d none = grind arith
+
+fits_rows : (t : Tree) (d : ℕ) (name : List ℕ) → first_row (name_rows t d name) ≡ None
+    → (has_nul name ≡ false) × (is_long name ≡ false)
+fits_rows t d name none = (grind arith, grind arith)
+
+renames : (t : Tree) (old : ℕ) (old_name : List ℕ) (new : ℕ) (new_name : List ℕ) (requires_dir : Bool) (n : ℕ)
+    → first_row (renaming_rows t old old_name new new_name requires_dir) ≡ None → child t old old_name ≡ Some n
+    → (is_dot_text old_name ≡ false) × (is_dot_text new_name ≡ false) × (is_below t n new ≡ false)
+renames t old old_name new new_name requires_dir n none found = (grind arith, grind arith, grind arith)
+
+-- what it replaces has no names
+replaces : (t : Tree) (old : ℕ) (old_name : List ℕ) (new : ℕ) (new_name : List ℕ) (m : ℕ)
+    → first_row (moving_rows t old old_name new new_name) ≡ None → child t new new_name ≡ Some m
+    → (is_directory (node_at t m).content ≡ true) → maps.len (names_of (node_at t m).content) ≡ 0
+replaces t old old_name new new_name m none holds directory = grind arith
+
+lasts : (t : Tree) (old : ℕ) (old_name : List ℕ) (new : ℕ) (new_name : List ℕ)
+    → first_row (moving_rows t old old_name new new_name) ≡ None → is_gone (node_at t new).content ≡ false
+lasts t old old_name new new_name none = grind arith
+
+may_move : (t : Tree) (old : ℕ) (old_name : List ℕ) (new : ℕ) (new_name : List ℕ) (requires_dir : Bool) (n : ℕ)
+    → refusal t (RenameAt old old_name new new_name requires_dir) ≡ None → child t old old_name ≡ Some n
+    → hold_one (child t old old_name) (child t new new_name) ≡ false → MayMove t old old_name new new_name n
+unfolding refusal
+may_move t old old_name new new_name requires_dir n none found two =
+    let one : Bool = hold_one (child t old old_name) (child t new new_name) in
+    let last : List (Bool × ErrorCode) = cond one [] (moving_rows t old old_name new new_name) in
+    let rows : List (Bool × ErrorCode) = renaming_rows t old old_name new new_name requires_dir ++ last in
+    let first = no_row (directory_row t old)
+    (directory_row t new ++ (name_rows t old old_name ++ (name_rows t new new_name ++ rows))) none in
+    let second = no_row (directory_row t new) (name_rows t old old_name ++ (name_rows t new new_name ++ rows)) first.1 in
+    let third = no_row (name_rows t old old_name) (name_rows t new new_name ++ rows) second.1 in
+    let fourth = no_row (name_rows t new new_name) rows third.1 in
+    let fifth = no_row (renaming_rows t old old_name new new_name requires_dir) last fourth.1 in
+    let fits = fits_rows t new new_name fourth.0 in
+    let named = renames t old old_name new new_name requires_dir n fifth.0 found in
+    let moves : first_row (moving_rows t old old_name new new_name) ≡ None =
+    subst (λ b. first_row (cond b [] (moving_rows t old old_name new new_name)) ≡ None) two fifth.1 in
+    record {
+      old_directory = is_directory_row t old first.0;
+      directory = is_directory_row t new second.0;
+      no_nul = fits.0;
+      short = fits.1;
+      old_plain = named.0;
+      plain = named.1;
+      below = named.2;
+      stays = lasts t old old_name new new_name moves;
+      bare = λ m holds. replaces t old old_name new new_name m moves holds;
+    }
+
 -- ---- the names of the calls
 
 is_named : (name : List ℕ) → is_dot_text name ≡ false → IsName name → has_nul name ≡ false → is_long name ≡ false
@@ -256,16 +359,22 @@ unfolding child
 found_name t d n name not_dot is =
     ap (λ b. child_by b d (maps.get (names_of (node_at t d).content) name)) (sym not_dot) ∙ is
 
-lacks_name : (t : Tree) (d : ℕ) (name : List ℕ) → IsName name → CanMake t d name → Lacks t d name
-lacks_name t d name is may =
-    let missing = missing_name t d name may.missing in
+-- a name that may be given
+lacks_this : (t : Tree) (d : ℕ) (name : List ℕ) → IsName name → is_directory (node_at t d).content ≡ true
+    → has_nul name ≡ false → is_long name ≡ false → child t d name ≡ None → is_gone (node_at t d).content ≡ false
+    → Lacks t d name
+lacks_this t d name is directory no_nul short missing stays =
+    let lacks = missing_name t d name missing in
     record {
-      directory = may.directory;
-      stays = may.stays;
-      missing = missing.1;
-      good = is_named name missing.0 is may.no_nul may.short;
+      directory = directory;
+      stays = stays;
+      missing = lacks.1;
+      good = is_named name lacks.0 is no_nul short;
       utf8 = is.utf8;
     }
+
+lacks_name : (t : Tree) (d : ℕ) (name : List ℕ) → IsName name → CanMake t d name → Lacks t d name
+lacks_name t d name is may = lacks_this t d name is may.directory may.no_nul may.short may.missing may.stays
 
 -- the node of a name is in the tree
 pub child_within : (t : Tree) (d n : ℕ) (name : List ℕ) → IsValidTree t → is_directory (node_at t d).content ≡ true
@@ -287,7 +396,7 @@ valid-opened t d name o valid is none None missing =
     valid-file (lacks_name t d name is may) valid may.room
 valid-opened t d name o valid is none (Some n) found =
     elim (is_cut o (node_at t n).content) as (λ b. IsValidTree (cond b (file_cut t n) t)) [
-      | true ↦ valid-cut t n (child_within t d n name valid (open_directory t d name o none).0 found) valid
+      | true ↦ valid-cut t n valid
       | false ↦ valid
     ]
 
@@ -306,6 +415,81 @@ valid-symlink t d name text valid utf8 is none =
     let may = rows.1 in
     let fits = text_fits text rows.0 in
     valid-link (lacks_name t d name is may) valid may.room text fits.0 fits.1 utf8 fits.2
+
+valid-link_at : (t : Tree) (old new : ℕ) (old_name new_name : List ℕ) → IsValidTree t → IsName new_name
+    → refusal t (LinkAt old old_name new new_name) ≡ None
+    → (found : Option ℕ) → child t old old_name ≡ found → IsValidTree (added_step t new new_name found)
+valid-link_at t old new old_name new_name valid is none None missing = valid
+valid-link_at t old new old_name new_name valid is none (Some n) found =
+    let can = links t old new n old_name new_name none found in
+    valid-added (lacks_this t new new_name is can.directory can.no_nul can.short can.missing can.stays) valid
+    (record {
+      within = child_within t old n old_name valid can.old_directory found;
+      leaf = can.leaf;
+      room = can.room;
+    })
+
+-- what has no names of its own
+bare_if : (content : Content) → (is_directory content ≡ true → maps.len (names_of content) ≡ 0)
+    → names_of content ≡ maps.empty
+bare_if (File bytes links) bare = refl
+bare_if (Directory names gone) bare = maps.empty_of_len names (bare refl)
+bare_if (Link text links) bare = refl
+
+-- two names that hold two nodes
+two_nodes : (n m : ℕ) → nat_eq n m ≡ false → n ≢ m
+two_nodes n m two same = true≢false (sym (ap (nat_eq n) (sym same) ∙ nat_eq-refl n) ∙ two)
+
+module _ (t : Tree) (old : ℕ) (old_name : List ℕ) (new : ℕ) (new_name : List ℕ) (requires_dir : Bool)
+    (valid : IsValidTree t) (is : IsName new_name)
+    (none : refusal t (RenameAt old old_name new new_name requires_dir) ≡ None)
+    (two : hold_one (child t old old_name) (child t new new_name) ≡ false) where
+  valid-moves : (n : ℕ) → child t old old_name ≡ Some n → (held : Option ℕ) → child t new new_name ≡ held
+      → IsValidTree (name_moved (dropped_step t new new_name name_lost held) old old_name new new_name n)
+  valid-moves n found None missing =
+      let may = may_move t old old_name new new_name requires_dir n none found two in
+      let within = child_within t old n old_name valid may.old_directory found in
+      valid-moved (record {
+        directory = may.old_directory;
+        named = found_name t old n old_name may.old_plain found;
+        lacks = lacks_this t new new_name is may.directory may.no_nul may.short missing may.stays;
+        apart = λ below. true≢false (sym ((is_below-Decides t n new valid within).1 below) ∙ may.below);
+      }) valid
+  valid-moves n found (Some m) holds =
+      let may = may_move t old old_name new new_name requires_dir n none found two in
+      let within = child_within t old n old_name valid may.old_directory found in
+      valid-replaced (record {
+        directory = may.old_directory;
+        named = found_name t old n old_name may.old_plain found;
+        drops = record {
+          directory = may.directory;
+          named = found_name t new m new_name may.plain holds;
+          bare = bare_if (node_at t m).content (may.bare m holds);
+        };
+        good = is_named new_name may.plain is may.no_nul may.short;
+        utf8 = is.utf8;
+        stays = may.stays;
+        below = λ below. true≢false (sym ((is_below-Decides t n new valid within).1 below) ∙ may.below);
+        other = two_nodes n m (ap (λ c. hold_one c (Some m)) (sym found)
+            ∙ ap (hold_one (child t old old_name)) (sym holds) ∙ two);
+      }) valid
+
+  valid-moves_if : (found : Option ℕ) → child t old old_name ≡ found
+      → IsValidTree (moved_step t old old_name new new_name found)
+  valid-moves_if None missing = valid
+  valid-moves_if (Some n) found = valid-moves n found (child t new new_name) refl
+
+valid-rename : (t : Tree) (old : ℕ) (old_name : List ℕ) (new : ℕ) (new_name : List ℕ) (requires_dir : Bool)
+    → IsValidTree t → IsName new_name → refusal t (RenameAt old old_name new new_name requires_dir) ≡ None
+    → IsValidTree (rename_step t old old_name new new_name)
+unfolding rename_step
+valid-rename t old old_name new new_name requires_dir valid is none =
+    by (hold_one (child t old old_name) (child t new new_name)) refl
+  where
+    by : (b : Bool) → hold_one (child t old old_name) (child t new new_name) ≡ b
+        → IsValidTree (cond b t (moved_step t old old_name new new_name (child t old old_name)))
+    by true one = valid
+    by false two = valid-moves_if t old old_name new new_name requires_dir valid is none two (child t old old_name) refl
 
 valid-unlink : (t : Tree) (d : ℕ) (name : List ℕ) → IsValidTree t → refusal t (UnlinkAt d name) ≡ None
     → (found : Option ℕ) → child t d name ≡ found → IsValidTree (dropped_step t d name one_name_less found)
@@ -329,6 +513,11 @@ valid-remove t d name valid none (Some n) found =
       bare = maps.empty_of_len (names_of (node_at t n).content) rows.3;
     }) valid rows.2
 
+valid-times_if : (t : Tree) (atime mtime : Option SystemTime) (found : Option ℕ) → IsValidTree t
+    → IsValidTree (times_set_if t atime mtime found)
+valid-times_if t atime mtime None valid = valid
+valid-times_if t atime mtime (Some n) valid = valid-times t n atime mtime valid
+
 -- a write that isn't refused, of some bytes, ends within the largest file
 write_fits : (t : Tree) (file : Held) (offset byte : ℕ) (bytes : List ℕ)
     → refusal t (Pwrite file offset (byte ∷ bytes)) ≡ None → offset + length (byte ∷ bytes) ≤ FILE_MAX
@@ -344,17 +533,24 @@ valid-write t file offset (byte ∷ bytes) valid are none =
 
 pub valid-step : (t : Tree) (call : HostCall) → IsValidTree t → CanBeAsked call → refusal t call ≡ None
     → IsValidTree (step t call)
-unfolding open_step unlink_step remove_step
+unfolding open_step unlink_step remove_step link_step times_step
 valid-step t (OpenAt d name o) valid asked none = valid-opened t d name o valid asked none (child t d name) refl
 valid-step t (StatAt d name) valid asked none = valid
 valid-step t (ReadLinkAt d name) valid asked none = valid
 valid-step t (MakeDirAt d name) valid asked none = valid-dir_made t d name valid asked none
 valid-step t (SymlinkAt text d name) valid asked none = valid-symlink t d name text valid asked.0 asked.1 none
+valid-step t (LinkAt old old_name new new_name) valid asked none =
+    valid-link_at t old new old_name new_name valid asked.1 none (child t old old_name) refl
+valid-step t (RenameAt old old_name new new_name requires_dir) valid asked none =
+    valid-rename t old old_name new new_name requires_dir valid asked.1 none
 valid-step t (UnlinkAt d name) valid asked none = valid-unlink t d name valid none (child t d name) refl
 valid-step t (RemoveDirAt d name) valid asked none = valid-remove t d name valid none (child t d name) refl
+valid-step t (TimesAt d name atime mtime) valid asked none = valid-times_if t atime mtime (child t d name) valid
 valid-step t (Access d) valid asked none = valid
 valid-step t (Stat n) valid asked none = valid
+valid-step t (SetTimes n atime mtime) valid asked none = valid-times t n atime mtime valid
 valid-step t (Pread file offset n) valid asked none = valid
 valid-step t (Pwrite file offset piece) valid asked none = valid-write t file offset piece valid asked none
+valid-step t (ListDir directory) valid asked none = valid
 valid-step t (Dup handle) valid asked none = valid
 valid-step t Close valid asked none = valid

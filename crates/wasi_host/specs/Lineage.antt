@@ -28,5 +28,9 @@ pub record Traced (Given Kept Kept' : ℕ → Type 0) (old new : List Lookup) : 
 abbrev pub Only : ℕ → ℕ → Type 0
 Only h q = q ≡ h
 
+-- of two handles
+abbrev pub OneOf : ℕ → ℕ → ℕ → Type 0
+OneOf g h q = (q ≡ g) ⊎ (q ≡ h)
+
 abbrev pub Nothing : ℕ → Type 0
 Nothing q = ⊥

@@ -10,7 +10,8 @@ use Rattle.wasi_host.specs.Step.{step, found_by, made_by, with_nodes}
 use Rattle.wasi_host.specs.declared.held.Held.{Held}
 use Rattle.wasi_host.specs.declared.lookup.Lookup.{Lookup}
 use Rattle.wasi_host.specs.declared.lookup.LookKind.{LookKind}
-use Rattle.wasi_host.specs.declared.lookup.LookKind.TheVariants.{Open, Stat, ReadLink, Make, MakeLink, Unlink, RemoveDir, Dup}
+use Rattle.wasi_host.specs.declared.lookup.LookKind.TheVariants.{Open, Stat, ReadLink, Make, MakeLink, Link, Rename, Unlink, RemoveDir, Times, Dup}
+use Rattle.wasi_host.specs.declared.lookup.LookKind.TheVariants as kinds
 use Rattle.wasi_host.specs.declared.errors.ErrorCode.{ErrorCode}
 use Rattle.wasi_host.specs.declared.errors.ErrorCode.TheVariants.{Io}
 use Rattle.wasi_host.specs.declared.errors.HostError.{HostError}
@@ -48,8 +49,12 @@ got_by Stat got = None
 got_by ReadLink got = None
 got_by Make got = None
 got_by MakeLink got = None
+got_by Link got = None
+got_by Rename got = None
 got_by Unlink got = None
 got_by RemoveDir got = None
+got_by Times got = None
+got_by kinds.List got = None
 
 -- after `Io` or want of memory: no entry, or one, with whatever handle the call had got before it failed
 abbrev pub MaybeLogged : List Lookup → LookKind → ℕ → List Lookup → Type 0
@@ -66,6 +71,25 @@ abbrev pub Logged : {A : Type 0} → List Lookup → LookKind → ℕ → (A →
     → Type 0
 Logged old kind from got (Ok a) new = new ≡ old ++ record { kind = kind; from = from; got = got a } ∷ []
 Logged old kind from got (Err e) new = LoggedErr old kind from e new
+
+-- the look-ups of a call with two names: from the old side's handle, and then from the new side's; they get no handle
+abbrev pub both_looked : LookKind → ℕ → ℕ → List Lookup
+both_looked kind old new =
+    record { kind = kind; from = old; got = None } ∷ record { kind = kind; from = new; got = None } ∷ []
+
+-- after `Io` or want of memory: no entry, or both
+abbrev pub MaybeLoggedTwo : List Lookup → LookKind → ℕ → ℕ → List Lookup → Type 0
+MaybeLoggedTwo before kind old new now = (now ≡ before) ⊎ (now ≡ before ++ both_looked kind old new)
+
+abbrev pub LoggedTwoErr : List Lookup → LookKind → ℕ → ℕ → HostError → List Lookup → Type 0
+LoggedTwoErr before kind old new Memory now = MaybeLoggedTwo before kind old new now
+LoggedTwoErr before kind old new (Code Io) now = MaybeLoggedTwo before kind old new now
+LoggedTwoErr before kind old new (Code code) now = now ≡ before ++ both_looked kind old new
+
+-- two look-ups of this kind, from these handles
+abbrev pub LoggedTwo : {A : Type 0} → List Lookup → LookKind → ℕ → ℕ → Result A HostError → List Lookup → Type 0
+LoggedTwo before kind old new (Ok a) now = now ≡ before ++ both_looked kind old new
+LoggedTwo before kind old new (Err e) now = LoggedTwoErr before kind old new e now
 
 -- a refusal is the one that is meant; `Io` and want of memory say nothing of what is meant
 abbrev pub MeansErr : {B : Type 0} → Result B ErrorCode → HostError → Type 0

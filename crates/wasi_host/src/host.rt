@@ -1,16 +1,18 @@
 //! The trait of hosts, with its laws.
-ghost use Rattle.std.specs.Prelude.{◌≡◌, ◌≤◌, ◌<◌, ◌^◌, ◌-◌, ℕ, Bool, true, false, IsTrue, Ok, IfOk, OnOk, OnErr, List, Some, None, length, take, drop};
+ghost use Rattle.std.specs.Prelude.{◌≡◌, ◌≤◌, ◌<◌, ◌^◌, ◌-◌, ℕ, Bool, true, false, IsTrue, Ok, IfOk, OnOk, OnErr, List, Some, None, All, length, map, take, drop};
 ghost use Rattle.std.specs.Ordering.{nat_cmp};
 ghost use Rattle.std.specs.String.{string_bytes};
 ghost use Rattle.std.specs.FinSet.{FinSet, contains, remove};
 ghost use Rattle.wasi_paths.specs.Name.{name_bytes};
-ghost use Rattle.wasi_host.specs.HostCall.{OpenAt, StatAt, ReadLinkAt, MakeDirAt, SymlinkAt, UnlinkAt, RemoveDirAt, Access, Stat, Pread, Pwrite, Dup, Close};
-ghost use Rattle.wasi_host.specs.Meaning.{World, AllHeld, HasCause, Rose, LiveGot, Told, Logged, hosted, answered};
+ghost use Rattle.wasi_paths.specs.Text.{is_entry_name};
+ghost use Rattle.wasi_host.specs.HostCall.{OpenAt, StatAt, ReadLinkAt, MakeDirAt, SymlinkAt, LinkAt, RenameAt, UnlinkAt, RemoveDirAt, TimesAt, Access, Stat, SetTimes, Pread, Pwrite, ListDir, Dup, Close};
+ghost use Rattle.wasi_host.specs.Answer.{entry_of};
+ghost use Rattle.wasi_host.specs.Meaning.{World, AllHeld, HasCause, Rose, LiveGot, Told, Logged, LoggedTwo, hosted, answered};
 ghost use Rattle.wasi_host.specs.declared.limits.TheConstants.{LINK_MAX};
 ghost use Rattle.wasi_host.specs.declared.lookup.Lookup.{Lookup};
 ghost use Rattle.wasi_host.specs.Time.{HasTimes};
 
-use crate::{ErrorCode, Handle, HostError, LookKind, Metadata, OpenOptions};
+use crate::{DirEntry, ErrorCode, Handle, HostError, LookKind, Metadata, OpenOptions, SystemTime};
 use std::alloc::Global;
 use wasi_paths::Name;
 
@@ -23,9 +25,10 @@ use wasi_paths::Name;
 ///
 /// The condition of every method is that its handles are live.
 ///
-/// Each method that takes a name refuses NotDirectory before all else where its handle is no directory's, which no
-/// caller of this workspace asks. The rows for a name, first in each of these methods but where it says so: Invalid of
-/// a NUL in the name, NameTooLong of more than 255 bytes, Access where the directory may not be searched.
+/// Each method that takes a name refuses NotDirectory before all else where its handle is no directory's, of two the
+/// old one first, which no caller of this workspace asks. The rows for a name, first in each of these methods but where
+/// it says so: Invalid of a NUL in the name, NameTooLong of more than 255 bytes, Access where the directory may not be
+/// searched.
 pub trait Host {
     /// How often the host has failed by itself. It never falls, and stands still at 2^64 - 1.
     ghost faults: { Self → ℕ };
@@ -33,7 +36,8 @@ pub trait Host {
     /// The live handles.
     ghost live: { Self → FinSet nat_cmp };
 
-    /// The look-ups so far. The methods that take a name and `dup` add to them, one a call, and no others.
+    /// The look-ups so far. The methods that take a name add to them, one for each name, and `list` and `dup` one each;
+    /// no others do.
     ghost lookups: { Self → List Lookup };
 
     /// Whether the host tells its world.
@@ -113,6 +117,56 @@ pub trait Host {
             (SymlinkAt target.now ((world self.old).held start).node (name_bytes name.entry))
             (λ unit. unit) result };
 
+    /// Gives the file or link under the old name in a directory a new name in another, which may be the same; a link is
+    /// not followed, as with POSIX's `linkat` without its flag. Refusals: the rows for the old name, then those for the
+    /// new one; NoEntry where the old name is missing; Exist where the new one is there, `.` among them; NoEntry where
+    /// the new directory is removed; Access where it may not be written; NotPermitted where the old name holds a
+    /// directory; TooManyLinks where what it holds has as many names as it may.
+    fn link_at(
+        &mut self,
+        old: Handle,
+        old_name: Name<'_>,
+        new: Handle,
+        new_name: Name<'_>,
+    ) -> Result<(), HostError>
+        requires old { contains (live self.old) old ≡ true }
+        requires new { contains (live self.old) new ≡ true }
+        ensures cause { HasCause (faults self.old) (faults self.new) result }
+        ensures live { live self.new ≡ live self.old }
+        ensures logged { LoggedTwo (lookups self.old) LookKind.Link old new result (lookups self.new) }
+        ensures told { IsTrue told → Told (live self.old) (live self.new) (world self.old) (world self.new)
+            (LinkAt ((world self.old).held old).node (name_bytes old_name.entry)
+            ((world self.old).held new).node (name_bytes new_name.entry))
+            (λ unit. unit) result };
+
+    /// Moves what the old name in a directory holds to the new name in another, which may be the same; a link is not
+    /// followed. What the new name held loses it: a file or link stays while a handle stands for it, a directory is
+    /// removed. Where both names hold one node, both stay, as with POSIX's `rename`. `requires_dir` asks for a
+    /// directory, as a slash at the end of a path does. Refusals: the rows for the old name, then those for the new
+    /// one; Busy where either is `.`; NoEntry where the old name is missing; NotDirectory where a directory is asked
+    /// for and it holds none; Invalid where the new directory is the node that is to move, or is below it; NotEmpty
+    /// where the new name holds a directory which is the old one, or has it below. Where both names hold one node there
+    /// are no others. Access where the old directory may not be written, or the new one, or a directory that is to move
+    /// from one to the other; NoEntry where the new directory is removed; NotDirectory of a directory onto what is
+    /// none; IsDirectory of what is none onto a directory; NotEmpty onto a directory that has names.
+    fn rename_at(
+        &mut self,
+        old: Handle,
+        old_name: Name<'_>,
+        new: Handle,
+        new_name: Name<'_>,
+        requires_dir: bool,
+    ) -> Result<(), HostError>
+        requires old { contains (live self.old) old ≡ true }
+        requires new { contains (live self.old) new ≡ true }
+        ensures cause { HasCause (faults self.old) (faults self.new) result }
+        ensures live { live self.new ≡ live self.old }
+        ensures logged { LoggedTwo (lookups self.old) LookKind.Rename old new result (lookups self.new) }
+        ensures told { IsTrue told → Told (live self.old) (live self.new) (world self.old) (world self.new)
+            (RenameAt ((world self.old).held old).node (name_bytes old_name.entry)
+            ((world self.old).held new).node (name_bytes new_name.entry) requires_dir)
+            (λ unit. unit) result };
+
     /// Drops a name of a file or link, which stays while a handle stands for it. Refusals: the rows for a name;
     /// IsDirectory of `.`; NoEntry where the name is missing; Access where the directory may not be written;
     /// IsDirectory where the name holds a directory.
@@ -137,6 +191,38 @@ pub trait Host {
         ensures told { IsTrue told → Told (live self.old) (live self.new) (world self.old) (world self.new)
             (RemoveDirAt ((world self.old).held start).node (name_bytes name.entry))
             (λ unit. unit) result };
+
+    /// Sets the given times of the node under a name in a directory, that of its last read and that of its last change;
+    /// one that isn't given stays, as with `UTIME_OMIT` of POSIX's `utimensat`. A link is not followed: the times are
+    /// its own. Refusals: the rows for a name; NoEntry where it is missing.
+    fn times_at(
+        &mut self,
+        start: Handle,
+        name: Name<'_>,
+        atime: Option<SystemTime>,
+        mtime: Option<SystemTime>,
+    ) -> Result<(), HostError>
+        requires { contains (live self.old) start ≡ true }
+        ensures cause { HasCause (faults self.old) (faults self.new) result }
+        ensures live { live self.new ≡ live self.old }
+        ensures logged { Logged (lookups self.old) LookKind.Times start (λ unit. None) result (lookups self.new) }
+        ensures told { IsTrue told → Told (live self.old) (live self.new) (world self.old) (world self.new)
+            (TimesAt ((world self.old).held start).node (name_bytes name.entry) atime mtime)
+            (λ unit. unit) result };
+
+    /// All names of a directory but `.` and `..`, in byte order, each with the kind of the node that it holds, a link's
+    /// own. Every host gives names that a directory may hold: not empty, of at most 255 bytes, without a slash and
+    /// without NUL. Refusals: NotDirectory where the handle is no directory's; BadDescriptor where it wasn't opened for
+    /// reading.
+    fn list(&mut self, alloc: Global, directory: Handle) -> Result<Vec<DirEntry>, HostError>
+        requires { contains (live self.old) directory ≡ true }
+        ensures cause { HasCause (faults self.old) (faults self.new) result }
+        ensures live { live self.new ≡ live self.old }
+        ensures logged { Logged (lookups self.old) LookKind.List directory (λ entries. None) result (lookups self.new) }
+        ensures names { IfOk result (λ entries. All (λ entry. IsTrue (is_entry_name entry.0)) (map entry_of entries.items)) }
+        ensures told { IsTrue told → Told (live self.old) (live self.new) (world self.old) (world self.new)
+            (ListDir ((world self.old).held directory))
+            (λ entries. map entry_of entries.items) result };
 
     /// Another live handle of the same node and access.
     fn dup(&mut self, handle: Handle) -> Result<Handle, HostError>
@@ -167,6 +253,21 @@ pub trait Host {
         ensures told { IsTrue told → Told (live self.old) (live self.new) (world self.old) (world self.new)
             (Stat ((world self.old).held handle).node)
             (λ metadata. metadata) (hosted result) };
+
+    /// Sets the given times of what a handle stands for, as `times_at` does. It takes no memory, and is never refused.
+    fn set_times(
+        &mut self,
+        handle: Handle,
+        atime: Option<SystemTime>,
+        mtime: Option<SystemTime>,
+    ) -> Result<(), ErrorCode>
+        requires { contains (live self.old) handle ≡ true }
+        ensures cause { HasCause (faults self.old) (faults self.new) (hosted result) }
+        ensures live { live self.new ≡ live self.old }
+        ensures logged { lookups self.new ≡ lookups self.old }
+        ensures told { IsTrue told → Told (live self.old) (live self.new) (world self.old) (world self.new)
+            (SetTimes ((world self.old).held handle).node atime mtime)
+            (λ unit. unit) (hosted result) };
 
     /// Reads a file's bytes from an offset on into the front of `buf`, and answers how many: as many as there are and
     /// `buf` takes, 0 at or past the end. The rest of `buf` stays. It takes no memory. Refusals: BadDescriptor without

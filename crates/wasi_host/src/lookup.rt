@@ -10,8 +10,12 @@ pub enum LookKind {
     ReadLink,
     Make,
     MakeLink,
+    Link,
+    Rename,
     Unlink,
     RemoveDir,
+    Times,
+    List,
     Dup,
 }
 

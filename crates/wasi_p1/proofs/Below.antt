@@ -1,19 +1,21 @@
 -- From what a call below a directory gives to what the call does.
-use Rattle.std.proofs.Common.{◌≡◌, inl, inr, ℕ, List, Option, Some, None, Ok, Err, refl, ap, sym, ◌∙◌, subst, length}
-use Rattle.std.specs.Prelude.{Bool, IsTrue}
+use Rattle.std.proofs.Common.{◌≡◌, inl, inr, true, ℕ, List, Option, Some, None, Ok, Err, refl, ap, sym, ◌∙◌, subst, length}
+use Rattle.std.specs.Prelude.{Bool, IsTrue, IsErrAnd, Result}
+use Rattle.std.proofs.lemmas.Result.{err_from_is_err_and}
 use Rattle.wasi_fs.specs.Calls.{Refuses}
-use Rattle.wasi_host.specs.Meaning.{World, Handles, HasCause}
+use Rattle.std.specs.FinSet.{contains}
+use Rattle.wasi_host.specs.Meaning.{World, Handles, HasCause, Rose}
 use Rattle.wasi_host.specs.declared.errors.ErrorCode.{ErrorCode}
 use Rattle.wasi_host.specs.declared.errors.HostError.{HostError}
 use Rattle.wasi_host.specs.declared.errors.HostError.TheVariants.{Code}
 use Rattle.wasi_host.specs.declared.held.Held.{Held}
 use Rattle.wasi_host.specs.declared.lookup.Lookup.{Lookup}
-use Rattle.wasi_resolve.specs.AtPlace.{PlaceCall, PlaceAnswer}
-use Rattle.wasi_resolve.specs.PathRequest.{PathRequest, PathReply, AtPlace, meant_by}
+use Rattle.wasi_resolve.specs.PathRequest.{PathRequest, PathReply, meant_by}
 use Rattle.wasi_resolve.specs.Resolved.{Resolved}
 use Rattle.wasi_guest.specs.declared.answer.Value.{Value}
 use Rattle.wasi_guest.specs.declared.answer.Value.TheVariants.{Unit as Nothing}
 use Rattle.wasi_guest.specs.declared.call.Call.{Call}
+use Rattle.wasi_p1.specs.Asked.{Asked}
 use Rattle.wasi_p1.specs.CallParts.{Refused, Follows, IsReplied}
 use Rattle.wasi_p1.specs.CallTurn.{FollowsRow, Kept, may_want}
 use Rattle.wasi_p1.specs.Errnos.{errno_of, error_of}
@@ -26,7 +28,7 @@ use Rattle.wasi_p1.specs.Rows.{row}
 use Rattle.wasi_p1.specs.Slots.{View}
 use Rattle.wasi_p1.specs.declared.error.P1Error.{P1Error}
 use Rattle.wasi_p1.specs.declared.error.P1Error.TheVariants.{Errno, Memory}
-use Rattle.wasi_p1.proofs.RowFronts.{tail, changes_at, with_nothing}
+use Rattle.wasi_p1.proofs.RowFronts.{tail, changes, with_nothing}
 use Rattle.wasi_p1.proofs.Placing.{places_stay}
 use Rattle.wasi_p1.proofs.Resolving.{resolved_ok, resolved_err}
 use Rattle.wasi_p1.proofs.Taking.{refused, wanted, does_err, does_ok, makes_err, makes_ok, Did}
@@ -42,6 +44,10 @@ refused_by A B own e old new = by own
     by (Some code) is =
         let same : e ≡ Code code = let r = is.0 in cc in (inl (ap (λ x. Err (error_of x)) same), is.1)
 
+-- the live handles stand for what they stood for
+abbrev pub KeepsHeld : Handles → World → World → Type 0
+KeepsHeld live w v = (h : ℕ) → contains live h ≡ true → v.held h ≡ w.held h
+
 same_view : {H : Type 0} {old new : View H} {before after : List ℕ} → new.host ≡ old.host → Kept old new before after
     → new ≡ old
 same_view host kept =
@@ -52,21 +58,22 @@ module _ {H : Type 0} {told : Bool} {world : H → World} {faults : H → ℕ} {
   -- nothing was asked
   not_permitted : (e : P1Error) (code : ErrorCode)
       → Err (Errno (errno_of code)) ≡ row (guest_of world old before) call
-      → Refused {A = Value} (Some code) (Err e) old.host new.host → IsTrue (may_want call) → Kept old new before after
+      → Refused {A = Value} (Some code) (Err e) old.host new.host → (e ≡ Memory → IsTrue (may_want call))
+      → Kept old new before after
       → FollowsRow told world faults lookups old new before after call (Err e)
   not_permitted e code front (why, host) may kept =
       subst (λ v. FollowsRow told world faults lookups old v before after call (Err e)) (sym (same_view host kept))
       (subst (λ m. FollowsRow told world faults lookups old old before m call (Err e)) (sym kept.memory) (elim why [
         | inl is ↦
             subst (λ r. FollowsRow told world faults lookups old old before before call r) (sym is) (refused refl front)
-        | inr is ↦ subst (λ r. FollowsRow told world faults lookups old old before before call r) (sym is) (wanted may)
+        | inr is ↦ subst (λ r. FollowsRow told world faults lookups old old before before call r) (sym is) (wanted (may (cc)))
       ]))
 
   module _ {r : Request} {A : Type 0} {own : Option ErrorCode} (next : Reply r → Row A)
       (shown : Guest → A → Value × Guest)
       (front : tail own r next shown (guest_of world old before) ≡ row (guest_of world old before) call) where
     pub permitted_err : {e : P1Error} → Refused {A = A} own (Err e) old.host new.host
-        → (own ≡ None → IsReplied r next (Err e)) → IsTrue (may_want call) → Kept old new before after
+        → (own ≡ None → IsReplied r next (Err e)) → (e ≡ Memory → IsTrue (may_want call)) → Kept old new before after
         → (IsTrue told → own ≡ None
         → places_of (world new.host).held new.slots ≡ places_of (world old.host).held old.slots)
         → (IsTrue told → own ≡ None → Did world faults old new r next (Err e))
@@ -75,7 +82,7 @@ module _ {H : Type 0} {told : Bool} {world : H → World} {faults : H → ℕ} {
       where
         by : (o : Option ErrorCode) → own ≡ o → FollowsRow told world faults lookups old new before after call (Err e)
         by None none = does_err next shown (subst (λ o. tail o r next shown (guest_of world old before)
-            ≡ row (guest_of world old before) call) none front) (replied none) (λ _. may) kept (λ told. places told none)
+            ≡ row (guest_of world old before) call) none front) (replied none) may kept (λ told. places told none)
             (λ told. does told none)
         by (Some code) some = not_permitted e code (subst (λ o. tail o r next shown (guest_of world old before)
             ≡ row (guest_of world old before) call) some front) (again (subst (λ o. Refused {A = A} o (Err e) old.host
@@ -102,33 +109,39 @@ module _ {H : Type 0} {told : Bool} {world : H → World} {faults : H → ℕ} {
           | inr is ↦ (cc)
         ])
 
-  -- ---- what is done at a path, and answered by nothing
+  -- ---- what is done, and answered by nothing
 
-  module _ {live : Handles} {own : Option ErrorCode} (start : ℕ) (text : List ℕ) (what : PlaceCall)
-      {shown : Unit {0} → PlaceAnswer what}
-      (front : changes_at own start text what (guest_of world old before) ≡ row (guest_of world old before) call)
+  module _ {live : Handles} {own : Option ErrorCode} {r : Request}
+      (front : changes own r (guest_of world old before) ≡ row (guest_of world old before) call)
       (owned : Owned live (handles old.slots)) (kept : Kept old new before after) where
-    pub done_err : (e : HostError) → HasCause {A = Unit {0}} (faults old.host) (faults new.host) (Err e)
-        → Refuses {A = Unit {0}} own (Err e) old.host new.host → IsTrue (may_want call)
-        → (IsTrue told → own ≡ None → Resolved {A = Unit {0}} live (world old.host) (world new.host)
-        (meant_by (world old.host).tree (AtPlace start text what)) shown (Err e))
-        → FollowsRow told world faults lookups old new before after call (Err (error_of e))
-    done_err e cause refuses may resolves = permitted_err (λ _. give tt) with_nothing front (refused_by (Unit {0}) (Unit {0}) own e old.host new.host refuses)
+    pub changed_err : (e : HostError) {result : Result Value P1Error}
+        → Refuses {A = Unit {0}} own (Err e) old.host new.host
+        → (error_of e ≡ Memory → IsTrue (may_want call))
+        → (IsTrue told → own ≡ None → KeepsHeld live (world old.host) (world new.host))
+        → (IsTrue told → own ≡ None
+        → Asked (Rose (faults old.host) (faults new.host)) (world old.host) (world new.host) r (Err (error_of e)))
+        → IsErrAnd result (λ f. f ≡ error_of e)
+        → FollowsRow told world faults lookups old new before after call result
+    changed_err e {result} refuses may keeps asked is =
+        let error = err_from_is_err_and result is in
+        rw (error.1, error.2) (permitted_err (λ _. give tt) with_nothing front
+        (refused_by (Unit {0}) (Unit {0}) own e old.host new.host refuses)
         (λ none. inl (e, refl)) may kept
         (λ told none. ap (places_of (world new.host).held) kept.slots
-        ∙ places_stay old.slots owned (resolves told none).keeps)
-        (λ told none. inl (resolved_err e (λ is. cause.io (ap Err is)) (resolves told none)))
+        ∙ places_stay old.slots owned (keeps told none))
+        (λ told none. inl (asked told none)))
 
-    pub done_ok : MayReply (Path (AtPlace start text what)) (shown tt)
-        → Refuses {A = Unit {0}} own (Ok tt) old.host new.host
-        → (IsTrue told → own ≡ None → Resolved {A = Unit {0}} live (world old.host) (world new.host)
-        (meant_by (world old.host).tree (AtPlace start text what)) shown (Ok tt))
+    pub changed_ok : (reply : Reply r) → MayReply r reply → Refuses {A = Unit {0}} own (Ok tt) old.host new.host
+        → (IsTrue told → own ≡ None → KeepsHeld live (world old.host) (world new.host))
+        → (IsTrue told → own ≡ None
+        → Asked (Rose (faults old.host) (faults new.host)) (world old.host) (world new.host) r (Ok reply))
         → FollowsRow told world faults lookups old new before after call (Ok Nothing)
-    done_ok may refuses resolves = permitted_ok (λ _. give tt) with_nothing front {x = tt} {x' = tt} (by own refuses)
-        (ap length kept.memory) (λ none. (shown tt, may, refl)) (again (world old.host).held refl)
-        (λ told none. let did = resolves told none in (
-          (shown tt, resolved_ok did, refl),
-          again (world new.host).held (places_stay old.slots owned did.keeps),
+    changed_ok reply may refuses keeps asked = permitted_ok (λ _. give tt) with_nothing front {x = tt} {x' = tt}
+        (by own refuses)
+        (ap length kept.memory) (λ none. (reply, may, refl)) (again (world old.host).held refl)
+        (λ told none. (
+          (reply, asked told none, refl),
+          again (world new.host).held (places_stay old.slots owned (keeps told none)),
         ))
       where
         by : (o : Option ErrorCode) → Refuses {A = Unit {0}} o (Ok tt) old.host new.host
@@ -147,6 +160,29 @@ module _ {H : Type 0} {told : Bool} {world : H → World} {faults : H → ℕ} {
             stderr = sym kept.stderr i;
           },
         )
+
+  -- below a directory
+  module _ {live : Handles} {own : Option ErrorCode} (p : PathRequest) {shown : Unit {0} → PathReply p}
+      (front : changes own (Path p) (guest_of world old before) ≡ row (guest_of world old before) call)
+      (owned : Owned live (handles old.slots)) (kept : Kept old new before after) where
+    pub done_err : (e : HostError) {result : Result Value P1Error}
+        → HasCause {A = Unit {0}} (faults old.host) (faults new.host) (Err e)
+        → Refuses {A = Unit {0}} own (Err e) old.host new.host → IsTrue (may_want call)
+        → (IsTrue told → own ≡ None → Resolved {A = Unit {0}} live (world old.host) (world new.host)
+        (meant_by (world old.host).tree p) shown (Err e))
+        → IsErrAnd result (λ f. f ≡ error_of e)
+        → FollowsRow told world faults lookups old new before after call result
+    done_err e cause refuses may resolves is =
+        changed_err front owned kept e refuses (λ _. may) (λ told none. (resolves told none).keeps)
+        (λ told none. resolved_err e (λ is. cause.io (ap Err is)) (resolves told none)) is
+
+    pub done_ok : MayReply (Path p) (shown tt) → Refuses {A = Unit {0}} own (Ok tt) old.host new.host
+        → (IsTrue told → own ≡ None → Resolved {A = Unit {0}} live (world old.host) (world new.host)
+        (meant_by (world old.host).tree p) shown (Ok tt))
+        → FollowsRow told world faults lookups old new before after call (Ok Nothing)
+    done_ok may refuses resolves =
+        changed_ok front owned kept (shown tt) may refuses (λ told none. (resolves told none).keeps)
+        (λ told none. resolved_ok (resolves told none))
 
   -- ---- what is found at a path, where nothing has to be permitted
 

@@ -1,6 +1,6 @@
 -- What a call adds to the look-ups, and the descriptors after it.
 use Rattle.std.proofs.Common.{ℕ, ◌≡◌, inl, inr, List, [], ◌∷◌, Some, Ok, refl, arith, slice_get, slice_set, sym, ap, ◌∙◌, subst}
-use Rattle.wasi_host.specs.Lineage.{Traced, Only, Nothing}
+use Rattle.wasi_host.specs.Lineage.{Traced, Only, OneOf, Nothing}
 use Rattle.wasi_host.proofs.Tracing.{traced_none, traced_then, traced_given, traced_kept}
 use Rattle.wasi_host.specs.declared.lookup.Lookup.{Lookup}
 use Rattle.wasi_p1.specs.Numbering.{with_new}
@@ -12,7 +12,7 @@ use Rattle.wasi_p1.specs.Slots.{is_closed_slot, slot_of}
 use Rattle.wasi_p1.specs.Owners.{handle_in, handles, uses, uses_in, IsHandle, under}
 use Rattle.wasi_p1.specs.declared.context.Slot.{Slot}
 use Rattle.wasi_p1.specs.declared.context.Slot.TheVariants.{Closed, Directory}
-use Rattle.wasi_p1.proofs.Counting.{one_of, item_is, handle_at, named_is, is_named}
+use Rattle.wasi_p1.proofs.Counting.{one_of, item_is, handle_at, named_is, is_named, also_named}
 use Rattle.wasi_p1.proofs.Owning.{uses-new, uses-closed}
 
 -- what was opened stands under its number
@@ -57,6 +57,22 @@ pub traced_below : {dir : Dir} {old new : List Lookup} (table : List Slot) (fd :
     → slice_get table fd ≡ Some (Directory dir) → Traced (Only dir.dir) Nothing Nothing old new
     → Traced (IsHandle (under (handles table) (fd ∷ []))) (IsHandle (handles table)) (IsHandle (handles table)) old new
 traced_below table fd is traced = traced_from table fd is (traced_refused (λ q none. none) traced)
+
+-- one that begins from two directories, and opens nothing
+pub traced_between : {one other : Dir} {old new : List Lookup} (table : List Slot) (fd fd' : ℕ)
+    → slice_get table fd ≡ Some (Directory one) → slice_get table fd' ≡ Some (Directory other)
+    → Traced (OneOf one.dir other.dir) Nothing Nothing old new
+    → Traced (IsHandle (under (handles table) (fd ∷ fd' ∷ []))) (IsHandle (handles table)) (IsHandle (handles table))
+    old new
+traced_between {one} {other} table fd fd' is is' traced =
+    let Names = IsHandle (under (handles table) (fd ∷ fd' ∷ [])) in
+    let here = is_named (handles table) fd one.dir (fd' ∷ []) (handle_at table fd is) in
+    let there = also_named (handles table) fd (fd' ∷ []) other.dir
+    (is_named (handles table) fd' other.dir [] (handle_at table fd' is')) in
+    traced_given _ (λ q among. elim among [
+      | inl first ↦ subst Names (sym first) here
+      | inr second ↦ subst Names (sym second) there
+    ]) (traced_refused (λ q none. none) traced)
 
 -- one that closes a number
 pub traced_closed : {slot : Slot} {old new : List Lookup} (table : List Slot) (i : ℕ) → slice_get table i ≡ Some slot

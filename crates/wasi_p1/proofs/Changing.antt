@@ -16,7 +16,7 @@ use Rattle.wasi_p1.specs.Guest.{Guest, Place, OpenDirectory, OpenFile, closed, s
 use Rattle.wasi_p1.specs.Numbering.{last_where, free_number, put_at, with_new}
 use Rattle.wasi_resolve.specs.PathRequest.{Opened}
 use Rattle.wasi_p1.specs.Row.{Row, give}
-use Rattle.wasi_p1.specs.Rows.{directory_in, start_in, file_in, new_place}
+use Rattle.wasi_p1.specs.Rows.{OpenNode, directory_in, start_in, file_in, open_node_in, new_place}
 use Rattle.wasi_p1.specs.Stems.{HasPerms}
 use Rattle.wasi_p1.proofs.Near.{Has, KeepsPlaces, StaysNear, AreBytes, KeepsBytes}
 use Rattle.wasi_p1.proofs.Bytes.{put_bytes}
@@ -115,6 +115,20 @@ pub named_file : {f : OpenFile} (g : Guest) (fd n : ℕ) → file_in (slice_get 
     → Contains (f.node ∷ []) n → Has g n
 named_file g fd n is has = slice_named g.places fd n (file_named (slice_get g.places fd) n is has)
 
+node_named : {o : OpenNode} (p : Option Place) (n : ℕ) → open_node_in p ≡ Ok o → Contains (o.node ∷ []) n
+    → Contains (node_in p) n
+node_named {o} (Some (directory d)) n is has =
+    let same : o.node ≡ d.node = (cc) in subst (λ m. Contains (m ∷ []) n) same has
+node_named {o} (Some (file f)) n is has =
+    let same : o.node ≡ f.node = (cc) in subst (λ m. Contains (m ∷ []) n) same has
+node_named (Some (stream s)) n is has = absurd (cc)
+node_named (Some closed) n is has = absurd (cc)
+node_named None n is has = absurd (cc)
+
+pub named_node : {o : OpenNode} (g : Guest) (fd n : ℕ) → open_node_in (slice_get g.places fd) ≡ Ok o
+    → Contains (o.node ∷ []) n → Has g n
+named_node g fd n is has = slice_named g.places fd n (node_named (slice_get g.places fd) n is has)
+
 -- a start is a directory
 pub start_is : {d : OpenDirectory} (p : Option Place) → start_in p ≡ Ok d → directory_in p ≡ Ok d
 start_is (Some (directory x)) is = is
@@ -131,6 +145,13 @@ directory_perms (Some (file f)) is = absurd (cc)
 directory_perms (Some (stream s)) is = absurd (cc)
 directory_perms (Some closed) is = absurd (cc)
 directory_perms None is = absurd (cc)
+
+pub node_perms : {o : OpenNode} (p : Option Place) → open_node_in p ≡ Ok o → perms_in p ≡ Some o.perms
+node_perms {o} (Some (directory d)) is = let same : d.perms ≡ o.perms = (cc) in ap Some same
+node_perms {o} (Some (file f)) is = let same : f.perms ≡ o.perms = (cc) in ap Some same
+node_perms (Some (stream s)) is = absurd (cc)
+node_perms (Some closed) is = absurd (cc)
+node_perms None is = absurd (cc)
 
 pub file_perms : {f : OpenFile} (p : Option Place) → file_in p ≡ Ok f → perms_in p ≡ Some f.perms
 file_perms {f} (Some (file x)) is = let same : x ≡ f = (cc) in ap (λ (y : OpenFile). Some y.perms) same
@@ -280,7 +301,8 @@ put_opened g fd perms mode found is = record {
 }
 
 -- nothing comes, and nothing goes
-pub put_nothing : {x : Value} {memory : List ℕ} (g : Guest) → StaysNear g None [] (x, record g { memory = memory })
+pub put_nothing : {x : Value} {memory given : List ℕ} (g : Guest)
+    → StaysNear g None given (x, record g { memory = memory })
 put_nothing g = record { nodes = λ n has. inl has; perms = λ n perms has. has }
 
 -- ---- what a row writes into memory, or tells

@@ -106,3 +106,9 @@ is_named os fd h fds is =
     let sum = uses-append (option_to_list (slice_get os fd)) (under os fds) h in
     let one = ap (λ o. uses (option_to_list o) h) is in
     omega (arith, sum, one, uses-cons (Some h) [] h, no_uses h, uses_itself h)
+
+-- a handle of those behind the first
+pub also_named : (os : List (Option ℕ)) (fd : ℕ) (fds : List ℕ) (q : ℕ) → IsHandle (under os fds) q
+    → IsHandle (under os (fd ∷ fds)) q
+also_named os fd fds q is =
+    let sum = uses-append (option_to_list (slice_get os fd)) (under os fds) q in omega (arith, sum, is)

@@ -1,6 +1,6 @@
 -- Opens that leave the tree.
 use Rattle.std.proofs.Common.{ℕ, ◌≡◌, true, false, cond, Bool, List, refl, ap, ◌∙◌, subst, arith, Option, Some, None, Result, Ok, Err}
-use Rattle.wasi_fs.specs.declared.perms.FsPerms.TheVariants.{ReadOnly}
+use Rattle.wasi_fs.specs.declared.perms.FsPerms.TheVariants.{ReadOnly, ReadWrite}
 use Rattle.wasi_fs.specs.declared.perms.FsPerms.{FsPerms}
 use Rattle.wasi_host.specs.Options.{Options, creates}
 use Rattle.wasi_host.specs.Tree.{Tree, Content, File, Directory, Link, child, node_at}
@@ -12,7 +12,7 @@ use Rattle.std.specs.Prelude.{codes}
 use Rattle.wasi_host.specs.declared.errors.ErrorCode.{ErrorCode}
 use Rattle.wasi_host.specs.declared.errors.ErrorCode.TheVariants.{IsDirectory}
 use Rattle.wasi_host.specs.Steps.{◌>>=◌}
-use Rattle.wasi_fs.specs.Calls.{may_change, may_link, opens}
+use Rattle.wasi_fs.specs.Calls.{may_change, may_link, may_rename, may_add_name, opens}
 use Rattle.wasi_fs.specs.OpenHow.{OpenHow, may_open, options_of}
 use Rattle.wasi_resolve.specs.Walk.{Open, Outcome, Stop, Name, Dot, walk, last_options}
 use Rattle.wasi_resolve.specs.AtPlace.{ReadLink, place_for, step_in}
@@ -116,6 +116,22 @@ pub no_link : (perms : FsPerms) (target : List ℕ) {u : Unit {0}} → permit (m
 unfolding may_link
 no_link ReadOnly target may is = absurd (cc)
 no_link perms target may is = absurd (cc)
+
+-- nor does a name move between two directories
+pub no_rename : (old new : FsPerms) {u : Unit {0}} → permit (may_rename old new) ≡ Ok u
+    → (old ≡ ReadOnly → ⊥) × (new ≡ ReadOnly → ⊥)
+unfolding may_rename
+no_rename ReadOnly new may = absurd (cc)
+no_rename ReadWrite ReadOnly may = absurd (cc)
+no_rename ReadWrite ReadWrite may = (λ is. absurd (cc), λ is. absurd (cc))
+
+-- nor is one added
+pub no_new_name : (old new : FsPerms) (follow : Bool) {u : Unit {0}} → permit (may_add_name old new follow) ≡ Ok u
+    → (old ≡ ReadOnly → ⊥) × (new ≡ ReadOnly → ⊥)
+unfolding may_add_name
+no_new_name ReadOnly new follow may = absurd (cc)
+no_new_name ReadWrite ReadOnly follow may = absurd (cc)
+no_new_name ReadWrite ReadWrite follow may = (λ is. absurd (cc), λ is. absurd (cc))
 
 -- ---- the text of a link
 

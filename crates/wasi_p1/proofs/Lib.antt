@@ -17,6 +17,7 @@ mod RowFronts
 mod Below
 mod Standing
 mod Resolving
+mod Setting
 mod Reading
 mod Counting
 mod Owning

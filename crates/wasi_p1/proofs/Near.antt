@@ -12,12 +12,13 @@ use Rattle.wasi_guest.specs.declared.call.Call.{Call}
 use Rattle.wasi_p1.specs.CallParts.{NotMemory}
 use Rattle.wasi_p1.specs.CallTurn.{NamesReadOnly}
 use Rattle.wasi_p1.specs.Guest.{Guest, nodes_of}
-use Rattle.wasi_p1.specs.Request.{Request, Reply, Path, Read, Write, reply_of, after, starts_at}
+use Rattle.wasi_p1.specs.Request.{Request, Reply, Path, Read, Write, SetTimes, reply_of, after, starts_at}
 use Rattle.wasi_p1.specs.Row.{Row, Program, done, asking}
 use Rattle.wasi_p1.specs.Stems.{opened_through, stems_through, HasPerms}
 use Rattle.wasi_resolve.specs.AtPlace.{CreateDir, RemoveFile, RemoveDir, Symlink, ReadLink}
+use Rattle.wasi_resolve.specs.AtPlace as places
 use Rattle.wasi_resolve.proofs.Asking.{HasUtf8Target}
-use Rattle.wasi_resolve.specs.PathRequest.{PathRequest, OpenPath, LookPath, AtPlace, PathReply, path_gives}
+use Rattle.wasi_resolve.specs.PathRequest.{PathRequest, OpenPath, LookPath, AtPlace, TimesPath, AtTwo, PathReply, path_gives}
 
 -- ---- of each kind of request
 
@@ -26,6 +27,7 @@ abbrev pub given_by : (r : Request) → Reply r → List ℕ
 given_by (Path p) found = path_gives p found
 given_by (Read f offset n) bytes = []
 given_by (Write f offset piece) count = []
+given_by (SetTimes n atime mtime) answer = []
 
 abbrev pub AreBytes : List ℕ → Type 0
 AreBytes bytes = IsTrue (are_bytes bytes)
@@ -36,11 +38,14 @@ abbrev pub AreTexts : PathRequest → Type 0
 AreTexts (OpenPath s text o follow directory) = IsUtf8 text
 AreTexts (LookPath s text follow) = IsUtf8 text
 AreTexts (AtPlace s text what) = IsUtf8 text × HasUtf8Target what
+AreTexts (TimesPath s text follow atime mtime) = IsUtf8 text
+AreTexts (AtTwo old old_text new new_text what) = IsUtf8 old_text × IsUtf8 new_text
 
 abbrev pub MayBeAsked : Request → Type 0
 MayBeAsked (Path p) = AreTexts p
 MayBeAsked (Read f offset n) = Unit {0}
 MayBeAsked (Write f offset piece) = AreBytes piece
+MayBeAsked (SetTimes n atime mtime) = Unit {0}
 
 -- a link's text are bytes
 abbrev pub PathGivesBytes : (p : PathRequest) → PathReply p → Type 0
@@ -51,12 +56,16 @@ PathGivesBytes (AtPlace s text RemoveFile) answer = Unit {0}
 PathGivesBytes (AtPlace s text RemoveDir) answer = Unit {0}
 PathGivesBytes (AtPlace s text (Symlink target)) answer = Unit {0}
 PathGivesBytes (AtPlace s text ReadLink) link = AreBytes link
+PathGivesBytes (AtPlace s text (places.SetTimes atime mtime)) answer = Unit {0}
+PathGivesBytes (TimesPath s text follow atime mtime) answer = Unit {0}
+PathGivesBytes (AtTwo old old_text new new_text what) answer = Unit {0}
 
 -- what is read are bytes
 abbrev pub GivesBytes : (r : Request) → Reply r → Type 0
 GivesBytes (Path p) found = PathGivesBytes p found
 GivesBytes (Read f offset n) bytes = AreBytes bytes
 GivesBytes (Write f offset piece) count = Unit {0}
+GivesBytes (SetTimes n atime mtime) answer = Unit {0}
 
 -- ---- of an answer
 

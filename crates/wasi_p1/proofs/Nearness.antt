@@ -4,28 +4,35 @@ use Rattle.std.specs.Prelude.{Contains}
 use Rattle.wasi_fs.specs.declared.perms.FsPerms.{FsPerms}
 use Rattle.wasi_fs.specs.declared.perms.FsPerms.TheVariants.{ReadOnly}
 use Rattle.wasi_host.specs.Steps.{◌>>=◌}
+use Rattle.wasi_host.specs.declared.errors.ErrorCode.{ErrorCode}
 use Rattle.wasi_guest.specs.declared.answer.Value.{Value}
 use Rattle.wasi_guest.specs.declared.call.Call.{Call}
-use Rattle.wasi_guest.specs.declared.call.Call.TheVariants.{FdClose, FdRead, FdWrite, PathCreateDirectory, PathFilestatGet, PathOpen, PathReadlink, PathRemoveDirectory, PathSymlink, PathUnlinkFile}
+use Rattle.wasi_guest.specs.declared.call.Call.TheVariants.{FdClose, FdFilestatSetTimes, FdRead, FdWrite, PathCreateDirectory, PathFilestatGet, PathFilestatSetTimes, PathLink, PathOpen, PathReadlink, PathRemoveDirectory, PathRename, PathSymlink, PathUnlinkFile}
 use Rattle.wasi_p1.specs.Guest.{Guest, OpenDirectory, perms_in}
-use Rattle.wasi_fs.specs.Calls.{may_change, may_link}
+use Rattle.wasi_fs.specs.Calls.{may_change, may_link, may_rename, may_add_name}
 use Rattle.wasi_fs.specs.OpenHow.{may_open, mode_of}
 use Rattle.wasi_guest.specs.declared.answer.Value.TheVariants.{Unit as Nothing}
-use Rattle.wasi_resolve.specs.AtPlace.{PlaceCall, CreateDir, RemoveFile, RemoveDir}
+use Rattle.wasi_resolve.specs.AtPlace.{PlaceCall, CreateDir, RemoveFile, RemoveDir, Symlink}
+use Rattle.wasi_resolve.specs.PathRequest.{AtPlace, TimesPath, AtTwo}
+use Rattle.wasi_resolve.specs.AtTwo.{TwoPlaceCall, HardLink, Rename}
 use Rattle.wasi_resolve.proofs.Asking.{HasUtf8Target}
 use Rattle.wasi_p1.specs.CallTurn.{NamesReadOnly}
 use Rattle.wasi_p1.specs.Filestats.{stat_both, filestat_in}
 use Rattle.wasi_p1.specs.RawFlags.{open_how, follow_asked}
 use Rattle.wasi_p1.specs.Owners.{descriptors_named}
 use Rattle.wasi_p1.specs.Stems.{opened_through}
-use Rattle.wasi_p1.specs.Row.{Row, Program}
-use Rattle.wasi_p1.specs.Rows.{path_open, fd_read, fd_write, fd_close, done_at, path_create_directory, path_remove_directory, path_unlink_file, path_symlink, path_readlink, path_filestat_get, row, text_in, live_in, directory_in, start_in, file_in, buffer_in, range, may_write, permit}
+use Rattle.wasi_p1.specs.Request.{Request, Path, SetTimes, starts_at}
+use Rattle.wasi_p1.specs.Row.{Row, Program, give}
+use Rattle.wasi_p1.specs.Rows.{path_open, fd_read, fd_write, fd_close, done_at, done_between, path_create_directory, path_remove_directory, path_unlink_file, path_symlink, path_readlink, path_filestat_get, row, text_in, live_in, directory_in, start_in, file_in, buffer_in, range, may_write, permit, path_filestat_set_times, fd_filestat_set_times, path_link, path_rename, open_node_in}
+use Rattle.wasi_p1.specs.NewTimes.{times_asked}
 use Rattle.wasi_host.proofs.Agreeing.{one}
+use Rattle.wasi_host.proofs.Leaving.{Contains-here}
+use Rattle.wasi_resolve.proofs.Requests.{from_two}
 use Rattle.wasi_p1.proofs.Bytes.{put_bytes, range_bytes, text_utf8, cut}
-use Rattle.wasi_p1.proofs.Changing.{named_directory, named_file, start_is, directory_perms, file_perms, put_back, put_closed, put_opened, put_nothing, written_places, written_ends, written_bytes, stated_places, stated_ends, stated_bytes}
-use Rattle.wasi_p1.proofs.Keeping.{open_keeps, read_only_kept, no_write, no_change, no_link, link_leaves}
-use Rattle.wasi_p1.proofs.Near.{Has, StaysNear, IsNear}
-use Rattle.wasi_p1.proofs.Wanting.{Never, how_never, follow_never, text_never, directory_never, start_never, permit_never, buffer_never, file_never, range_never, write_never, live_never}
+use Rattle.wasi_p1.proofs.Changing.{named_directory, named_file, named_node, start_is, directory_perms, file_perms, node_perms, put_back, put_closed, put_opened, put_nothing, written_places, written_ends, written_bytes, stated_places, stated_ends, stated_bytes}
+use Rattle.wasi_p1.proofs.Keeping.{open_keeps, read_only_kept, no_write, no_change, no_link, no_rename, no_new_name, link_leaves}
+use Rattle.wasi_p1.proofs.Near.{Has, StaysNear, AsksNear, IsNear, MayBeAsked, given_by}
+use Rattle.wasi_p1.proofs.Wanting.{Never, how_never, follow_never, times_never, node_never, text_never, directory_never, start_never, permit_never, buffer_never, file_never, range_never, write_never, live_never}
 
 -- a part of a row, and what follows it
 pub then : {A : Type 0} (g : Guest) (call : Call) (m : Row A) (next : A → Row (Program (Value × Guest))) → Never m
@@ -105,13 +112,26 @@ pub starts_near : {d : OpenDirectory} (g : Guest) (fd n : ℕ) → start_in (sli
     → Contains (d.node ∷ []) n → Has g n
 starts_near g fd n is has = named_directory g fd n (start_is (slice_get g.places fd) is) has
 
--- of a row that changes something there
-changes_never : {d : OpenDirectory} {P : Type 0} (g : Guest) (call : Call) (fd : ℕ)
+-- of one that answers nothing but that it was done, and isn't permitted under read-only permissions
+changes_near : (g : Guest) (call : Call) (r : Request) → opened_through call ≡ None
+    → ((n : ℕ) → Contains (starts_at r) n → Has g n) → (NamesReadOnly g call → ⊥) → MayBeAsked r
+    → AsksNear g call r (λ _. give (Nothing, g))
+changes_near g call r through starts never may = record {
+  starts = starts;
+  places = λ reply. subst (λ o. StaysNear g o (given_by r reply) (Nothing, g)) (sym through) (put_nothing g);
+  ends = λ _ _ _. tt;
+  permits = λ names. absurd (never names);
+  asked = λ _. may;
+  bytes = λ are _ _. are;
+}
+
+-- of one that changes something there
+changes_never : {d : OpenDirectory} (g : Guest) (call : Call) (fd : ℕ)
     → descriptors_named g.memory call ≡ fd ∷ [] → start_in (slice_get g.places fd) ≡ Ok d
-    → (d.perms ≡ ReadOnly → ⊥) → NamesReadOnly g call → P
-changes_never g call fd named is never names = absurd (never (read_only
+    → (d.perms ≡ ReadOnly → ⊥) → NamesReadOnly g call → ⊥
+changes_never g call fd named is never names = never (read_only
     (only_named g fd names.fd (subst (λ fds. Contains fds names.fd) named names.named) names.perms)
-    (directory_perms (slice_get g.places fd) (start_is (slice_get g.places fd) is))))
+    (directory_perms (slice_get g.places fd) (start_is (slice_get g.places fd) is)))
 
 -- what is done at a place by its path alone
 done_near : (g : Guest) (call : Call) (fd path len : ℕ) (what : PlaceCall)
@@ -121,14 +141,80 @@ done_near : (g : Guest) (call : Call) (fd path len : ℕ) (what : PlaceCall)
 done_near g call fd path len what named through target =
     then g call (start_in (slice_get g.places fd)) _ (start_never (slice_get g.places fd)) (λ d is.
     then g call (text_in g.memory path len) _ (text_never g.memory path len) (λ text read.
-    then g call (permit (may_change d.perms)) _ (permit_never (may_change d.perms)) (λ _ may. record {
-      starts = λ n has. starts_near g fd n is has;
-      places = λ _. subst (λ o. StaysNear g o [] (Nothing, g)) (sym through) (put_nothing g);
-      ends = λ _ _ _. tt;
-      permits = λ names. changes_never g call fd named is (no_change d.perms may) names;
-      asked = λ _. (text_utf8 g.memory path len read, target);
-      bytes = λ are _ _. are;
-    })))
+    then g call (permit (may_change d.perms)) _ (permit_never (may_change d.perms)) (λ _ may.
+    changes_near g call (Path (AtPlace d.node text what)) through (λ n has. starts_near g fd n is has)
+    (changes_never g call fd named is (no_change d.perms may)) (text_utf8 g.memory path len read, target))))
+
+path_filestat_set_times_near : (g : Guest) (fd flags path len atim mtim fst_flags : ℕ)
+    → IsNear g (PathFilestatSetTimes fd flags path len atim mtim fst_flags)
+    (path_filestat_set_times g fd flags path len atim mtim fst_flags)
+unfolding path_filestat_set_times
+path_filestat_set_times_near g fd flags path len atim mtim fst_flags =
+    let call = PathFilestatSetTimes fd flags path len atim mtim fst_flags in
+    then g call (follow_asked flags) _ (follow_never flags) (λ follow _.
+    then g call (times_asked atim mtim fst_flags) _ (times_never atim mtim fst_flags) (λ times _.
+    then g call (start_in (slice_get g.places fd)) _ (start_never (slice_get g.places fd)) (λ d is.
+    then g call (text_in g.memory path len) _ (text_never g.memory path len) (λ text read.
+    then g call (permit (may_change d.perms)) _ (permit_never (may_change d.perms)) (λ _ may.
+    changes_near g call (Path (TimesPath d.node text follow times.atime times.mtime)) refl
+    (λ n has. starts_near g fd n is has) (changes_never g call fd refl is (no_change d.perms may))
+    (text_utf8 g.memory path len read))))))
+
+fd_filestat_set_times_near : (g : Guest) (fd atim mtim fst_flags : ℕ)
+    → IsNear g (FdFilestatSetTimes fd atim mtim fst_flags) (fd_filestat_set_times g fd atim mtim fst_flags)
+unfolding fd_filestat_set_times
+fd_filestat_set_times_near g fd atim mtim fst_flags =
+    let call = FdFilestatSetTimes fd atim mtim fst_flags in
+    then g call (times_asked atim mtim fst_flags) _ (times_never atim mtim fst_flags) (λ times _.
+    then g call (open_node_in (slice_get g.places fd)) _ (node_never (slice_get g.places fd)) (λ node is.
+    then g call (permit (may_change node.perms)) _ (permit_never (may_change node.perms)) (λ _ may.
+    changes_near g call (SetTimes node.node times.atime times.mtime) refl (λ n has. named_node g fd n is has)
+    (λ names. no_change node.perms may
+    (read_only (only_named g fd names.fd names.named names.perms) (node_perms (slice_get g.places fd) is))) tt)))
+
+-- what is done at two places, both of which may be changed
+done_between_near : (g : Guest) (call : Call) (old_fd old_path old_len new_fd new_path new_len : ℕ)
+    (own : FsPerms → FsPerms → Option ErrorCode) (what : TwoPlaceCall)
+    → descriptors_named g.memory call ≡ old_fd ∷ new_fd ∷ [] → opened_through call ≡ None
+    → ((old new : FsPerms) (done : Unit {0}) → permit (own old new) ≡ Ok done
+    → (old ≡ ReadOnly → ⊥) × (new ≡ ReadOnly → ⊥))
+    → IsNear g call (done_between g old_fd old_path old_len new_fd new_path new_len own what)
+done_between_near g call old_fd old_path old_len new_fd new_path new_len own what named through nevers =
+    then g call (start_in (slice_get g.places old_fd)) _ (start_never (slice_get g.places old_fd)) (λ old is.
+    then g call (start_in (slice_get g.places new_fd)) _ (start_never (slice_get g.places new_fd)) (λ new is'.
+    then g call (text_in g.memory old_path old_len) _ (text_never g.memory old_path old_len) (λ old_text read.
+    then g call (text_in g.memory new_path new_len) _ (text_never g.memory new_path new_len) (λ new_text read'.
+    then g call (permit (own old.perms new.perms)) _ (permit_never (own old.perms new.perms)) (λ done may.
+    changes_near g call (Path (AtTwo old.node old_text new.node new_text what)) through
+    (from_two (Has g) (starts_near g old_fd old.node is (Contains-here old.node []))
+    (starts_near g new_fd new.node is' (Contains-here new.node [])))
+    (λ names. from_two (λ fd. perms_in (slice_get g.places fd) ≡ Some ReadOnly → ⊥)
+    (λ perms. (nevers old.perms new.perms done may).0 (read_only perms (start_perms old_fd is)))
+    (λ perms. (nevers old.perms new.perms done may).1 (read_only perms (start_perms new_fd is')))
+    names.fd (subst (λ fds. Contains fds names.fd) named names.named) names.perms)
+    (text_utf8 g.memory old_path old_len read, text_utf8 g.memory new_path new_len read'))))))
+  where
+    start_perms : {d : OpenDirectory} (fd : ℕ) → start_in (slice_get g.places fd) ≡ Ok d
+        → perms_in (slice_get g.places fd) ≡ Some d.perms
+    start_perms fd at = directory_perms (slice_get g.places fd) (start_is (slice_get g.places fd) at)
+
+path_rename_near : (g : Guest) (old_fd old_path old_len new_fd new_path new_len : ℕ)
+    → IsNear g (PathRename old_fd old_path old_len new_fd new_path new_len)
+    (path_rename g old_fd old_path old_len new_fd new_path new_len)
+unfolding path_rename
+path_rename_near g old_fd old_path old_len new_fd new_path new_len =
+    done_between_near g _ old_fd old_path old_len new_fd new_path new_len may_rename Rename refl refl
+    (λ old new _. no_rename old new)
+
+path_link_near : (g : Guest) (old_fd old_flags old_path old_len new_fd new_path new_len : ℕ)
+    → IsNear g (PathLink old_fd old_flags old_path old_len new_fd new_path new_len)
+    (path_link g old_fd old_flags old_path old_len new_fd new_path new_len)
+unfolding path_link
+path_link_near g old_fd old_flags old_path old_len new_fd new_path new_len =
+    let call = PathLink old_fd old_flags old_path old_len new_fd new_path new_len in
+    then g call (follow_asked old_flags) _ (follow_never old_flags) (λ follow _.
+    done_between_near g call old_fd old_path old_len new_fd new_path new_len
+    (λ old new. may_add_name old new follow) HardLink refl refl (λ old new _. no_new_name old new follow))
 
 path_symlink_near : (g : Guest) (old_path old_len fd new_path new_len : ℕ)
     → IsNear g (PathSymlink old_path old_len fd new_path new_len)
@@ -139,14 +225,10 @@ path_symlink_near g old_path old_len fd new_path new_len =
     then g call (start_in (slice_get g.places fd)) _ (start_never (slice_get g.places fd)) (λ d is.
     then g call (text_in g.memory old_path old_len) _ (text_never g.memory old_path old_len) (λ target told.
     then g call (text_in g.memory new_path new_len) _ (text_never g.memory new_path new_len) (λ text read.
-    then g call (permit (may_link d.perms target)) _ (permit_never (may_link d.perms target)) (λ _ may. record {
-      starts = λ n has. starts_near g fd n is has;
-      places = λ _. put_nothing g;
-      ends = λ _ _ _. tt;
-      permits = λ names. changes_never g call fd refl is (no_link d.perms target may) names;
-      asked = λ _. (text_utf8 g.memory new_path new_len read, text_utf8 g.memory old_path old_len told);
-      bytes = λ are _ _. are;
-    }))))
+    then g call (permit (may_link d.perms target)) _ (permit_never (may_link d.perms target)) (λ _ may.
+    changes_near g call (Path (AtPlace d.node text (Symlink target))) refl (λ n has. starts_near g fd n is has)
+    (changes_never g call fd refl is (no_link d.perms target may))
+    (text_utf8 g.memory new_path new_len read, text_utf8 g.memory old_path old_len told)))))
 
 path_readlink_near : (g : Guest) (fd path len buf buf_len : ℕ)
     → IsNear g (PathReadlink fd path len buf buf_len) (path_readlink g fd path len buf buf_len)
@@ -209,3 +291,10 @@ row_near g (PathRemoveDirectory fd path path_len) = path_remove_directory_near g
 row_near g (PathSymlink old_path old_path_len fd new_path new_path_len) =
     path_symlink_near g old_path old_path_len fd new_path new_path_len
 row_near g (PathUnlinkFile fd path path_len) = path_unlink_file_near g fd path path_len
+row_near g (PathFilestatSetTimes fd flags path path_len atim mtim fst_flags) =
+    path_filestat_set_times_near g fd flags path path_len atim mtim fst_flags
+row_near g (FdFilestatSetTimes fd atim mtim fst_flags) = fd_filestat_set_times_near g fd atim mtim fst_flags
+row_near g (PathLink old_fd old_flags old_path old_path_len new_fd new_path new_path_len) =
+    path_link_near g old_fd old_flags old_path old_path_len new_fd new_path new_path_len
+row_near g (PathRename old_fd old_path old_path_len new_fd new_path new_path_len) =
+    path_rename_near g old_fd old_path old_path_len new_fd new_path new_path_len

@@ -2,17 +2,20 @@
 use Rattle.std.proofs.Common.{ℕ, ◌≡◌, refl, Bool, List, take, slice_get, slice_set, Option, Ok}
 use Rattle.wasi_p1.specs.CallParts.{filled_at}
 use Rattle.wasi_p1.specs.Guest.{Guest, OpenDirectory, OpenFile}
-use Rattle.wasi_fs.specs.Calls.{may_change, may_link, opens}
+use Rattle.wasi_fs.specs.Calls.{may_change, may_link, may_rename, may_add_name, opens}
 use Rattle.wasi_fs.specs.OpenHow.{OpenHow, may_open, mode_of}
 use Rattle.wasi_host.specs.declared.errors.ErrorCode.{ErrorCode}
 use Rattle.wasi_resolve.specs.AtPlace.{PlaceCall, CreateDir, RemoveFile, RemoveDir, Symlink, ReadLink}
-use Rattle.wasi_resolve.specs.PathRequest.{LookPath, AtPlace}
+use Rattle.wasi_resolve.specs.AtTwo.{HardLink, Rename}
+use Rattle.wasi_resolve.specs.PathRequest.{LookPath, AtPlace, TimesPath, AtTwo}
 use Rattle.wasi_p1.specs.Filestats.{stat_both, filestat_in}
+use Rattle.wasi_p1.specs.NewTimes.{times_asked}
 use Rattle.wasi_p1.specs.RawFlags.{open_how, follow_asked}
-use Rattle.wasi_p1.specs.Request.{Request, Reply, Path, Read, Write}
+use Rattle.wasi_p1.specs.declared.new_times.NewTimes.{NewTimes}
+use Rattle.wasi_p1.specs.Request.{Request, Reply, Path, Read, Write, SetTimes}
 use Rattle.wasi_p1.specs.Row.{Row, Program, give, ask}
 use Rattle.wasi_host.specs.Steps.{◌>>=◌}
-use Rattle.wasi_p1.specs.Rows.{path_open, fd_read, fd_write, done_at, path_create_directory, path_remove_directory, path_unlink_file, path_symlink, path_readlink, path_filestat_get, text_in, directory_in, start_in, file_in, buffer_in, range, permit, opened_among, text_to, held_by, may_write, moved}
+use Rattle.wasi_p1.specs.Rows.{OpenNode, path_open, fd_read, fd_write, done_at, path_create_directory, path_remove_directory, path_unlink_file, path_symlink, path_readlink, path_filestat_get, path_filestat_set_times, fd_filestat_set_times, path_link, path_rename, text_in, directory_in, start_in, file_in, open_node_in, buffer_in, range, permit, opened_among, text_to, held_by, may_write, moved}
 use Rattle.wasi_guest.specs.declared.iovec.Iovec.{Iovec}
 use Rattle.wasi_guest.specs.declared.answer.Value.{Value}
 use Rattle.wasi_guest.specs.declared.answer.Value.TheVariants.{Number, Unit as Nothing}
@@ -38,30 +41,30 @@ path_open_asks g fd dirflags path len oflags base inheriting fdflags known found
 abbrev pub with_nothing : Guest → Unit {0} → Value × Guest
 with_nothing g done = (Nothing, g)
 
--- what is asked of a directory at a path
-abbrev pub changes_at : Option ErrorCode → ℕ → List ℕ → PlaceCall → Guest → Row (Program (Value × Guest))
-changes_at own start text what g = tail own (Path (AtPlace start text what)) (λ _. give tt) with_nothing g
+-- the end of a row that answers nothing else
+abbrev pub changes : Option ErrorCode → Request → Guest → Row (Program (Value × Guest))
+changes own r g = tail own r (λ _. give tt) with_nothing g
 
 done_asks : (g : Guest) (fd path len : ℕ) (what : PlaceCall) {text : List ℕ} {d : OpenDirectory}
     → Ok d ≡ start_in (slice_get g.places fd) → Ok text ≡ text_in g.memory path len
-    → changes_at (may_change d.perms) d.node text what g ≡ done_at g fd path len what
+    → changes (may_change d.perms) (Path (AtPlace d.node text what)) g ≡ done_at g fd path len what
 done_asks g fd path len what within found = rw (← within, ← found) refl
 
 pub path_create_directory_asks : (g : Guest) (fd path len : ℕ) {text : List ℕ} {d : OpenDirectory}
     → Ok d ≡ start_in (slice_get g.places fd) → Ok text ≡ text_in g.memory path len
-    → changes_at (may_change d.perms) d.node text CreateDir g ≡ path_create_directory g fd path len
+    → changes (may_change d.perms) (Path (AtPlace d.node text CreateDir)) g ≡ path_create_directory g fd path len
 unfolding path_create_directory
 path_create_directory_asks g fd path len = done_asks g fd path len CreateDir
 
 pub path_remove_directory_asks : (g : Guest) (fd path len : ℕ) {text : List ℕ} {d : OpenDirectory}
     → Ok d ≡ start_in (slice_get g.places fd) → Ok text ≡ text_in g.memory path len
-    → changes_at (may_change d.perms) d.node text RemoveDir g ≡ path_remove_directory g fd path len
+    → changes (may_change d.perms) (Path (AtPlace d.node text RemoveDir)) g ≡ path_remove_directory g fd path len
 unfolding path_remove_directory
 path_remove_directory_asks g fd path len = done_asks g fd path len RemoveDir
 
 pub path_unlink_file_asks : (g : Guest) (fd path len : ℕ) {text : List ℕ} {d : OpenDirectory}
     → Ok d ≡ start_in (slice_get g.places fd) → Ok text ≡ text_in g.memory path len
-    → changes_at (may_change d.perms) d.node text RemoveFile g ≡ path_unlink_file g fd path len
+    → changes (may_change d.perms) (Path (AtPlace d.node text RemoveFile)) g ≡ path_unlink_file g fd path len
 unfolding path_unlink_file
 path_unlink_file_asks g fd path len = done_asks g fd path len RemoveFile
 
@@ -69,10 +72,50 @@ pub path_symlink_asks : (g : Guest) (old_path old_len fd new_path new_len : ℕ)
     {d : OpenDirectory}
     → Ok d ≡ start_in (slice_get g.places fd) → Ok target ≡ text_in g.memory old_path old_len
     → Ok text ≡ text_in g.memory new_path new_len
-    → changes_at (may_link d.perms target) d.node text (Symlink target) g
+    → changes (may_link d.perms target) (Path (AtPlace d.node text (Symlink target))) g
     ≡ path_symlink g old_path old_len fd new_path new_len
 unfolding path_symlink
 path_symlink_asks g old_path old_len fd new_path new_len within told found = rw (← within, ← told, ← found) refl
+
+-- what is asked where times are set
+pub path_filestat_set_times_asks : (g : Guest) (fd flags path len atim mtim fst_flags : ℕ) {follow : Bool}
+    {times : NewTimes} {text : List ℕ} {d : OpenDirectory}
+    → Ok follow ≡ follow_asked flags → Ok times ≡ times_asked atim mtim fst_flags
+    → Ok d ≡ start_in (slice_get g.places fd) → Ok text ≡ text_in g.memory path len
+    → changes (may_change d.perms) (Path (TimesPath d.node text follow times.atime times.mtime)) g
+    ≡ path_filestat_set_times g fd flags path len atim mtim fst_flags
+unfolding path_filestat_set_times
+path_filestat_set_times_asks g fd flags path len atim mtim fst_flags known given within found =
+    rw (← known, ← given, ← within, ← found) refl
+
+pub fd_filestat_set_times_asks : (g : Guest) (fd atim mtim fst_flags : ℕ) {times : NewTimes} {n : OpenNode}
+    → Ok times ≡ times_asked atim mtim fst_flags → Ok n ≡ open_node_in (slice_get g.places fd)
+    → changes (may_change n.perms) (SetTimes n.node times.atime times.mtime) g
+    ≡ fd_filestat_set_times g fd atim mtim fst_flags
+unfolding fd_filestat_set_times
+fd_filestat_set_times_asks g fd atim mtim fst_flags given within = rw (← given, ← within) refl
+
+-- and at two places
+pub path_link_asks : (g : Guest) (old_fd old_flags old_path old_len new_fd new_path new_len : ℕ) {follow : Bool}
+    {old new : OpenDirectory} {old_text new_text : List ℕ}
+    → Ok follow ≡ follow_asked old_flags
+    → Ok old ≡ start_in (slice_get g.places old_fd) → Ok new ≡ start_in (slice_get g.places new_fd)
+    → Ok old_text ≡ text_in g.memory old_path old_len → Ok new_text ≡ text_in g.memory new_path new_len
+    → changes (may_add_name old.perms new.perms follow) (Path (AtTwo old.node old_text new.node new_text HardLink)) g
+    ≡ path_link g old_fd old_flags old_path old_len new_fd new_path new_len
+unfolding path_link
+path_link_asks g old_fd old_flags old_path old_len new_fd new_path new_len known old new old_found new_found =
+    rw (← known, ← old, ← new, ← old_found, ← new_found) refl
+
+pub path_rename_asks : (g : Guest) (old_fd old_path old_len new_fd new_path new_len : ℕ)
+    {old new : OpenDirectory} {old_text new_text : List ℕ}
+    → Ok old ≡ start_in (slice_get g.places old_fd) → Ok new ≡ start_in (slice_get g.places new_fd)
+    → Ok old_text ≡ text_in g.memory old_path old_len → Ok new_text ≡ text_in g.memory new_path new_len
+    → changes (may_rename old.perms new.perms) (Path (AtTwo old.node old_text new.node new_text Rename)) g
+    ≡ path_rename g old_fd old_path old_len new_fd new_path new_len
+unfolding path_rename
+path_rename_asks g old_fd old_path old_len new_fd new_path new_len old new old_found new_found =
+    rw (← old, ← new, ← old_found, ← new_found) refl
 
 -- what `path_readlink` asks
 pub path_readlink_asks : (g : Guest) (fd path len buf buf_len : ℕ) {text : List ℕ} {d : OpenDirectory}

@@ -1,6 +1,9 @@
 -- A turn from a valid state leads to one.
 use Rattle.std.proofs.Common.{ℕ, ◌≡◌, inl, inr, true, false, cond, Bool, List, [], ◌∷◌, refl, ap, sym, subst, Option, Some, None, Result, Ok, Err}
 use Rattle.std.specs.Prelude.{MatchBool}
+use Rattle.std.specs.Str.{IsUtf8}
+use Rattle.wasi_host.specs.Step.{times_set}
+use Rattle.wasi_host.specs.declared.system_time.SystemTime.{SystemTime}
 use Rattle.wasi_guest.specs.declared.answer.Value.{Value}
 use Rattle.wasi_guest.specs.declared.call.Call.{Call}
 use Rattle.wasi_host.specs.Meaning.{World}
@@ -11,16 +14,20 @@ use Rattle.wasi_host.proofs.ValidSteps.{valid-step}
 use Rattle.wasi_p1.specs.CallTurn.{Turns, in_world}
 use Rattle.wasi_p1.specs.Guest.{Guest, State}
 use Rattle.wasi_host.specs.HostCall.{OpenAt, Pwrite}
+use Rattle.wasi_host.specs.HostCall as calls
+use Rattle.wasi_host.specs.declared.held.Held.{Held}
 use Rattle.wasi_host.specs.Steps.{◌>>=◌}
 use Rattle.wasi_host.specs.declared.errors.ErrorCode.{ErrorCode}
 use Rattle.wasi_host.specs.Answer.{unless, link_text}
 use Rattle.wasi_host.specs.Refusal.{refusal}
 use Rattle.wasi_host.proofs.Chain.{free}
 use Rattle.wasi_resolve.specs.AtPlace.{PlaceCall, PlaceAnswer, CreateDir, RemoveFile, RemoveDir, Symlink, ReadLink, call_at, unrooted, answer_in, place_for, step_in}
-use Rattle.wasi_resolve.specs.Paths.{Opening, Place, opening, step_of}
-use Rattle.wasi_resolve.specs.PathRequest.{PathRequest, OpenPath, LookPath, AtPlace, PathReply, answer_at, as_asked, path_reply, path_after}
+use Rattle.wasi_resolve.specs.AtPlace as places
+use Rattle.wasi_resolve.specs.AtTwo.{Places, places_for, asks_directory, call_at_two, answer_at_two, step_at_two}
+use Rattle.wasi_resolve.specs.Paths.{Opening, Place, opening, step_of, timed}
+use Rattle.wasi_resolve.specs.PathRequest.{PathRequest, OpenPath, LookPath, AtPlace, TimesPath, AtTwo, PathReply, answer_at, as_asked, times_through, path_reply, path_after}
 use Rattle.wasi_resolve.proofs.Requests.{as_opened}
-use Rattle.wasi_p1.specs.Request.{Request, Reply, Path, Read, Write, reply_of, after}
+use Rattle.wasi_p1.specs.Request.{Request, Reply, Path, Read, Write, SetTimes, reply_of, after}
 use Rattle.wasi_p1.specs.Row.{Row, Program, done, asking}
 use Rattle.wasi_p1.specs.Rows.{row, turn}
 use Rattle.wasi_p1.specs.Run.{Turned, Run, ends}
@@ -36,7 +43,7 @@ use Rattle.wasi_p1.proofs.Utf8.{text_bytes}
 use Rattle.wasi_p1.proofs.Moving.{Moves, turn_moves, turned_moves, turned_by, over_tree, over_guest, replied_by}
 use Rattle.wasi_p1.proofs.Near.{AreBytes, AreTexts, PathGivesBytes, GivesBytes, KeepsBytes, MayBeAsked, IsNear}
 use Rattle.wasi_p1.proofs.Nearness.{row_near}
-use Rattle.wasi_resolve.proofs.Asking.{opening_asked, place_asked, link_utf8}
+use Rattle.wasi_resolve.proofs.Asking.{HasUtf8Target, opening_asked, place_asked, places_asked, link_utf8}
 
 -- ---- what is read of a valid tree
 
@@ -68,6 +75,9 @@ path_gives_bytes t (AtPlace s text CreateDir) reply valid is = tt
 path_gives_bytes t (AtPlace s text RemoveFile) reply valid is = tt
 path_gives_bytes t (AtPlace s text RemoveDir) reply valid is = tt
 path_gives_bytes t (AtPlace s text (Symlink target)) reply valid is = tt
+path_gives_bytes t (AtPlace s text (places.SetTimes atime mtime)) reply valid is = tt
+path_gives_bytes t (TimesPath s text follow atime mtime) reply valid is = tt
+path_gives_bytes t (AtTwo old old_text new new_text what) reply valid is = tt
 path_gives_bytes t (AtPlace s text ReadLink) reply valid is = by (place_for t s text ReadLink) is
   where
     given : (p : Place) (o : Option ErrorCode)
@@ -86,6 +96,7 @@ gives_bytes t (Read f offset n) bytes valid is =
     let whole = content_bytes t f.node valid in
     subst AreBytes (unless_value _ is) (cut n _ (cut offset (bytes_of (node_at t f.node).content) whole).1).0
 gives_bytes t (Write f offset piece) count valid is = tt
+gives_bytes t (SetTimes n atime mtime) answer valid is = tt
 
 -- ---- a request
 
@@ -96,12 +107,31 @@ place_free t CreateDir p is = free _ _ _ is
 place_free t RemoveFile p is = free _ _ _ is
 place_free t RemoveDir p is = free _ _ _ is
 place_free t (Symlink target) p is = free _ _ _ is
+place_free t (places.SetTimes atime mtime) p is = free _ _ _ is
 place_free t ReadLink p is = by (refusal t (call_at ReadLink p)) is
   where
     by : (o : Option ErrorCode) {reply : List ℕ} → (unless o (link_text t p.directory p.name) >>= unrooted) ≡ Ok reply
         → o ≡ None
     by None is = refl
     by (Some code) is = absurd (cc)
+
+-- what is done at a place leads to a valid tree
+place_valid : (t : Tree) (s : ℕ) (text : List ℕ) (what : PlaceCall) {reply : PlaceAnswer what} → IsValidTree t
+    → IsUtf8 text → HasUtf8Target what → place_for t s text what >>= answer_in t what ≡ Ok reply
+    → IsValidTree (step_in t what (place_for t s text what))
+place_valid t s text what {reply} valid utf8 target answered = by (place_for t s text what) refl answered
+  where
+    by : (m : Result Place ErrorCode) → place_for t s text what ≡ m → (m >>= answer_in t what) ≡ Ok reply
+        → IsValidTree (step_in t what m)
+    by (Ok p) at is =
+        valid-step t (call_at what p) valid (place_asked t s text what utf8 target at) (place_free t what p is)
+    by (Err code) at is = valid
+
+-- and so do times that are set
+times_valid : (t : Tree) (n : ℕ) (atime mtime : Option SystemTime) → IsValidTree t
+    → IsValidTree (times_set t n atime mtime)
+unfolding refusal
+times_valid t n atime mtime valid = valid-step t (calls.SetTimes n atime mtime) valid tt refl
 
 -- where a path ends an open may be asked, and what is done at a place
 path_valid : (t : Tree) (p : PathRequest) {reply : PathReply p} → IsValidTree t → AreTexts p
@@ -117,12 +147,25 @@ path_valid t (OpenPath s text o follow directory) {reply} valid utf8 answered =
         (free _ _ _ (as_opened directory (answer_at t e) is))
     by (Err code) at is = valid
 path_valid t (LookPath s text follow) valid utf8 answered = valid
-path_valid t (AtPlace s text what) {reply} valid texts answered = by (place_for t s text what) refl answered
+path_valid t (AtPlace s text what) valid texts answered = place_valid t s text what valid texts.0 texts.1 answered
+path_valid t (TimesPath s text true atime mtime) valid utf8 answered = by (timed t s text)
   where
-    by : (m : Result Place ErrorCode) → place_for t s text what ≡ m → (m >>= answer_in t what) ≡ Ok reply
-        → IsValidTree (step_in t what m)
-    by (Ok p) at is = valid-step t (call_at what p) valid
-        (place_asked t s text what texts.0 texts.1 at) (place_free t what p is)
+    by : (m : Result Held ErrorCode) → IsValidTree (times_through t atime mtime m)
+    by (Ok held) = times_valid t held.node atime mtime valid
+    by (Err code) = valid
+path_valid t (TimesPath s text false atime mtime) valid utf8 answered =
+    place_valid t s text (places.SetTimes atime mtime) valid utf8 tt answered
+path_valid t (AtTwo old old_text new new_text what) {reply} valid texts answered =
+    by (places_for t old old_text new new_text what) refl answered
+  where
+    asks : Bool
+    asks = asks_directory old_text new_text
+
+    by : (m : Result Places ErrorCode) → places_for t old old_text new new_text what ≡ m
+        → (m >>= answer_at_two t what asks) ≡ Ok reply → IsValidTree (step_at_two t what asks m)
+    by (Ok p) at is =
+        valid-step t (call_at_two what asks p) valid
+        (places_asked t old old_text new new_text what asks texts.0 texts.1 at) (free _ _ _ is)
     by (Err code) at is = valid
 
 request_valid : (t : Tree) (r : Request) {reply : Reply r} → IsValidTree t → MayBeAsked r → reply_of t r ≡ Ok reply
@@ -130,6 +173,7 @@ request_valid : (t : Tree) (r : Request) {reply : Reply r} → IsValidTree t →
 request_valid t (Path p) valid may is = path_valid t p valid may is
 request_valid t (Read f offset n) valid may is = valid
 request_valid t (Write f offset piece) valid may is = valid-step t (Pwrite f offset piece) valid may (free _ _ _ is)
+request_valid t (SetTimes n atime mtime) valid may is = times_valid t n atime mtime valid
 
 -- ---- a turn
 

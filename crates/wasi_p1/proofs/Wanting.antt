@@ -3,7 +3,8 @@ use Rattle.std.proofs.Common.{ℕ, true, false, cond, Bool, List, Option, Some, 
 use Rattle.std.specs.Str.{is_utf8}
 use Rattle.wasi_fs.specs.Perms.{is_read_only}
 use Rattle.wasi_fs.specs.declared.perms.FsPerms.{FsPerms}
-use Rattle.wasi_guest.specs.Flags.{flags_in, known_lookupflags, known_oflags, known_fdflags, known_rights}
+use Rattle.wasi_guest.specs.Flags as flag
+use Rattle.wasi_guest.specs.Flags.{has, flags_in, known_lookupflags, known_oflags, known_fdflags, known_fstflags, known_rights}
 use Rattle.wasi_guest.specs.Iovec.{first_buffer}
 use Rattle.wasi_guest.specs.Range.{in_memory}
 use Rattle.wasi_host.specs.Steps.{◌>>=◌}
@@ -14,9 +15,10 @@ use Rattle.wasi_guest.specs.declared.errno.Errno.TheVariants as errnos
 use Rattle.wasi_guest.specs.declared.iovec.Iovec.{Iovec}
 use Rattle.wasi_p1.specs.CallParts.{NotMemory}
 use Rattle.wasi_p1.specs.Guest.{Place, closed, stream, directory, file}
+use Rattle.wasi_p1.specs.NewTimes.{new_time, times_asked}
 use Rattle.wasi_p1.specs.RawFlags.{or_inval, open_how, follow_asked}
 use Rattle.wasi_p1.specs.Row.{Row}
-use Rattle.wasi_p1.specs.Rows.{text_in, utf8_text, live_in, directory_in, start_in, file_in, or_trap, buffer_in, range, may_write, permit}
+use Rattle.wasi_p1.specs.Rows.{text_in, utf8_text, live_in, directory_in, start_in, file_in, open_node_in, or_trap, buffer_in, range, may_write, permit}
 use Rattle.wasi_p1.specs.declared.error.P1Error.{P1Error}
 use Rattle.wasi_p1.specs.declared.error.P1Error.TheVariants.{Errno, Trap}
 
@@ -94,6 +96,26 @@ start_never (Some (file f)) = number
 start_never (Some (stream s)) = number
 start_never (Some closed) = number
 start_never None = number
+
+pub node_never : (p : Option Place) → Never (open_node_in p)
+node_never (Some (directory d)) = tt
+node_never (Some (file f)) = tt
+node_never (Some (stream s)) = number
+node_never (Some closed) = number
+node_never None = number
+
+time_never : (n : ℕ) (set now : Bool) → Never (new_time n set now)
+time_never n true true = number
+time_never n true false = tt
+time_never n false true = tt
+time_never n false false = tt
+
+pub times_never : (atim mtim fst_flags : ℕ) → Never (times_asked atim mtim fst_flags)
+unfolding times_asked
+times_never atim mtim fst_flags =
+    after (or_inval (flags_in known_fstflags fst_flags)) _ (inval_never _) (λ set.
+    after (new_time atim (has set flag.atim) (has set flag.atim_now)) _ (time_never atim _ _) (λ atime.
+    after (new_time mtim (has set flag.mtim) (has set flag.mtim_now)) _ (time_never mtim _ _) (λ mtime. tt)))
 
 pub file_never : (p : Option Place) → Never (file_in p)
 file_never (Some (directory d)) = number

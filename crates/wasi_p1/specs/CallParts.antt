@@ -1,8 +1,9 @@
 -- What the parts of a call give, in the words of its row.
 use Rattle.std.specs.Prelude.{◌≡◌, ◌⊎◌, ℕ, Bool, true, false, List, length, Option, Some, None, Ok, Err}
 use Rattle.std.specs.FinSet.{contains}
-use Rattle.wasi_fs.specs.Calls.{opens}
+use Rattle.wasi_fs.specs.Calls.{opens, handle_of, perms_of}
 use Rattle.wasi_fs.specs.OpenHow.{OpenHow, mode_of}
+use Rattle.wasi_fs.specs.declared.descriptor.Descriptor.{Descriptor}
 use Rattle.wasi_fs.specs.declared.descriptor.Dir.{Dir}
 use Rattle.wasi_host.specs.Meaning.{World, Handles, Keeps}
 use Rattle.wasi_host.specs.declared.errors.HostError.{HostError}
@@ -12,7 +13,7 @@ use Rattle.wasi_p1.specs.Asked.{Does}
 use Rattle.wasi_p1.specs.Errnos.{errno_of, error_of}
 use Rattle.wasi_p1.specs.Request.{Request, Reply, MayReply, Path, Read, Write}
 use Rattle.wasi_p1.specs.Row.{Row, give}
-use Rattle.wasi_p1.specs.Rows.{opened_among}
+use Rattle.wasi_p1.specs.Rows.{OpenNode, opened_among}
 use Rattle.wasi_guest.specs.Range.{with_bytes}
 use Rattle.wasi_guest.specs.declared.errno.Errno.TheVariants as errnos
 use Rattle.wasi_p1.specs.Guest.{OpenDirectory, OpenFile, Place, places_of, directory_by, file_by}
@@ -28,6 +29,10 @@ open_directory_of held dir = directory_by (held dir.dir) dir
 
 abbrev pub open_file_of : (ℕ → Held) → FilePlace → OpenFile
 open_file_of held file = file_by (held file.file.file) file.file file.position
+
+-- a directory or file by its descriptor
+abbrev pub open_node_of : (ℕ → Held) → Descriptor → OpenNode
+open_node_of held descriptor = record { node = (held (handle_of descriptor)).node; perms = perms_of descriptor }
 
 -- A part that asks for something, which may not be permitted: then it is refused so, or memory was wanted first, and
 -- the host is as it was

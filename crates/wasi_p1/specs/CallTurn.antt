@@ -12,7 +12,7 @@ use Rattle.wasi_p1.specs.Row.{Row, Program, done, asking}
 use Rattle.wasi_p1.specs.Rows.{row, turn}
 use Rattle.wasi_p1.specs.Turn.{IsTurn, ReachesHost, named_by, roots_of}
 use Rattle.wasi_guest.specs.declared.call.Call.{Call}
-use Rattle.wasi_guest.specs.declared.call.Call.TheVariants.{FdClose, FdRead, FdWrite, PathCreateDirectory, PathFilestatGet, PathOpen, PathReadlink, PathRemoveDirectory, PathSymlink, PathUnlinkFile}
+use Rattle.wasi_guest.specs.declared.call.Call.TheVariants.{FdClose, FdFilestatSetTimes, FdRead, FdWrite, PathCreateDirectory, PathFilestatGet, PathFilestatSetTimes, PathLink, PathOpen, PathReadlink, PathRemoveDirectory, PathRename, PathSymlink, PathUnlinkFile}
 use Rattle.wasi_guest.specs.declared.errno.Errno.TheVariants.{Io}
 use Rattle.wasi_p1.specs.declared.error.P1Error.{P1Error}
 use Rattle.wasi_p1.specs.declared.error.P1Error.TheVariants.{Errno, Memory}
@@ -96,6 +96,10 @@ may_want (PathReadlink fd path path_len buf buf_len) = true
 may_want (PathRemoveDirectory fd path path_len) = true
 may_want (PathSymlink old_path old_path_len fd new_path new_path_len) = true
 may_want (PathUnlinkFile fd path path_len) = true
+may_want (PathFilestatSetTimes fd flags path path_len atim mtim fst_flags) = true
+may_want (FdFilestatSetTimes fd atim mtim fst_flags) = false
+may_want (PathLink old_fd old_flags old_path old_path_len new_fd new_path new_path_len) = true
+may_want (PathRename old_fd old_path old_path_len new_fd new_path new_path_len) = true
 
 -- What a call does to its guest, by its row. Over every host: what the row says without the tree, where each handle
 -- stands for what it stood for before the call; and only an answered call changes what is the guest's own. Over a host

@@ -7,6 +7,7 @@ pub mod Errnos
 pub mod Request
 pub mod Row
 pub mod RawFlags
+pub mod NewTimes
 pub mod Filestats
 pub mod Rows
 pub mod Turn

@@ -8,7 +8,7 @@ use Rattle.wasi_host.specs.declared.lookup.Lookup.{Lookup}
 use Rattle.wasi_p1.specs.declared.context.Slot.{Slot}
 use Rattle.wasi_p1.specs.declared.context.Slot.TheVariants as slots
 use Rattle.wasi_guest.specs.declared.call.Call.{Call}
-use Rattle.wasi_guest.specs.declared.call.Call.TheVariants.{FdClose, FdRead, FdWrite, PathCreateDirectory, PathFilestatGet, PathOpen, PathReadlink, PathRemoveDirectory, PathSymlink, PathUnlinkFile}
+use Rattle.wasi_guest.specs.declared.call.Call.TheVariants.{FdClose, FdFilestatSetTimes, FdRead, FdWrite, PathCreateDirectory, PathFilestatGet, PathFilestatSetTimes, PathLink, PathOpen, PathReadlink, PathRemoveDirectory, PathRename, PathSymlink, PathUnlinkFile}
 
 -- the handle of a descriptor
 abbrev pub handle_in : Slot → Option ℕ
@@ -73,6 +73,12 @@ descriptors_named memory (PathReadlink fd path path_len buf buf_len) = fd ∷ []
 descriptors_named memory (PathRemoveDirectory fd path path_len) = fd ∷ []
 descriptors_named memory (PathSymlink old_path old_path_len fd new_path new_path_len) = fd ∷ []
 descriptors_named memory (PathUnlinkFile fd path path_len) = fd ∷ []
+descriptors_named memory (PathFilestatSetTimes fd flags path path_len atim mtim fst_flags) = fd ∷ []
+descriptors_named memory (FdFilestatSetTimes fd atim mtim fst_flags) = fd ∷ []
+descriptors_named memory (PathLink old_fd old_flags old_path old_path_len new_fd new_path new_path_len) =
+    old_fd ∷ new_fd ∷ []
+descriptors_named memory (PathRename old_fd old_path old_path_len new_fd new_path new_path_len) =
+    old_fd ∷ new_fd ∷ []
 
 -- the handles of the descriptors of these numbers
 abbrev pub under : List (Option ℕ) → List ℕ → List (Option ℕ)

@@ -1,7 +1,7 @@
 -- The rows of the calls.
 use Rattle.std.specs.Prelude.{ℕ, ◌+◌, List, length, take, slice_get, slice_set, slice_range, if◌then◌else◌, Ok, Err, Option, Some, None}
 use Rattle.std.specs.Str.{is_utf8}
-use Rattle.wasi_fs.specs.Calls.{may_change, may_link, opens}
+use Rattle.wasi_fs.specs.Calls.{may_change, may_link, may_rename, may_add_name, opens}
 use Rattle.wasi_fs.specs.OpenHow.{may_open, mode_of}
 use Rattle.wasi_fs.specs.Perms.{is_read_only}
 use Rattle.wasi_fs.specs.declared.open_mode.OpenMode.{OpenMode}
@@ -16,13 +16,15 @@ use Rattle.wasi_p1.specs.Guest.{Guest, State, Place, closed, stream, directory, 
 use Rattle.wasi_p1.specs.RawFlags.{open_how, follow_asked}
 use Rattle.wasi_p1.specs.Filestats.{stat_both, filestat_in}
 use Rattle.wasi_resolve.specs.AtPlace.{PlaceCall, CreateDir, RemoveFile, RemoveDir, Symlink, ReadLink}
-use Rattle.wasi_resolve.specs.PathRequest.{LookPath, AtPlace, Opened}
-use Rattle.wasi_p1.specs.Request.{Path, Read, Write}
+use Rattle.wasi_resolve.specs.AtTwo.{TwoPlaceCall, HardLink, Rename}
+use Rattle.wasi_resolve.specs.PathRequest.{LookPath, AtPlace, TimesPath, AtTwo, Opened}
+use Rattle.wasi_p1.specs.NewTimes.{times_asked}
+use Rattle.wasi_p1.specs.Request.{Path, Read, Write, SetTimes}
 use Rattle.wasi_p1.specs.Row.{Row, give, Program, answer, ask, from_host, run_on}
 use Rattle.wasi_host.specs.Steps.{◌>>=◌}
 use Rattle.wasi_guest.specs.declared.iovec.Iovec.{Iovec}
 use Rattle.wasi_guest.specs.declared.call.Call.{Call}
-use Rattle.wasi_guest.specs.declared.call.Call.TheVariants.{FdClose, FdRead, FdWrite, PathCreateDirectory, PathFilestatGet, PathOpen, PathReadlink, PathRemoveDirectory, PathSymlink, PathUnlinkFile}
+use Rattle.wasi_guest.specs.declared.call.Call.TheVariants.{FdClose, FdFilestatSetTimes, FdRead, FdWrite, PathCreateDirectory, PathFilestatGet, PathFilestatSetTimes, PathLink, PathOpen, PathReadlink, PathRemoveDirectory, PathRename, PathSymlink, PathUnlinkFile}
 use Rattle.wasi_guest.specs.declared.errno.Errno.TheVariants as errnos
 use Rattle.wasi_p1.specs.declared.error.P1Error.TheVariants.{Errno, Trap}
 use Rattle.wasi_guest.specs.declared.answer.TrapKind.TheVariants.{Pointer}
@@ -65,6 +67,19 @@ file_in (Some (directory d)) = Err (Errno errnos.Badf)
 file_in (Some (stream s)) = Err (Errno errnos.Badf)
 file_in (Some closed) = Err (Errno errnos.Badf)
 file_in None = Err (Errno errnos.Badf)
+
+-- a directory or file: its node, and what is permitted of it
+pub record OpenNode : Type 0 where
+  pub node : ℕ
+  pub perms : FsPerms
+
+-- what a number stands for that is a directory's or file's
+abbrev pub open_node_in : Option Place → Row OpenNode
+open_node_in (Some (directory d)) = Ok (record { node = d.node; perms = d.perms })
+open_node_in (Some (file f)) = Ok (record { node = f.node; perms = f.perms })
+open_node_in (Some (stream s)) = Err (Errno errnos.Badf)
+open_node_in (Some closed) = Err (Errno errnos.Badf)
+open_node_in None = Err (Errno errnos.Badf)
 
 abbrev pub or_trap : Option Iovec → Row Iovec
 or_trap (Some item) = Ok item
@@ -223,6 +238,48 @@ path_filestat_get g fd flags path len = do
   ask (Path (LookPath d.node text follow)) (λ metadata.
       filestat_in (stat_both metadata) >>= (λ stat. give (Filestat stat, g)))
 
+-- An unknown bit is refused `inval`, and so is a time that is both given and the wall clock's; then a number that isn't a
+-- directory's is refused; then as what is done at a path, where a link under the last name is followed if that is asked
+unfoldable pub path_filestat_set_times : Guest → ℕ → ℕ → ℕ → ℕ → ℕ → ℕ → ℕ → Row (Program (Value × Guest))
+path_filestat_set_times g fd flags path len atim mtim fst_flags = do
+  follow ← follow_asked flags
+  times ← times_asked atim mtim fst_flags
+  d ← start_in (slice_get g.places fd)
+  text ← text_in g.memory path len
+  _ ← permit (may_change d.perms)
+  ask (Path (TimesPath d.node text follow times.atime times.mtime)) (λ _. give (Nothing, g))
+
+-- the same of a directory or file by its number, which isn't refused further
+unfoldable pub fd_filestat_set_times : Guest → ℕ → ℕ → ℕ → ℕ → Row (Program (Value × Guest))
+fd_filestat_set_times g fd atim mtim fst_flags = do
+  times ← times_asked atim mtim fst_flags
+  n ← open_node_in (slice_get g.places fd)
+  _ ← permit (may_change n.perms)
+  ask (SetTimes n.node times.atime times.mtime) (λ _. give (Nothing, g))
+
+-- A number that isn't a directory's is refused, the old one first, and the texts so; then what isn't permitted below the
+-- two directories; then as the walks of the texts refuse, the old one first, and the host at the places. Nothing is
+-- answered but that it was done
+abbrev pub done_between : Guest → ℕ → ℕ → ℕ → ℕ → ℕ → ℕ → (FsPerms → FsPerms → Option ErrorCode) → TwoPlaceCall
+    → Row (Program (Value × Guest))
+done_between g old_fd old_path old_len new_fd new_path new_len own what = do
+  old ← start_in (slice_get g.places old_fd)
+  new ← start_in (slice_get g.places new_fd)
+  old_text ← text_in g.memory old_path old_len
+  new_text ← text_in g.memory new_path new_len
+  _ ← permit (own old.perms new.perms)
+  ask (Path (AtTwo old.node old_text new.node new_text what)) (λ _. give (Nothing, g))
+
+unfoldable pub path_rename : Guest → ℕ → ℕ → ℕ → ℕ → ℕ → ℕ → Row (Program (Value × Guest))
+path_rename g old_fd old_path old_len new_fd new_path new_len =
+    done_between g old_fd old_path old_len new_fd new_path new_len may_rename Rename
+
+-- the same, but that an unknown bit is refused `inval` before all, and a link that is to be followed isn't permitted
+unfoldable pub path_link : Guest → ℕ → ℕ → ℕ → ℕ → ℕ → ℕ → ℕ → Row (Program (Value × Guest))
+path_link g old_fd old_flags old_path old_len new_fd new_path new_len = do
+  follow ← follow_asked old_flags
+  done_between g old_fd old_path old_len new_fd new_path new_len (λ old new. may_add_name old new follow) HardLink
+
 -- the row of a call
 abbrev pub row : Guest → Call → Row (Program (Value × Guest))
 row g (PathOpen fd dirflags path path_len oflags base inheriting fdflags) =
@@ -237,6 +294,13 @@ row g (PathRemoveDirectory fd path path_len) = path_remove_directory g fd path p
 row g (PathSymlink old_path old_path_len fd new_path new_path_len) =
     path_symlink g old_path old_path_len fd new_path new_path_len
 row g (PathUnlinkFile fd path path_len) = path_unlink_file g fd path path_len
+row g (PathFilestatSetTimes fd flags path path_len atim mtim fst_flags) =
+    path_filestat_set_times g fd flags path path_len atim mtim fst_flags
+row g (FdFilestatSetTimes fd atim mtim fst_flags) = fd_filestat_set_times g fd atim mtim fst_flags
+row g (PathLink old_fd old_flags old_path old_path_len new_fd new_path new_path_len) =
+    path_link g old_fd old_flags old_path old_path_len new_fd new_path new_path_len
+row g (PathRename old_fd old_path old_path_len new_fd new_path new_path_len) =
+    path_rename g old_fd old_path old_path_len new_fd new_path new_path_len
 
 abbrev pub with_tree : (Value × Guest) × Tree → Value × State
 with_tree p = (p.0.0, record { tree = p.1; guest = p.0.1 })

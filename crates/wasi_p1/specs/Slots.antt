@@ -1,5 +1,5 @@
 -- A context of calls over a host, as contracts see it.
-use Rattle.std.specs.Prelude.{ℕ, Bool, true, false, not, List, ◌∷◌, map}
+use Rattle.std.specs.Prelude.{ℕ, Bool, true, false, not, List, ◌∷◌, map, Option, Some, None}
 use Rattle.wasi_fs.specs.OpenMode.{mode_for}
 use Rattle.wasi_fs.specs.Perms.{is_read_only}
 use Rattle.wasi_fs.specs.declared.descriptor.Descriptor.{Descriptor}
@@ -40,6 +40,13 @@ is_closed_slot Closed = true
 is_closed_slot (Stream stream) = false
 is_closed_slot (Directory dir) = false
 is_closed_slot (File f position) = false
+
+-- what a directory's or file's slot stands for
+abbrev pub descriptor_in : Slot → Option Descriptor
+descriptor_in Closed = None
+descriptor_in (Stream stream) = None
+descriptor_in (Directory dir) = Some (descriptors.Dir dir)
+descriptor_in (File f position) = Some (descriptors.File f)
 
 -- the descriptor of what was opened, a file's at its start
 abbrev pub slot_of : Descriptor → Slot

@@ -1,5 +1,5 @@
 //! What the calls of preview1 do with a host and a guest's memory, a part at a time.
-ghost use Rattle.std.specs.Prelude.{◌≡◌, ◌≤◌, ◌<◌, ◌+◌, ◌^◌, ℕ, true, false, IsTrue, length, take, slice_get, slice_set, Ok, Err, IfOk, IfErr, OnOk, OnErr, Some, None};
+ghost use Rattle.std.specs.Prelude.{◌≡◌, ◌≤◌, ◌<◌, ◌+◌, ◌^◌, ℕ, true, false, IsTrue, length, take, slice_get, slice_set, option_map, Ok, Err, IfOk, IfErr, OnOk, OnErr, Some, None};
 ghost use Rattle.std.specs.Result.{result_map_both};
 ghost use Rattle.std.specs.FinSet.{contains};
 ghost use Rattle.wasi_host.specs.Meaning.{HasCause, Rose};
@@ -10,13 +10,13 @@ ghost use Rattle.wasi_p1.specs.Guest.{place_of, places_of};
 ghost use Rattle.wasi_resolve.specs.PathRequest.{meant_by};
 ghost use Rattle.wasi_resolve.specs.Resolved.{Resolved};
 ghost use Rattle.wasi_p1.specs.Request.{Path, Read, Write};
-ghost use Rattle.wasi_fs.specs.Calls.{opens, looks, meant_as};
+ghost use Rattle.wasi_fs.specs.Calls.{opens, looks, meant_as, handle_of};
 ghost use Rattle.wasi_fs.specs.OpenHow.{how_of, may_open, mode_of};
 ghost use Rattle.wasi_p1.specs.Filestats.{stat_both, IsStated};
-ghost use Rattle.wasi_p1.specs.Rows.{range, text_in, buffer_in, live_in, directory_in, start_in, file_in, may_write, opened_among, text_to};
-ghost use Rattle.wasi_p1.specs.Slots.{is_closed_slot, slot_of};
+ghost use Rattle.wasi_p1.specs.Rows.{range, text_in, buffer_in, live_in, directory_in, start_in, file_in, open_node_in, may_write, opened_among, text_to};
+ghost use Rattle.wasi_p1.specs.Slots.{is_closed_slot, slot_of, descriptor_in};
 ghost use Rattle.wasi_guest.specs.Range.{IsInMemory};
-ghost use Rattle.wasi_p1.specs.CallParts.{open_directory_of, open_file_of, Refused, ReadsInto, WritesPiece, OpensInto, filled_at, with_after, Rests, Stays, IsLive, IsReplied, NotMemory, is_failure};
+ghost use Rattle.wasi_p1.specs.CallParts.{open_directory_of, open_file_of, open_node_of, Refused, ReadsInto, WritesPiece, OpensInto, filled_at, with_after, Rests, Stays, IsLive, IsReplied, NotMemory, is_failure};
 ghost use Rattle.wasi_p1.specs.Row.{give};
 
 use crate::context::Slot;
@@ -103,6 +103,31 @@ pub fn start_at<H: Host>(host: &H, descriptors: &Descriptors, fd: u32) -> Result
     match slot {
         Slot::Directory(dir) => Ok(dir),
         Slot::File { .. } => Err(P1Error::Errno(Errno::Badf)),
+        Slot::Stream(_) => Err(P1Error::Errno(Errno::Badf)),
+        Slot::Closed => Err(P1Error::Errno(Errno::Badf)),
+    }
+}
+
+/// The descriptor of a directory's or file's number: Badf of any other.
+#[tactic(auto, using(crate::proofs::PlaceRules::places))]
+pub fn descriptor_at<H: Host>(
+    host: &H,
+    descriptors: &Descriptors,
+    fd: u32,
+) -> Result<Descriptor, P1Error>
+    requires owned { Owned (H.live host.now) (handles descriptors.now.slots) }
+    ensures live { IfOk result (λ descriptor. contains (H.live host.now) (handle_of descriptor) ≡ true) }
+    ensures is { IfOk result (λ descriptor. option_map descriptor_in (slice_get descriptors.now.slots fd)
+        ≡ Some (Some descriptor)) }
+    ensures row { result_map_both (open_node_of (H.world host.now).held) (λ e. e) result
+        ≡ open_node_in (slice_get (places_of (H.world host.now).held descriptors.now.slots) fd) }
+{
+    let Some(slot) = descriptors.get(fd) else {
+        return Err(P1Error::Errno(Errno::Badf));
+    };
+    match slot {
+        Slot::Directory(dir) => Ok(Descriptor::Dir(dir)),
+        Slot::File { file, .. } => Ok(Descriptor::File(file)),
         Slot::Stream(_) => Err(P1Error::Errno(Errno::Badf)),
         Slot::Closed => Err(P1Error::Errno(Errno::Badf)),
     }

@@ -2,14 +2,16 @@
 ghost use Rattle.std.specs.Prelude.{◌≡◌, ◌≢◌, [], true, IsTrue, All, AllPairs, IfOk, IfErr};
 ghost use Rattle.std.specs.FinSet.{contains};
 ghost use Rattle.wasi_p1.specs.Slots.{given_directory};
-ghost use Rattle.wasi_guest.specs.declared.call.Call.TheVariants.{FdClose, FdRead, FdWrite, PathCreateDirectory, PathFilestatGet, PathOpen, PathReadlink, PathRemoveDirectory, PathSymlink, PathUnlinkFile};
+ghost use Rattle.wasi_guest.specs.declared.call.Call.TheVariants.{FdClose, FdFilestatSetTimes, FdRead, FdWrite, PathCreateDirectory, PathFilestatGet, PathFilestatSetTimes, PathLink, PathOpen, PathReadlink, PathRemoveDirectory, PathRename, PathSymlink, PathUnlinkFile};
 
 use crate::call_parts::{
-    FilePlace, buffer_at, bytes_at, check_write, close_slot, directory_at, file_at, live_at,
-    move_file, open_into, read_into, start_at, stat_both, text_at, write_front, write_piece,
+    FilePlace, buffer_at, bytes_at, check_write, close_slot, descriptor_at, directory_at, file_at,
+    live_at, move_file, open_into, read_into, start_at, stat_both, text_at, write_front,
+    write_piece,
 };
 use crate::descriptors::Descriptors;
 use crate::error::P1Error;
+use crate::new_times::NewTimes;
 use crate::open_with::{OpenWith, path_flags_of};
 use bitflags::Flags;
 use std::alloc::Global;
@@ -460,5 +462,150 @@ impl<H: Host> WasiP1Ctx<H> {
         let text = text_at(memory, path, path_len)?;
         let both = stat_both(self.alloc, &mut self.host, dir, flags, text)?;
         Ok(Value::Filestat(both.filestat()?))
+    }
+
+    /// Sets the times of the last read and of the last change of the node that the path in a range of memory names, from
+    /// the directory of a descriptor: each by preview1's `fstflags` to the given nanoseconds since the epoch or to what
+    /// the wall clock stands at, or not at all. SYMLINK_FOLLOW follows a link under the last name; without it a link's
+    /// times are its own. Refusals, in this order: Inval of an unknown flag, and of a time both given and the wall
+    /// clock's; those of `path_create_directory` up to Perm; without SYMLINK_FOLLOW those of the walk to the directory of
+    /// the name, as in `path_open`, those of every host call by a name, as in `path_create_directory`, and then that of
+    /// POSIX's `utimensat`: Noent where the name is missing. With it those of an open of the path for writing, as in
+    /// `path_open`; where that is refused Acces or Isdir, those of one for reading, of which Acces is answered Notsup.
+    #[tactic(auto, using(crate::proofs::Taking::refused, crate::proofs::CallTracing::traced_below), unfolding(crate::specs::Rows::path_filestat_set_times))]
+    pub fn path_filestat_set_times(
+        &mut self,
+        memory: &mut GuestMemory,
+        fd: u32,
+        flags: u32,
+        path: u32,
+        path_len: u32,
+        atim: u64,
+        mtim: u64,
+        fst_flags: u32,
+    ) -> Result<Value, P1Error>
+        ensures cause { Causes (H.faults self.old.host) (H.faults self.new.host) result }
+        ensures handles { OthersStay H.live self.old self.new }
+        ensures lineage { Looks H.lookups self.old self.new memory.old
+            (PathFilestatSetTimes fd flags path path_len atim mtim fst_flags) }
+        ensures turn { FollowsRow H.told H.world H.faults H.lookups self.old self.new memory.old memory.new
+            (PathFilestatSetTimes fd flags path path_len atim mtim fst_flags) result }
+    {
+        let flags = path_flags_of(flags)?;
+        let times = NewTimes::of(atim, mtim, fst_flags)?;
+        let dir = start_at(&self.host, &self.descriptors, fd)?;
+        let text = text_at(memory, path, path_len)?;
+        dir.set_times_at(
+            self.alloc,
+            &mut self.host,
+            flags,
+            text,
+            times.atime,
+            times.mtime,
+        )?;
+        Ok(Value::Unit)
+    }
+
+    /// Sets the times of the node of a descriptor, as `path_filestat_set_times` does. It takes no memory. Refusals, in
+    /// this order: Inval of an unknown flag, and of a time both given and the wall clock's; Badf where the number isn't a
+    /// directory's or file's; Perm under read-only permissions. POSIX's `futimens` refuses no others of an open node.
+    #[tactic(auto, using(crate::proofs::Taking::refused), unfolding(crate::specs::Rows::fd_filestat_set_times))]
+    pub fn fd_filestat_set_times(
+        &mut self,
+        memory: &mut GuestMemory,
+        fd: u32,
+        atim: u64,
+        mtim: u64,
+        fst_flags: u32,
+    ) -> Result<Value, P1Error>
+        ensures cause { Causes (H.faults self.old.host) (H.faults self.new.host) result }
+        ensures handles { OthersStay H.live self.old self.new }
+        ensures lineage { Looks H.lookups self.old self.new memory.old
+            (FdFilestatSetTimes fd atim mtim fst_flags) }
+        ensures turn { FollowsRow H.told H.world H.faults H.lookups self.old self.new memory.old memory.new
+            (FdFilestatSetTimes fd atim mtim fst_flags) result }
+    {
+        let times = NewTimes::of(atim, mtim, fst_flags)?;
+        let descriptor = descriptor_at(&self.host, &self.descriptors, fd)?;
+        descriptor.set_times(&mut self.host, times.atime, times.mtime)?;
+        Ok(Value::Unit)
+    }
+
+    /// Gives the file or link under the path in one range of memory a further name, the path in another, each from the
+    /// directory of a descriptor of its own; a link itself gets the name, not what it leads to. Refusals, in this order:
+    /// Inval of an unknown flag; Badf where the old number isn't a directory's, and then where the new one isn't; trap
+    /// Pointer and Ilseq of the old text, and then of the new one; Perm where the old directory's permissions are
+    /// read-only, and then where the new one's are; Inval of SYMLINK_FOLLOW; Perm where the two differ; those of the walk
+    /// to the directory of the old name, as in `path_open`, Noent of an empty text among them, and then of the new one;
+    /// those of every host call by a name, as in `path_create_directory`, of the old name and then of the new one; then
+    /// those of POSIX's `linkat`: Noent where the old name is missing, Exist where the new one is there, `.` and `..` among
+    /// them, Noent where its directory is removed, Acces where that may not be written, Perm of a directory, Mlink of a
+    /// node that has as many names as it may.
+    #[tactic(auto, using(crate::proofs::Taking::refused, crate::proofs::CallTracing::traced_between), unfolding(crate::specs::Rows::path_link))]
+    pub fn path_link(
+        &mut self,
+        memory: &mut GuestMemory,
+        old_fd: u32,
+        old_flags: u32,
+        old_path: u32,
+        old_path_len: u32,
+        new_fd: u32,
+        new_path: u32,
+        new_path_len: u32,
+    ) -> Result<Value, P1Error>
+        ensures cause { Causes (H.faults self.old.host) (H.faults self.new.host) result }
+        ensures handles { OthersStay H.live self.old self.new }
+        ensures lineage { Looks H.lookups self.old self.new memory.old
+            (PathLink old_fd old_flags old_path old_path_len new_fd new_path new_path_len) }
+        ensures turn { FollowsRow H.told H.world H.faults H.lookups self.old self.new memory.old memory.new
+            (PathLink old_fd old_flags old_path old_path_len new_fd new_path new_path_len) result }
+    {
+        let flags = path_flags_of(old_flags)?;
+        let old = start_at(&self.host, &self.descriptors, old_fd)?;
+        let new = start_at(&self.host, &self.descriptors, new_fd)?;
+        let old_text = text_at(memory, old_path, old_path_len)?;
+        let new_text = text_at(memory, new_path, new_path_len)?;
+        old.link_at(self.alloc, &mut self.host, flags, old_text, &new, new_text)?;
+        Ok(Value::Unit)
+    }
+
+    /// Moves what is under the path in one range of memory to the path in another, each from the directory of a
+    /// descriptor of its own; a link itself is moved. Slashes behind either name are let go, and then a directory is asked
+    /// for. What the new name held loses it: a file or link stays while a descriptor stands for it, and an empty directory
+    /// is removed. Refusals, in this order: Badf where the old number isn't a directory's, and then where the new one
+    /// isn't; trap Pointer and Ilseq of the old text, and then of the new one; Perm where the old directory's permissions
+    /// are read-only, then where the new one's are, and then where the two differ; those of the walk to the directory of
+    /// the old name, as in `path_open`, Noent of an empty text among them, and then of the new one; those of every host
+    /// call by a name, as in `path_create_directory`, of the old name and then of the new one; then those of POSIX's
+    /// `renameat`: Busy of a path that ends in `.` or `..`, Noent where the old name is missing, Notdir where a directory
+    /// is asked for and it holds none, Inval of a directory into itself or below, Notempty onto a directory in or below
+    /// which the old name is. Where both names hold one node there are no others, and nothing changes. Acces where the old
+    /// directory may not be written, or the new one, or a directory that is to move from one to the other; Noent where the
+    /// new directory is removed; Notdir of a directory onto what is none; Isdir of what is none onto a directory; Notempty
+    /// onto a directory that has names.
+    #[tactic(auto, using(crate::proofs::Taking::refused, crate::proofs::CallTracing::traced_between), unfolding(crate::specs::Rows::path_rename))]
+    pub fn path_rename(
+        &mut self,
+        memory: &mut GuestMemory,
+        old_fd: u32,
+        old_path: u32,
+        old_path_len: u32,
+        new_fd: u32,
+        new_path: u32,
+        new_path_len: u32,
+    ) -> Result<Value, P1Error>
+        ensures cause { Causes (H.faults self.old.host) (H.faults self.new.host) result }
+        ensures handles { OthersStay H.live self.old self.new }
+        ensures lineage { Looks H.lookups self.old self.new memory.old
+            (PathRename old_fd old_path old_path_len new_fd new_path new_path_len) }
+        ensures turn { FollowsRow H.told H.world H.faults H.lookups self.old self.new memory.old memory.new
+            (PathRename old_fd old_path old_path_len new_fd new_path new_path_len) result }
+    {
+        let old = start_at(&self.host, &self.descriptors, old_fd)?;
+        let new = start_at(&self.host, &self.descriptors, new_fd)?;
+        let old_text = text_at(memory, old_path, old_path_len)?;
+        let new_text = text_at(memory, new_path, new_path_len)?;
+        old.rename_at(self.alloc, &mut self.host, old_text, &new, new_text)?;
+        Ok(Value::Unit)
     }
 }

@@ -8,6 +8,7 @@ mod descriptors;
 mod error;
 mod filestats;
 mod laws;
+mod new_times;
 mod open_with;
 mod run;
 

@@ -94,6 +94,57 @@ pub fn call<H: Host>(
         Call::PathUnlinkFile { fd, path, path_len } => {
             context.path_unlink_file(memory, fd, path, path_len)
         }
+        Call::PathFilestatSetTimes {
+            fd,
+            flags,
+            path,
+            path_len,
+            atim,
+            mtim,
+            fst_flags,
+        } => context.path_filestat_set_times(
+            memory, fd, flags, path, path_len, atim, mtim, fst_flags,
+        ),
+        Call::FdFilestatSetTimes {
+            fd,
+            atim,
+            mtim,
+            fst_flags,
+        } => context.fd_filestat_set_times(memory, fd, atim, mtim, fst_flags),
+        Call::PathLink {
+            old_fd,
+            old_flags,
+            old_path,
+            old_path_len,
+            new_fd,
+            new_path,
+            new_path_len,
+        } => context.path_link(
+            memory,
+            old_fd,
+            old_flags,
+            old_path,
+            old_path_len,
+            new_fd,
+            new_path,
+            new_path_len,
+        ),
+        Call::PathRename {
+            old_fd,
+            old_path,
+            old_path_len,
+            new_fd,
+            new_path,
+            new_path_len,
+        } => context.path_rename(
+            memory,
+            old_fd,
+            old_path,
+            old_path_len,
+            new_fd,
+            new_path,
+            new_path_len,
+        ),
     }
 }
 

@@ -23,7 +23,7 @@ no_items (h ∷ items) is = absurd (omega arith)
 -- a part at which the walk fails at once
 pub fails_here : {first : Handles} {w v u : World} {start : ℕ} {before : List ℕ} {e : HostError} (part : Component)
     (rest : List Component)
-    → Looks first w u (w.held start).node
+    → Looks first w u ((w.held start).node ∷ [])
     → IsFault e ⊎ IsRefused w.tree (w.held start).node (part ∷ rest) (nodes_under v.held before) e
     → Fails first w v u start (part ∷ rest) before rest e
 fails_here {w = w} {v = v} {start = start} {before = before} part rest looks refused = record {
@@ -55,7 +55,7 @@ module _ {first old mid new : Handles} {w v a z : World} {start : ℕ} {stack : 
   under_stands : Stands first new start under
   under_stands = popped_stands under here stands popped still closed
 
-  after : Looks old v a (v.held here).node → Looks first w z (w.held start).node
+  after : Looks old v a ((v.held here).node ∷ []) → Looks first w z ((w.held start).node ∷ [])
   after looks =
       looks_stay (looks_then walked.looks near.0 (first_live stands) looks)
       (close_stays shut (λ q is. (same_live still q (first_live stands q is), first_live under_stands q is)))

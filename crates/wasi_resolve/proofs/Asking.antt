@@ -21,7 +21,8 @@ use Rattle.wasi_host.specs.declared.errors.ErrorCode.TheVariants as refusals
 use Rattle.wasi_host.proofs.Changes.{node_at-past}
 use Rattle.wasi_resolve.specs.Walk.{Aim, Open, Outcome, Stop, Name, Dot, Position, Leg, Ended, Linked, leg, at, unless_refused, is_to_be_read, refused, Walk, ended, one_link_more, resume, walk_from, walk}
 use Rattle.wasi_resolve.specs.Paths.{Opening, opening_of, opening, Place, parent, part_text, place_at, place}
-use Rattle.wasi_resolve.specs.AtPlace.{PlaceCall, CreateDir, RemoveFile, RemoveDir, Symlink, ReadLink, call_at, place_for}
+use Rattle.wasi_resolve.specs.AtPlace.{PlaceCall, CreateDir, RemoveFile, RemoveDir, Symlink, ReadLink, SetTimes, call_at, place_for}
+use Rattle.wasi_resolve.specs.AtTwo.{TwoPlaceCall, HardLink, Rename, Places, call_at_two, places_in, places_for}
 use Rattle.wasi_resolve.proofs.TextNames.{HasName, components_named, parts_named, stripped_utf8}
 
 -- ---- the texts of links
@@ -174,6 +175,25 @@ place_named t s text {p} is found = by (split text) (split_named text is) found
     by None named same = absurd (cc)
     by (Some halves) named same = in_directory halves.1 (parent t s halves.0) named same
 
+-- of two places both
+places_named : (t : Tree) (old : ℕ) (old_text : List ℕ) (new : ℕ) (new_text : List ℕ) {p : Places}
+    → IsUtf8 old_text → IsUtf8 new_text → places_in t old old_text new new_text ≡ Ok p
+    → IsName p.old.name × IsName p.new.name
+places_named t old old_text new new_text {p} old_is new_is found =
+    by (place t old old_text) (place t new new_text) (λ q is. place_named t old old_text old_is is)
+    (λ q is. place_named t new new_text new_is is) found
+  where
+    by : (a b : Result Place ErrorCode) → ((q : Place) → a ≡ Ok q → IsName q.name)
+        → ((q : Place) → b ≡ Ok q → IsName q.name)
+        → a >>= (λ x. b >>= (λ y. let r : Result Places ErrorCode = Ok (record { old = x; new = y }) in r)) ≡ Ok p
+        → IsName p.old.name × IsName p.new.name
+    by (Ok x) (Ok y) old_named new_named same =
+        let made : Places = record { old = x; new = y } in
+        let at : made ≡ p = (cc) in
+        subst (λ (q : Places). IsName q.old.name × IsName q.new.name) at (old_named x refl, new_named y refl)
+    by (Ok x) (Err code) old_named new_named same = absurd (cc)
+    by (Err code) b old_named new_named same = absurd (cc)
+
 -- the text of a link that is to be made is UTF-8
 abbrev pub HasUtf8Target : PlaceCall → Type 0
 HasUtf8Target CreateDir = Unit {0}
@@ -181,6 +201,7 @@ HasUtf8Target RemoveFile = Unit {0}
 HasUtf8Target RemoveDir = Unit {0}
 HasUtf8Target (Symlink target) = IsUtf8 target
 HasUtf8Target ReadLink = Unit {0}
+HasUtf8Target (SetTimes atime mtime) = Unit {0}
 
 -- the call at a place may be asked of a host
 pub place_asked : (t : Tree) (s : ℕ) (text : List ℕ) (what : PlaceCall) {p : Place} → IsUtf8 text → HasUtf8Target what
@@ -190,3 +211,14 @@ place_asked t s text RemoveFile is target found = place_named t s text is found
 place_asked t s text RemoveDir is target found = place_named t s text is found
 place_asked t s text (Symlink link) is target found = (target, place_named t s text is found)
 place_asked t s text ReadLink is target found = place_named t s text is found
+place_asked t s text (SetTimes atime mtime) is target found = place_named t s text is found
+
+-- and that at two places
+pub places_asked : (t : Tree) (old : ℕ) (old_text : List ℕ) (new : ℕ) (new_text : List ℕ) (what : TwoPlaceCall)
+    (requires_dir : Bool) {p : Places} → IsUtf8 old_text → IsUtf8 new_text
+    → places_for t old old_text new new_text what ≡ Ok p → CanBeAsked (call_at_two what requires_dir p)
+places_asked t old old_text new new_text HardLink requires_dir old_is new_is found =
+    places_named t old old_text new new_text old_is new_is found
+places_asked t old old_text new new_text Rename requires_dir old_is new_is found =
+    places_named t old (strip_dir_suffix old_text) new (strip_dir_suffix new_text) (stripped_utf8 old_text old_is)
+    (stripped_utf8 new_text new_is) found

@@ -7,7 +7,7 @@ use Rattle.std.proofs.lemmas.Bool.Decides.{nat_tests}
 use Rattle.wasi_host.specs.Tree.{Tree}
 use Rattle.wasi_host.specs.ValidTree.{Reached}
 use Rattle.wasi_host.specs.Agree.{Touches, OrMade}
-use Rattle.wasi_host.specs.HostCall.{HostCall, OpenAt, StatAt, ReadLinkAt, MakeDirAt, SymlinkAt, UnlinkAt, RemoveDirAt, Access, Stat, Pread, Pwrite, Dup, Close}
+use Rattle.wasi_host.specs.HostCall.{HostCall, OpenAt, StatAt, ReadLinkAt, MakeDirAt, SymlinkAt, UnlinkAt, RemoveDirAt, LinkAt, RenameAt, TimesAt, SetTimes, ListDir, Access, Stat, Pread, Pwrite, Dup, Close}
 use Rattle.wasi_host.specs.Refusal.{refusal}
 use Rattle.wasi_host.specs.Answer.{HostAnswer, host_answer, unless}
 use Rattle.wasi_host.specs.Step.{step, found_by, made_by}
@@ -19,14 +19,15 @@ use Rattle.wasi_host.specs.declared.errors.HostError.{HostError}
 use Rattle.wasi_host.specs.declared.errors.HostError.TheVariants.{Code, Memory}
 use Rattle.wasi_resolve.specs.Resolved.{Meant, Resolved, TreeAfter}
 use Rattle.wasi_resolve.specs.WalkSteps.{Looks, Stayed, IsFault}
-use Rattle.wasi_host.proofs.Touching.{touches_with, touches_same, no_ends, touches_on, from_node, found_near, made_new}
+use Rattle.wasi_host.proofs.Touching.{touches_with, touches_same, no_ends, touches_through, same_node, found_near, made_new}
+use Rattle.wasi_host.proofs.Leaving.{starts_of}
 
 -- ---- a call by itself
 
 -- what a call of the host means
 abbrev pub call_meant : Tree → (call : HostCall) → List ℕ → Meant (HostAnswer call)
 call_meant t call ends =
-    record { start = from_node call; answer = host_answer t call; stepped = step t call; ends = ends }
+    record { starts = starts_of call; answer = host_answer t call; stepped = step t call; ends = ends }
 
 given : {B : Type 0} {refused : Option ErrorCode} (b : B) → refused ≡ None → is_ok (unless refused b) ≡ true
 given b is = ap (λ o. is_ok (unless o b)) is
@@ -40,6 +41,11 @@ answers t (MakeDirAt d name) is = given _ is
 answers t (SymlinkAt text d name) is = given _ is
 answers t (UnlinkAt d name) is = given _ is
 answers t (RemoveDirAt d name) is = given _ is
+answers t (LinkAt old old_name new new_name) is = given _ is
+answers t (RenameAt old old_name new new_name requires_dir) is = given _ is
+answers t (TimesAt d name atime mtime) is = given _ is
+answers t (SetTimes n atime mtime) is = given _ is
+answers t (ListDir stands) is = given _ is
 answers t (Access d) is = given _ is
 answers t (Stat n) is = given _ is
 answers t (Pread file offset n) is = given _ is
@@ -58,7 +64,7 @@ tree_err A w v call (Code Io) after = elim after [
 tree_err A w v call (Code code) after = after.tree
 
 near_or_made : (t : Tree) (call : HostCall) (n : ℕ) → Contains (found_by t call ++ made_by t call) n
-    → OrMade (Reached t (from_node call ∷ [])) t (step t call) n
+    → OrMade (Reached t (starts_of call)) t (step t call) n
 near_or_made t call n has = elim (Contains-append_cases (found_by t call) (made_by t call) n has) [
   | inl found ↦ inl (found_near t call n found)
   | inr made ↦ inr (made_new t call n made)
@@ -67,13 +73,13 @@ near_or_made t call n has = elim (Contains-append_cases (found_by t call) (made_
 touched_ok : {w v : World} {call : HostCall} {ends : List ℕ}
     → All (Contains (found_by w.tree call ++ made_by w.tree call)) ends
     → Stepped w call v
-    → Touches w.tree v.tree (from_node call ∷ []) ends w.touched v.touched
+    → Touches w.tree v.tree (starts_of call) ends w.touched v.touched
 touched_ok {w} {v} {call} {ends} asked stepped =
-    subst (λ t. Touches w.tree t (from_node call ∷ []) ends w.touched v.touched) (sym stepped.tree)
+    subst (λ t. Touches w.tree t (starts_of call) ends w.touched v.touched) (sym stepped.tree)
     (touches_with (found_by w.tree call ++ made_by w.tree call) stepped.touched (near_or_made w.tree call) asked)
 
 touched_err : (w v : World) (call : HostCall) (e : HostError) → AfterErr w call e v
-    → Touches w.tree v.tree (from_node call ∷ []) [] w.touched v.touched
+    → Touches w.tree v.tree (starts_of call) [] w.touched v.touched
 touched_err w v call Memory after = elim after [
   | inl stayed ↦ touches_same stayed.touched
   | inr looked ↦ touches_with (found_by w.tree call) looked.touched (λ n has. inl (found_near w.tree call n has)) (All-nil _)
@@ -88,7 +94,7 @@ touched_err w v call (Code code) after =
 
 module _ {A : Type 0} {old new : Handles} {w v : World} {call : HostCall} {shown : A → HostAnswer call} where
   -- it means what the table says
-  pub call_ok : {a : A} (ends : List ℕ) → All (Contains (found_by w.tree call ++ made_by w.tree call)) ends
+  pub call_ok : {a : A} → (ends : List ℕ) → All (Contains (found_by w.tree call ++ made_by w.tree call)) ends
       → ((h : ℕ) → contains old h ≡ true → contains new h ≡ true) → Told old new w v call shown (Ok a)
       → Resolved old w v (call_meant w.tree call ends) shown (Ok a)
   call_ok ends asked stays told = record {
@@ -136,26 +142,27 @@ tree_same meant shown (Err (Code Io)) leaves means after = elim after [ inl same
 tree_same meant shown (Err (Code code)) leaves means after = after
 
 pub looks_still : {A B : Type 0} {live : Handles} {w v : World} {m : Meant B} {shown : A → B} {r : Result A HostError}
-    → v.tree ≡ w.tree → Resolved live w v m shown r → Looks live w v m.start
+    → v.tree ≡ w.tree → Resolved live w v m shown r → Looks live w v m.starts
 looks_still {w = w} {v = v} {m = m} same resolved = record {
   tree = same;
-  touched = subst (λ t. Touches w.tree t (m.start ∷ []) [] w.touched v.touched) same (no_ends resolved.touched);
+  touched = subst (λ t. Touches w.tree t m.starts [] w.touched v.touched) same (no_ends resolved.touched);
   keeps = resolved.keeps;
 }
 
 pub looks_of : {A B : Type 0} {live : Handles} {w v : World} {m : Meant B} {shown : A → B} (r : Result A HostError)
-    → (is_ok m.answer ≡ true → m.stepped ≡ w.tree) → Resolved live w v m shown r → Looks live w v m.start
+    → (is_ok m.answer ≡ true → m.stepped ≡ w.tree) → Resolved live w v m shown r → Looks live w v m.starts
 looks_of {m = m} {shown = shown} r leaves resolved =
     looks_still (tree_same m.answer shown r leaves resolved.answer resolved.tree) resolved
 
 -- a refusal, or a failure, of what left the tree
-pub resolved_err : {A B : Type 0} {live : Handles} {w v : World} {s : ℕ} (m : Meant B) (shown : A → B) (e : HostError)
-    → m.start ≡ s → MeansErr m.answer e → Looks live w v s → Resolved live w v m shown (Err e)
-resolved_err {A} {w = w} {v = v} {s = s} m shown e at means looks = record {
+pub resolved_err : {A B : Type 0} {live : Handles} {w v : World} {starts : List ℕ} (m : Meant B) (shown : A → B)
+    (e : HostError) → m.starts ≡ starts → MeansErr m.answer e → Looks live w v starts
+    → Resolved live w v m shown (Err e)
+resolved_err {A} {w = w} {v = v} m shown e at means looks = record {
   answer = means;
   tree = still e;
-  touched = subst (λ t. Touches w.tree t (m.start ∷ []) [] w.touched v.touched) (sym looks.tree)
-      (subst (λ n. Touches w.tree w.tree (n ∷ []) [] w.touched v.touched) (sym at) looks.touched);
+  touched = subst (λ t. Touches w.tree t m.starts [] w.touched v.touched) (sym looks.tree)
+      (subst (λ ns. Touches w.tree w.tree ns [] w.touched v.touched) (sym at) looks.touched);
   keeps = looks.keeps;
 }
   where
@@ -163,6 +170,17 @@ resolved_err {A} {w = w} {v = v} {s = s} m shown e at means looks = record {
     still Memory = looks.tree
     still (Code Io) = inl looks.tree
     still (Code code) = looks.tree
+
+-- an answer of what leaves the tree, of which nothing need be touched
+pub found_ok : {A B : Type 0} {live : Handles} {w v : World} {starts : List ℕ} {meant : Result B ErrorCode}
+    (shown : A → B) (a : A) → meant ≡ Ok (shown a) → Looks live w v starts
+    → Resolved live w v (record { starts = starts; answer = meant; stepped = w.tree; ends = [] }) shown (Ok a)
+found_ok {w = w} {v = v} {starts = starts} shown a means looks = record {
+  answer = means;
+  tree = looks.tree;
+  touched = subst (λ t. Touches w.tree t starts [] w.touched v.touched) (sym looks.tree) looks.touched;
+  keeps = looks.keeps;
+}
 
 -- a code that is meant
 pub err_means : {B : Type 0} (meant : Result B ErrorCode) (code : ErrorCode) → meant ≡ Err code
@@ -184,36 +202,52 @@ means_then r next (Code code) means = ap (λ x. x >>= next) means
 
 -- ---- one behind another
 
-module _ {first live : Handles} {w v u : World} {s d : ℕ} (so_far : Looks first w v s) (near : Reached w.tree
-    (s ∷ []) d)
+one_near : {t : Tree} {roots : List ℕ} {d : ℕ} → Reached t roots d → (n : ℕ) → Contains (d ∷ []) n → Reached t roots n
+one_near {t} {roots} to n has = subst (Reached t roots) (sym (same_node has)) to
+
+-- from nodes that are reached
+module _ {first live : Handles} {w v u : World} {starts ds : List ℕ} (so_far : Looks first w v starts)
+    (near : (d : ℕ) → Contains ds d → Reached w.tree starts d)
     (within : (h : ℕ) → contains first h ≡ true → contains live h ≡ true) where
-  pub looks_then : Looks live v u d → Looks first w u s
-  looks_then next = record {
+  pub looks_through : Looks live v u ds → Looks first w u starts
+  looks_through next = record {
     tree = next.tree ∙ so_far.tree;
     touched =
-        touches_on so_far.touched near
-        (subst (λ t. Touches t t (d ∷ []) [] v.touched u.touched) so_far.tree next.touched);
+        touches_through so_far.touched near
+        (subst (λ t. Touches t t ds [] v.touched u.touched) so_far.tree next.touched);
     keeps = λ h is. next.keeps h (within h is) ∙ so_far.keeps h is;
   }
 
-  -- from a node that is reached, as from the start
-  pub resolved_then : {A B : Type 0} {m : Meant B} {shown : A → B} {r : Result A HostError} → m.start ≡ d
-      → Resolved live v u m shown r → Resolved first w u (record m { start = s }) shown r
-  resolved_then {m = m} {r = r} at next = record {
+  -- as from the starts
+  pub resolved_through : {A B : Type 0} {m : Meant B} {shown : A → B} {r : Result A HostError} → m.starts ≡ ds
+      → Resolved live v u m shown r → Resolved first w u (record m { starts = starts }) shown r
+  resolved_through {m = m} {r = r} at next = record {
     answer = next.answer;
     tree = subst (λ t. TreeAfter t m.stepped u.tree m.answer r) so_far.tree next.tree;
     touched =
-        touches_on so_far.touched near
-        (subst (λ n. Touches w.tree u.tree (n ∷ []) (if is_ok r then m.ends else []) v.touched u.touched) at
-        (subst (λ t. Touches t u.tree (m.start ∷ [])
+        touches_through so_far.touched near
+        (subst (λ ns. Touches w.tree u.tree ns (if is_ok r then m.ends else []) v.touched u.touched) at
+        (subst (λ t. Touches t u.tree m.starts
         (if is_ok r then m.ends else []) v.touched u.touched) so_far.tree next.touched));
     keeps = λ h is. next.keeps h (within h is) ∙ so_far.keeps h is;
   }
 
-pub looks_stay : {first : Handles} {w v u : World} {s : ℕ} → Looks first w v s → Stayed first v u → Looks first w u s
-looks_stay {w = w} {s = s} looks stayed = record {
+-- from one node that is reached
+module _ {first live : Handles} {w v u : World} {s d : ℕ} (so_far : Looks first w v (s ∷ [])) (near : Reached w.tree
+    (s ∷ []) d)
+    (within : (h : ℕ) → contains first h ≡ true → contains live h ≡ true) where
+  pub looks_then : Looks live v u (d ∷ []) → Looks first w u (s ∷ [])
+  looks_then next = looks_through so_far (one_near near) within next
+
+  pub resolved_then : {A B : Type 0} {m : Meant B} {shown : A → B} {r : Result A HostError} → m.starts ≡ d ∷ []
+      → Resolved live v u m shown r → Resolved first w u (record m { starts = s ∷ [] }) shown r
+  resolved_then at next = resolved_through so_far (one_near near) within at next
+
+pub looks_stay : {first : Handles} {w v u : World} {starts : List ℕ} → Looks first w v starts → Stayed first v u
+    → Looks first w u starts
+looks_stay {w = w} {starts = starts} looks stayed = record {
   tree = stayed.tree ∙ looks.tree;
-  touched = subst (Touches w.tree w.tree (s ∷ []) [] w.touched) (sym stayed.touched) looks.touched;
+  touched = subst (Touches w.tree w.tree starts [] w.touched) (sym stayed.touched) looks.touched;
   keeps = λ h is. stayed.keeps h is ∙ looks.keeps h is;
 }
 
@@ -224,16 +258,16 @@ resolved_stay {w = w} {v = v} {u = u} {m = m} {r = r} resolved stayed = record {
   answer = resolved.answer;
   tree = subst (λ t. TreeAfter w.tree m.stepped t m.answer r) (sym stayed.tree) resolved.tree;
   touched =
-      subst (λ t. Touches w.tree t (m.start ∷ []) (if is_ok r then m.ends else []) w.touched u.touched)
+      subst (λ t. Touches w.tree t m.starts (if is_ok r then m.ends else []) w.touched u.touched)
       (sym stayed.tree)
-      (subst (Touches w.tree v.tree (m.start ∷ []) (if is_ok r then m.ends else []) w.touched)
+      (subst (Touches w.tree v.tree m.starts (if is_ok r then m.ends else []) w.touched)
       (sym stayed.touched) resolved.touched);
   keeps = λ h is. stayed.keeps h is ∙ resolved.keeps h is;
 }
 
 -- nothing was asked
-pub looks_none : (first : Handles) (w : World) (s : ℕ) → Looks first w w s
-looks_none first w s = record { tree = refl; touched = touches_same refl; keeps = λ h is. refl }
+pub looks_none : (first : Handles) (w : World) (starts : List ℕ) → Looks first w w starts
+looks_none first w starts = record { tree = refl; touched = touches_same refl; keeps = λ h is. refl }
 
 pub stayed_then : {live : Handles} {w v u : World} → Stayed live w v → Stayed live v u → Stayed live w u
 stayed_then first second = record {

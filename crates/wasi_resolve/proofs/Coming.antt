@@ -1,5 +1,5 @@
 -- The whole walk: a link in each turn, and then its end.
-use Rattle.std.proofs.Common.{◌≡◌, ℕ, zero, suc, ◌+◌, ◌*◌, ◌≤◌, Bool, true, false, cond, ◌||◌, List, [], ◌++◌, length, Result, Err, refl, sym, ap, subst, ◌∙◌, arith}
+use Rattle.std.proofs.Common.{◌≡◌, ℕ, zero, suc, ◌+◌, ◌*◌, ◌≤◌, Bool, true, false, cond, ◌||◌, List, [], ◌∷◌, ◌++◌, length, Result, Err, refl, sym, ap, subst, ◌∙◌, arith}
 use Rattle.wasi_host.specs.Tree.{Tree}
 use Rattle.wasi_host.specs.Meaning.{World, Handles}
 use Rattle.wasi_host.specs.declared.errors.ErrorCode.TheVariants.{Loop, NoEntry}
@@ -209,7 +209,7 @@ module _ {first : Handles} {w v0 v : World} {start : ℕ} {aim : Aim} {follow sl
 -- it starts with an empty stack
 pub walks_start : {live : Handles} {w : World} {start : ℕ} {items : List ℕ} → items ≡ [] → Walked live w w start items
 walks_start {live} {w} {start} none =
-    subst (Walked live w w start) (sym none) (record { looks = looks_none live w (w.held start).node; near = tt })
+    subst (Walked live w w start) (sym none) (record { looks = looks_none live w ((w.held start).node ∷ []); near = tt })
 
 -- and ends as the walk of the text
 module _ {live : Handles} {w u : World} {start : ℕ} {aim : Aim} {follow : Bool} (text : List ℕ) {parts : List Component}

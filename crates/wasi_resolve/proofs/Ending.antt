@@ -38,7 +38,7 @@ use Rattle.wasi_resolve.proofs.Tables.{refused_by, looked_child, looked_free, lo
 -- ---- the same meaning in other words
 
 abbrev pub mapped : {A B : Type 0} → (A → B) → Meant A → Meant B
-mapped f m = record { start = m.start; answer = m.answer >>= (λ a. Ok (f a)); stepped = m.stepped; ends = m.ends }
+mapped f m = record { starts = m.starts; answer = m.answer >>= (λ a. Ok (f a)); stepped = m.stepped; ends = m.ends }
 
 means_mapped : {A B : Type 0} (f : A → B) (meant : Result A ErrorCode) (e : HostError) → MeansErr meant e
     → MeansErr (meant >>= (λ a. Ok (f a))) e
@@ -115,14 +115,14 @@ module _ {old new : Handles} {w u : World} {d : ℕ} {name : List ℕ} (follow s
     (same : new ≡ old) where
   -- it is refused
   pub last_unseen : (e : HostError) → Told {A = Metadata} old new w u (StatAt d name) (λ m. m) (Err e)
-      → (Looks old w u d × IsFault e) ⊎ EndsUnread old w u d Look follow slash name (Err e)
+      → (Looks old w u (d ∷ []) × IsFault e) ⊎ EndsUnread old w u d Look follow slash name (Err e)
   last_unseen e told = by e told.meaning
     where
-      seen : Looks old w u d
+      seen : Looks old w u (d ∷ [])
       seen = looks_of (Err e) (λ is. refl) (call_err {call = StatAt d name} e [] same told)
 
       by : (x : HostError) → MeansErr (stat_at_answer w.tree d name) x
-          → (Looks old w u d × IsFault x) ⊎ EndsUnread old w u d Look follow slash name (Err x)
+          → (Looks old w u (d ∷ []) × IsFault x) ⊎ EndsUnread old w u d Look follow slash name (Err x)
       by Memory means = inl (seen, inl refl)
       by (Code Io) means = inl (seen, inr refl)
       by (Code code) means = inr (record {
@@ -152,7 +152,7 @@ module _ {old new : Handles} {w u : World} {d : ℕ} {name : List ℕ} (follow s
         StatAt d name} (reached w.tree d name ∷ []) (name_ends w.tree d child_is.0 name child_is.1)
         (same_live same) told
 
-    seen : Looks old w u d
+    seen : Looks old w u (d ∷ [])
     seen = looks_of (Ok m) (λ is. refl) resolved
 
     -- what the look means, by the test of the slash
@@ -214,14 +214,14 @@ dot_opening d o writes = cond writes (Err IsDirectory) (Ok (record { directory =
 
 abbrev dot_meant : Tree → ℕ → Options → Bool → Meant Sight
 dot_meant t d o writes = record {
-  start = d;
+  starts = d ∷ [];
   answer = dot_opening d o writes >>= opened_by t >>= (λ held. Ok (Opened held));
   stepped = step_of t (dot_opening d o writes);
   ends = ends_by (opened_node t) (dot_opening d o writes);
 }
 
 -- an open for writing
-pub dot_written : {live : Handles} {w : World} {d : ℕ} (o : Options) → o.write ≡ true → Looks live w w d
+pub dot_written : {live : Handles} {w : World} {d : ℕ} (o : Options) → o.write ≡ true → Looks live w w (d ∷ [])
     → EndsInDirectory live w w d (Open o) (Err (Code IsDirectory))
 dot_written {w = w} {d = d} o is looks =
     resolved_err (meant_at w.tree (Open o) d (Dot d)) (shown_found w.held) (Code IsDirectory) refl
@@ -282,7 +282,7 @@ module _ {old mid : Handles} {w v : World} {d : ℕ} (same : mid ≡ old) where
     abbrev e : ℕ
     e = (v.held here).node
 
-    first : Looks old w v d
+    first : Looks old w v (d ∷ [])
     first = looks_of (Ok tt) (λ is. refl) (call_ok {call = Access d} [] (All-nil _) (same_live same) told)
 
     node_same : e ≡ d
@@ -297,7 +297,7 @@ module _ {old mid : Handles} {w v : World} {d : ℕ} (same : mid ≡ old) where
         let second : Resolved mid v u (call_meant v.tree (Stat e) (e ∷ [])) (λ (x : Metadata). x) (Ok m) =
         call_ok {call = Stat e} (e ∷ []) (All-cons (Contains (e ∷ [])) e [] (Contains-push [] e) (All-nil _))
         (same_live still) asked in
-        let both = resolved_then first (at_root w.tree d) (same_live same) {r = Ok m} node_same second in record {
+        let both = resolved_then first (at_root w.tree d) (same_live same) {r = Ok m} (ap (λ n. n ∷ []) node_same) second in record {
           answer =
               free_is ∙ ap (λ x. let r : Result Sight ErrorCode = Ok (Seen x) in r) (ap (λ t. metadata_of t d)
               (sym first.tree) ∙ ap (metadata_of v.tree) (sym node_same) ∙ stat_gives v.tree e m asked.meaning);
@@ -313,8 +313,8 @@ module _ {old mid : Handles} {w v : World} {d : ℕ} (same : mid ≡ old) where
         → Told {A = Metadata} mid new v u (Stat e) (λ x. x) (hosted (Err code))
         → EndsInDirectory old w u d Look (Err (Code code))
     dot_fault {u} code asked =
-        let second : Looks mid v u e =
+        let second : Looks mid v u (e ∷ []) =
         looks_of (Err (Code code)) (λ is. refl) (call_err {call = Stat e} (Code code) [] still asked) in
         resolved_err (meant_at w.tree Look d (Dot d)) (shown_found u.held) (Code code) refl (fault_means _
         (stat_faults v.tree e code asked.meaning))
-        (looks_then first (at_root w.tree d) (same_live same) (subst (Looks mid v u) node_same second))
+        (looks_then first (at_root w.tree d) (same_live same) (subst (λ n. Looks mid v u (n ∷ [])) node_same second))

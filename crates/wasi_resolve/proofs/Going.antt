@@ -51,14 +51,14 @@ module _ {first now : Handles} {w v : World} {start : ℕ} {stack : List ℕ} {h
   here_near = subst (Reached w.tree ((w.held start).node ∷ [])) (sym node_is)
       (top_near w.tree (w.held start).node (nodes_under v.held stack) on.walked.near)
 
-  pub looks_on : {u : World} → Looks now v u (v.held here).node → Looks first w u (w.held start).node
+  pub looks_on : {u : World} → Looks now v u ((v.held here).node ∷ []) → Looks first w u ((w.held start).node ∷ [])
   looks_on next = looks_then on.walked.looks here_near (first_live on.stands) next
 
   -- what a call from there leaves of the stack
-  pub kept_on : {u : World} → Looks now v u (v.held here).node → nodes_under u.held stack ≡ nodes_under v.held stack
+  pub kept_on : {u : World} → Looks now v u ((v.held here).node ∷ []) → nodes_under u.held stack ≡ nodes_under v.held stack
   kept_on next = nodes_kept on.stands next.keeps
 
-  pub walked_on : {u : World} → Looks now v u (v.held here).node → Walked first w u start stack
+  pub walked_on : {u : World} → Looks now v u ((v.held here).node ∷ []) → Walked first w u start stack
   walked_on next = record {
     looks = looks_on next;
     near = subst (AreReached w.tree (w.held start).node) (sym (kept_on next)) on.walked.near;
@@ -81,7 +81,7 @@ module _ {first now : Handles} {w v : World} {start : ℕ} {stack : List ℕ} {h
     opened_none : refusal v.tree (OpenAt (v.held here).node name middle_options) ≡ None
     opened_none = free _ _ _ opens.resolved.answer
 
-    opened_looks : Looks now v u (v.held here).node
+    opened_looks : Looks now v u ((v.held here).node ∷ [])
     opened_looks = looks_of (Ok h) (λ is. leaves name opened_none) opens.resolved
 
     opened_node : (u.held h).node ≡ reached w.tree d name
@@ -144,7 +144,7 @@ module _ {first now : Handles} {w v : World} {start : ℕ} {stack : List ℕ} {h
       (refused_by _ _ means))
 
   pub goes_err : {u : World} (name : List ℕ) (next : Component) (rest : List Component) (e : HostError)
-      → (Looks now v u (v.held here).node × IsFault e) ⊎ OpensUnread now v u
+      → (Looks now v u ((v.held here).node ∷ []) × IsFault e) ⊎ OpensUnread now v u
       (v.held here).node name middle_options true (Err e)
       → Fails first w v u start (Normal name ∷ next ∷ rest) stack (next ∷ rest) e
   goes_err name next rest e (inl fault) = fails_here (Normal name) (next ∷ rest) (looks_on fault.0) (inl fault.1)

@@ -22,3 +22,6 @@ pub mod Coming
 pub mod Answering
 pub mod Parenting
 pub mod AtPlaces
+pub mod AtTwoPlaces
+pub mod Listings
+pub mod Timing

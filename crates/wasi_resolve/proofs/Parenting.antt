@@ -1,7 +1,6 @@
 -- The place that a path names.
 use Rattle.std.proofs.Common.{◌≡◌, ℕ, Bool, true, false, List, [], ◌∷◌, Some, None, Result, Ok, Err, refl, sym, ap, subst, ◌∙◌}
 use Rattle.std.specs.Prelude.{is_ok, codes, if◌then◌else◌}
-use Rattle.wasi_host.specs.Agree.{Touches}
 use Rattle.wasi_host.specs.Options.{Options, creates}
 use Rattle.wasi_host.specs.Tree.{Tree}
 use Rattle.wasi_host.specs.HostCall.{OpenAt}
@@ -23,7 +22,7 @@ use Rattle.wasi_resolve.specs.Resolved.{Resolved}
 use Rattle.wasi_resolve.specs.Parents.{shown_place, places_at}
 use Rattle.wasi_resolve.specs.declared.parent.MaybeOwned.TheVariants.{Borrowed, Owned}
 use Rattle.wasi_host.proofs.Touching.{touches_same}
-use Rattle.wasi_resolve.proofs.Calls.{looks_of, looks_none, means_then, resolved_err}
+use Rattle.wasi_resolve.proofs.Calls.{found_ok, looks_of, looks_none, means_then, resolved_err}
 use Rattle.wasi_resolve.proofs.Tables.{open_leaves}
 use Rattle.wasi_resolve.proofs.Entering.{ok_free}
 
@@ -107,7 +106,7 @@ pub placed_none : (live : Handles) (w : World) (s : ℕ) (path : List ℕ) → s
     → Resolved live w w (places_at w.tree s path) (shown_place w.held) (Err (Code NoEntry))
 placed_none live w s path is =
     resolved_err (places_at w.tree s path) (shown_place w.held) (Code NoEntry) refl (place_none w.tree s path is)
-    (looks_none live w s)
+    (looks_none live w (s ∷ []))
 
 pub placed_start : (live : Handles) (w : World) (start : ℕ) (path : List ℕ) {text : List ℕ} {part : Component}
     (name : Name)
@@ -137,16 +136,14 @@ module _ {live : Handles} {w u : World} (s : ℕ) (path text : List ℕ) (part :
         name = name;
       }))
   placed_ok h name named resolved =
-      let looks = looks_of (Ok h) (dir_leaves w.tree s text) resolved in record {
-        answer = place_opened w.tree s path text part is some
-            ∙ ap (λ x. x >>= (λ (held : Held). Ok held.node) >>= (λ d. let p : Result Place ErrorCode =
-            Ok (record { directory = d; name = part_text part }) in p)) resolved.answer
-            ∙ ap (λ n. let r : Result Place ErrorCode =
-            Ok (record { directory = (u.held h).node; name = n }) in r) (sym named);
-        tree = looks.tree;
-        touched = subst (λ t. Touches w.tree t (s ∷ []) [] w.touched u.touched) (sym looks.tree) looks.touched;
-        keeps = looks.keeps;
-      }
+      let opens : place w.tree s path ≡ Ok (record { directory = (u.held h).node; name = part_text part }) =
+      place_opened w.tree s path text part is some
+      ∙ ap (λ x. x >>= (λ (held : Held). Ok held.node) >>= (λ d. let p : Result Place ErrorCode =
+      Ok (record { directory = d; name = part_text part }) in p)) resolved.answer in
+      found_ok (shown_place u.held) (record { directory = Owned h; name = name })
+      (opens ∙ ap (λ n. let r : Result Place ErrorCode =
+      Ok (record { directory = (u.held h).node; name = n }) in r) (sym named))
+      (looks_of (Ok h) (dir_leaves w.tree s text) resolved)
 
   pub placed_err : (e : HostError) → Resolved live w u (opens_at w.tree s text directory_options) u.held (Err e)
       → Resolved live w u (places_at w.tree s path) (shown_place u.held) (Err e)

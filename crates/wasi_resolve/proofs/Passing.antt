@@ -38,7 +38,7 @@ adds_is text items = adds_by text (parts_left items) ∙ ap (λ b. b && trailing
 
 module _ {A : Type 0} {old new : Handles} {w u : World} {d : ℕ} {name : List ℕ} {shown : A
     → List ℕ} (same : new ≡ old) where
-  pub read_looks : {text : A} → Told {A = A} old new w u (ReadLinkAt d name) shown (Ok text) → Looks old w u d
+  pub read_looks : {text : A} → Told {A = A} old new w u (ReadLinkAt d name) shown (Ok text) → Looks old w u (d ∷ [])
   read_looks {text} told =
       looks_of (Ok text) (λ is. refl) (call_ok {call = ReadLinkAt d name} [] (All-nil _) (same_live same) told)
 

@@ -32,13 +32,13 @@ use Rattle.wasi_resolve.proofs.Going.{OnTop, node_is, here_near, looks_on, kept_
 
 -- ---- what is meant
 
-pub start_is : (t : Tree) (aim : Aim) (s : ℕ) (outcome : Outcome) → (meant_at t aim s outcome).start ≡ s
+pub start_is : (t : Tree) (aim : Aim) (s : ℕ) (outcome : Outcome) → (meant_at t aim s outcome).starts ≡ s ∷ []
 start_is t (Open o) s outcome = refl
 start_is t Look s outcome = refl
 
 -- the same from another start
 meant_start : (t : Tree) (aim : Aim) (d s : ℕ) (outcome : Outcome)
-    → record (meant_at t aim d outcome) { start = s } ≡ meant_at t aim s outcome
+    → record (meant_at t aim d outcome) { starts = s ∷ [] } ≡ meant_at t aim s outcome
 meant_start t (Open o) d s outcome = refl
 meant_start t Look d s outcome = refl
 
@@ -49,7 +49,7 @@ answer_stop t Look s code = refl
 -- a refusal of the walk itself
 pub stop_resolved : {first : Handles} {w u : World} {s : ℕ} (aim : Aim) (code : ErrorCode) {e : HostError}
     → e ≡ Code code
-    → Looks first w u s
+    → Looks first w u (s ∷ [])
     → Resolved first w u (meant_at w.tree aim s (Stop code)) (shown_found u.held) (Err e)
 stop_resolved {w = w} {u = u} {s = s} aim code is looks =
     resolved_err (meant_at w.tree aim s (Stop code)) (shown_found u.held) _ (start_is w.tree aim s (Stop code))

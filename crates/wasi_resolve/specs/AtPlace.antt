@@ -1,13 +1,14 @@
 -- What is done at a place: a name in the directory that a path leads to.
-use Rattle.std.specs.Prelude.{ℕ, List, [], ◌∷◌, ◌++◌, option_to_list, if◌then◌else◌, Result, Ok, Err}
+use Rattle.std.specs.Prelude.{ℕ, List, [], ◌∷◌, ◌++◌, Option, option_to_list, if◌then◌else◌, Result, Ok, Err}
 use Rattle.wasi_paths.specs.Parts.{has_root, strip_dir_suffix}
 use Rattle.wasi_host.specs.Tree.{Tree, child}
-use Rattle.wasi_host.specs.HostCall.{HostCall, MakeDirAt, SymlinkAt, UnlinkAt, RemoveDirAt, ReadLinkAt}
+use Rattle.wasi_host.specs.HostCall.{HostCall, MakeDirAt, SymlinkAt, UnlinkAt, RemoveDirAt, ReadLinkAt, TimesAt}
 use Rattle.wasi_host.specs.Step.{step}
 use Rattle.wasi_host.specs.Answer.{host_answer}
 use Rattle.wasi_host.specs.Steps.{◌>>=◌}
 use Rattle.wasi_host.specs.declared.errors.ErrorCode.{ErrorCode}
 use Rattle.wasi_host.specs.declared.errors.ErrorCode.TheVariants.{NotPermitted}
+use Rattle.wasi_host.specs.declared.system_time.SystemTime.{SystemTime}
 use Rattle.wasi_resolve.specs.Paths.{Place, place}
 use Rattle.wasi_resolve.specs.Resolved.{Meant}
 
@@ -19,6 +20,8 @@ pub data PlaceCall : Type 0 where
   -- the text of the link
   Symlink : List ℕ → PlaceCall
   ReadLink : PlaceCall
+  -- the times of the last read and of the last change that are to be set
+  SetTimes : Option SystemTime → Option SystemTime → PlaceCall
 
 -- the call of the host at the place
 abbrev pub call_at : PlaceCall → Place → HostCall
@@ -27,6 +30,7 @@ call_at RemoveFile p = UnlinkAt p.directory p.name
 call_at RemoveDir p = RemoveDirAt p.directory p.name
 call_at (Symlink text) p = SymlinkAt text p.directory p.name
 call_at ReadLink p = ReadLinkAt p.directory p.name
+call_at (SetTimes atime mtime) p = TimesAt p.directory p.name atime mtime
 
 -- what is answered: a link's text, or nothing but that it was done
 abbrev pub PlaceAnswer : PlaceCall → Type 0
@@ -35,6 +39,7 @@ PlaceAnswer RemoveFile = Unit {0}
 PlaceAnswer RemoveDir = Unit {0}
 PlaceAnswer (Symlink text) = Unit {0}
 PlaceAnswer ReadLink = List ℕ
+PlaceAnswer (SetTimes atime mtime) = Unit {0}
 
 -- a text with a root leads out of every directory, and isn't handed out
 abbrev pub unrooted : List ℕ → Result (List ℕ) ErrorCode
@@ -47,6 +52,7 @@ answer_in t RemoveFile p = host_answer t (UnlinkAt p.directory p.name)
 answer_in t RemoveDir p = host_answer t (RemoveDirAt p.directory p.name)
 answer_in t (Symlink text) p = host_answer t (SymlinkAt text p.directory p.name)
 answer_in t ReadLink p = host_answer t (ReadLinkAt p.directory p.name) >>= unrooted
+answer_in t (SetTimes atime mtime) p = host_answer t (TimesAt p.directory p.name atime mtime)
 
 -- the text by which the place is found: a directory may be made by a text with slashes behind its name
 abbrev pub place_text : PlaceCall → List ℕ → List ℕ
@@ -55,6 +61,7 @@ place_text RemoveFile text = text
 place_text RemoveDir text = text
 place_text (Symlink target) text = text
 place_text ReadLink text = text
+place_text (SetTimes atime mtime) text = text
 
 abbrev pub place_for : Tree → ℕ → List ℕ → PlaceCall → Result Place ErrorCode
 place_for t s text c = place t s (place_text c text)
@@ -73,7 +80,7 @@ ends_in t t' (Err code) = []
 -- what is done at a place, if there is one
 abbrev pub done_in : Tree → ℕ → Result Place ErrorCode → (c : PlaceCall) → Meant (PlaceAnswer c)
 done_in t s p c = record {
-  start = s;
+  starts = s ∷ [];
   answer = p >>= answer_in t c;
   stepped = step_in t c p;
   ends = ends_in t (step_in t c p) p;

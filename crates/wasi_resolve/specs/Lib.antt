@@ -13,3 +13,6 @@ pub mod Finding
 pub mod WalkSteps
 pub mod Parents
 pub mod AtPlace
+pub mod AtTwo
+pub mod TwoParents
+pub mod Timed

@@ -1,8 +1,8 @@
 -- What the calls of the resolver mean: the answer, the tree after it, and the nodes at which the path ends.
-use Rattle.std.specs.Prelude.{ℕ, Bool, true, false, List, [], ◌∷◌, Result, Ok, Err}
-use Rattle.wasi_host.specs.Options.{Options}
+use Rattle.std.specs.Prelude.{ℕ, Bool, true, false, List, [], ◌∷◌, codes, Result, Ok, Err}
+use Rattle.wasi_host.specs.Options.{Options, no_options}
 use Rattle.wasi_host.specs.Tree.{Tree}
-use Rattle.wasi_host.specs.Answer.{reached, metadata_of}
+use Rattle.wasi_host.specs.Answer.{Listed, open_answer, list_answer, reached, metadata_of}
 use Rattle.wasi_host.specs.Steps.{◌>>=◌}
 use Rattle.wasi_host.specs.declared.errors.ErrorCode.{ErrorCode}
 use Rattle.wasi_host.specs.declared.held.Held.{Held}
@@ -28,7 +28,7 @@ opened_node t e = reached t e.directory e.name
 -- open: what the new handle stands for
 abbrev pub opens_at : Tree → ℕ → List ℕ → Options → Meant Held
 opens_at t s text o = record {
-  start = s;
+  starts = s ∷ [];
   answer = opened t s text o (follows o.follow);
   stepped = after_open t s text o (follows o.follow);
   ends = ends_by (opened_node t) (opening t s text o (follows o.follow));
@@ -37,8 +37,21 @@ opens_at t s text o = record {
 -- look: the metadata of the node that is looked at
 abbrev pub looks_at : Tree → ℕ → List ℕ → FollowSymlinks → Meant Metadata
 looks_at t s text follow = record {
-  start = s;
+  starts = s ∷ [];
   answer = looked t s text (follows follow) >>= (λ n. Ok (metadata_of t n));
   stepped = t;
   ends = ends_by (λ n. n) (looked t s text (follows follow));
+}
+
+-- a directory, to be listed
+abbrev pub listing_options : Options
+listing_options = record no_options { read = true; dir_required = true; readdir_required = true; follow = No }
+
+-- list: the names of a directory, which is opened anew
+abbrev pub lists_at : Tree → ℕ → Meant (List Listed)
+lists_at t d = record {
+  starts = d ∷ [];
+  answer = open_answer t d (codes ".") listing_options >>= list_answer t;
+  stepped = t;
+  ends = d ∷ [];
 }

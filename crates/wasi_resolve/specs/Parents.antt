@@ -1,5 +1,5 @@
 -- A name in the directory that a path leads to, as contracts see it.
-use Rattle.std.specs.Prelude.{◌≡◌, ℕ, false, List, [], Option, Some, None, Result, Ok, Err}
+use Rattle.std.specs.Prelude.{◌≡◌, ℕ, true, false, List, [], ◌∷◌, Option, Some, None, Result, Ok, Err}
 use Rattle.std.specs.FinSet.{contains, insert, remove}
 use Rattle.wasi_host.specs.Tree.{Tree}
 use Rattle.wasi_host.specs.Meaning.{Handles}
@@ -7,7 +7,8 @@ use Rattle.wasi_host.specs.declared.errors.HostError.{HostError}
 use Rattle.wasi_host.specs.declared.held.Held.{Held}
 use Rattle.wasi_paths.specs.Name.{name_bytes}
 use Rattle.wasi_paths.specs.Parts.{Component, split}
-use Rattle.wasi_resolve.specs.Paths.{Place, place}
+use Rattle.wasi_resolve.specs.Walk.{Open, walk}
+use Rattle.wasi_resolve.specs.Paths.{Place, place, directory_options}
 use Rattle.wasi_resolve.specs.Resolved.{Meant}
 use Rattle.wasi_resolve.specs.declared.parent.MaybeOwned.{MaybeOwned}
 use Rattle.wasi_resolve.specs.declared.parent.MaybeOwned.TheVariants.{Borrowed, Owned}
@@ -24,7 +25,7 @@ shown_place held parent =
 
 -- what a place means. Nothing need be touched, since a place in the start itself is found by its text alone.
 abbrev pub places_at : Tree → ℕ → List ℕ → Meant Place
-places_at t s text = record { start = s; answer = place t s text; stepped = t; ends = [] }
+places_at t s text = record { starts = s ∷ []; answer = place t s text; stepped = t; ends = [] }
 
 -- a directory that was opened is live from then on, and one that wasn't is the start
 abbrev pub LiveIn : ℕ → Handles → MaybeOwned → Handles → Type 0
@@ -56,3 +57,7 @@ parent_in (Some halves) = halves.0
 -- the text that the directory is opened by
 abbrev pub parent_text : List ℕ → List ℕ
 parent_text text = parent_in (split text)
+
+-- how many parts the walk takes to it
+abbrev pub parent_parts : Tree → ℕ → List ℕ → ℕ
+parent_parts t s text = (walk t s (parent_text text) (Open directory_options) true).parts

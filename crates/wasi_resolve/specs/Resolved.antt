@@ -1,5 +1,5 @@
 -- What a call of the resolver does, over every host and over one that tells its world.
-use Rattle.std.specs.Prelude.{ℕ, ◌≡◌, ◌⊎◌, Bool, true, false, List, [], ◌∷◌, count_by, Result, Ok, Err, is_ok, if◌then◌else◌}
+use Rattle.std.specs.Prelude.{ℕ, ◌≡◌, ◌⊎◌, Bool, true, false, List, [], count_by, Result, Ok, Err, is_ok, if◌then◌else◌}
 use Rattle.std.specs.FinSet.{contains}
 use Rattle.wasi_host.specs.Tree.{Tree}
 use Rattle.wasi_host.specs.Agree.{Touches}
@@ -10,7 +10,8 @@ use Rattle.wasi_host.specs.declared.errors.HostError.{HostError}
 use Rattle.wasi_host.specs.declared.errors.HostError.TheVariants.{Code, Memory}
 use Rattle.wasi_host.specs.declared.lookup.Lookup.{Lookup}
 use Rattle.wasi_host.specs.declared.lookup.LookKind.{LookKind}
-use Rattle.wasi_host.specs.declared.lookup.LookKind.TheVariants.{ReadLink, Open, Stat, Make, MakeLink, Unlink, RemoveDir, Dup}
+use Rattle.wasi_host.specs.declared.lookup.LookKind.TheVariants.{ReadLink, Open, Stat, Make, MakeLink, Link, Rename, Unlink, RemoveDir, Times, Dup}
+use Rattle.wasi_host.specs.declared.lookup.LookKind.TheVariants as kinds
 
 abbrev pub is_link_read : Lookup → Bool
 is_link_read entry = by entry.kind
@@ -21,8 +22,12 @@ is_link_read entry = by entry.kind
     by Stat = false
     by Make = false
     by MakeLink = false
+    by Link = false
+    by Rename = false
     by Unlink = false
     by RemoveDir = false
+    by Times = false
+    by kinds.List = false
     by Dup = false
 
 -- how many links were read
@@ -41,19 +46,19 @@ TreeAfter t stepped t' meant (Err Memory) = t' ≡ t
 TreeAfter t stepped t' meant (Err (Code Io)) = (t' ≡ t) ⊎ ((is_ok meant ≡ true) × (t' ≡ stepped))
 TreeAfter t stepped t' meant (Err (Code code)) = t' ≡ t
 
--- What is meant from a start: the answer, or a code; the tree after it; and the nodes at which the path ends.
+-- What is meant from some starts: the answer, or a code; the tree after it; and the nodes at which the paths end.
 pub record Meant (B : Type 0) : Type 0 where
-  pub start : ℕ
+  pub starts : List ℕ
   pub answer : Result B ErrorCode
   pub stepped : Tree
   pub ends : List ℕ
 
 -- The answer is the one that is meant, unless memory was wanted or the host failed; the tree is as before, or after the
--- one step where it is answered; what is touched is reached from the start, or was made; handles that were live keep
+-- one step where it is answered; what is touched is reached from the starts, or was made; handles that were live keep
 -- what they stand for.
 pub record Resolved {A B : Type 0} (live : Handles) (w v : World) (meant : Meant B) (shown : A → B)
     (result : Result A HostError) : Type 0 where
   pub answer : Means shown meant.answer result
   pub tree : TreeAfter w.tree meant.stepped v.tree meant.answer result
-  pub touched : Touches w.tree v.tree (meant.start ∷ []) (if is_ok result then meant.ends else []) w.touched v.touched
+  pub touched : Touches w.tree v.tree meant.starts (if is_ok result then meant.ends else []) w.touched v.touched
   pub keeps : (h : ℕ) → contains live h ≡ true → v.held h ≡ w.held h

@@ -40,10 +40,10 @@ use Rattle.wasi_resolve.specs.declared.found.Stop.TheVariants as stops
 
 -- ---- calls that leave the tree
 
--- The tree stays, handles that were live keep what they stand for, and what is touched is reached from a node.
-pub record Looks (live : Handles) (w v : World) (d : ℕ) : Type 0 where
+-- The tree stays, handles that were live keep what they stand for, and what is touched is reached from these nodes.
+pub record Looks (live : Handles) (w v : World) (starts : List ℕ) : Type 0 where
   pub tree : v.tree ≡ w.tree
-  pub touched : Touches w.tree w.tree (d ∷ []) [] w.touched v.touched
+  pub touched : Touches w.tree w.tree starts [] w.touched v.touched
   pub keeps : (h : ℕ) → contains live h ≡ true → v.held h ≡ w.held h
 
 -- The tree and what is touched stay, and handles that were live keep what they stand for.
@@ -70,13 +70,13 @@ shown_found held (found.Metadata metadata) = Seen metadata
 -- what a walk that came to an outcome means
 abbrev pub meant_at : Tree → Aim → ℕ → Outcome → Meant Sight
 meant_at t (Open o) s outcome = record {
-  start = s;
+  starts = s ∷ [];
   answer = opening_of o outcome >>= opened_by t >>= (λ held. Ok (Opened held));
   stepped = step_of t (opening_of o outcome);
   ends = ends_by (opened_node t) (opening_of o outcome);
 }
 meant_at t Look s outcome = record {
-  start = s;
+  starts = s ∷ [];
   answer = looked_at t outcome >>= (λ n. Ok (Seen (metadata_of t n)));
   stepped = t;
   ends = ends_by (λ n. n) (looked_at t outcome);
@@ -85,7 +85,7 @@ meant_at t Look s outcome = record {
 -- what one open of the host means
 abbrev pub open_meant : Tree → ℕ → List ℕ → Options → Meant Held
 open_meant t d name o = record {
-  start = d;
+  starts = d ∷ [];
   answer = host.open_answer t d name o;
   stepped = open_step t d name o;
   ends = reached t d name ∷ [];
@@ -100,7 +100,7 @@ AreReached t s (n ∷ nodes) = Reached t (s ∷ []) n × AreReached t s nodes
 
 -- Nothing has changed but what is touched, and each node of the stack is reached from the start.
 pub record Walked (live : Handles) (w v : World) (start : ℕ) (stack : List ℕ) : Type 0 where
-  pub looks : Looks live w v (w.held start).node
+  pub looks : Looks live w v ((w.held start).node ∷ [])
   pub near : AreReached w.tree (w.held start).node (nodes_under v.held stack)
 
 -- from both states the walk comes to the same, whatever it is for; the numbers of the parts taken go with those left
@@ -152,7 +152,7 @@ pub record AtLink (first : Handles) (w v u : World) (start : ℕ) (parts : List 
 -- it fails at a part
 pub record Fails (first : Handles) (w v u : World) (start : ℕ) (parts : List Component) (before : List ℕ)
     (left : List Component) (e : HostError) : Type 0 where
-  pub looks : Looks first w u (w.held start).node
+  pub looks : Looks first w u ((w.held start).node ∷ [])
   pub part : Component
   pub nodes : List ℕ
   pub same : Same w.tree (w.held start).node parts (nodes_under v.held before) (part ∷ left) nodes
@@ -199,13 +199,13 @@ pub record OpensUnread (live : Handles) (w u : World) (d : ℕ) (name : List ℕ
 pub record MeetsLink (live : Handles) (w u : World) (d : ℕ) (name : List ℕ) (o : Options)
     (may_read : Bool) : Type 0 where
   pub reads : is_met_link w.tree d name o may_read ≡ true
-  pub looks : Looks live w u d
+  pub looks : Looks live w u (d ∷ [])
 
 abbrev pub Enters : Handles → World → World → ℕ → List ℕ → Options → Bool → Result (Option ℕ) HostError → Type 0
 Enters live w u d name o may_read (Ok (Some h)) = OpensUnread live w u d name o may_read (Ok h)
 Enters live w u d name o may_read (Ok None) = MeetsLink live w u d name o may_read
 Enters live w u d name o may_read (Err e) =
-    (Looks live w u d × IsFault e) ⊎ OpensUnread live w u d name o may_read (Err e)
+    (Looks live w u (d ∷ []) × IsFault e) ⊎ OpensUnread live w u d name o may_read (Err e)
 
 -- the last name isn't read, and the answer is what the walk means that ends there
 pub record EndsUnread (live : Handles) (w u : World) (d : ℕ) (aim : Aim) (follow slash : Bool) (name : List ℕ)
@@ -217,7 +217,7 @@ pub record EndsAtLink (live : Handles) (w u : World) (d : ℕ) (aim : Aim) (foll
     (found : List ℕ) : Type 0 where
   pub reads : is_to_be_read w.tree aim follow slash true d name ≡ true
   pub free : refusal w.tree (ReadLinkAt d name) ≡ None
-  pub looks : Looks live w u d
+  pub looks : Looks live w u (d ∷ [])
   pub same : found ≡ name
 
 abbrev pub EndsAtName : Handles → World → World → ℕ → Aim → Bool → Bool → List ℕ → Result Reach HostError → Type 0
@@ -225,7 +225,7 @@ EndsAtName live w u d aim follow slash name (Ok (reach.Found it)) = EndsUnread l
 EndsAtName live w u d aim follow slash name (Ok (reach.Link other)) =
     EndsAtLink live w u d aim follow slash name (left_bytes other.text)
 EndsAtName live w u d aim follow slash name (Err e) =
-    (Looks live w u d × IsFault e) ⊎ EndsUnread live w u d aim follow slash name (Err e)
+    (Looks live w u (d ∷ []) × IsFault e) ⊎ EndsUnread live w u d aim follow slash name (Err e)
 
 -- ---- a directory
 
@@ -263,7 +263,7 @@ pub record ReachesLink (first : Handles) (w v u : World) (start : ℕ) (aim : Ai
 -- the host fails, or memory is wanted, at one of its parts
 pub record ReachFails (first : Handles) (w v u : World) (start : ℕ) (aim : Aim) (follow slash : Bool) (m : ℕ)
     (parts : List Component) (before : List ℕ) (left : List Component) (e : HostError) : Type 0 where
-  pub looks : Looks first w u (w.held start).node
+  pub looks : Looks first w u ((w.held start).node ∷ [])
   pub fault : IsFault e
   pub taken : ℕ
   pub count : taken + length left ≡ m + length parts
@@ -285,13 +285,13 @@ Reaches first w v u start aim follow slash m parts before left after (Err e) =
 pub record ReadsText (live : Handles) (w u : World) (d : ℕ) (name : List ℕ) (slash : Bool)
     (before left : List Component)
     (slash' : Bool) : Type 0 where
-  pub looks : Looks live w u d
+  pub looks : Looks live w u (d ∷ [])
   pub put : left ≡ texts.parts (link_text w.tree d name) ++ before
   pub now : slash' ≡ (slash || adds_slash (link_text w.tree d name) before)
 
 -- it fails: where the link isn't refused, by the host alone
 pub record ReadFails (live : Handles) (w u : World) (d : ℕ) (name : List ℕ) (e : HostError) : Type 0 where
-  pub looks : Looks live w u d
+  pub looks : Looks live w u (d ∷ [])
   pub fault : refusal w.tree (ReadLinkAt d name) ≡ None → IsFault e
 
 abbrev pub ReadsLink : Handles → World → World → ℕ → List ℕ → Bool → List Component → List Component
@@ -328,7 +328,7 @@ pub record LinkPast (first : Handles) (w v u : World) (start : ℕ) (aim : Aim) 
 -- the host fails, or memory is wanted
 pub record FailsPast (first : Handles) (w v u : World) (start : ℕ) (aim : Aim) (follow slash : Bool) (m : ℕ)
     (parts : List Component) (before : List ℕ) (old new : List Lookup) (e : HostError) : Type 0 where
-  pub looks : Looks first w u (w.held start).node
+  pub looks : Looks first w u ((w.held start).node ∷ [])
   pub fault : IsFault e
   pub few : length new + 3 * m
       ≤ length old + (3 * taken_by (leg_nodes w.tree (w.held start).node aim follow slash m parts

@@ -9,16 +9,14 @@ ghost use Rattle.wasi_host.specs.declared.errors.HostError.TheVariants.{Code};
 ghost use Rattle.wasi_host.specs.declared.limits.TheConstants.{LINK_MAX};
 ghost use Rattle.wasi_paths.specs.Name.{name_bytes};
 ghost use Rattle.wasi_paths.specs.Parts.{has_root, strip_dir_suffix};
-ghost use Rattle.wasi_resolve.specs.Walk.{Open, walk};
-ghost use Rattle.wasi_resolve.specs.Paths.{directory_options};
-ghost use Rattle.wasi_resolve.specs.Parents.{parent_text};
+ghost use Rattle.wasi_resolve.specs.Parents.{parent_parts};
 ghost use Rattle.wasi_resolve.specs.Resolved.{links_read, Resolved};
 ghost use Rattle.wasi_resolve.specs.Finding.{FewReads};
-ghost use Rattle.wasi_resolve.specs.AtPlace.{CreateDir, RemoveFile, RemoveDir, Symlink, ReadLink, done_in, does_at};
+ghost use Rattle.wasi_resolve.specs.AtPlace.{CreateDir, RemoveFile, RemoveDir, Symlink, ReadLink, SetTimes, done_in, does_at};
 
 use crate::parent::open_parent;
 use std::alloc::Global;
-use wasi_host::{ErrorCode, Handle, Host, HostError};
+use wasi_host::{ErrorCode, Handle, Host, HostError, SystemTime};
 use wasi_paths::{Name, has_root, strip_dir_suffix};
 
 /// Makes an empty directory at the place that a path names below a start directory: the crate's `create_dir` of
@@ -42,8 +40,7 @@ pub fn create_dir<H: Host>(
         (does_at (H.world host.old).tree ((H.world host.old).held start).node path.now CreateDir)
         (λ unit. unit) result }
     ensures bound { IsTrue H.told → length (H.lookups host.new) ≤ length (H.lookups host.old) + (3 *
-        (walk (H.world host.old).tree ((H.world host.old).held start).node
-        (parent_text (strip_dir_suffix path.now)) (Open directory_options) true).parts + 5) }
+        parent_parts (H.world host.old).tree ((H.world host.old).held start).node (strip_dir_suffix path.now) + 5) }
 {
     let place = match open_parent(alloc, host, start, strip_dir_suffix(path)) {
         Ok(place) => place,
@@ -73,8 +70,7 @@ pub fn remove_file<H: Host>(
         (does_at (H.world host.old).tree ((H.world host.old).held start).node path.now RemoveFile)
         (λ unit. unit) result }
     ensures bound { IsTrue H.told → length (H.lookups host.new) ≤ length (H.lookups host.old) + (3 *
-        (walk (H.world host.old).tree ((H.world host.old).held start).node (parent_text path.now)
-        (Open directory_options) true).parts + 5) }
+        parent_parts (H.world host.old).tree ((H.world host.old).held start).node path.now + 5) }
 {
     let place = match open_parent(alloc, host, start, path) {
         Ok(place) => place,
@@ -104,8 +100,7 @@ pub fn remove_dir<H: Host>(
         (does_at (H.world host.old).tree ((H.world host.old).held start).node path.now RemoveDir)
         (λ unit. unit) result }
     ensures bound { IsTrue H.told → length (H.lookups host.new) ≤ length (H.lookups host.old) + (3 *
-        (walk (H.world host.old).tree ((H.world host.old).held start).node (parent_text path.now)
-        (Open directory_options) true).parts + 5) }
+        parent_parts (H.world host.old).tree ((H.world host.old).held start).node path.now + 5) }
 {
     let place = match open_parent(alloc, host, start, path) {
         Ok(place) => place,
@@ -138,8 +133,7 @@ pub fn symlink<H: Host>(
         (does_at (H.world host.old).tree ((H.world host.old).held start).node path.now (Symlink target.now))
         (λ unit. unit) result }
     ensures bound { IsTrue H.told → length (H.lookups host.new) ≤ length (H.lookups host.old) + (3 *
-        (walk (H.world host.old).tree ((H.world host.old).held start).node (parent_text path.now)
-        (Open directory_options) true).parts + 5) }
+        parent_parts (H.world host.old).tree ((H.world host.old).held start).node path.now + 5) }
 {
     if has_root(target) {
         return Err(HostError::Code(ErrorCode::NotPermitted));
@@ -151,6 +145,38 @@ pub fn symlink<H: Host>(
     let made = host.symlink_at(target, place.directory.handle(), place.name);
     place.directory.release(host);
     made
+}
+
+/// Sets the given times of what the place holds that a path names below a start directory, that of its last read and
+/// that of its last change: the crate's `set_times_nofollow`. One that isn't given stays, and a link's times are its
+/// own. Refusals: those of the walk to the name's directory, NoEntry of the empty path, then those of the host's
+/// `times_at`.
+pub fn set_times_nofollow<H: Host>(
+    alloc: Global,
+    host: &mut H,
+    start: Handle,
+    path: &str,
+    atime: Option<SystemTime>,
+    mtime: Option<SystemTime>,
+) -> Result<(), HostError>
+    requires live { contains (H.live host.old) start ≡ true }
+    ensures cause { HasCause (H.faults host.old) (H.faults host.new) result }
+    ensures live { H.live host.new ≡ H.live host.old }
+    ensures lineage { Traced (Only start) Nothing Nothing (H.lookups host.old) (H.lookups host.new) }
+    ensures links { links_read (H.lookups host.new) ≤ links_read (H.lookups host.old) + 40 }
+    ensures told { IsTrue H.told → Resolved (H.live host.old) (H.world host.old) (H.world host.new)
+        (does_at (H.world host.old).tree ((H.world host.old).held start).node path.now (SetTimes atime mtime))
+        (λ unit. unit) result }
+    ensures bound { IsTrue H.told → length (H.lookups host.new) ≤ length (H.lookups host.old) + (3 *
+        parent_parts (H.world host.old).tree ((H.world host.old).held start).node path.now + 5) }
+{
+    let place = match open_parent(alloc, host, start, path) {
+        Ok(place) => place,
+        Err(e) => return Err(e),
+    };
+    let set = host.times_at(place.directory.handle(), place.name, atime, mtime);
+    place.directory.release(host);
+    set
 }
 
 /// The text of the link at the place that a path names below a start directory: the crate's `read_link`. The link
@@ -174,8 +200,7 @@ pub fn read_link<H: Host>(
         (does_at (H.world host.old).tree ((H.world host.old).held start).node path.now ReadLink)
         (λ text. string_bytes text) result }
     ensures bound { IsTrue H.told → length (H.lookups host.new) ≤ length (H.lookups host.old) + (3 *
-        (walk (H.world host.old).tree ((H.world host.old).held start).node (parent_text path.now)
-        (Open directory_options) true).parts + 5) }
+        parent_parts (H.world host.old).tree ((H.world host.old).held start).node path.now + 5) }
 {
     let place = match open_parent(alloc, host, start, path) {
         Ok(place) => place,

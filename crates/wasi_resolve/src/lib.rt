@@ -2,20 +2,26 @@
 #![tactic(auto)]
 
 mod at_place;
+mod at_two;
 mod found;
 mod laws;
 mod left;
+mod listing;
 mod name_left;
 mod names;
 mod parent;
 mod resolver;
 mod stack;
+mod times;
 mod walk;
 
-pub use at_place::{create_dir, read_link, remove_dir, remove_file, symlink};
+pub use at_place::{create_dir, read_link, remove_dir, remove_file, set_times_nofollow, symlink};
+pub use at_two::{hard_link, rename};
 pub use laws::{paths_agree, paths_stay_in_reach, walks_have_one_end, walks_read_few_links};
+pub use listing::read_dir;
 pub use parent::{MaybeOwned, Parent, open_parent};
 pub use resolver::{open, open_dir, stat};
+pub use times::set_times;
 
 /// How many links one walk reads at most: the crate's constant of that name.
 pub const MAX_SYMLINK_EXPANSIONS: u8 = 40;

@@ -6,10 +6,9 @@ ghost use Rattle.wasi_host.specs.Lineage.{Traced, Only, Nothing};
 ghost use Rattle.wasi_paths.specs.Name.{name_bytes};
 ghost use Rattle.wasi_paths.specs.Part.{component};
 ghost use Rattle.wasi_paths.specs.TextLaws.{IsLastPart};
-ghost use Rattle.wasi_resolve.specs.Walk.{Open, walk};
-ghost use Rattle.wasi_resolve.specs.Paths.{directory_options, part_text};
+ghost use Rattle.wasi_resolve.specs.Paths.{part_text};
 ghost use Rattle.wasi_resolve.specs.Resolved.{links_read, Resolved};
-ghost use Rattle.wasi_resolve.specs.Parents.{directory_of, parent_text, places_at, released, shown_place, GotParent, LiveParent};
+ghost use Rattle.wasi_resolve.specs.Parents.{directory_of, parent_parts, places_at, released, shown_place, GotParent, LiveParent};
 ghost use Rattle.wasi_resolve.specs.WalkSteps.{Stayed};
 
 use crate::resolver::open_dir;
@@ -97,8 +96,7 @@ pub fn open_parent<'p, H: Host>(
         (places_at (H.world host.old).tree ((H.world host.old).held start).node path.entry.now)
         (shown_place (H.world host.new).held) result }
     ensures bound { IsTrue H.told → length (H.lookups host.new) ≤ length (H.lookups host.old) + (3 *
-        (walk (H.world host.old).tree ((H.world host.old).held start).node (parent_text path.entry.now)
-        (Open directory_options) true).parts + 4) }
+        parent_parts (H.world host.old).tree ((H.world host.old).held start).node path.entry.now + 4) }
 {
     texts_have_one_split();
     let Some((parent, last)) = split_parent(path) else {

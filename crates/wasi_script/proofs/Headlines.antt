@@ -19,7 +19,6 @@ use Rattle.wasi_report.specs.Report.{report_text}
 use Rattle.wasi_report.specs.ReadBack.{IsOrdered}
 use Rattle.wasi_p1.specs.Run.{Run, Allows, DidRun, named}
 use Rattle.wasi_form.specs.Plan.{Plan}
-use Rattle.wasi_form.specs.Built.{default_limits}
 use Rattle.wasi_p1.specs.Slots.{View}
 use Rattle.wasi_script.specs.Start.{start, with_pieces, IsBegun}
 use Rattle.wasi_p1.specs.Guest.{State, state_of}
@@ -38,7 +37,7 @@ no_fault k (inl fits) = omega arith
 no_fault k (inr full) = absurd (omega arith)
 
 pub begun_at : {context : View MemState} {memory : List ℕ} (plan : Plan)
-    → IsBegun world_of context (tree_of plan.nodes default_limits) plan.preopens
+    → IsBegun world_of context (tree_of plan.nodes plan.limits) plan.preopens
     → memory ≡ with_pieces (replicate plan.size 0) plan.pieces → state_of world_of context memory ≡ start plan
 begun_at {memory} plan is memory-is = is.state memory ∙ (rw memory-is refl)
 

@@ -19,7 +19,6 @@ use Rattle.wasi_host.specs.declared.limits.Limits.{Limits}
 use Rattle.wasi_tree.specs.Given.{Given, GivenContent, file, directory, link, content_from, nodes_from, tree_of}
 use Rattle.wasi_tree.specs.declared.errors.TreeError.TheVariants.{Invalid}
 use Rattle.wasi_tree.specs.Fit.{AreFit, IsTreeCause}
-use Rattle.wasi_form.specs.Built.{default_limits}
 use Rattle.wasi_tree.specs.GivenTests.{is_dir_content}
 use Rattle.wasi_tree.specs.MemState.{HeldMap, MemState, live_of, held_in, world_of}
 use Rattle.wasi_guest.specs.Range.{with_bytes}
@@ -45,9 +44,9 @@ pub given_is_live : (before now : Handles) (h : ℕ) → now ≡ insert before h
 given_is_live before now h is = rw is (grind (arith, members, nat_tests))
 
 -- no number of nodes that are fit breaks the rules
-pub never_unfit : (nodes : List Given) (n : ℕ) → AreFit default_limits nodes
-    → IsTreeCause default_limits nodes (Invalid n) → ⊥
-never_unfit nodes n fit lowest = lowest.breaks (fit n)
+pub never_unfit : (limits : Limits) (nodes : List Given) (n : ℕ) → AreFit limits nodes
+    → IsTreeCause limits nodes (Invalid n) → ⊥
+never_unfit limits nodes n fit lowest = lowest.breaks (fit n)
 
 directory_from : (all : List Given) (k : ℕ) (content : GivenContent) → is_dir_content content ≡ true → is_directory (content_from all k content) ≡ true
 directory_from all k (file bytes) is = absurd (cc)

@@ -7,7 +7,6 @@ use Rattle.wasi_tree.specs.Given.{tree_of}
 use Rattle.wasi_tree.specs.MemState.{HeldMap, live_of, held_in}
 use Rattle.wasi_guest.specs.Range.{with_bytes}
 use Rattle.wasi_form.specs.Plan.{Plan, PlannedPiece, PlannedPreopen}
-use Rattle.wasi_form.specs.Built.{default_limits}
 use Rattle.wasi_p1.specs.Slots.{View, given_mode, given_slot}
 use Rattle.wasi_p1.specs.Guest.{State, Place, stream, directory, place_of, state_of}
 use Rattle.wasi_p1.specs.declared.context.P1Preopen.{P1Preopen}
@@ -36,7 +35,7 @@ begun tree preopens memory = record {
 
 -- a plan's tree and directories, and its pieces over zeros
 abbrev pub start : Plan → State
-start plan = begun (tree_of plan.nodes default_limits) plan.preopens (with_pieces (replicate plan.size 0) plan.pieces)
+start plan = begun (tree_of plan.nodes plan.limits) plan.preopens (with_pieces (replicate plan.size 0) plan.pieces)
 
 -- a context in which nothing was done yet, and no node touched
 pub record IsBegun {H : Type 0} (world : H → World) (context : View H) (tree : Tree)

@@ -2,19 +2,20 @@
 ghost use Rattle.std.specs.Prelude.{◌≡◌, ℕ, true, length, map, replicate, All, IfOk};
 ghost use Rattle.std.specs.List.{list_all};
 ghost use Rattle.wasi_host.specs.Tree.{node_at, is_directory};
+ghost use Rattle.wasi_host.specs.ValidTree.{AreLimits};
 ghost use Rattle.wasi_tree.specs.Given.{given, tree_of};
 ghost use Rattle.wasi_tree.specs.Fit.{AreFit};
 ghost use Rattle.wasi_tree.specs.MemState.{world_of};
 ghost use Rattle.wasi_form.specs.Plan.{planned_piece, planned_preopen};
-ghost use Rattle.wasi_form.specs.Built.{default_limits, are_preopens_directories, is_piece_within, is_shown_within};
+ghost use Rattle.wasi_form.specs.Built.{are_preopens_directories, is_piece_within, is_shown_within};
 ghost use Rattle.wasi_script.specs.Start.{with_pieces, IsBegun, AreGiven};
 ghost use Rattle.wasi_script.specs.Headline.{shown_in};
 
 use std::alloc::{AllocError, Global};
-use wasi_form::{DEFAULT_LIMITS, Piece, ScriptPreopen, Shown};
+use wasi_form::{Piece, ScriptPreopen, Shown};
 use wasi_guest::GuestMemory;
 use wasi_p1::{P1Preopen, WasiP1Ctx};
-use wasi_tree::{HandleError, MemTree, NewNode, TreeError};
+use wasi_tree::{HandleError, Limits, MemTree, NewNode, TreeError};
 
 /// A handle of each directory that the guest is given, in order.
 fn given_handles(
@@ -45,18 +46,20 @@ fn given_handles(
     Ok(given)
 }
 
-/// A context over the tree of these nodes, in which the guest is given these directories.
+/// A context over the tree of these nodes within these limits, in which the guest is given these directories.
 pub fn first_context(
     alloc: Global,
     nodes: Vec<NewNode>,
+    limits: Limits,
     preopens: &[ScriptPreopen],
 ) -> Result<WasiP1Ctx<MemTree>, AllocError>
-    requires fit { AreFit default_limits (map given nodes.items) }
+    requires limits { AreLimits limits }
+    requires fit { AreFit limits (map given nodes.items) }
     requires directories { are_preopens_directories (map given nodes.items) (map planned_preopen preopens.now) ≡ true }
-    ensures begun { IfOk result (λ c. IsBegun world_of c (tree_of (map given nodes.items) default_limits)
+    ensures begun { IfOk result (λ c. IsBegun world_of c (tree_of (map given nodes.items) limits)
         (map planned_preopen preopens.now)) }
 {
-    let mut tree = match MemTree::new(alloc, nodes, DEFAULT_LIMITS) {
+    let mut tree = match MemTree::new(alloc, nodes, limits) {
         Ok(tree) => tree,
         Err(TreeError::Memory) => return Err(AllocError),
         Err(TreeError::Invalid(_)) => unreachable!(),

@@ -15,7 +15,7 @@ use Rattle.wasi_tree.proofs.StoreLemmas.{child_is}
 
 -- ---- rows behind others
 
-refused_before : (rows more : List (Bool × ErrorCode)) {code : ErrorCode} → first_row rows ≡ Some code
+pub refused_before : (rows more : List (Bool × ErrorCode)) {code : ErrorCode} → first_row rows ≡ Some code
     → first_row (rows ++ more) ≡ Some code
 refused_before [] more is = absurd (cc)
 refused_before (row ∷ rows) more {code} is = by row.0 is (refused_before rows more)
@@ -26,7 +26,7 @@ refused_before (row ∷ rows) more {code} is = by row.0 is (refused_before rows 
     by true here later = here
     by false there later = later there
 
-left_behind : (rows more : List (Bool × ErrorCode)) → first_row rows ≡ None → first_row (rows ++ more) ≡ first_row more
+pub left_behind : (rows more : List (Bool × ErrorCode)) → first_row rows ≡ None → first_row (rows ++ more) ≡ first_row more
 left_behind [] more none = refl
 left_behind (row ∷ rows) more none = by row.0 none (left_behind rows more)
   where

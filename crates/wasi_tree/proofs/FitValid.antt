@@ -38,12 +38,12 @@ length-nodes : (all : List Given) (k : ℕ) (gs : List Given) → length (nodes_
 length-nodes all k [] = refl
 length-nodes all k (g ∷ gs) = ap suc (length-nodes all (k + 1) gs)
 
-node_is : (nodes : List Given) (limits : Limits) (n : ℕ) (g : Given) → slice_get nodes n ≡ Some g
+pub node_is : (nodes : List Given) (limits : Limits) (n : ℕ) (g : Given) → slice_get nodes n ≡ Some g
     → node_at (tree_of nodes limits) n ≡ node_from nodes n g
 unfolding node_at tree_of
 node_is nodes limits n g at = nodes_at nodes 0 nodes n stray g at ∙ ap (λ j. node_from nodes j g) (zero-add n)
 
-next_is : (nodes : List Given) (limits : Limits) → next_of (tree_of nodes limits) ≡ length nodes
+pub next_is : (nodes : List Given) (limits : Limits) → next_of (tree_of nodes limits) ≡ length nodes
 unfolding tree_of
 next_is nodes limits = length-nodes nodes 0 nodes
 
@@ -52,19 +52,19 @@ unfolding tree_of
 limits_are nodes limits = refl
 
 -- the names of a node
-abbrev given_names : GivenContent → Names
+abbrev pub given_names : GivenContent → Names
 given_names (file bytes) = maps.empty
 given_names (directory entries) = names_from entries
 given_names (link text) = maps.empty
 
-names_given : (all : List Given) (k : ℕ) (content : GivenContent)
+pub names_given : (all : List Given) (k : ℕ) (content : GivenContent)
     → names_of (content_from all k content) ≡ given_names content
 names_given all k (file bytes) = refl
 names_given all k (directory entries) = refl
 names_given all k (link text) = refl
 
 -- no name stands twice in a node
-abbrev HasDistinct : Given → Type 0
+abbrev pub HasDistinct : Given → Type 0
 HasDistinct g = are_distinct (texts (given_entries g.content)) ≡ true
 
 count_content : (all : List Given) (k n : ℕ) (content : GivenContent) → are_distinct (texts (given_entries content)) ≡ true
@@ -88,16 +88,16 @@ distinct_names limits nodes n (file bytes) is = refl
 distinct_names limits nodes n (directory entries) is = is.1
 distinct_names limits nodes n (link text) is = refl
 
-all_distinct : (limits : Limits) (nodes : List Given) → AreFit limits nodes → (n : ℕ) → ForSome (slice_get nodes n) HasDistinct
+pub all_distinct : (limits : Limits) (nodes : List Given) → AreFit limits nodes → (n : ℕ) → ForSome (slice_get nodes n) HasDistinct
 all_distinct limits nodes are n g at = distinct_names limits nodes n g.content ((are n).fit g at).1
 
-count_is : (limits : Limits) (nodes : List Given) (n : ℕ) → AreFit limits nodes
+pub count_is : (limits : Limits) (nodes : List Given) (n : ℕ) → AreFit limits nodes
     → name_count (tree_of nodes limits) n ≡ entry_count n nodes
 unfolding tree_of
 count_is limits nodes n are = count_nodes nodes 0 n nodes (all_distinct limits nodes are)
 
 -- a node that is found is reached
-name_at : (content : GivenContent) (entry : List ℕ × ℕ) → are_distinct (texts (given_entries content)) ≡ true
+pub name_at : (content : GivenContent) (entry : List ℕ × ℕ) → are_distinct (texts (given_entries content)) ≡ true
     → Contains (given_entries content) entry → maps.get (given_names content) entry.0 ≡ Some entry.1
 name_at (file bytes) entry is at = absurd (omega (arith, at.1))
 name_at (directory entries) entry is at = maps.get-from_entries nat_list_cmp_total entries entry.0 ∙ find_held entries entry is at
@@ -187,7 +187,7 @@ top_of : (nodes : List Given) → starts_with_directory nodes ≡ true → IsTop
 top_of [] is = cc
 top_of (g ∷ gs) is = record { node = g; at = refl; is_dir = is }
 
-is_directory-given : (all : List Given) (k : ℕ) (content : GivenContent)
+pub is_directory-given : (all : List Given) (k : ℕ) (content : GivenContent)
     → is_directory (content_from all k content) ≡ is_dir_content content
 is_directory-given all k (file bytes) = refl
 is_directory-given all k (directory entries) = refl

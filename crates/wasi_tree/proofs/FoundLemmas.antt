@@ -41,11 +41,11 @@ marked_then {ms} {ns} {old} {mid} {new} {work} {work1} {work2} first rest = reco
   balance = rest.balance ∙ first.balance;
 }
 
-only : (m n : ℕ) → Contains (m ∷ []) n → m ≡ n
+pub only : (m n : ℕ) → Contains (m ∷ []) n → m ≡ n
 only m n (zero, h, is) = is
 only m n (suc k, h, is) = absurd (omega (arith, h))
 
-first_of : (n : ℕ) → Contains (n ∷ []) n
+pub first_of : (n : ℕ) → Contains (n ∷ []) n
 first_of n = (0, omega arith, refl)
 
 set_here : (marks : List Bool) (n : ℕ) → n < length marks → IsMarked (slice_set marks n true) n
@@ -113,7 +113,7 @@ search_first nodes marks marks' work' len none are = record {
 }
 
 -- the entry that gives a number
-entry_of : (entries : List (List ℕ × ℕ)) (n : ℕ) → Contains (map (λ e. e.1) entries) n
+pub entry_of : (entries : List (List ℕ × ℕ)) (n : ℕ) → Contains (map (λ e. e.1) entries) n
     → (entry : List ℕ × ℕ) × (Contains entries entry) × (entry.1 ≡ n)
 entry_of [] n c = absurd (omega (arith, c.1))
 entry_of (e ∷ entries) n (zero, h, is) = (e, (0, omega arith, refl), is)
@@ -121,7 +121,7 @@ entry_of (e ∷ entries) n (suc k, h, is) =
     let later = entry_of entries n (k, omega arith, is) in
     (later.0, (suc later.1.0, omega (arith, later.1.1), later.1.2), later.2)
 
-number_of : (entries : List (List ℕ × ℕ)) (entry : List ℕ × ℕ) → Contains entries entry
+pub number_of : (entries : List (List ℕ × ℕ)) (entry : List ℕ × ℕ) → Contains entries entry
     → Contains (map (λ e. e.1) entries) entry.1
 number_of [] entry c = absurd (omega (arith, c.1))
 number_of (e ∷ entries) entry (zero, h, is) = (0, omega arith, ap (λ f. f.1) is)
@@ -166,6 +166,9 @@ has_entries nodes d entry c =
     by : (o : Option Given) → slice_get nodes d ≡ o → Contains (entries_held o) entry → d < length nodes
     by None is c = absurd (omega (arith, c.1))
     by (Some g) is c = slice_get_within nodes d g is
+
+pub has_numbers : (nodes : List Given) (d n : ℕ) → Contains (map (λ e. e.1) (entries_at nodes d)) n → d < length nodes
+has_numbers nodes d n c = let e = entry_of (entries_at nodes d) n c in has_entries nodes d e.0 e.1
 
 marked_found : (nodes : List Given) (marks : List Bool) → IsSearch nodes marks [] → (n : ℕ) → IsFound nodes n
     → n < length nodes → IsMarked marks n

@@ -54,7 +54,7 @@ pub with_entries-empty : (es : List (List ℕ × ℕ)) → with_entries es (from
 with_entries-empty [] = refl
 with_entries-empty (e ∷ es) = ap (λ m. insert m e.0 e.1) (with_entries-empty es)
 
-same_names : (m n : Names) → ((q : List ℕ) → get m q ≡ get n q) → m ≡ n
+pub same_names : (m n : Names) → ((q : List ℕ) → get m q ≡ get n q) → m ≡ n
 same_names m n is = same_map nat_list_cmp_total (slice_cmp-IsAntisymmetric nat_cmp-IsAntisymmetric) m n is
 
 same_text : (bs cs : List ℕ) → bytes_eq bs cs ≡ eq_by_cmp (slice_cmp nat_cmp) cs bs
@@ -141,6 +141,14 @@ pub all_copied : {Y : Type 0} (copied : List NewEntry) (left es : List (String Y
     → map pair_of copied ≡ entries (names_in es)
 all_copied copied left es done so_far sorted =
     sym (append-nil (map pair_of copied)) ∙ sym (ap (λ l. map pair_of copied ++ map text_entry l) done) ∙ so_far ∙ sym (entries-names_in es sorted)
+
+-- all entries are listed
+pub all_listed : {X Y : Type 0} (f : List ℕ × ℕ → X) (told : List X) (left es : List (String Y × ℕ)) → left ≡ []
+    → told ++ map f (map text_entry left) ≡ map f (map text_entry es) → IsStrictlySortedBy string_cmp (keys_of es)
+    → told ≡ map f (entries (names_in es))
+all_listed f told left es done so_far sorted =
+    sym (append-nil told) ∙ sym (ap (λ l. told ++ map f (map text_entry l)) done) ∙ so_far
+    ∙ ap (map f) (sym (entries-names_in es sorted))
 
 -- no entry is put in yet
 pub none_put : {Y : Type 0} (es : List (List ℕ × ℕ)) (none : List (String Y × ℕ)) → none ≡ []

@@ -1,5 +1,5 @@
 -- The rows of a list of nodes stand for its tree, and it is sound where the nodes are fit.
-use Rattle.std.proofs.Common.{◌≡◌, ◌<◌, ℕ, zero, suc, ◌+◌, Bool, true, false, cond, not, ◌&&◌, nat_lt, nat_le, List, [], ◌∷◌, ◌++◌, Option, Some, map, length, refl, sym, ap, ◌∙◌, subst, arith, append_assoc, slice_index_or}
+use Rattle.std.proofs.Common.{◌≡◌, ◌<◌, ℕ, zero, suc, ◌+◌, Bool, true, false, cond, not, ◌&&◌, nat_lt, nat_le, List, [], ◌∷◌, ◌++◌, Some, map, length, refl, sym, ap, ◌∙◌, subst, arith, append_assoc, slice_index_or}
 use Rattle.std.specs.Prelude.{slice_get}
 use Rattle.std.proofs.lemmas.Bool.{true≢false, and_parts, ltb-true, leb-true}
 use Rattle.std.proofs.lemmas.List.{length-map, length-append, append-nil, map_push}
@@ -20,6 +20,8 @@ use Rattle.wasi_tree.specs.Fit.{is_fit_entry, IsFitContent, IsFit, AreFit, name_
 use Rattle.wasi_tree.specs.StoredTree.{stored_node, stored_tree}
 use Rattle.wasi_tree.specs.Sound.{IsSound, IsSoundNode, IsSoundText}
 use Rattle.wasi_tree.specs.declared.row.Row.{Row}
+use Rattle.wasi_host.proofs.EntryLemmas.{unnamed}
+use Rattle.wasi_tree.proofs.ParentLemmas.{same_name}
 use Rattle.wasi_tree.proofs.SoundLemmas.{bare}
 
 -- ---- the counts, by number
@@ -87,32 +89,36 @@ length-nodes_from : (all : List Given) (k : ℕ) (gs : List Given) → length (n
 length-nodes_from all k [] = refl
 length-nodes_from all k (g ∷ gs) = ap suc (length-nodes_from all (k + 1) gs)
 
-no_names : (count : ℕ) (name : List ℕ) (n : ℕ)
-    → maps.get {X = ℕ} (maps.empty {R = slice_cmp nat_cmp}) name ≡ Some n → n < count
-no_names count name n is = let none = sym (maps.get-empty {X = ℕ} (slice_cmp nat_cmp) name) ∙ is in absurd (cc)
-
-entries_below : (count : ℕ) (entries : List (List ℕ × ℕ)) → list_all (is_fit_entry count) entries ≡ true
+-- a name of fit entries is one that a directory may hold, and holds a number in range
+entries_fit : (count : ℕ) (entries : List (List ℕ × ℕ)) → list_all (is_fit_entry count) entries ≡ true
     → (name : List ℕ) (n : ℕ) → maps.get (maps.from_entries {R = slice_cmp nat_cmp} entries) name ≡ Some n
-    → n < count
-entries_below count [] are name n is = no_names count name n is
-entries_below count (e ∷ es) are name n is =
+    → (n < count) × (is_entry_name name ≡ true)
+entries_fit count [] are name n is = absurd (unnamed maps.empty name n refl is)
+entries_fit count (e ∷ es) are name n is =
     let parts = and_parts (is_fit_entry count e) (list_all (is_fit_entry count) es) are in
-    let within = ltb-true e.1 count (and_parts (is_entry_name e.0 && is_utf8 e.0) (nat_lt e.1 count) parts.0).1 in
-    pick (eq_by_cmp (slice_cmp nat_cmp) name e.0) e.1 n (maps.get (maps.from_entries es) name) within
-    (entries_below count es parts.1 name n)
-    (sym (maps.get-insert nat_list_cmp_total (maps.from_entries es) e.0 e.1 name) ∙ is)
+    let ends = and_parts (is_entry_name e.0 && is_utf8 e.0) (nat_lt e.1 count) parts.0 in
+    let good = (and_parts (is_entry_name e.0) (is_utf8 e.0) ends.0).0 in
+    pick (eq_by_cmp (slice_cmp nat_cmp) name e.0) refl (entries_fit count es parts.1 name n)
+    (ltb-true e.1 count ends.1, good) (sym (maps.get-insert nat_list_cmp_total (maps.from_entries es) e.0 e.1 name) ∙ is)
   where
-    pick : (b : Bool) (m n : ℕ) (o : Option ℕ) → m < count → (o ≡ Some n → n < count) → cond b (Some m) o ≡ Some n
-        → n < count
-    pick true m n o within rest found = let same : m ≡ n = cc in subst (λ x. x < count) same within
-    pick false m n o within rest found = rest found
+    pick : (b : Bool) → eq_by_cmp (slice_cmp nat_cmp) name e.0 ≡ b
+        → (maps.get (maps.from_entries {R = slice_cmp nat_cmp} es) name ≡ Some n
+        → (n < count) × (is_entry_name name ≡ true))
+        → (e.1 < count) × (is_entry_name e.0 ≡ true)
+        → cond b (Some e.1) (maps.get (maps.from_entries {R = slice_cmp nat_cmp} es) name) ≡ Some n
+        → (n < count) × (is_entry_name name ≡ true)
+    pick true tie rest fit found =
+        let same : e.1 ≡ n = cc in
+        (subst (λ x. x < count) same fit.0, ap is_entry_name (same_name name e.0 tie) ∙ fit.1)
+    pick false tie rest fit found = rest found
 
 module _ (limits : Limits) (all : List Given) where
-  content_below : (k : ℕ) (content : GivenContent) → IsFitContent limits all k content → (name : List ℕ) (n : ℕ)
-      → maps.get (names_of (content_from all k content)) name ≡ Some n → n < length all
-  content_below k (file bytes) fit name n is = no_names (length all) name n is
-  content_below k (directory entries) fit name n is = entries_below (length all) entries fit.0 name n is
-  content_below k (link text) fit name n is = no_names (length all) name n is
+  pub content_named : (k : ℕ) (content : GivenContent) → IsFitContent limits all k content → (name : List ℕ) (n : ℕ)
+      → maps.get (names_of (content_from all k content)) name ≡ Some n
+      → (n < length all) × (is_entry_name name ≡ true)
+  content_named k (file bytes) fit name n is = absurd (unnamed maps.empty name n refl is)
+  content_named k (directory entries) fit name n is = entries_fit (length all) entries fit.0 name n is
+  content_named k (link text) fit name n is = absurd (unnamed maps.empty name n refl is)
 
   content_text : (k : ℕ) (content : GivenContent) → IsFitContent limits all k content
       → is_link (content_from all k content) ≡ true → IsSoundText (text_of (content_from all k content))
@@ -126,7 +132,11 @@ module _ (limits : Limits) (all : List Given) where
       record { some = ltb-true 0 (length text) parts.0; most = leb-true (length text) LINK_MAX parts.1 }
 
   node_sound : (k : ℕ) (g : Given) → IsFit limits all k g → IsSoundNode (length all) (node_from all k g)
-  node_sound k g fit = record { below = content_below k g.content fit.1; text = content_text k g.content fit.1 }
+  node_sound k g fit = record {
+    below = λ name n is. (content_named k g.content fit.1 name n is).0;
+    named = λ name n is. (content_named k g.content fit.1 name n is).1;
+    text = content_text k g.content fit.1;
+  }
 
   nodes_sound : (k : ℕ) (gs : List Given)
       → ((j n : ℕ) → j ≡ k + n → ForSome (slice_get gs n) (IsFit limits all j)) → (n : ℕ)

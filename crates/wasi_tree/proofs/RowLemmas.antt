@@ -69,35 +69,50 @@ module _ {rows : List Row} {limits : Limits} {worked : Nodes} {t : Tree} {n : �
       (map-set_same stored_node rows n (record row { content = content }) row
       (ap (λ c. let node : Node = record (stored_node row) { content = c } in node) same ∙ ap stored_node is.read))
 
+  -- a row that stands for what f makes of what this one stood for
+  module _ (f : Node → Node) (new : Row) (does : stored_node new ≡ f (stored_node row)) where
+    nodes_put : map stored_node (slice_set rows n new) ≡ slice_set t.nodes n (f old)
+    nodes_put =
+        map-set stored_node rows n new
+        ∙ (λ i. slice_set (is.stands i).nodes n ((does ∙ sym (ap f row_node)) i))
+
+    -- the tree that the rows then stand for
+    pub tree_put : (now : Nodes) → stored_tree (slice_set rows n new) limits now ≡ changed t n (f old) now
+    tree_put now = λ i.
+        let u : Tree = record { nodes = nodes_put i; limits = (is.stands i).limits; worked = now } in u
+
+    pub sound_row : (now : Nodes) {marks count : ℕ} → ((node : Node) → seen (f node).content ≡ seen node.content)
+        → IsSound (stored_tree rows limits worked) marks → count ≡ marks
+        → IsSound (stored_tree (slice_set rows n new) limits now) count
+    sound_row now {marks} same_seen sound same =
+        subst (IsSound (stored_tree (slice_set rows n new) limits now)) (sym same)
+        (subst (λ u. IsSound u marks) (sym (tree_put now))
+        (sound_changed t marks n (f old) now (tree_sound sound) is.within (same_seen old)))
+
   -- a content that stands for what f makes of what it stood for
   module _ (f : Content → Content) (content : RowContent)
       (does : stored_content content ≡ f (stored_content row.content)) where
     abbrev new : Row
     new = record row { content = content }
 
-    abbrev changed_node : Node
-    changed_node = record old { content = f old.content }
+    abbrev with_content : Node → Node
+    with_content node = record node { content = f node.content }
 
-    node_written : stored_node new ≡ changed_node
-    node_written =
-        ap (λ c. let node : Node = record (stored_node row) { content = c } in node) does
-        ∙ sym (ap (λ (node : Node). let made : Node = record node { content = f node.content } in made) row_node)
+    node_written : stored_node new ≡ with_content (stored_node row)
+    node_written = ap (λ c. let node : Node = record (stored_node row) { content = c } in node) does
 
-    nodes_written : map stored_node (slice_set rows n new) ≡ slice_set t.nodes n changed_node
-    nodes_written = map-set stored_node rows n new ∙ (λ i. slice_set (is.stands i).nodes n (node_written i))
+    nodes_written : map stored_node (slice_set rows n new) ≡ slice_set t.nodes n (with_content old)
+    nodes_written = nodes_put with_content new node_written
 
-    -- the tree that the rows then stand for
-    pub tree_written : (now : Nodes) → stored_tree (slice_set rows n new) limits now ≡ changed t n changed_node now
-    tree_written now = λ i.
-        let u : Tree = record { nodes = nodes_written i; limits = (is.stands i).limits; worked = now } in u
+    pub tree_written : (now : Nodes)
+        → stored_tree (slice_set rows n new) limits now ≡ changed t n (with_content old) now
+    tree_written now = tree_put with_content new node_written now
 
     pub sound_written : (now : Nodes) {marks count : ℕ} → ((c : Content) → seen (f c) ≡ seen c)
         → IsSound (stored_tree rows limits worked) marks → count ≡ marks
         → IsSound (stored_tree (slice_set rows n new) limits now) count
-    sound_written now {marks} same_seen sound same =
-        subst (IsSound (stored_tree (slice_set rows n new) limits now)) (sym same)
-        (subst (λ u. IsSound u marks) (sym (tree_written now))
-        (sound_changed t marks n changed_node now (tree_sound sound) is.within (same_seen old.content)))
+    sound_written now same_seen sound same =
+        sound_row with_content new node_written now (λ node. same_seen node.content) sound same
 
 -- the tree with one row more, which a name of the row's directory holds
 pub tree_grown : {rows : List Row} {limits : Limits} {worked : Nodes} {t : Tree} {d : ℕ} {row : Row}

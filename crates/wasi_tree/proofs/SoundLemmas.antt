@@ -1,22 +1,23 @@
 -- Changes keep a tree sound, and its files files.
-use Rattle.std.proofs.Common.{◌≡◌, ◌<◌, ◌≤◌, ◌+◌, ℕ, Bool, true, false, cond, List, Option, Some, inl, inr, refl, sym, ap, ◌∙◌, subst, arith}
+use Rattle.std.proofs.Common.{◌≡◌, ◌<◌, ◌≤◌, ◌+◌, ℕ, Bool, true, false, List, inl, inr, refl, sym, ap, ◌∙◌, subst, arith}
 use Rattle.std.proofs.lemmas.Bool.{true≢false, cases_eq, cases_lt}
-use Rattle.std.specs.Ordering.{nat_cmp, eq_by_cmp}
-use Rattle.std.specs.Cmp.Lexicographic.{slice_cmp, nat_list_cmp_total}
-use Rattle.std.specs.FinMap.{get, empty, get-empty, get-insert}
+use Rattle.std.specs.FinMap.{get, empty}
 use Rattle.wasi_host.specs.Tree.{Tree, Node, Nodes, Names, Content, File, Directory, Link, node_at, next_of, stray, names_of, text_of, is_file, is_directory, is_link}
-use Rattle.wasi_host.specs.Step.{new_link, with_name, without_name, node_made, no_bytes, piece_in}
+use Rattle.wasi_host.specs.Step.{new_link, with_name, without_name, node_made, no_bytes, piece_in, one_name_more, one_name_less, made_gone}
 use Rattle.wasi_host.proofs.Changes.{changed, next_of-changed, node_at-changed, node_at-other, node_at-same, node_at-past, node_at-parent, node_at-apart, node_at-made, node_at-kept, next_of-made, directory_within}
+use Rattle.wasi_host.proofs.EntryLemmas.{unnamed}
 use Rattle.wasi_host.proofs.Leaving.{without_name_names}
+use Rattle.wasi_paths.specs.Text.{is_entry_name}
+use Rattle.wasi_tree.proofs.ParentLemmas.{with_name_cases}
 use Rattle.wasi_tree.specs.DropRows.{name_lost}
 use Rattle.wasi_tree.specs.Sound.{IsSound, IsSoundNode, IsSoundText, Stays}
 
--- what is sound of a content: its names, and the text of a link
+-- what is sound of a content: its names, which only a directory has, and the text of a link
 abbrev pub Seen : Type 0
-Seen = Names × (Bool × List ℕ)
+Seen = (Names × Bool) × (Bool × List ℕ)
 
 abbrev pub seen : Content → Seen
-seen content = (names_of content, (is_link content, text_of content))
+seen content = ((names_of content, is_directory content), (is_link content, text_of content))
 
 pub seen-no_bytes : (content : Content) → seen (no_bytes content) ≡ seen content
 seen-no_bytes (File bytes links) = refl
@@ -29,6 +30,21 @@ seen-piece_in (File bytes links) offset piece = refl
 seen-piece_in (Directory names gone) offset piece = refl
 seen-piece_in (Link text links) offset piece = refl
 
+pub seen-one_name_more : (content : Content) → seen (one_name_more content) ≡ seen content
+seen-one_name_more (File bytes links) = refl
+seen-one_name_more (Directory names gone) = refl
+seen-one_name_more (Link text links) = refl
+
+pub seen-one_name_less : (content : Content) → seen (one_name_less content) ≡ seen content
+seen-one_name_less (File bytes links) = refl
+seen-one_name_less (Directory names gone) = refl
+seen-one_name_less (Link text links) = refl
+
+pub seen-made_gone : (content : Content) → seen (made_gone content) ≡ seen content
+seen-made_gone (File bytes links) = refl
+seen-made_gone (Directory names gone) = refl
+seen-made_gone (Link text links) = refl
+
 pub seen-name_lost : (content : Content) → seen (name_lost content) ≡ seen content
 seen-name_lost (File bytes links) = refl
 seen-name_lost (Directory names gone) = refl
@@ -39,8 +55,9 @@ sound_by : (count more : ℕ) (sound other : Node) → seen other.content ≡ se
     → IsSoundNode count sound → IsSoundNode more other
 sound_by count more sound other same grown is = record {
   below = λ name n held.
-      let within = is.below name n (ap (λ (s : Seen). get s.0 name) (sym same) ∙ held) in
+      let within = is.below name n (ap (λ (s : Seen). get s.0.0 name) (sym same) ∙ held) in
       omega (arith, within, grown);
+  named = λ name n held. is.named name n (ap (λ (s : Seen). get s.0.0 name) (sym same) ∙ held);
   text = λ link.
       subst IsSoundText (ap (λ (s : Seen). s.1.1) (sym same))
       (is.text (ap (λ (s : Seen). s.1.0) (sym same) ∙ link));
@@ -76,35 +93,45 @@ pub sound_taken : (count : ℕ) (node : Node) (name : List ℕ) → IsSoundNode 
     → IsSoundNode count (without_name node name)
 sound_taken count node name sound = record {
   below = λ q n is. sound.below q n (without_name_names node name q n is);
+  named = λ q n is. sound.named q n (without_name_names node name q n is);
   text = λ link. absurd (true≢false (sym link));
 }
-
-no_name : (count : ℕ) (names : Names) → names ≡ empty → (name : List ℕ) (n : ℕ) → get names name ≡ Some n → n < count
-no_name count names none name n is =
-    let nothing : get (empty {X = ℕ} {R = slice_cmp nat_cmp}) name ≡ Some n = ap (λ m. get m name) (sym none) ∙ is in
-    let no = get-empty {X = ℕ} (slice_cmp nat_cmp) name in
-    absurd (cc)
 
 -- a node without names that is no link
 pub bare : (count : ℕ) (node : Node) → names_of node.content ≡ empty → is_link node.content ≡ false
     → IsSoundNode count node
 bare count node none no_link = record {
-  below = no_name count (names_of node.content) none;
+  below = λ name n is. absurd (unnamed (names_of node.content) name n none is);
+  named = λ name n is. absurd (unnamed (names_of node.content) name n none is);
   text = λ link. absurd (true≢false (sym link ∙ no_link));
 }
 
 -- a link of a text that a link may have
 pub sound_link : (count : ℕ) (text : List ℕ) → IsSoundText text → IsSoundNode count (new_link text)
-sound_link count text sound = record { below = no_name count empty refl; text = λ link. sound }
+sound_link count text sound = record {
+  below = λ name n is. absurd (unnamed empty name n refl is);
+  named = λ name n is. absurd (unnamed empty name n refl is);
+  text = λ link. sound;
+}
 
--- a name that is there holds a node that was there, or the next one
-made_held : (b : Bool) (next n : ℕ) (found : Option ℕ) → (found ≡ Some n → n < next) → cond b (Some next) found ≡ Some n
-    → n < next + 1
-made_held true next n found below is = let last : next ≡ n = (cc) in omega (arith, last)
-made_held false next n found below is = let within = below is in omega (arith, within)
+-- a directory with a name more, among as many nodes or more, of which it holds one
+pub sound_named : (count more : ℕ) (node : Node) (name : List ℕ) (n : ℕ) → count ≤ more → n < more
+    → is_entry_name name ≡ true → IsSoundNode count node → IsSoundNode more (with_name node name n)
+sound_named count more node name n grown within good sound = record {
+  below = λ q k is. elim (with_name_cases node name q n k is) [
+    | inl was ↦ let there = sound.below q k was in omega (arith, there, grown)
+    | inr new ↦ omega (arith, within, new.1)
+  ];
+  named = λ q k is. elim (with_name_cases node name q n k is) [
+    | inl was ↦ sound.named q k was
+    | inr new ↦ ap is_entry_name new.0 ∙ good
+  ];
+  text = λ link. absurd (true≢false (sym link));
+}
 
 -- a node more under a name, which has no names itself
-module _ (t : Tree) (d : ℕ) (name : List ℕ) (new : Node) (directory : is_directory (node_at t d).content ≡ true) where
+module _ (t : Tree) (d : ℕ) (name : List ℕ) (new : Node) (directory : is_directory (node_at t d).content ≡ true)
+    (good : is_entry_name name ≡ true) where
   abbrev grown : Tree
   grown = node_made t d name new
 
@@ -116,14 +143,9 @@ module _ (t : Tree) (d : ℕ) (name : List ℕ) (new : Node) (directory : is_dir
 
   parent_sound : IsSoundNode (next_of t) (node_at t d)
       → IsSoundNode (next_of grown) (with_name (node_at t d) name (next_of t))
-  parent_sound sound = record {
-    below = λ q n is.
-        let names : Names = names_of (node_at t d).content in
-        let held = made_held (eq_by_cmp (slice_cmp nat_cmp) q name) (next_of t) n (get names q) (sound.below q n)
-        (sym (get-insert nat_list_cmp_total names name (next_of t) q) ∙ is) in
-        omega (arith, held, next);
-    text = λ link. absurd (true≢false (sym link));
-  }
+  parent_sound sound =
+      sound_named (next_of t) (next_of grown) (node_at t d) name (next_of t) (omega (arith, next)) (omega (arith, next))
+      good sound
 
   node_sound : (marks : ℕ) → IsSound t marks → IsSoundNode 0 new → (k : ℕ)
       → IsSoundNode (next_of grown) (node_at grown k)
@@ -176,6 +198,11 @@ pub file-name_lost : (content : Content) → is_file (name_lost content) ≡ is_
 file-name_lost (File bytes links) = refl
 file-name_lost (Directory names gone) = refl
 file-name_lost (Link text links) = refl
+
+pub file-one_name_more : (content : Content) → is_file (one_name_more content) ≡ is_file content
+file-one_name_more (File bytes links) = refl
+file-one_name_more (Directory names gone) = refl
+file-one_name_more (Link text links) = refl
 
 pub no_file : (content : Content) → is_directory content ≡ true → is_file content ≡ false
 no_file (File bytes links) is = absurd (cc)

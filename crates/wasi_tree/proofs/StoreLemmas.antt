@@ -7,10 +7,11 @@ use Rattle.wasi_host.specs.Options.{Options, are_refused}
 use Rattle.wasi_host.specs.Tree.{Tree, Node, Content, File, Directory, Link, node_at, next_of, stray, child, names_of, text_of, is_file, is_directory, is_link}
 use Rattle.wasi_host.specs.HostCall.{OpenAt, StatAt, ReadLinkAt}
 use Rattle.wasi_host.specs.Refusal.{refusal, first_row, name_rows}
-use Rattle.wasi_host.specs.Step.{is_cut, bytes_put, write_step}
+use Rattle.wasi_host.specs.Step.{is_cut, bytes_put, write_step, times_set, times_set_if, times_step}
 use Rattle.wasi_host.specs.declared.errors.ErrorCode.{ErrorCode}
 use Rattle.wasi_host.specs.declared.errors.ErrorCode.TheVariants as codes
 use Rattle.wasi_host.specs.declared.metadata.Metadata.{Metadata}
+use Rattle.wasi_host.specs.declared.system_time.SystemTime.{SystemTime}
 use Rattle.wasi_host.specs.Answer.{metadata_of, metadata_from, unless, reached, or_next, stat_at_answer, text_held, link_text, link_answer}
 use Rattle.wasi_tree.specs.Sound.{IsSoundNode}
 use Rattle.wasi_tree.proofs.RowLemmas.{next-rows}
@@ -112,6 +113,11 @@ link_is t d n name text free found link is =
 pub metadata_is : (t : Tree) (n : ℕ) (node : Node) → node_at t n ≡ node → metadata_of t n ≡ metadata_from n node
 unfolding metadata_of
 metadata_is t n node is = ap (metadata_from n) is
+
+pub times_at_is : (t : Tree) (d n : ℕ) (name : List ℕ) (atime mtime : Option SystemTime) → child t d name ≡ Some n
+    → times_set t n atime mtime ≡ times_step t d name atime mtime
+unfolding times_step
+times_at_is t d n name atime mtime found = ap (times_set_if t atime mtime) (sym found)
 
 -- ---- whether a step is made
 

@@ -5,15 +5,16 @@ use Rattle.std.specs.Prelude.{is_none, option_to_list, MatchResult}
 use Rattle.std.specs.FinSet.{insert}
 use Rattle.wasi_host.specs.Options.{Options, is_path_only}
 use Rattle.wasi_host.specs.Tree.{Tree, Content, File, Directory, Link, node_at, next_of, child, is_file, is_directory, is_link}
-use Rattle.wasi_host.specs.HostCall.{OpenAt, StatAt, ReadLinkAt, MakeDirAt, SymlinkAt, Stat}
+use Rattle.wasi_host.specs.HostCall.{OpenAt, StatAt, ReadLinkAt, MakeDirAt, SymlinkAt, Stat, SetTimes}
 use Rattle.wasi_host.specs.Refusal.{refusal, can_write}
-use Rattle.wasi_host.specs.Step.{new_file, is_cut, file_cut, file_made, opened_step, open_step, with_nodes}
+use Rattle.wasi_host.specs.Step.{new_file, is_cut, file_cut, file_made, opened_step, open_step, with_nodes, times_set}
 use Rattle.wasi_host.specs.Answer.{access_of, unless, reached, or_next, metadata_of, stat_at_answer, link_answer}
 use Rattle.wasi_host.specs.Meaning.{IsHeld, hosted}
 use Rattle.wasi_host.specs.declared.errors.ErrorCode.{ErrorCode}
 use Rattle.wasi_host.specs.declared.held.AccessMode.TheVariants.{Read, Write, ReadWrite, PathOnly}
 use Rattle.wasi_host.specs.declared.held.Held.{Held}
 use Rattle.wasi_host.specs.declared.metadata.Metadata.{Metadata}
+use Rattle.wasi_host.specs.declared.system_time.SystemTime.{SystemTime}
 use Rattle.wasi_host.proofs.Changes.{node_at-made, next_of-made, directory_within}
 use Rattle.wasi_host.proofs.ValidSteps.{open_directory}
 use Rattle.wasi_tree.specs.Sound.{Stays, IsSoundText}
@@ -121,6 +122,11 @@ pub stats : (s u : Touched) (n : ℕ) (metadata : Metadata) → metadata ≡ met
 unfolding refusal
 stats s u n metadata is tree touched = record { meant = ap Ok (sym is); tree = tree; touched = touched }
 
+pub sets_times : (s u : Touched) (n : ℕ) (atime mtime : Option SystemTime) → u.tree ≡ times_set s.tree n atime mtime
+    → u.touched ≡ insert s.touched n → Answers s u (SetTimes n atime mtime) tt
+unfolding refusal
+sets_times s u n atime mtime tree touched = record { meant = refl; tree = tree; touched = touched }
+
 -- ---- a look at a name
 
 -- nothing was stepped, and what the call comes to is touched
@@ -166,4 +172,4 @@ unfolding refusal
 links_text t d name [] free = absurd (grind (arith))
 links_text t d name (byte ∷ bytes) free = record { some = omega arith; most = grind (arith) }
 
-pub ruleset touched_rules = (stats)
+pub ruleset touched_rules = (stats, sets_times)

@@ -1,8 +1,9 @@
 -- The rows of the calls that drop a name, and the parts of their steps.
-use Rattle.std.specs.Prelude.{ℕ, ◌-◌, Bool, true, not, is_none, List, [], ◌∷◌, ◌++◌, slice_set}
+use Rattle.std.specs.Prelude.{ℕ, Bool, not, is_none, List, [], ◌∷◌, ◌++◌, slice_set}
 use Rattle.wasi_paths.specs.Text.{is_dot_text}
-use Rattle.wasi_host.specs.Tree.{Tree, Content, File, Directory, Link, node_at, child}
+use Rattle.wasi_host.specs.Tree.{Tree, node_at, child}
 use Rattle.wasi_host.specs.Refusal.{directory_row, name_rows}
+pub use Rattle.wasi_host.specs.Step.{name_lost}
 use Rattle.wasi_host.specs.Step.{with_nodes, without_name}
 use Rattle.wasi_host.specs.declared.errors.ErrorCode.{ErrorCode}
 use Rattle.wasi_host.specs.declared.errors.ErrorCode.TheVariants as codes
@@ -16,12 +17,6 @@ dropping_rows t d name dot =
     ∷ (is_none (child t d name), codes.NoEntry)
     ∷ (not (node_at t d).bits.w, codes.Access)
     ∷ []
-
--- what has one name fewer; a directory, which has no other, is gone
-abbrev pub name_lost : Content → Content
-name_lost (File bytes links) = File bytes (links - 1)
-name_lost (Directory names gone) = Directory names true
-name_lost (Link text links) = Link text (links - 1)
 
 -- a directory without this name
 abbrev pub name_taken : Tree → ℕ → List ℕ → Tree

@@ -2,6 +2,7 @@
 use Rattle.std.specs.Prelude.{◌≡◌, ℕ, ◌<◌, ◌≤◌, true, List, length, Some}
 use Rattle.std.specs.FinMap as maps
 use Rattle.std.specs.FinSet.{contains}
+use Rattle.wasi_paths.specs.Text.{is_entry_name}
 use Rattle.wasi_host.specs.Tree.{Tree, Node, node_at, next_of, names_of, text_of, is_file, is_link}
 use Rattle.wasi_host.specs.Meaning.{IsHeld}
 use Rattle.wasi_host.specs.declared.limits.TheConstants.{LINK_MAX}
@@ -12,9 +13,11 @@ pub record IsSoundText (text : List ℕ) : Type 0 where
   pub some : 0 < length text
   pub most : length text ≤ LINK_MAX
 
--- a node among so many: its names hold nodes that are there, and where it is a link it has a text
+-- a node among so many: its names are those that a directory may hold, and hold nodes that are there, and where it is a
+-- link it has a text
 pub record IsSoundNode (count : ℕ) (node : Node) : Type 0 where
   pub below : (name : List ℕ) (n : ℕ) → maps.get (names_of node.content) name ≡ Some n → n < count
+  pub named : (name : List ℕ) (n : ℕ) → maps.get (names_of node.content) name ≡ Some n → is_entry_name name ≡ true
   pub text : is_link node.content ≡ true → IsSoundText (text_of node.content)
 
 -- each node is sound, and there is a mark for each node

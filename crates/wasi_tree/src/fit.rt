@@ -229,7 +229,7 @@ fn are_distinct(alloc: Global, entries: &[NewEntry]) -> Result<bool, AllocError>
 }
 
 /// The entries of a directory; a file or a link has none.
-fn entries_of(content: &NewContent) -> &[NewEntry]
+pub fn entries_of(content: &NewContent) -> &[NewEntry]
     ensures entries { map pair_of result.now ≡ given_entries (given_content content.now) }
 {
     match content {

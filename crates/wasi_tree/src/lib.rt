@@ -6,9 +6,11 @@ mod fit;
 mod marks;
 mod mem_tree;
 mod node;
+mod parents;
 mod row;
 mod slots;
 mod store;
+mod store_names;
 mod touched_tree;
 
 pub use errors::{HandleError, TreeError};

@@ -1,10 +1,11 @@
 //! The tree in memory, as a host.
-ghost use Rattle.std.specs.Prelude.{◌≡◌, ◌↔◌, ◌<◌, ℕ, true, false, List, [], ◌∷◌, ◌++◌, vec_len, vec_capacity, None, Err, IfOk, IfErr, OnOk, OnErr, map};
+ghost use Rattle.std.specs.Prelude.{◌≡◌, ◌↔◌, ◌+◌, ◌<◌, ◌≤◌, ℕ, true, false, List, [], ◌∷◌, ◌++◌, vec_len, vec_capacity, None, Err, IfOk, IfErr, OnOk, OnErr, map};
 ghost use Rattle.std.specs.Ordering.{nat_cmp};
 ghost use Rattle.std.specs.List.Sorted.{IsStrictlySortedBy};
 ghost use Rattle.std.specs.FinSet.{contains, insert, empty, from_list};
 ghost use Rattle.wasi_host.specs.Tree.{next_of, node_at, is_directory};
 ghost use Rattle.wasi_tree.specs.Given.{given, given_of, tree_of};
+ghost use Rattle.wasi_host.specs.Meaning.{both_looked};
 ghost use Rattle.wasi_host.specs.ValidTree.{AreLimits};
 ghost use Rattle.wasi_tree.specs.Fit.{AreFit, IsTreeCause};
 ghost use Rattle.wasi_tree.specs.Lent.{lent};
@@ -17,8 +18,8 @@ use crate::touched_tree::TouchedTree;
 use std::alloc::{AllocError, Global};
 use std::marker::Model;
 use wasi_host::{
-    AccessMode, ErrorCode, Handle, Held, Host, HostError, Limits, LookKind, Lookup, Metadata,
-    OpenOptions,
+    AccessMode, DirEntry, ErrorCode, Handle, Held, Host, HostError, Limits, LookKind, Lookup,
+    Metadata, OpenOptions, SystemTime,
 };
 use wasi_paths::Name;
 
@@ -217,6 +218,39 @@ impl Host for MemTree {
         answer
     }
 
+    fn link_at(
+        &mut self,
+        old: Handle,
+        old_name: Name<'_>,
+        new: Handle,
+        new_name: Name<'_>,
+    ) -> Result<(), HostError> {
+        self.log.reserve(2)?;
+        let from = self.slots.held(old).node;
+        let to = self.slots.held(new).node;
+        let answer = self.tree.link_at(from, old_name, to, new_name);
+        log_both(&mut self.log, LookKind::Link, old, new);
+        answer
+    }
+
+    fn rename_at(
+        &mut self,
+        old: Handle,
+        old_name: Name<'_>,
+        new: Handle,
+        new_name: Name<'_>,
+        requires_dir: bool,
+    ) -> Result<(), HostError> {
+        self.log.reserve(2)?;
+        let from = self.slots.held(old).node;
+        let to = self.slots.held(new).node;
+        let answer = self
+            .tree
+            .rename_at(from, old_name, to, new_name, requires_dir);
+        log_both(&mut self.log, LookKind::Rename, old, new);
+        answer
+    }
+
     fn unlink_at(&mut self, start: Handle, name: Name<'_>) -> Result<(), HostError> {
         self.log.reserve(1)?;
         let directory = self.slots.held(start).node;
@@ -233,9 +267,31 @@ impl Host for MemTree {
         Ok(answer?)
     }
 
+    fn times_at(
+        &mut self,
+        start: Handle,
+        name: Name<'_>,
+        atime: Option<SystemTime>,
+        mtime: Option<SystemTime>,
+    ) -> Result<(), HostError> {
+        self.log.reserve(1)?;
+        let directory = self.slots.held(start).node;
+        let answer = self.tree.times_at(directory, name, atime, mtime);
+        log_look(&mut self.log, LookKind::Times, start);
+        Ok(answer?)
+    }
+
     fn access(&mut self, directory: Handle) -> Result<(), ErrorCode> {
         let node = self.slots.held(directory).node;
         self.tree.access(node)
+    }
+
+    fn list(&mut self, alloc: Global, directory: Handle) -> Result<Vec<DirEntry>, HostError> {
+        self.log.reserve(1)?;
+        let held = self.slots.held(directory);
+        let answer = self.tree.list(alloc, held);
+        log_look(&mut self.log, LookKind::List, directory);
+        answer
     }
 
     fn dup(&mut self, handle: Handle) -> Result<Handle, HostError> {
@@ -256,6 +312,17 @@ impl Host for MemTree {
         Ok(self.tree.metadata(node))
     }
 
+    fn set_times(
+        &mut self,
+        handle: Handle,
+        atime: Option<SystemTime>,
+        mtime: Option<SystemTime>,
+    ) -> Result<(), ErrorCode> {
+        let node = self.slots.held(handle).node;
+        self.tree.set_times(node, atime, mtime);
+        Ok(())
+    }
+
     fn pread(&mut self, file: Handle, buf: &mut [u8], offset: u64) -> Result<usize, ErrorCode> {
         let held = self.slots.held(file);
         self.tree.read_at(held, buf, offset)
@@ -273,6 +340,23 @@ impl Host for MemTree {
     fn laws(&self) {
         let _tree = &self.tree;
     }
+}
+
+/// Logs the two look-ups of a call with two names, which made no handle.
+fn log_both(log: &mut Vec<Lookup>, kind: LookKind, old: Handle, new: Handle)
+    requires { vec_len log.old + 2 ≤ vec_capacity log.old }
+    ensures { log.new.items ≡ log.old.items ++ both_looked kind old new }
+{
+    log.push_reserved(Lookup {
+        kind,
+        from: old,
+        got: None,
+    });
+    log.push_reserved(Lookup {
+        kind,
+        from: new,
+        got: None,
+    });
 }
 
 /// Logs a look-up that made no handle.

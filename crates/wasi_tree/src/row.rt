@@ -1,9 +1,9 @@
 //! One node, as it is stored.
-ghost use Rattle.std.specs.Prelude.{◌≡◌, ◌+◌, ◌≤◌, List, IfOk, OnOk, OnErr, length, map, true, not, nat_eq, ◌&&◌};
+ghost use Rattle.std.specs.Prelude.{◌≡◌, ◌+◌, ◌-◌, ◌^◌, ◌<◌, ◌≤◌, List, IfOk, OnOk, OnErr, length, map, true, not, nat_eq, ◌&&◌};
 ghost use Rattle.std.specs.FinMap as maps;
 ghost use Rattle.wasi_host.specs.Tree.{Directory, is_directory, is_file, is_link, is_gone, names_of, bytes_of, text_of};
 ghost use Rattle.std.specs.String.{string_bytes};
-ghost use Rattle.wasi_host.specs.Step.{new_node, new_file, new_directory, new_link, no_bytes, piece_in, with_piece};
+ghost use Rattle.wasi_host.specs.Step.{new_node, new_file, new_directory, new_link, no_bytes, piece_in, with_piece, with_times, one_name_more};
 ghost use Rattle.wasi_host.specs.declared.limits.TheConstants.{FILE_MAX};
 ghost use Rattle.wasi_tree.specs.Given.{Given, pair_of, given, given_content, given_of, content_given, entry_count, content_from, node_from};
 ghost use Rattle.wasi_tree.specs.Lent.{lent, lent_content};
@@ -245,6 +245,18 @@ impl RowContent {
         }
     }
 
+    /// Gives a file or link a name more. A directory, which has one name at most, stays.
+    pub fn gain_name(&mut self)
+        requires { links_of (stored_content self.old) < 2 ^ 64 - 1 }
+        ensures { stored_content self.new ≡ one_name_more (stored_content self.old) }
+    {
+        match self {
+            RowContent::File { links, .. } => *links += 1,
+            RowContent::Dir { .. } => {}
+            RowContent::Link { links, .. } => *links += 1,
+        }
+    }
+
     /// Cuts a file to no bytes, and gives their memory back. What is no file stays.
     pub fn cut(&mut self)
         ensures { stored_content self.new ≡ no_bytes (stored_content self.old) }
@@ -351,6 +363,14 @@ impl Row {
             mtime: self.mtime,
             btime: self.btime,
         }
+    }
+
+    /// Sets the given times; one that isn't given stays.
+    pub fn set_times(&mut self, atime: Option<SystemTime>, mtime: Option<SystemTime>)
+        ensures { stored_node self.new ≡ with_times (stored_node self.old) atime mtime }
+    {
+        self.atime = atime.unwrap_or(self.atime);
+        self.mtime = mtime.unwrap_or(self.mtime);
     }
 
     pub fn metadata(&self, node: u64) -> Metadata

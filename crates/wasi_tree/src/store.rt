@@ -1,39 +1,46 @@
 //! The nodes by number.
-ghost use Rattle.std.specs.Prelude.{◌≡◌, ◌+◌, ◌<◌, ◌≤◌, ◌^◌, ℕ, OnOk, Some, None, IfSome, IfOk, IfErr, OnErr, MatchResult, Ok, Err, if◌then◌else◌, take, drop, length, map, true, false, nat_eq};
+ghost use Rattle.std.specs.Prelude.{◌≡◌, ◌+◌, ◌-◌, ◌<◌, ◌≤◌, ◌^◌, ℕ, OnOk, Some, None, IfSome, IfOk, IfErr, OnErr, MatchResult, Ok, Err, if◌then◌else◌, take, drop, length, map, true, false, nat_eq, IsTrue, All};
 ghost use Rattle.wasi_paths.specs.Name.{name_bytes};
-ghost use Rattle.wasi_host.specs.Tree.{Tree, next_of, node_at, child, is_directory};
-ghost use Rattle.wasi_host.specs.HostCall.{OpenAt, StatAt, ReadLinkAt, MakeDirAt, SymlinkAt, UnlinkAt, RemoveDirAt, Access, Stat, Pread, Pwrite};
+ghost use Rattle.wasi_paths.specs.Text.{is_entry_name};
+ghost use Rattle.wasi_host.specs.Tree.{Tree, next_of, node_at, child, is_directory, links_of};
+ghost use Rattle.wasi_host.specs.HostCall.{OpenAt, StatAt, ReadLinkAt, MakeDirAt, SymlinkAt, LinkAt, UnlinkAt, RemoveDirAt, TimesAt, Access, Stat, Pread, Pwrite};
 ghost use Rattle.wasi_host.specs.Refusal.{refusal, first_row, name_rows, text_rows};
-ghost use Rattle.wasi_host.specs.Step.{is_cut, file_cut, node_made, file_made, directory_made, link_made, bytes_put, write_step, name_dropped, unlink_step, remove_step};
-ghost use Rattle.wasi_host.specs.Answer.{metadata_of, stat_at_answer, link_answer, access_answer, bytes_read, bytes_taken};
+ghost use Rattle.wasi_host.specs.Step.{is_cut, file_cut, node_made, file_made, directory_made, link_made, bytes_put, write_step, name_dropped, unlink_step, remove_step, times_set, times_step, name_added};
+ghost use Rattle.wasi_host.specs.Answer.{metadata_of, kind_of, stat_at_answer, link_answer, access_answer, bytes_read, bytes_taken, entry_of, listed, list_answer};
 ghost use Rattle.wasi_host.specs.declared.limits.TheConstants.{FILE_MAX};
 ghost use Rattle.std.specs.Option.{ForSome};
 ghost use Rattle.wasi_tree.specs.Given.{given, given_of, nodes_from, tree_of};
 ghost use Rattle.wasi_tree.specs.Fit.{AreFit, IsTreeCause, name_counts};
 ghost use Rattle.wasi_tree.specs.Lent.{lent};
 ghost use Rattle.wasi_tree.specs.Sound.{Stays, IsSoundText};
-ghost use Rattle.wasi_tree.specs.StoredTree.{stored_node};
+ghost use Rattle.wasi_tree.specs.StoredTree.{stored_node, names_in};
+ghost use Rattle.std.specs.FinMap as maps;
 ghost use Rattle.wasi_tree.specs.OpenRows.{missing_rows, found_rows};
-ghost use Rattle.wasi_tree.specs.NewRows.{growing_rows, new_name_rows};
+ghost use Rattle.wasi_tree.specs.NewRows.{entry_rows, growing_rows, new_name_rows};
 ghost use Rattle.wasi_tree.specs.DropRows.{dropping_rows, name_lost, name_taken, node_lost};
+ghost use Rattle.wasi_tree.specs.LinkRows.{links_rows, name_put, node_gained};
 ghost use Rattle.wasi_tree.specs.TouchedTree.{MeansCode};
 
 use crate::errors::TreeError;
 use crate::fit::counted_names;
 use crate::marks::Marks;
 use crate::node::{LentNode, NewNode};
-use crate::row::Row;
+use crate::row::{Row, RowContent};
 use std::alloc::{AllocError, Global};
+use std::collections::BTreeMap;
 use std::marker::Model;
-use wasi_host::{ErrorCode, FILE_MAX, Held, HostError, LINK_MAX, Limits, Metadata, OpenOptions};
+use wasi_host::{
+    DirEntry, ErrorCode, FILE_MAX, FileType, Held, HostError, LINK_MAX, Limits, Metadata,
+    OpenOptions, SystemTime,
+};
 use wasi_paths::Name;
 
 /// The nodes of a tree, with its limits and the nodes that steps have worked on. Contracts see the tree.
 #[derive(Debug, Drop)]
 pub struct Store {
-    rows: Vec<Row>,
-    limits: Limits,
-    worked: Marks,
+    pub(crate) rows: Vec<Row>,
+    pub(crate) limits: Limits,
+    pub(crate) worked: Marks,
 }
 
 impl Model for Store {
@@ -97,7 +104,7 @@ impl Store {
     }
 
     /// The node of a number.
-    fn row(&self, n: u64) -> &Row
+    pub fn row(&self, n: u64) -> &Row
         requires { n < next_of self.now }
         ensures node { node_at self.now n ≡ stored_node result.now }
         ensures sound { IsSoundNode (next_of self.now) (stored_node result.now) }
@@ -130,7 +137,7 @@ impl Store {
 
     /// What is wrong with a name in a directory.
     #[tactic(auto, unfolding(wasi_host::specs::Refusal::refusal))]
-    fn refuse_name(&self, directory: u64, name: Name<'_>) -> Option<ErrorCode>
+    pub fn refuse_name(&self, directory: u64, name: Name<'_>) -> Option<ErrorCode>
         requires { directory < next_of self.now }
         ensures { result ≡ first_row (name_rows self.now directory (name_bytes name.entry)) }
     {
@@ -157,10 +164,10 @@ impl Store {
         self.refuse_growth(directory)
     }
 
-    /// The rows for a directory that is to get a new node.
-    fn refuse_growth(&self, directory: u64) -> Option<ErrorCode>
+    /// The rows for a directory that is to get a name.
+    pub fn refuse_entry(&self, directory: u64) -> Option<ErrorCode>
         requires { directory < next_of self.now }
-        ensures { result ≡ first_row (growing_rows self.now directory) }
+        ensures { result ≡ first_row (entry_rows self.now directory) }
     {
         let row = self.row(directory);
         if row.content.is_gone() {
@@ -168,6 +175,17 @@ impl Store {
         }
         if !row.bits.w {
             return Some(ErrorCode::Access);
+        }
+        None
+    }
+
+    /// The rows for a directory that is to get a new node.
+    fn refuse_growth(&self, directory: u64) -> Option<ErrorCode>
+        requires { directory < next_of self.now }
+        ensures { result ≡ first_row (growing_rows self.now directory) }
+    {
+        if let Some(code) = self.refuse_entry(directory) {
+            return Some(code);
         }
         if self.limits.nodes <= self.count() {
             return Some(ErrorCode::InsufficientSpace);
@@ -243,7 +261,7 @@ impl Store {
 
     /// The node that a name holds, where no row of a look at its metadata refuses; else the row's code.
     #[tactic(auto, unfolding(wasi_host::specs::Refusal::refusal))]
-    fn node_under(
+    pub fn node_under(
         &self,
         directory: u64,
         name: Name<'_>,
@@ -329,43 +347,6 @@ impl Store {
         self.refuse_new_name(directory, name, found)
     }
 
-    /// The node under a name that is to be dropped, where no row refuses that looks at the name and at what has it; else
-    /// the row's code. That of `.` is given.
-    fn node_to_drop(
-        &self,
-        directory: u64,
-        name: Name<'_>,
-        found: Option<u64>,
-        dot: ErrorCode,
-    ) -> Result<u64, ErrorCode>
-        requires within { directory < next_of self.now }
-        requires found { found ≡ child self.now directory (name_bytes name) }
-        requires below { ForSome found (λ n. n < next_of self.now) }
-        ensures free { OnOk result
-            (first_row (dropping_rows self.now directory (name_bytes name.entry) dot) ≡ None) }
-        ensures refused { IfErr result
-            (λ code. first_row (dropping_rows self.now directory (name_bytes name.entry) dot) ≡ Some code) }
-        ensures node { IfOk result (λ n. child self.now directory (name_bytes name.entry) ≡ Some n) }
-        ensures below { IfOk result (λ n. n < next_of self.now) }
-    {
-        if !self.row(directory).content.is_directory() {
-            return Err(ErrorCode::NotDirectory);
-        }
-        if let Some(code) = self.refuse_name(directory, name) {
-            return Err(code);
-        }
-        if name.is_dot() {
-            return Err(dot);
-        }
-        let Some(node) = found else {
-            return Err(ErrorCode::NoEntry);
-        };
-        if !self.row(directory).bits.w {
-            return Err(ErrorCode::Access);
-        }
-        Ok(node)
-    }
-
     /// The metadata of the node that a name holds, a link's own.
     pub fn stat_at(
         &self,
@@ -437,7 +418,8 @@ impl Store {
 
     /// Makes a file under a name of a directory, and gives its number. Where memory is wanted, nothing has changed.
     pub fn make_file(&mut self, directory: u64, name: Name<'_>) -> Result<u64, AllocError>
-        requires { is_directory (node_at self.old directory).content ≡ true }
+        requires directory { is_directory (node_at self.old directory).content ≡ true }
+        requires named { IsTrue (is_entry_name (name_bytes name)) }
         ensures number { IfOk result (λ n. n ≡ next_of self.old) }
         ensures made { OnOk result (self.new ≡ file_made self.old directory (name_bytes name.entry)) }
         ensures kept { OnErr result (self.new ≡ self.old) }
@@ -450,7 +432,8 @@ impl Store {
     /// Makes an empty directory under a name of a directory, and gives its number. Where memory is wanted, nothing has
     /// changed.
     pub fn make_directory(&mut self, directory: u64, name: Name<'_>) -> Result<u64, AllocError>
-        requires { is_directory (node_at self.old directory).content ≡ true }
+        requires directory { is_directory (node_at self.old directory).content ≡ true }
+        requires named { IsTrue (is_entry_name (name_bytes name)) }
         ensures number { IfOk result (λ n. n ≡ next_of self.old) }
         ensures made { OnOk result (self.new ≡ directory_made self.old directory (name_bytes name.entry)) }
         ensures kept { OnErr result (self.new ≡ self.old) }
@@ -469,6 +452,7 @@ impl Store {
         name: Name<'_>,
     ) -> Result<u64, AllocError>
         requires directory { is_directory (node_at self.old directory).content ≡ true }
+        requires named { IsTrue (is_entry_name (name_bytes name)) }
         requires text { IsSoundText text.now }
         ensures number { IfOk result (λ n. n ≡ next_of self.old) }
         ensures made { OnOk result (self.new ≡ link_made self.old directory (name_bytes name.entry) text.now) }
@@ -484,6 +468,7 @@ impl Store {
     /// changed where memory is wanted.
     fn make_node(&mut self, directory: u64, name: Name<'_>, row: Row) -> Result<u64, AllocError>
         requires directory { is_directory (node_at self.old directory).content ≡ true }
+        requires named { IsTrue (is_entry_name (name_bytes name)) }
         requires sound { IsSoundNode 0 (stored_node row) }
         ensures number { IfOk result (λ n. n ≡ next_of self.old) }
         ensures made { OnOk result
@@ -504,96 +489,62 @@ impl Store {
         Ok(node)
     }
 
-    /// Drops a name of a file or link.
-    pub fn unlink_at(
-        &mut self,
-        directory: u64,
-        name: Name<'_>,
-        found: Option<u64>,
-    ) -> Result<(), ErrorCode>
-        requires within { directory < next_of self.old }
-        requires found { found ≡ child self.old directory (name_bytes name) }
-        requires below { ForSome found (λ n. n < next_of self.old) }
-        ensures free { OnOk result (refusal self.old (UnlinkAt directory (name_bytes name.entry)) ≡ None) }
-        ensures refused { IfErr result
-            (λ code. refusal self.old (UnlinkAt directory (name_bytes name.entry)) ≡ Some code) }
-        ensures step { OnOk result (self.new ≡ unlink_step self.old directory (name_bytes name.entry)) }
-        ensures kept { OnErr result (self.new ≡ self.old) }
-        ensures stays { Stays self.old self.new }
-        ensures count { next_of self.new ≡ next_of self.old }
+    /// All names of a directory, in byte order, each with the kind of its node.
+    #[tactic(auto, unfolding(wasi_host::specs::Refusal::refusal))]
+    pub fn list(&self, alloc: Global, directory: Held) -> Result<Vec<DirEntry>, HostError>
+        requires { directory.node < next_of self.now }
+        ensures meaning { MatchResult result
+            (λ entries. list_answer self.now directory ≡ Ok (map entry_of entries.items))
+            (MeansCode (list_answer self.now directory)) }
+        ensures names { IfOk result
+            (λ entries. All (λ entry. IsTrue (is_entry_name entry.0)) (map entry_of entries.items)) }
     {
-        let node = self.node_to_drop(directory, name, found, ErrorCode::IsDirectory)?;
-        if self.row(node).content.is_directory() {
-            return Err(ErrorCode::IsDirectory);
+        let RowContent::Dir { names, .. } = &self.row(directory.node).content else {
+            return Err(HostError::Code(ErrorCode::NotDirectory));
+        };
+        if !directory.mode.can_read() {
+            return Err(HostError::Code(ErrorCode::BadDescriptor));
         }
-        self.drop_name(directory, name, node);
-        Ok(())
+        Ok(self.list_names(alloc, names)?)
     }
 
-    /// Drops the name of an empty directory, which is gone from then on.
-    pub fn remove_dir_at(
-        &mut self,
-        directory: u64,
-        name: Name<'_>,
-        found: Option<u64>,
-    ) -> Result<(), ErrorCode>
-        requires within { directory < next_of self.old }
-        requires found { found ≡ child self.old directory (name_bytes name) }
-        requires below { ForSome found (λ n. n < next_of self.old) }
-        ensures free { OnOk result (refusal self.old (RemoveDirAt directory (name_bytes name.entry)) ≡ None) }
-        ensures refused { IfErr result
-            (λ code. refusal self.old (RemoveDirAt directory (name_bytes name.entry)) ≡ Some code) }
-        ensures step { OnOk result (self.new ≡ remove_step self.old directory (name_bytes name.entry)) }
-        ensures kept { OnErr result (self.new ≡ self.old) }
-        ensures stays { Stays self.old self.new }
-        ensures count { next_of self.new ≡ next_of self.old }
+    /// These names, each with the kind of its node.
+    fn list_names(
+        &self,
+        alloc: Global,
+        names: &BTreeMap<String, u64>,
+    ) -> Result<Vec<DirEntry>, AllocError>
+        ensures { IfOk result (λ entries. map entry_of entries.items
+            ≡ map (listed self.now) (maps.entries (names_in names.now.entries))) }
     {
-        let node = self.node_to_drop(directory, name, found, ErrorCode::Invalid)?;
-        let row = self.row(node);
-        if !row.content.is_directory() {
-            return Err(ErrorCode::NotDirectory);
+        let mut entries = Vec::new(alloc);
+        for (name, node) in names.iter() {
+            entries.push(DirEntry {
+                name: String::from_str(alloc, name.as_str())?,
+                kind: self.kind(*node),
+            })?;
         }
-        if !row.content.is_bare() {
-            return Err(ErrorCode::NotEmpty);
+        Ok(entries)
+    }
+
+    /// The kind of a node; that of a file where the number is out of range.
+    fn kind(&self, n: u64) -> FileType
+        ensures { result ≡ kind_of (node_at self.now n).content }
+    {
+        if n >= self.count() {
+            return FileType::RegularFile;
         }
-        self.drop_name(directory, name, node);
-        Ok(())
+        self.row(n).content.kind()
     }
 
-    /// Drops a name of a directory, which another node has.
-    fn drop_name(&mut self, directory: u64, name: Name<'_>, node: u64)
-        requires directory { is_directory (node_at self.old directory).content ≡ true }
-        requires within { node < next_of self.old }
-        requires apart { nat_eq node directory ≡ false }
-        ensures dropped { self.new ≡ name_dropped self.old directory (name_bytes name.entry) name_lost node }
-        ensures stays { Stays self.old self.new }
-        ensures count { next_of self.new ≡ next_of self.old }
-    {
-        self.take_name(directory, name);
-        self.lose_name(node);
-    }
-
-    /// Takes a name out of a directory.
-    fn take_name(&mut self, directory: u64, name: Name<'_>)
-        requires { is_directory (node_at self.old directory).content ≡ true }
-        ensures taken { self.new ≡ name_taken self.old directory (name_bytes name.entry) }
-        ensures stays { Stays self.old self.new }
-        ensures count { next_of self.new ≡ next_of self.old }
-    {
-        self.rows[directory as usize]
-            .content
-            .remove_name(name.as_str());
-        self.worked.mark(directory);
-    }
-
-    /// Takes a name from the node that has it.
-    fn lose_name(&mut self, node: u64)
+    /// Sets the given times of a node; one that isn't given stays.
+    pub fn set_times(&mut self, node: u64, atime: Option<SystemTime>, mtime: Option<SystemTime>)
         requires { node < next_of self.old }
-        ensures lost { self.new ≡ node_lost self.old node }
+        ensures set { self.new ≡ times_set self.old node atime mtime }
         ensures stays { Stays self.old self.new }
         ensures count { next_of self.new ≡ next_of self.old }
     {
-        self.rows[node as usize].content.lose_name();
+        self.rows[node as usize].set_times(atime, mtime);
         self.worked.mark(node);
     }
 
@@ -627,6 +578,7 @@ impl Store {
         }
         Ok(copy_front(bytes_from(content.bytes(), offset), buf))
     }
+
     /// Puts a piece of bytes into a file from an offset on, and answers how many: all.
     #[tactic(auto, unfolding(wasi_host::specs::Refusal::refusal))]
     pub fn write_at(&mut self, file: Held, piece: &[u8], offset: u64) -> Result<usize, HostError>

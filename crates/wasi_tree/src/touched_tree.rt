@@ -1,36 +1,43 @@
 //! A tree with its touched nodes.
-ghost use Rattle.std.specs.Prelude.{◌≡◌, ◌<◌, ◌≤◌, ◌^◌, Ok, IfOk, IfErr, OnOk, OnErr, length, take, drop, map};
+ghost use Rattle.std.specs.Prelude.{◌≡◌, ◌<◌, ◌≤◌, ◌^◌, ◌&&◌, Ok, Some, IfOk, IfErr, OnOk, OnErr, length, take, drop, map, true, All, IsTrue};
 ghost use Rattle.std.specs.FinSet.{empty};
 ghost use Rattle.std.specs.String.{string_bytes};
 ghost use Rattle.wasi_paths.specs.Name.{name_bytes};
-ghost use Rattle.wasi_host.specs.Tree.{Tree, next_of};
-ghost use Rattle.wasi_host.specs.HostCall.{OpenAt, StatAt, ReadLinkAt, MakeDirAt, SymlinkAt, UnlinkAt, RemoveDirAt, Access, Stat, Pread, Pwrite};
-ghost use Rattle.wasi_host.specs.Meaning.{IsHeld, hosted};
+ghost use Rattle.wasi_paths.specs.Text.{is_entry_name};
+ghost use Rattle.wasi_host.specs.Tree.{Tree, next_of, node_at, is_directory, hold_one};
+ghost use Rattle.wasi_host.specs.Below.{is_below};
+ghost use Rattle.wasi_host.specs.Refusal.{first_row};
+ghost use Rattle.wasi_host.specs.Answer.{entry_of};
+ghost use Rattle.wasi_host.specs.HostCall.{OpenAt, StatAt, ReadLinkAt, MakeDirAt, SymlinkAt, LinkAt, UnlinkAt, RemoveDirAt, TimesAt, Access, Stat, SetTimes, Pread, Pwrite, RenameAt, ListDir};
+ghost use Rattle.wasi_host.specs.Meaning.{IsHeld, hosted, answered};
 ghost use Rattle.wasi_host.specs.Time.{HasTimes};
 ghost use Rattle.wasi_tree.specs.Given.{given, tree_of};
 ghost use Rattle.wasi_tree.specs.Fit.{AreFit, IsTreeCause};
 ghost use Rattle.wasi_tree.specs.Sound.{Stays, IsSoundText};
+ghost use Rattle.wasi_tree.specs.RenameRows.{loop_rows};
 ghost use Rattle.wasi_tree.specs.TouchedTree.{Does};
 
 use crate::errors::TreeError;
 use crate::marks::Marks;
 use crate::node::NewNode;
+use crate::parents::Parents;
 use crate::store::Store;
 use std::alloc::Global;
 use std::marker::Model;
-use wasi_host::{ErrorCode, Held, HostError, Limits, Metadata, OpenOptions};
+use wasi_host::{DirEntry, ErrorCode, Held, HostError, Limits, Metadata, OpenOptions, SystemTime};
 use wasi_paths::Name;
 
-/// A tree, and which of its nodes calls have touched. Contracts see both.
+/// A tree with the parents of its directories, and which of its nodes calls have touched. Contracts see the tree and the
+/// touched nodes.
 #[derive(Debug, Drop)]
 pub struct TouchedTree {
     store: Store,
+    parents: Parents,
     touched: Marks,
 }
 
 impl Model for TouchedTree {
-    ghost use Rattle.std.specs.Prelude.{◌≡◌};
-    ghost use Rattle.wasi_host.specs.Tree.{next_of};
+    ghost use Rattle.wasi_tree.specs.Parents.{IsKept};
     ghost use Rattle.wasi_tree.specs.TouchedTree.{Touched, touched_code};
 
     ghost Value = { Touched };
@@ -39,7 +46,7 @@ impl Model for TouchedTree {
 
     ghost view = { λ a. record { tree = a.store; touched = a.touched.nodes } };
 
-    ghost invariant = { λ a. a.touched.count ≡ next_of a.store };
+    ghost invariant = { λ a. IsKept a.store a.touched.count a.parents.rows.items };
 }
 
 #[tactic(auto, using(crate::proofs::TouchedLemmas::touched_rules))]
@@ -51,9 +58,14 @@ impl TouchedTree {
         ensures cause { IfErr result (IsTreeCause limits (map given nodes.items)) }
         ensures touched { IfOk result (λ t. t.touched ≡ empty) }
     {
+        let parents = Parents::of(alloc, &nodes)?;
         let store = Store::new(alloc, nodes, limits)?;
         let touched = Marks::new(alloc, store.count() as usize)?;
-        Ok(TouchedTree { store, touched })
+        Ok(TouchedTree {
+            store,
+            parents,
+            touched,
+        })
     }
 
     /// The tree.
@@ -96,8 +108,10 @@ impl TouchedTree {
             }
             None => {
                 self.touched.reserve()?;
+                self.parents.reserve()?;
                 let node = self.store.make_file(directory, name)?;
                 self.touched.push();
+                self.parents.push(directory);
                 Ok(Held { node, mode })
             }
         }
@@ -147,8 +161,10 @@ impl TouchedTree {
             return Err(HostError::Code(code));
         }
         self.touched.reserve()?;
+        self.parents.reserve()?;
         self.store.make_directory(directory, name)?;
         self.touched.push();
+        self.parents.push(directory);
         Ok(())
     }
 
@@ -170,9 +186,100 @@ impl TouchedTree {
             return Err(HostError::Code(code));
         }
         self.touched.reserve()?;
+        self.parents.reserve()?;
         self.store.make_link(target, directory, name)?;
         self.touched.push();
+        self.parents.push(directory);
         Ok(())
+    }
+
+    /// Gives the file or link under a name in a directory a name in a directory, which may be the same.
+    pub fn link_at(
+        &mut self,
+        old: u64,
+        old_name: Name<'_>,
+        new: u64,
+        new_name: Name<'_>,
+    ) -> Result<(), HostError>
+        requires old { old < next_of self.old.tree }
+        requires new { new < next_of self.old.tree }
+        ensures does { Does self.old self.new (LinkAt old (name_bytes old_name.entry) new (name_bytes new_name.entry))
+            (λ unit. unit) result }
+        ensures stays { Stays self.old.tree self.new.tree }
+    {
+        let found = self.store.child(old, old_name);
+        let there = self.store.child(new, new_name);
+        self.touched.mark_found(old, found);
+        self.touched.mark_found(new, there);
+        let node = self
+            .store
+            .node_to_link(old, old_name, found, new, new_name, there)?;
+        self.store.add_link(new, new_name, node)?;
+        Ok(())
+    }
+
+    /// Moves what a name in a directory holds to a name in a directory, which may be the same.
+    pub fn rename_at(
+        &mut self,
+        old: u64,
+        old_name: Name<'_>,
+        new: u64,
+        new_name: Name<'_>,
+        requires_dir: bool,
+    ) -> Result<(), HostError>
+        requires old { old < next_of self.old.tree }
+        requires new { new < next_of self.old.tree }
+        ensures does { Does self.old self.new
+            (RenameAt old (name_bytes old_name.entry) new (name_bytes new_name.entry) requires_dir)
+            (λ unit. unit) result }
+        ensures stays { Stays self.old.tree self.new.tree }
+    {
+        let found = self.store.child(old, old_name);
+        let there = self.store.child(new, new_name);
+        self.touched.mark_found(old, found);
+        self.touched.mark_found(new, there);
+        let node = self
+            .store
+            .node_to_rename(old, old_name, found, new, new_name, requires_dir)?;
+        if let Some(code) = self.refuse_loop(old, new, node, there) {
+            return Err(HostError::Code(code));
+        }
+        if holds_node(there, node) {
+            return Ok(());
+        }
+        if let Some(code) = self.store.refuse_move(old, new, node, there) {
+            return Err(HostError::Code(code));
+        }
+        self.store
+            .move_name(old, old_name, new, new_name, node, there)?;
+        self.parents.replace(there, node, new);
+        Ok(())
+    }
+
+    /// The rows for a node that would come below itself, or in the place of a directory that is above it.
+    fn refuse_loop(&self, old: u64, new: u64, node: u64, there: Option<u64>) -> Option<ErrorCode>
+        requires old { is_directory (node_at self.now.tree old).content ≡ true }
+        requires new { is_directory (node_at self.now.tree new).content ≡ true }
+        ensures { result ≡ first_row (loop_rows self.now.tree old new (Some node) there) }
+    {
+        if self.holds(node, new) {
+            return Some(ErrorCode::Invalid);
+        }
+        let Some(lost) = there else {
+            return None;
+        };
+        if self.holds(lost, old) {
+            return Some(ErrorCode::NotEmpty);
+        }
+        None
+    }
+
+    /// Whether a node is a directory, and another directory is this one or below it.
+    fn holds(&self, top: u64, directory: u64) -> bool
+        requires { is_directory (node_at self.now.tree directory).content ≡ true }
+        ensures { result ≡ (is_directory (node_at self.now.tree top).content && is_below self.now.tree top directory) }
+    {
+        self.store.is_directory(top) && self.parents.is_below(top, directory)
     }
 
     /// Drops a name of a file or link in a directory.
@@ -196,7 +303,27 @@ impl TouchedTree {
     {
         let found = self.store.child(directory, name);
         self.touched.mark_found(directory, found);
-        self.store.remove_dir_at(directory, name, found)
+        let node = self.store.remove_dir_at(directory, name, found)?;
+        self.parents.set(node, None);
+        Ok(())
+    }
+
+    /// Sets the given times of the node under a name in a directory, a link's own.
+    pub fn times_at(
+        &mut self,
+        directory: u64,
+        name: Name<'_>,
+        atime: Option<SystemTime>,
+        mtime: Option<SystemTime>,
+    ) -> Result<(), ErrorCode>
+        requires { directory < next_of self.old.tree }
+        ensures does { Does self.old self.new (TimesAt directory (name_bytes name.entry) atime mtime)
+            (λ unit. unit) (hosted result) }
+        ensures stays { Stays self.old.tree self.new.tree }
+    {
+        let found = self.store.child(directory, name);
+        self.touched.mark_found(directory, found);
+        self.store.times_at(directory, name, found, atime, mtime)
     }
 
     /// Whether a directory may be searched.
@@ -209,6 +336,18 @@ impl TouchedTree {
         self.store.access(directory)
     }
 
+    /// All names of a directory, in byte order, each with the kind of its node.
+    pub fn list(&mut self, alloc: Global, directory: Held) -> Result<Vec<DirEntry>, HostError>
+        requires { directory.node < next_of self.old.tree }
+        ensures does { Does self.old self.new (ListDir directory) (λ entries. map entry_of entries.items) result }
+        ensures names { IfOk result
+            (λ entries. All (λ entry. IsTrue (is_entry_name entry.0)) (map entry_of entries.items)) }
+        ensures tree { self.new.tree ≡ self.old.tree }
+    {
+        self.touched.mark(directory.node);
+        self.store.list(alloc, directory)
+    }
+
     /// The metadata of a node.
     pub fn metadata(&mut self, node: u64) -> Metadata
         requires { node < next_of self.old.tree }
@@ -218,6 +357,16 @@ impl TouchedTree {
     {
         self.touched.mark(node);
         self.store.metadata(node)
+    }
+
+    /// Sets the given times of a node.
+    pub fn set_times(&mut self, node: u64, atime: Option<SystemTime>, mtime: Option<SystemTime>)
+        requires { node < next_of self.old.tree }
+        ensures does { Does self.old self.new (SetTimes node atime mtime) (λ unit. unit) answered }
+        ensures stays { Stays self.old.tree self.new.tree }
+    {
+        self.touched.mark(node);
+        self.store.set_times(node, atime, mtime);
     }
 
     /// Reads a file's bytes from an offset on into the front of `buf`, and answers how many.
@@ -245,5 +394,15 @@ impl TouchedTree {
     {
         self.touched.mark(file.node);
         self.store.write_at(file, piece, offset)
+    }
+}
+
+/// Whether a name holds this node.
+fn holds_node(held: Option<u64>, node: u64) -> bool
+    ensures { result ≡ hold_one (Some node) held }
+{
+    match held {
+        Some(other) => node == other,
+        None => false,
     }
 }

@@ -1,8 +1,11 @@
 //! Calls and answers as texts.
-use crate::asked::{Change, access_in, changed, link_in, metadata_in, open_in, read_in, write_in};
+use crate::asked::{
+    Change, access_in, changed, link_in, linked_in, metadata_in, moment, names_in, open_in,
+    read_in, renamed_in, write_in,
+};
 use crate::listed::{shown, text_of, tree_of};
 use std::alloc::{AllocError, Global};
-use wasi_host::{HostError, Metadata};
+use wasi_host::{DirEntry, HostError, Metadata};
 use wasi_tree::{MemTree, TreeError};
 
 fn split(text: &str) -> (&str, &str) {
@@ -88,6 +91,77 @@ fn linked(alloc: Global, tree: &mut MemTree, rest: &str) -> Result<String, Alloc
     done(alloc, changed(tree, directory, name.as_str(), link))
 }
 
+/// `DIRECTORY NAME DIRECTORY NAME`, the old name first.
+fn hard_linked(alloc: Global, tree: &mut MemTree, rest: &str) -> Result<String, AllocError> {
+    let (old, rest) = split(rest);
+    let (old_text, rest) = split(rest);
+    let (new, new_text) = split(rest);
+    let old = old.parse::<u64>().unwrap_or(0);
+    let new = new.parse::<u64>().unwrap_or(0);
+    let old_name = text_of(alloc, old_text)?;
+    let new_name = text_of(alloc, new_text)?;
+    done(
+        alloc,
+        linked_in(tree, old, old_name.as_str(), new, new_name.as_str()),
+    )
+}
+
+/// `DIRECTORY NAME DIRECTORY NAME`, the old name first. A slash behind the new name asks for a directory.
+fn renamed(alloc: Global, tree: &mut MemTree, rest: &str) -> Result<String, AllocError> {
+    let (old, rest) = split(rest);
+    let (old_text, rest) = split(rest);
+    let (new, new_text) = split(rest);
+    let old = old.parse::<u64>().unwrap_or(0);
+    let new = new.parse::<u64>().unwrap_or(0);
+    let plain_text = new_text.strip_suffix('/').unwrap_or(new_text);
+    let requires_dir = plain_text.len() < new_text.len();
+    let old_name = text_of(alloc, old_text)?;
+    let new_name = text_of(alloc, plain_text)?;
+    done(
+        alloc,
+        renamed_in(
+            tree,
+            old,
+            old_name.as_str(),
+            new,
+            new_name.as_str(),
+            requires_dir,
+        ),
+    )
+}
+
+fn entries_text(alloc: Global, entries: &[DirEntry]) -> Result<String, AllocError> {
+    let mut text = String::new(alloc);
+    for entry in entries {
+        write!(text, "{} {:?},", entry.name, entry.kind)?;
+    }
+    Ok(text)
+}
+
+/// `OPTIONS DIRECTORY NAME`: the names, each with the kind of its node and a comma behind it.
+fn names_text(alloc: Global, tree: &mut MemTree, rest: &str) -> Result<String, AllocError> {
+    let (word, rest) = split(rest);
+    let (directory, name) = split(rest);
+    let directory = directory.parse::<u64>().unwrap_or(0);
+    match names_in(tree, alloc, directory, name, word) {
+        Ok(entries) => entries_text(alloc, &entries),
+        Err(error) => error_text(alloc, error),
+    }
+}
+
+/// `SECONDS SECONDS DIRECTORY NAME`, of the last read and of the last change; one that is no number isn't given.
+fn timed(alloc: Global, tree: &mut MemTree, rest: &str) -> Result<String, AllocError> {
+    let (atime, rest) = split(rest);
+    let (mtime, rest) = split(rest);
+    let (directory, text) = split(rest);
+    let atime = atime.parse::<i64>().ok().map(moment);
+    let mtime = mtime.parse::<i64>().ok().map(moment);
+    let directory = directory.parse::<u64>().unwrap_or(0);
+    let name = text_of(alloc, text)?;
+    let times = Change::Times(atime, mtime);
+    done(alloc, changed(tree, directory, name.as_str(), times))
+}
+
 /// `OPTIONS DIRECTORY NAME`.
 fn open_text(alloc: Global, tree: &mut MemTree, rest: &str) -> Result<String, AllocError> {
     let (word, rest) = split(rest);
@@ -143,6 +217,10 @@ fn answer(alloc: Global, tree: &mut MemTree, call: &str) -> Result<String, Alloc
         "looks" => looks_text(alloc, tree),
         "write" => written(alloc, tree, rest),
         "symlink" => linked(alloc, tree, rest),
+        "link" => hard_linked(alloc, tree, rest),
+        "rename" => renamed(alloc, tree, rest),
+        "list" => names_text(alloc, tree, rest),
+        "times" => timed(alloc, tree, rest),
         "open" => open_text(alloc, tree, rest),
         _ => named(alloc, tree, word, rest),
     }

@@ -4,7 +4,7 @@ ghost use Rattle.std.specs.FinSet.{contains};
 ghost use Rattle.wasi_tree.specs.MemState.{live_of};
 
 use std::alloc::Global;
-use wasi_host::{ErrorCode, Handle, Host, HostError, Metadata, OpenOptions};
+use wasi_host::{DirEntry, ErrorCode, Handle, Host, HostError, Metadata, OpenOptions, SystemTime};
 use wasi_paths::Name;
 use wasi_tree::MemTree;
 
@@ -15,6 +15,7 @@ pub enum Change<'a> {
     Symlink(&'a str),
     Unlink,
     RemoveDir,
+    Times(Option<SystemTime>, Option<SystemTime>),
 }
 
 pub fn apply(
@@ -31,6 +32,15 @@ pub fn apply(
         Change::Symlink(target) => tree.symlink_at(target, directory, name),
         Change::Unlink => tree.unlink_at(directory, name),
         Change::RemoveDir => tree.remove_dir_at(directory, name),
+        Change::Times(atime, mtime) => tree.times_at(directory, name, atime, mtime),
+    }
+}
+
+/// The moment of so many seconds after the epoch.
+pub fn moment(seconds: i64) -> SystemTime {
+    SystemTime {
+        seconds,
+        nanoseconds: 0,
     }
 }
 
@@ -53,6 +63,63 @@ pub fn changed(
     let answer = apply(tree, handle, name_of(text), what);
     tree.close(handle);
     answer
+}
+
+/// Gives what a name of a directory holds a new name in a directory.
+#[tactic(auto, using(wasi_tree::proofs::SlotLemmas::slot_rules))]
+pub fn linked_in(
+    tree: &mut MemTree,
+    old: u64,
+    old_text: &str,
+    new: u64,
+    new_text: &str,
+) -> Result<(), HostError> {
+    let Ok(from) = tree.handle(old) else {
+        return Err(HostError::Memory);
+    };
+    let Ok(to) = tree.handle(new) else {
+        return Err(HostError::Memory);
+    };
+    let answer = tree.link_at(from, name_of(old_text), to, name_of(new_text));
+    tree.close(to);
+    tree.close(from);
+    answer
+}
+
+/// Moves what a name of a directory holds to a name of a directory.
+#[tactic(auto, using(wasi_tree::proofs::SlotLemmas::slot_rules))]
+pub fn renamed_in(
+    tree: &mut MemTree,
+    old: u64,
+    old_text: &str,
+    new: u64,
+    new_text: &str,
+    requires_dir: bool,
+) -> Result<(), HostError> {
+    let Ok(from) = tree.handle(old) else {
+        return Err(HostError::Memory);
+    };
+    let Ok(to) = tree.handle(new) else {
+        return Err(HostError::Memory);
+    };
+    let answer = tree.rename_at(from, name_of(old_text), to, name_of(new_text), requires_dir);
+    tree.close(to);
+    tree.close(from);
+    answer
+}
+
+/// The names under a name of a directory, which is opened with the options of a word.
+pub fn names_in(
+    tree: &mut MemTree,
+    alloc: Global,
+    directory: u64,
+    text: &str,
+    word: &str,
+) -> Result<Vec<DirEntry>, HostError> {
+    let handle = opened(tree, directory, text, word)?;
+    let entries = tree.list(alloc, handle);
+    tree.close(handle);
+    entries
 }
 
 /// The metadata under a name of a directory.
@@ -101,7 +168,8 @@ fn options(word: &str) -> OpenOptions {
         .write(word.contains('w'))
         .truncate(word.contains('t'))
         .create(word.contains('c'))
-        .create_new(word.contains('n'));
+        .create_new(word.contains('n'))
+        .dir_required(word.contains('d'));
     options
 }
 

@@ -4,7 +4,7 @@ ghost use Rattle.std.specs.FinSet.{contains};
 ghost use Rattle.wasi_tree.specs.MemState.{live_of};
 
 use crate::asked::Change::{MakeDir, RemoveDir, Symlink, Unlink};
-use crate::asked::{apply, changed, name_of, opened};
+use crate::asked::{apply, changed, moment, name_of, opened};
 use crate::listed::tree_of;
 use std::test::Fail;
 use wasi_host::ErrorCode::{NoEntry, NotDirectory};
@@ -64,6 +64,12 @@ fn open_file(rt: HostRuntime) -> Result<(), Fail> {
     assert_eq!(rt; buf, *b"Jello\0\0\0");
     let told = tree.stat(file).map(|told| (told.ino(), told.nlink()));
     assert_eq!(rt; told, Ok((1, 0)));
+    assert_eq!(rt; tree.set_times(file, Some(moment(3)), None), Ok(()));
+    assert_eq!(rt; tree.set_times(file, None, Some(moment(-4))), Ok(()));
+    let told = tree
+        .stat(file)
+        .map(|told| (told.accessed(), told.modified(), told.created()));
+    assert_eq!(rt; told, Ok((moment(3), moment(-4), moment(0))));
     Ok(())
 }
 

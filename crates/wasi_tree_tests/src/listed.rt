@@ -107,14 +107,14 @@ fn tell_node(text: &mut String, node: &NewNode) -> Result<(), AllocError> {
     text.push(letter(node.bits.w, 'w'))?;
     text.push(letter(node.bits.x, 'x'))?;
     let times = [node.atime, node.mtime, node.btime];
-    text.push_str(if times == [SystemTime::EPOCH; 3] {
-        " "
-    } else {
-        "? "
-    })
+    if times == [SystemTime::EPOCH; 3] {
+        return text.push(' ');
+    }
+    write!(text, "?{},{} ", node.atime.seconds, node.mtime.seconds)
 }
 
-/// The nodes of a tree in the form of a list: with their bits, a blank behind each, and `?` where it has a time.
+/// The nodes of a tree in the form of a list: with their bits, a blank behind each. Where it has a time, the seconds of
+/// the last read and of the last change stand behind `?`.
 pub fn shown(alloc: Global, tree: &MemTree) -> Result<String, AllocError> {
     let mut text = String::new(alloc);
     let nodes = tree.nodes(alloc)?;

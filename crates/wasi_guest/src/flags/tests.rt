@@ -1,7 +1,7 @@
 ghost use Rattle.std.specs.Prelude.{◌≡◌, option_map};
 ghost use Rattle.wasi_guest.specs.Flags.{creat, flags_in, has, known_oflags};
 
-use super::{FdFlags, LookupFlags, OFlags, Rights};
+use super::{FdFlags, FstFlags, LookupFlags, OFlags, Rights};
 use bitflags::Flags;
 
 /// Whether a missing file is to be made, by the raw `oflags` of a call.
@@ -29,21 +29,36 @@ fn flags_of_an_open(rt: HostRuntime) {
 
 #[test]
 fn known_flags(rt: HostRuntime) {
-    for (raw, lookup, fd) in [
-        (1, true, true),
-        (2, false, true),
-        (16, false, true),
-        (32, false, false),
+    for (raw, lookup, fst, fd) in [
+        (1, true, true, true),
+        (2, false, true, true),
+        (15, false, true, true),
+        (16, false, false, true),
+        (32, false, false, false),
     ] {
         assert_eq!(rt;
             LookupFlags::from_bits(raw).is_some(),
             lookup,
             "lookupflags at {raw}"
         );
+        assert_eq!(rt;
+            FstFlags::from_bits(raw).is_some(),
+            fst,
+            "fstflags at {raw}"
+        );
         assert_eq!(rt; FdFlags::from_bits(raw).is_some(), fd, "fdflags at {raw}");
     }
     for (raw, known) in [(0x3fff_ffff, true), (0x4000_0000, false), (1 << 32, false)] {
         assert_eq!(rt; Rights::from_bits(raw).is_some(), known, "rights at {raw}");
+    }
+    let times = [
+        (FstFlags::ATIM, 1),
+        (FstFlags::ATIM_NOW, 2),
+        (FstFlags::MTIM, 4),
+        (FstFlags::MTIM_NOW, 8),
+    ];
+    for (flag, bits) in times {
+        assert_eq!(rt; flag.bits(), bits);
     }
     let rights = [
         (Rights::FD_READ, 2),

@@ -6,20 +6,25 @@ use std::test::Fail;
 use wasi_ends::BytesSink;
 
 // A script of calls on paths below descriptor 3, which stands for node 0, and what its report has. Of each node stands
-// what it is, its bits being those of a new one. The text is at 0 in a memory of 64 bytes, of which the last 4 are
-// shown. Behind `touched` the report has the nodes that are left.
+// what it is, its bits and times being those of a new one, or else the whole node. The text is at 0 in a memory of 64
+// bytes, of which the last 4 are shown. Behind `touched` the report has the nodes that are left. `keys` are the
+// script's other keys.
 #[derive(Clone, Copy)]
-struct Case<'a> {
-    perms: &'a str,
-    nodes: &'a [&'a str],
-    text: &'a str,
-    calls: &'a str,
-    answers: &'a str,
-    shown: &'a str,
-    left: &'a [&'a str],
+pub(super) struct Case<'a> {
+    pub(super) keys: &'a str,
+    pub(super) nodes: &'a [&'a str],
+    pub(super) text: &'a str,
+    pub(super) calls: &'a str,
+    pub(super) answers: &'a str,
+    pub(super) shown: &'a str,
+    pub(super) left: &'a [&'a str],
 }
 
-const TREE: &[&str] = &[
+const TO_CHANGE: &str = r#""preopens":[{"node":0,"name":"/","perms":"rw"}]"#;
+
+const TO_READ: &str = r#""preopens":[{"node":0,"name":"/","perms":"ro"}]"#;
+
+pub(super) const TREE: &[&str] = &[
     r#""dir":{"d":1,"f":2,"l":3}"#,
     r#""dir":{"e":4,"f":5}"#,
     r#""file":"746f70""#,
@@ -30,7 +35,7 @@ const TREE: &[&str] = &[
 
 // A path that ends in a slash is made a directory, and isn't removed.
 const DIRECTORY: Case<'static> = Case {
-    perms: "rw",
+    keys: TO_CHANGE,
     nodes: TREE,
     text: "foo/",
     calls: r#"["path_create_directory",3,0,4],["path_remove_directory",3,0,4],["path_filestat_get",3,0,0,3],["path_remove_directory",3,0,3],["path_filestat_get",3,0,0,3]"#,
@@ -65,7 +70,7 @@ const LINK: Case<'static> = Case {
 };
 
 // The calls of these leave the tree as it was.
-const UNCHANGED: Case<'static> = Case {
+pub(super) const UNCHANGED: Case<'static> = Case {
     left: TREE,
     ..DIRECTORY
 };
@@ -90,7 +95,7 @@ const REMOVED: Case<'static> = Case {
 };
 
 const READ_ONLY: Case<'static> = Case {
-    perms: "ro",
+    keys: TO_READ,
     text: "nd/efl",
     calls: r#"["path_create_directory",3,0,1],["path_remove_directory",3,1,3],["path_unlink_file",3,4,1],["path_symlink",4,1,3,0,1],["path_readlink",3,5,1,60,4],["path_filestat_get",3,0,4,1],["path_open",3,0,1,1,2,2,0,0],["path_unlink_file",4,4,1]"#,
     answers: r#"{"errno":"perm"},{"errno":"perm"},{"errno":"perm"},{"errno":"perm"},{"ok":3},{"ok":[1,2,4,1,3,0,0,0]},{"ok":4},{"errno":"perm"}"#,
@@ -155,32 +160,36 @@ fn told(alloc: Global, nodes: &[&str]) -> Result<String, AllocError> {
         if !text.is_empty() {
             text.push_str(",")?;
         }
-        let bits = if node.starts_with("\"file\"") {
-            "rw-"
+        let shown = if node.starts_with("\"bits\"") {
+            format!(in alloc; "{{{node}}}")?
         } else {
-            "rwx"
+            let bits = if node.starts_with("\"file\"") {
+                "rw-"
+            } else {
+                "rwx"
+            };
+            format!(in alloc; r#"{{"bits":"{bits}",{node},"times":[[0,0],[0,0],[0,0]]}}"#)?
         };
-        let shown = format!(in alloc; r#"{{"bits":"{bits}",{node},"times":[[0,0],[0,0],[0,0]]}}"#)?;
         text.push_str(shown.as_str())?;
     }
     Ok(text)
 }
 
-fn script(alloc: Global, case: Case<'_>) -> Result<String, AllocError> {
+pub(super) fn script(alloc: Global, case: Case<'_>) -> Result<String, AllocError> {
     let Case {
-        perms,
+        keys,
         text,
         calls,
         ..
     } = case;
     let nodes = given(alloc, case.nodes)?;
     format!(in alloc;
-        r#"{{"nodes":[{nodes}],"preopens":[{{"node":0,"name":"/","perms":"{perms}"}}],"memory":{{"size":64,"pieces":[[0,"text","{text}"]]}},"calls":[{calls}],"show":[[60,4]]}}"#
+        r#"{{"nodes":[{nodes}],{keys},"memory":{{"size":64,"pieces":[[0,"text","{text}"]]}},"calls":[{calls}],"show":[[60,4]]}}"#
     )
 }
 
 // Whether the script's report has the answers, the memory and the tree of the case.
-fn ends_so(alloc: Global, case: Case<'_>) -> Result<bool, AllocError> {
+pub(super) fn ends_so(alloc: Global, case: Case<'_>) -> Result<bool, AllocError> {
     let Case { answers, shown, .. } = case;
     let script = script(alloc, case)?;
     let front = format!(in alloc; r#"{{"answers":[{answers}],"memory":["{shown}"],"#)?;

@@ -2,13 +2,14 @@ use Rattle.std.proofs.Common.{◌≡◌, true, codes, arith}
 use Rattle.std.specs.Str.{bytes_eq}
 use Rattle.json.specs.Json.{parse_map}
 use Rattle.wasi_form.specs.CallForm.{call_of}
+use Rattle.wasi_form.specs.LimitsForm.{limits_of}
 use Rattle.wasi_form.specs.Lists.{always, forms_of}
 use Rattle.wasi_form.specs.MemoryForm.{memory_of, shown_of}
 use Rattle.wasi_form.specs.NodeForm.{script_node}
 use Rattle.wasi_form.specs.FoundParts.{found_of, with_member}
 use Rattle.wasi_form.specs.PreopenForm.{preopen_of}
 use Rattle.wasi_form.specs.Tokens.{next_value}
-use Rattle.wasi_form.proofs.FoundMembers.{with_nodes, with_preopens, with_calls, with_memory, with_show, IsOther, with_other}
+use Rattle.wasi_form.proofs.FoundMembers.{with_nodes, with_preopens, with_calls, with_memory, with_show, with_limits, IsOther, with_other}
 use Rattle.wasi_form.proofs.Grammar.{remade}
 use Rattle.wasi_form.proofs.Unreads.{read_as}
 use Rattle.wasi_form.proofs.parts.PartsFields.with_member.Goals as goal
@@ -18,7 +19,7 @@ returns-in_ok-nodes c =
     let found = found_of c.args.self in
     let key = c.args.key.now in
     let is : bytes_eq key (codes "nodes") ≡ true = grind arith in
-    remade (forms_of script_node) (λ d. with_member key d found)
+    remade (forms_of (always script_node)) (λ d. with_member key d found)
     (λ nodes. record found { nodes = nodes }) _ _ _ (λ d. with_nodes key d found is) c.in_ok-nodes.ensures
 
 pub returns-in_ok-preopens : goal.returns-in_ok-preopens
@@ -53,9 +54,17 @@ returns-in_ok-show c =
     remade (forms_of (always shown_of)) (λ d. with_member key d found)
     (λ show. record found { show = show }) _ _ _ (λ d. with_show key d found is) c.in_ok-show.ensures
 
-pub returns-else-eq-5 : goal.returns-else-eq-5
-returns-else-eq-5 c =
+pub returns-in_ok-limits : goal.returns-in_ok-limits
+returns-in_ok-limits c =
     let found = found_of c.args.self in
     let key = c.args.key.now in
-    let other : IsOther key = record { nodes = grind arith; preopens = grind arith; calls = grind arith; memory = grind arith; show = grind arith } in
+    let is : bytes_eq key (codes "limits") ≡ true = grind arith in
+    remade limits_of (λ d. with_member key d found)
+    (λ limits. record found { limits = limits }) _ _ _ (λ d. with_limits key d found is) c.in_ok-limits.ensures
+
+pub returns-else-eq-6 : goal.returns-else-eq-6
+returns-else-eq-6 c =
+    let found = found_of c.args.self in
+    let key = c.args.key.now in
+    let other : IsOther key = record { nodes = grind arith; preopens = grind arith; calls = grind arith; memory = grind arith; show = grind arith; limits = grind arith } in
     read_as _ c.with_waiting.result _ _ (λ i. parse_map (λ d. with_other key d found other i) (next_value c.args.depth c.args.reader.now)) c.with_waiting.ensures

@@ -1,6 +1,6 @@
 use Rattle.std.proofs.Common.{refl}
-use Rattle.std.proofs.lemmas.Result.{err_from_is_err_and}
 use Rattle.wasi_resolve.specs.AtPlace.{CreateDir}
+use Rattle.wasi_resolve.specs.PathRequest.{AtPlace}
 use Rattle.wasi_p1.proofs.RowFronts.{path_create_directory_asks}
 use Rattle.wasi_p1.proofs.Below.{done_err, done_ok}
 use Rattle.wasi_p1.proofs.context.WasiP1Ctx.path_create_directory.Goals as goal
@@ -8,15 +8,14 @@ use Rattle.wasi_p1.proofs.context.WasiP1Ctx.path_create_directory.Goals as goal
 pub returns-in_err-create_directory_at-clause-turn : goal.returns-in_err-create_directory_at-clause-turn
 returns-in_err-create_directory_at-clause-turn g c =
     let given = c.in_err-create_directory_at.ensures in
-    let residual = c.from_residual-in_err-create_directory_at in
-    let error = err_from_is_err_and residual.result residual.ensures.1 in
-    rw (error.1, error.2, ← c.self.view_is) (done_err _ _ CreateDir
+    rw (← c.self.view_is) (done_err (AtPlace _ _ CreateDir)
     (path_create_directory_asks _ _ _ _ c.in_ok-dir.ensures.row c.in_ok-text.ensures) c.self.invariant
-    (record { slots = refl; stdout = refl; stderr = refl; memory = refl }) _ given.cause given.permit refl given.told)
+    (record { slots = refl; stdout = refl; stderr = refl; memory = refl }) _ given.cause given.permit refl given.told
+    c.from_residual-in_err-create_directory_at.ensures.1)
 
 pub returns-clause-turn : goal.returns-clause-turn
 returns-clause-turn g c =
     let given = c.in_ok-create_directory_at.ensures in
-    rw (← c.self.view_is) (done_ok _ _ CreateDir
+    rw (← c.self.view_is) (done_ok (AtPlace _ _ CreateDir)
     (path_create_directory_asks _ _ _ _ c.in_ok-dir.ensures.row c.in_ok-text.ensures) c.self.invariant
     (record { slots = refl; stdout = refl; stderr = refl; memory = refl }) tt given.permit given.told)

@@ -14,7 +14,7 @@ returns-in_err-number-clause-turn g c =
     let error = err_from_is_err_and residual.result residual.ensures.1 in
     rw (error.1, error.2, ← c.self.view_is) (permitted_err (opened_among _ c.in_ok-dir.dir.perms _) with_places
     (path_open_asks _ _ _ _ _ _ _ _ _ c.in_ok-with.ensures.row c.in_ok-text.ensures c.in_ok-dir.ensures.row)
-    given.permit given.front refl (record { slots = given.kept; stdout = refl; stderr = refl; memory = refl })
+    given.permit given.front (λ _. refl) (record { slots = given.kept; stdout = refl; stderr = refl; memory = refl })
     (λ told _. given.stays told) given.told)
 
 pub returns-clause-turn : goal.returns-clause-turn

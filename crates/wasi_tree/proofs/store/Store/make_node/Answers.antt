@@ -83,7 +83,7 @@ invariant_of-self-2 c =
     let count : c.push.new.self.count ≡ c.self.inside.worked.count + 1 = omega arith in
     rw (made c (row (goal.at.invariant_of-self-2 c).After-index_mut), count)
     (sound_made c.args.self.now c.args.directory (name_bytes c.args.name) (stored_node c.args.row)
-    c.requires.directory _ sound c.requires.sound)
+    c.requires.directory c.requires.named _ sound c.requires.sound)
 
 pub returns-clause-made : goal.returns-clause-made
 returns-clause-made c = made c (row (goal.at.returns-clause-made c).After-index_mut)

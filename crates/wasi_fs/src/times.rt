@@ -1,0 +1,81 @@
+//! The calls of a descriptor that set times.
+ghost use Rattle.std.specs.Prelude.{◌≡◌, true, IsTrue, IfErr, None};
+ghost use Rattle.std.specs.FinSet.{contains};
+ghost use Rattle.wasi_host.specs.Meaning.{HasCause};
+ghost use Rattle.wasi_host.specs.Lineage.{Traced, Only, Nothing};
+ghost use Rattle.wasi_resolve.specs.PathRequest.{meant_by};
+ghost use Rattle.wasi_resolve.specs.Resolved.{Resolved};
+ghost use Rattle.wasi_fs.specs.Calls.{may_change, handle_of, perms_of, sets, sets_times, NotMemory, Refuses};
+
+use crate::{Descriptor, Dir, FsPerms, PathFlags};
+use bitflags::Flags;
+use std::alloc::Global;
+use wasi_host::{Host, HostError, SystemTime};
+
+impl Descriptor {
+    /// Sets the given times of the node that the descriptor stands for, that of its last read and that of its last
+    /// change: the crate's `set_times`. One that isn't given stays. It takes no memory. Refusal: NotPermitted under
+    /// read-only permissions.
+    pub fn set_times<H: Host>(
+        &self,
+        host: &mut H,
+        atim: Option<SystemTime>,
+        mtim: Option<SystemTime>,
+    ) -> Result<(), HostError>
+        requires live { contains (H.live host.old) (handle_of self.now) ≡ true }
+        ensures cause { HasCause (H.faults host.old) (H.faults host.new) result }
+        ensures no_memory { IfErr result NotMemory }
+        ensures live { H.live host.new ≡ H.live host.old }
+        ensures logged { H.lookups host.new ≡ H.lookups host.old }
+        ensures permit { Refuses (may_change (perms_of self.now)) result host.old host.new }
+        ensures told { IsTrue H.told → may_change (perms_of self.now) ≡ None
+            → Resolved (H.live host.old) (H.world host.old) (H.world host.new)
+            (sets (H.world host.old).tree ((H.world host.old).held (handle_of self.now)).node atim mtim)
+            (λ unit. unit) result }
+    {
+        self.perms().check_change()?;
+        Ok(host.set_times(self.handle(), atim, mtim)?)
+    }
+
+    /// The permissions of the directory from which it stems.
+    fn perms(&self) -> FsPerms
+        ensures { result ≡ perms_of self.now }
+    {
+        match self {
+            Descriptor::File(file) => file.perms,
+            Descriptor::Dir(dir) => dir.perms,
+        }
+    }
+}
+
+impl Dir {
+    /// Sets the given times of the node that a path names, as `Descriptor::set_times` does, where SYMLINK_FOLLOW follows
+    /// a link under its last name: the crate's `set_times_at`. Without it a link's times are its own. Refusals:
+    /// NotPermitted under read-only permissions, then those of the resolver's `set_times` or `set_times_nofollow`.
+    pub fn set_times_at<H: Host>(
+        &self,
+        alloc: Global,
+        host: &mut H,
+        path_flags: PathFlags,
+        path: &str,
+        atim: Option<SystemTime>,
+        mtim: Option<SystemTime>,
+    ) -> Result<(), HostError>
+        requires live { contains (H.live host.old) self.now.dir ≡ true }
+        ensures cause { HasCause (H.faults host.old) (H.faults host.new) result }
+        ensures live { H.live host.new ≡ H.live host.old }
+        ensures lineage { Traced (Only self.now.dir) Nothing Nothing (H.lookups host.old) (H.lookups host.new) }
+        ensures permit { Refuses (may_change self.now.perms) result host.old host.new }
+        ensures told { IsTrue H.told → may_change self.now.perms ≡ None
+            → Resolved (H.live host.old) (H.world host.old) (H.world host.new)
+            (meant_by (H.world host.old).tree
+            (sets_times ((H.world host.old).held self.now.dir).node path.now path_flags atim mtim))
+            (λ unit. unit) result }
+    {
+        self.perms.check_change()?;
+        if path_flags.contains(PathFlags::SYMLINK_FOLLOW) {
+            return wasi_resolve::set_times(alloc, host, self.dir, path, atim, mtim);
+        }
+        wasi_resolve::set_times_nofollow(alloc, host, self.dir, path, atim, mtim)
+    }
+}

@@ -1,0 +1,22 @@
+use Rattle.std.proofs.Common.{refl}
+use Rattle.wasi_resolve.specs.PathRequest.{TimesPath}
+use Rattle.wasi_p1.proofs.RowFronts.{path_filestat_set_times_asks}
+use Rattle.wasi_p1.proofs.Below.{done_err, done_ok}
+use Rattle.wasi_p1.proofs.context.WasiP1Ctx.path_filestat_set_times.Goals as goal
+
+pub returns-in_err-set_times_at-clause-turn : goal.returns-in_err-set_times_at-clause-turn
+returns-in_err-set_times_at-clause-turn g c =
+    let given = c.in_err-set_times_at.ensures in
+    rw (← c.self.view_is) (done_err (TimesPath _ _ _ _ _)
+    (path_filestat_set_times_asks _ _ _ _ _ _ _ _ c.in_ok-flags.ensures.row c.in_ok-times.ensures.row c.in_ok-dir.ensures.row
+    c.in_ok-text.ensures) c.self.invariant
+    (record { slots = refl; stdout = refl; stderr = refl; memory = refl }) _ given.cause given.permit refl given.told
+    c.from_residual-in_err-set_times_at.ensures.1)
+
+pub returns-clause-turn : goal.returns-clause-turn
+returns-clause-turn g c =
+    let given = c.in_ok-set_times_at.ensures in
+    rw (← c.self.view_is) (done_ok (TimesPath _ _ _ _ _)
+    (path_filestat_set_times_asks _ _ _ _ _ _ _ _ c.in_ok-flags.ensures.row c.in_ok-times.ensures.row c.in_ok-dir.ensures.row
+    c.in_ok-text.ensures) c.self.invariant
+    (record { slots = refl; stdout = refl; stderr = refl; memory = refl }) tt given.permit given.told)

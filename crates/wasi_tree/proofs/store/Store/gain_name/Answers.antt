@@ -1,0 +1,38 @@
+use Rattle.std.proofs.Common.{◌∙◌, ◌<◌, ◌-◌, ◌^◌, ap, subst}
+use Rattle.std.specs.FinSet.{insert}
+use Rattle.wasi_host.specs.Tree.{Tree, Node, node_at, links_of}
+use Rattle.wasi_host.specs.Step.{one_name_more}
+use Rattle.wasi_host.proofs.Changes.{changed}
+use Rattle.wasi_tree.proofs.RowLemmas.{IsRow, row_node, tree_written, sound_written}
+use Rattle.wasi_tree.proofs.SoundLemmas.{seen-one_name_more, file-one_name_more, stays_changed}
+use Rattle.wasi_tree.proofs.store.Store.gain_name.Goals as goal
+use Rattle.wasi_tree.proofs.store.Store.gain_name.Goals.{After-index_mut}
+
+row : (c : After-index_mut) → IsRow c.self.inside.rows.items c.self.inside.limits c.self.inside.worked.nodes
+    c.args.self.now c.args.node c.index_mut.result.now
+row c = record { stands = c.self.view_is; within = c.requires.within; read = c.index_mut.ensures.value }
+
+pub gain_name-requires : goal.gain_name-requires
+gain_name-requires c =
+    subst (λ (node : Node). links_of node.content < 2 ^ 64 - 1)
+    (row_node (row (goal.at.gain_name-requires c).After-index_mut)) c.requires.room
+
+pub invariant_of-self : goal.invariant_of-self
+invariant_of-self c =
+    sound_written (row (goal.at.invariant_of-self c).After-index_mut) one_name_more c.gain_name.new.self
+    c.gain_name.ensures c.mark.new.self.nodes seen-one_name_more c.self.invariant c.mark.ensures.count
+
+pub returns-clause-gained : goal.returns-clause-gained
+returns-clause-gained c =
+    let t : Tree = c.args.self.now in
+    let n = c.args.node in
+    tree_written (row (goal.at.returns-clause-gained c).After-index_mut) one_name_more c.gain_name.new.self
+    c.gain_name.ensures c.mark.new.self.nodes
+    ∙ ap (changed t n (record (node_at t n) { content = one_name_more (node_at t n).content }))
+    (c.mark.ensures.nodes ∙ ap (λ (u : Tree). insert u.worked n) c.self.view_is)
+
+pub returns-clause-stays : goal.returns-clause-stays
+returns-clause-stays c =
+    rw (tree_written (row (goal.at.returns-clause-stays c).After-index_mut) one_name_more c.gain_name.new.self
+    c.gain_name.ensures c.mark.new.self.nodes)
+    (stays_changed _ _ _ _ c.requires.within (file-one_name_more (node_at c.args.self.now c.args.node).content))

@@ -1,0 +1,30 @@
+use Rattle.std.proofs.Common.{◌∙◌, sym}
+use Rattle.std.proofs.lemmas.Result.{err_from_is_err_and}
+use Rattle.wasi_paths.specs.Name.{name_bytes}
+use Rattle.wasi_tree.proofs.LinkLemmas.{AreNamed, none_there, names_refused, entry_refused, links_refused}
+use Rattle.wasi_tree.proofs.store.Store.node_to_link.Goals as goal
+use Rattle.wasi_tree.proofs.store.Store.node_to_link.Goals.{After-refuse_entry}
+
+pub returns-in-Some-clause-refused : goal.returns-in-Some-clause-refused
+returns-in-Some-clause-refused c = names_refused _ _ _ _ _ (sym c.in-Some.ensures)
+
+named : (c : After-refuse_entry)
+    → AreNamed c.args.self.now c.args.old (name_bytes c.args.old_name) c.args.new (name_bytes c.args.new_name)
+    c.in-Some-found.node
+named c = record {
+  named = sym c.in_default.ensures;
+  found = sym c.requires.found ∙ c.in-Some-found.is;
+  missing = sym c.requires.there ∙ none_there _ (sym c.if-is_some.ensures);
+}
+
+pub returns-in-Some-refuse_entry-clause-refused : goal.returns-in-Some-refuse_entry-clause-refused
+returns-in-Some-refuse_entry-clause-refused c =
+    entry_refused (named (goal.at.returns-in-Some-refuse_entry-clause-refused c).After-refuse_entry)
+    (sym c.in-Some-refuse_entry.ensures)
+
+pub returns-in_err-check_links-clause-refused : goal.returns-in_err-check_links-clause-refused
+returns-in_err-check_links-clause-refused c =
+    let error = err_from_is_err_and c.from_residual.result c.from_residual.ensures.1 in
+    rw (error.1, error.2)
+    (links_refused (named (goal.at.returns-in_err-check_links-clause-refused c).After-refuse_entry)
+    (sym c.in_default-refuse_entry.ensures) c.in_err-check_links.ensures.refused)

@@ -1,0 +1,17 @@
+use Rattle.std.proofs.Common.{◌∙◌, Some, sym, ap}
+use Rattle.wasi_host.specs.Refusal.{first_row}
+use Rattle.wasi_tree.specs.RenameRows.{access_rows, replacing_rows}
+use Rattle.wasi_tree.proofs.DropLemmas.{refused_before, left_behind}
+use Rattle.wasi_tree.proofs.store.Store.refuse_move.Goals as goal
+
+pub returns-in-Some : goal.returns-in-Some
+returns-in-Some c =
+    sym (refused_before (access_rows c.args.self.now c.args.old c.args.new (Some c.args.node))
+    (replacing_rows c.args.self.now (Some c.args.node) c.args.there) (sym c.in-Some.ensures))
+
+pub returns : goal.returns
+returns c =
+    c.refuse_replace.ensures
+    ∙ ap (λ there. first_row (replacing_rows c.args.self.now (Some c.args.node) there)) (sym c.in-Some-there.is)
+    ∙ sym (left_behind (access_rows c.args.self.now c.args.old c.args.new (Some c.args.node))
+    (replacing_rows c.args.self.now (Some c.args.node) c.args.there) (sym c.in_default.ensures))

@@ -1,0 +1,443 @@
+//! What is done to the names of directories.
+ghost use Rattle.std.specs.Prelude.{◌≡◌, ◌-◌, ◌<◌, ◌^◌, OnOk, None, Some, IfOk, IfErr, OnErr, true, false, nat_eq, IsTrue};
+ghost use Rattle.std.specs.Option.{ForSome};
+ghost use Rattle.wasi_paths.specs.Name.{name_bytes};
+ghost use Rattle.wasi_paths.specs.Text.{is_entry_name};
+ghost use Rattle.wasi_host.specs.Tree.{next_of, node_at, child, is_directory, links_of};
+ghost use Rattle.wasi_host.specs.HostCall.{LinkAt, UnlinkAt, RemoveDirAt, TimesAt};
+ghost use Rattle.wasi_host.specs.Refusal.{refusal, first_row};
+ghost use Rattle.wasi_host.specs.Step.{name_dropped, unlink_step, remove_step, times_step, name_added};
+ghost use Rattle.wasi_tree.specs.Sound.{Stays};
+ghost use Rattle.wasi_tree.specs.DropRows.{dropping_rows, name_lost, name_taken, node_lost};
+ghost use Rattle.wasi_tree.specs.LinkRows.{both_rows, links_rows, name_put, node_gained};
+ghost use Rattle.wasi_tree.specs.RenameRows.{naming_rows, access_rows, replacing_rows, moving_by, IsMove, found_lost, name_moved_onto};
+
+use crate::store::Store;
+use std::alloc::AllocError;
+use wasi_host::{ErrorCode, SystemTime};
+use wasi_paths::Name;
+
+#[tactic(auto, using(crate::proofs::StoreLemmas::store_rules))]
+impl Store {
+    /// The node under a name that is to be dropped, where no row refuses that looks at the name and at what has it; else
+    /// the row's code. That of `.` is given.
+    fn node_to_drop(
+        &self,
+        directory: u64,
+        name: Name<'_>,
+        found: Option<u64>,
+        dot: ErrorCode,
+    ) -> Result<u64, ErrorCode>
+        requires within { directory < next_of self.now }
+        requires found { found ≡ child self.now directory (name_bytes name) }
+        requires below { ForSome found (λ n. n < next_of self.now) }
+        ensures free { OnOk result
+            (first_row (dropping_rows self.now directory (name_bytes name.entry) dot) ≡ None) }
+        ensures refused { IfErr result
+            (λ code. first_row (dropping_rows self.now directory (name_bytes name.entry) dot) ≡ Some code) }
+        ensures node { IfOk result (λ n. child self.now directory (name_bytes name.entry) ≡ Some n) }
+        ensures below { IfOk result (λ n. n < next_of self.now) }
+    {
+        if !self.row(directory).content.is_directory() {
+            return Err(ErrorCode::NotDirectory);
+        }
+        if let Some(code) = self.refuse_name(directory, name) {
+            return Err(code);
+        }
+        if name.is_dot() {
+            return Err(dot);
+        }
+        let Some(node) = found else {
+            return Err(ErrorCode::NoEntry);
+        };
+        if !self.row(directory).bits.w {
+            return Err(ErrorCode::Access);
+        }
+        Ok(node)
+    }
+
+    /// What is wrong with two names in directories, the old one first.
+    fn refuse_both(
+        &self,
+        old: u64,
+        old_name: Name<'_>,
+        new: u64,
+        new_name: Name<'_>,
+    ) -> Option<ErrorCode>
+        requires old { old < next_of self.now }
+        requires new { new < next_of self.now }
+        ensures { result
+            ≡ first_row (both_rows self.now old (name_bytes old_name.entry) new (name_bytes new_name.entry)) }
+    {
+        if !self.row(old).content.is_directory() || !self.row(new).content.is_directory() {
+            return Some(ErrorCode::NotDirectory);
+        }
+        if let Some(code) = self.refuse_name(old, old_name) {
+            return Some(code);
+        }
+        self.refuse_name(new, new_name)
+    }
+
+    /// The node under the old name, where no row refuses to give it the new one; else the row's code.
+    #[tactic(auto, unfolding(wasi_host::specs::Refusal::refusal))]
+    pub fn node_to_link(
+        &self,
+        old: u64,
+        old_name: Name<'_>,
+        found: Option<u64>,
+        new: u64,
+        new_name: Name<'_>,
+        there: Option<u64>,
+    ) -> Result<u64, ErrorCode>
+        requires old { old < next_of self.now }
+        requires new { new < next_of self.now }
+        requires found { found ≡ child self.now old (name_bytes old_name) }
+        requires there { there ≡ child self.now new (name_bytes new_name) }
+        requires below { ForSome found (λ n. n < next_of self.now) }
+        ensures free { OnOk result
+            (refusal self.now (LinkAt old (name_bytes old_name.entry) new (name_bytes new_name.entry)) ≡ None) }
+        ensures refused { IfErr result (λ code.
+            refusal self.now (LinkAt old (name_bytes old_name.entry) new (name_bytes new_name.entry)) ≡ Some code) }
+        ensures node { IfOk result (λ n. child self.now old (name_bytes old_name.entry) ≡ Some n) }
+        ensures below { IfOk result (λ n. n < next_of self.now) }
+        ensures room { IfOk result (λ n. links_of (node_at self.now n).content < 2 ^ 64 - 1) }
+    {
+        if let Some(code) = self.refuse_both(old, old_name, new, new_name) {
+            return Err(code);
+        }
+        let Some(node) = found else {
+            return Err(ErrorCode::NoEntry);
+        };
+        if there.is_some() {
+            return Err(ErrorCode::Exist);
+        }
+        if let Some(code) = self.refuse_entry(new) {
+            return Err(code);
+        }
+        self.check_links(node)?;
+        Ok(node)
+    }
+
+    /// The rows for a node that is to get a name more.
+    fn check_links(&self, node: u64) -> Result<(), ErrorCode>
+        requires { node < next_of self.now }
+        ensures free { OnOk result (first_row (links_rows self.now node) ≡ None) }
+        ensures refused { IfErr result (λ code. first_row (links_rows self.now node) ≡ Some code) }
+        ensures room { OnOk result (links_of (node_at self.now node).content < 2 ^ 64 - 1) }
+    {
+        let content = &self.row(node).content;
+        if content.is_directory() {
+            return Err(ErrorCode::NotPermitted);
+        }
+        if self.limits.links <= content.links() {
+            return Err(ErrorCode::TooManyLinks);
+        }
+        Ok(())
+    }
+
+    /// Gives a file or link a name in a directory. Where memory is wanted, nothing has changed.
+    pub fn add_link(&mut self, directory: u64, name: Name<'_>, node: u64) -> Result<(), AllocError>
+        requires directory { is_directory (node_at self.old directory).content ≡ true }
+        requires named { IsTrue (is_entry_name (name_bytes name)) }
+        requires within { node < next_of self.old }
+        requires apart { nat_eq node directory ≡ false }
+        requires room { links_of (node_at self.old node).content < 2 ^ 64 - 1 }
+        ensures added { OnOk result (self.new ≡ name_added self.old directory (name_bytes name.entry) node) }
+        ensures kept { OnErr result (self.new ≡ self.old) }
+        ensures stays { Stays self.old self.new }
+        ensures count { next_of self.new ≡ next_of self.old }
+    {
+        self.put_name(directory, name, node)?;
+        self.gain_name(node);
+        Ok(())
+    }
+
+    /// Puts a name into a directory, which another node gets. Where memory is wanted, nothing has changed.
+    fn put_name(&mut self, directory: u64, name: Name<'_>, node: u64) -> Result<(), AllocError>
+        requires directory { is_directory (node_at self.old directory).content ≡ true }
+        requires named { IsTrue (is_entry_name (name_bytes name)) }
+        requires within { node < next_of self.old }
+        requires apart { nat_eq node directory ≡ false }
+        ensures put { OnOk result (self.new ≡ name_put self.old directory (name_bytes name.entry) node) }
+        ensures other { OnOk result (node_at self.new node ≡ node_at self.old node) }
+        ensures kept { OnErr result (self.new ≡ self.old) }
+        ensures stays { Stays self.old self.new }
+        ensures count { next_of self.new ≡ next_of self.old }
+    {
+        let alloc = *self.rows.allocator();
+        self.rows[directory as usize]
+            .content
+            .add_name(alloc, name.as_str(), node)?;
+        self.worked.mark(directory);
+        Ok(())
+    }
+
+    /// Gives a file or link a name more.
+    fn gain_name(&mut self, node: u64)
+        requires within { node < next_of self.old }
+        requires room { links_of (node_at self.old node).content < 2 ^ 64 - 1 }
+        ensures gained { self.new ≡ node_gained self.old node }
+        ensures stays { Stays self.old self.new }
+        ensures count { next_of self.new ≡ next_of self.old }
+    {
+        self.rows[node as usize].content.gain_name();
+        self.worked.mark(node);
+    }
+
+    /// The node under the old name, where no row refuses a rename that looks at the names and at this node alone; else the
+    /// row's code.
+    pub fn node_to_rename(
+        &self,
+        old: u64,
+        old_name: Name<'_>,
+        found: Option<u64>,
+        new: u64,
+        new_name: Name<'_>,
+        requires_dir: bool,
+    ) -> Result<u64, ErrorCode>
+        requires old { old < next_of self.now }
+        requires new { new < next_of self.now }
+        requires found { found ≡ child self.now old (name_bytes old_name) }
+        requires below { ForSome found (λ n. n < next_of self.now) }
+        ensures free { OnOk result (first_row
+            (naming_rows self.now old (name_bytes old_name.entry) new (name_bytes new_name.entry) requires_dir) ≡ None) }
+        ensures refused { IfErr result (λ code. first_row
+            (naming_rows self.now old (name_bytes old_name.entry) new (name_bytes new_name.entry) requires_dir)
+            ≡ Some code) }
+        ensures node { IfOk result (λ n. child self.now old (name_bytes old_name.entry) ≡ Some n) }
+        ensures below { IfOk result (λ n. n < next_of self.now) }
+    {
+        if let Some(code) = self.refuse_both(old, old_name, new, new_name) {
+            return Err(code);
+        }
+        if old_name.is_dot() || new_name.is_dot() {
+            return Err(ErrorCode::Busy);
+        }
+        let Some(node) = found else {
+            return Err(ErrorCode::NoEntry);
+        };
+        if requires_dir && !self.row(node).content.is_directory() {
+            return Err(ErrorCode::NotDirectory);
+        }
+        Ok(node)
+    }
+
+    /// What refuses to move a node from a directory to another, which may be the same, onto this node or none.
+    pub fn refuse_move(
+        &self,
+        old: u64,
+        new: u64,
+        node: u64,
+        there: Option<u64>,
+    ) -> Option<ErrorCode>
+        requires old { old < next_of self.now }
+        requires new { new < next_of self.now }
+        requires node { node < next_of self.now }
+        requires there { ForSome there (λ n. n < next_of self.now) }
+        ensures { result ≡ first_row (moving_by self.now old new (Some node) there) }
+    {
+        if let Some(code) = self.refuse_access(old, new, node) {
+            return Some(code);
+        }
+        let Some(lost) = there else {
+            return None;
+        };
+        self.refuse_replace(node, lost)
+    }
+
+    /// The rows for the directories that lose and get a name.
+    fn refuse_access(&self, old: u64, new: u64, node: u64) -> Option<ErrorCode>
+        requires old { old < next_of self.now }
+        requires new { new < next_of self.now }
+        requires node { node < next_of self.now }
+        ensures { result ≡ first_row (access_rows self.now old new (Some node)) }
+    {
+        if !self.row(old).bits.w || !self.row(new).bits.w {
+            return Some(ErrorCode::Access);
+        }
+        let row = self.row(node);
+        if row.content.is_directory() && !row.bits.w && old != new {
+            return Some(ErrorCode::Access);
+        }
+        if self.row(new).content.is_gone() {
+            return Some(ErrorCode::NoEntry);
+        }
+        None
+    }
+
+    /// The rows for a node that comes in the place of another.
+    fn refuse_replace(&self, node: u64, lost: u64) -> Option<ErrorCode>
+        requires node { node < next_of self.now }
+        requires lost { lost < next_of self.now }
+        ensures { result ≡ first_row (replacing_rows self.now (Some node) (Some lost)) }
+    {
+        let is_directory = self.row(node).content.is_directory();
+        let content = &self.row(lost).content;
+        if is_directory && !content.is_directory() {
+            return Some(ErrorCode::NotDirectory);
+        }
+        if !is_directory && content.is_directory() {
+            return Some(ErrorCode::IsDirectory);
+        }
+        if content.is_directory() && !content.is_bare() {
+            return Some(ErrorCode::NotEmpty);
+        }
+        None
+    }
+
+    /// Moves a name of a directory, which this node has, to a name of another, which may be the same. What the new name
+    /// held loses it. The new name is put first, so that nothing has changed where memory is wanted.
+    pub fn move_name(
+        &mut self,
+        old: u64,
+        old_name: Name<'_>,
+        new: u64,
+        new_name: Name<'_>,
+        node: u64,
+        there: Option<u64>,
+    ) -> Result<(), AllocError>
+        requires { IsMove self.old old (name_bytes old_name) new (name_bytes new_name) node there }
+        ensures moved { OnOk result (self.new ≡ name_moved_onto self.old old (name_bytes old_name.entry)
+            new (name_bytes new_name.entry) node there) }
+        ensures kept { OnErr result (self.new ≡ self.old) }
+        ensures stays { Stays self.old self.new }
+        ensures count { next_of self.new ≡ next_of self.old }
+    {
+        self.put_name(new, new_name, node)?;
+        self.lose_found(there);
+        self.take_name(old, old_name);
+        Ok(())
+    }
+
+    /// Takes a name from the node that has it, if there is one.
+    fn lose_found(&mut self, found: Option<u64>)
+        requires { ForSome found (λ n. n < next_of self.old) }
+        ensures lost { self.new ≡ found_lost self.old found }
+        ensures stays { Stays self.old self.new }
+        ensures count { next_of self.new ≡ next_of self.old }
+    {
+        if let Some(lost) = found {
+            self.lose_name(lost);
+        }
+    }
+
+    /// Drops a name of a file or link.
+    pub fn unlink_at(
+        &mut self,
+        directory: u64,
+        name: Name<'_>,
+        found: Option<u64>,
+    ) -> Result<(), ErrorCode>
+        requires within { directory < next_of self.old }
+        requires found { found ≡ child self.old directory (name_bytes name) }
+        requires below { ForSome found (λ n. n < next_of self.old) }
+        ensures free { OnOk result (refusal self.old (UnlinkAt directory (name_bytes name.entry)) ≡ None) }
+        ensures refused { IfErr result
+            (λ code. refusal self.old (UnlinkAt directory (name_bytes name.entry)) ≡ Some code) }
+        ensures step { OnOk result (self.new ≡ unlink_step self.old directory (name_bytes name.entry)) }
+        ensures kept { OnErr result (self.new ≡ self.old) }
+        ensures stays { Stays self.old self.new }
+        ensures count { next_of self.new ≡ next_of self.old }
+    {
+        let node = self.node_to_drop(directory, name, found, ErrorCode::IsDirectory)?;
+        if self.row(node).content.is_directory() {
+            return Err(ErrorCode::IsDirectory);
+        }
+        self.drop_name(directory, name, node);
+        Ok(())
+    }
+
+    /// Drops the name of an empty directory, which is gone from then on, and gives its number.
+    pub fn remove_dir_at(
+        &mut self,
+        directory: u64,
+        name: Name<'_>,
+        found: Option<u64>,
+    ) -> Result<u64, ErrorCode>
+        requires within { directory < next_of self.old }
+        requires found { found ≡ child self.old directory (name_bytes name) }
+        requires below { ForSome found (λ n. n < next_of self.old) }
+        ensures free { OnOk result (refusal self.old (RemoveDirAt directory (name_bytes name.entry)) ≡ None) }
+        ensures refused { IfErr result
+            (λ code. refusal self.old (RemoveDirAt directory (name_bytes name.entry)) ≡ Some code) }
+        ensures step { OnOk result (self.new ≡ remove_step self.old directory (name_bytes name.entry)) }
+        ensures node { IfOk result (λ n. child self.old directory (name_bytes name.entry) ≡ Some n) }
+        ensures kept { OnErr result (self.new ≡ self.old) }
+        ensures stays { Stays self.old self.new }
+        ensures count { next_of self.new ≡ next_of self.old }
+    {
+        let node = self.node_to_drop(directory, name, found, ErrorCode::Invalid)?;
+        let row = self.row(node);
+        if !row.content.is_directory() {
+            return Err(ErrorCode::NotDirectory);
+        }
+        if !row.content.is_bare() {
+            return Err(ErrorCode::NotEmpty);
+        }
+        self.drop_name(directory, name, node);
+        Ok(node)
+    }
+
+    /// Drops a name of a directory, which another node has.
+    fn drop_name(&mut self, directory: u64, name: Name<'_>, node: u64)
+        requires directory { is_directory (node_at self.old directory).content ≡ true }
+        requires within { node < next_of self.old }
+        requires apart { nat_eq node directory ≡ false }
+        ensures dropped { self.new ≡ name_dropped self.old directory (name_bytes name.entry) name_lost node }
+        ensures stays { Stays self.old self.new }
+        ensures count { next_of self.new ≡ next_of self.old }
+    {
+        self.take_name(directory, name);
+        self.lose_name(node);
+    }
+
+    /// Takes a name out of a directory.
+    fn take_name(&mut self, directory: u64, name: Name<'_>)
+        requires { is_directory (node_at self.old directory).content ≡ true }
+        ensures taken { self.new ≡ name_taken self.old directory (name_bytes name.entry) }
+        ensures stays { Stays self.old self.new }
+        ensures count { next_of self.new ≡ next_of self.old }
+    {
+        self.rows[directory as usize]
+            .content
+            .remove_name(name.as_str());
+        self.worked.mark(directory);
+    }
+
+    /// Takes a name from the node that has it.
+    fn lose_name(&mut self, node: u64)
+        requires { node < next_of self.old }
+        ensures lost { self.new ≡ node_lost self.old node }
+        ensures stays { Stays self.old self.new }
+        ensures count { next_of self.new ≡ next_of self.old }
+    {
+        self.rows[node as usize].content.lose_name();
+        self.worked.mark(node);
+    }
+
+    /// Sets the given times of the node that a name holds, a link's own.
+    #[tactic(auto, unfolding(wasi_host::specs::Refusal::refusal))]
+    pub fn times_at(
+        &mut self,
+        directory: u64,
+        name: Name<'_>,
+        found: Option<u64>,
+        atime: Option<SystemTime>,
+        mtime: Option<SystemTime>,
+    ) -> Result<(), ErrorCode>
+        requires within { directory < next_of self.old }
+        requires found { found ≡ child self.old directory (name_bytes name) }
+        requires below { ForSome found (λ n. n < next_of self.old) }
+        ensures free { OnOk result (refusal self.old (TimesAt directory (name_bytes name.entry) atime mtime) ≡ None) }
+        ensures refused { IfErr result
+            (λ code. refusal self.old (TimesAt directory (name_bytes name.entry) atime mtime) ≡ Some code) }
+        ensures step { OnOk result (self.new ≡ times_step self.old directory (name_bytes name.entry) atime mtime) }
+        ensures kept { OnErr result (self.new ≡ self.old) }
+        ensures stays { Stays self.old self.new }
+        ensures count { next_of self.new ≡ next_of self.old }
+    {
+        let node = self.node_under(directory, name, found)?;
+        self.set_times(node, atime, mtime);
+        Ok(())
+    }
+}
