@@ -1,5 +1,5 @@
 //! Ends in memory, which fail at listed calls.
-ghost use Rattle.std.specs.Prelude.{◌≡◌, ◌↔◌, ◌+◌, ◌-◌, ◌≤◌, ◌<◌, ◌++◌, [], IsTrue, List, ℕ, Bool, true, length, take, drop, min, IsErr, IfOk, OnErr, is_err};
+ghost use Rattle.std.specs.Prelude.{◌≡◌, ◌+◌, ◌-◌, ◌≤◌, ◌<◌, ◌++◌, [], IsTrue, true, length, take, drop, min, IfOk, OnErr, is_err};
 ghost use Rattle.wasi_host.specs.Meaning.{Rose};
 ghost use Rattle.wasi_ends.specs.Ends.{Gave, Schedule, BytesLeft, BytesTaken, is_listed, is_refused, after_call};
 

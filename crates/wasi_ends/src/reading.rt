@@ -1,5 +1,5 @@
 //! Reading to the end, up to a limit.
-ghost use Rattle.std.specs.Prelude.{◌≡◌, ◌≤◌, ◌<◌, IsTrue, length, IsErrOf};
+ghost use Rattle.std.specs.Prelude.{◌≤◌, ◌<◌, IsTrue, length, IsErrOf};
 ghost use Rattle.std.specs.Result.{result_map_both};
 ghost use Rattle.wasi_host.specs.Meaning.{Rose};
 ghost use Rattle.wasi_ends.specs.Ends.{ReadAll};

@@ -1,5 +1,5 @@
 //! The program's standard input and output as ends. They tell no bytes.
-ghost use Rattle.std.specs.Prelude.{ℕ, List, Bool, false, []};
+ghost use Rattle.std.specs.Prelude.{false, []};
 
 use crate::ends::{Failed, Sink, Source};
 use std::io::{Read, Stdin, Stdout, Write};

@@ -39,15 +39,7 @@ may_change perms = first_row ((is_read_only perms, NotPermitted) ∷ [])
 unfoldable pub may_link : FsPerms → List ℕ → Option ErrorCode
 may_link perms target = first_row ((is_read_only perms, NotPermitted) ∷ (has_root target, NotPermitted) ∷ [])
 
--- a name moves only where both directories may be changed, and under the same permissions
-unfoldable pub may_rename : FsPerms → FsPerms → Option ErrorCode
-may_rename old new = first_row (
-    (is_read_only old, NotPermitted) ∷
-    (is_read_only new, NotPermitted) ∷
-    (differ old new, NotPermitted) ∷
-    [])
-
--- and so a name is added, but that a link isn't followed
+-- a node gets a name only where both directories may be changed, and under the same permissions; a link isn't followed
 unfoldable pub may_add_name : FsPerms → FsPerms → Bool → Option ErrorCode
 may_add_name old new follow = first_row (
     (is_read_only old, NotPermitted) ∷
@@ -55,6 +47,10 @@ may_add_name old new follow = first_row (
     (follow, Invalid) ∷
     (differ old new, NotPermitted) ∷
     [])
+
+-- and so a name moves, where none is to be followed
+abbrev pub may_rename : FsPerms → FsPerms → Option ErrorCode
+may_rename old new = may_add_name old new false
 
 -- a call that isn't permitted is refused so, and the host is as it was: nothing was asked of it
 abbrev pub Refuses : {A H : Type 0} → Option ErrorCode → Result A HostError → H → H → Type 0

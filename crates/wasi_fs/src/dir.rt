@@ -1,6 +1,6 @@
 //! The calls of an open directory: what its permissions permit, then what the resolver does.
 ghost use Rattle.std.specs.Prelude.{◌≡◌, ◌≤◌, ◌<◌, ℕ, true, false, IsTrue, IfOk, IfErr, None, length};
-ghost use Rattle.std.specs.Result.{result_err, result_map_both};
+ghost use Rattle.std.specs.Result.{result_map_both};
 ghost use Rattle.std.specs.FinSet.{contains};
 ghost use Rattle.std.specs.String.{string_bytes};
 ghost use Rattle.wasi_paths.specs.Parts.{has_root};

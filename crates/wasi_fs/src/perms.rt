@@ -2,7 +2,7 @@
 ghost use Rattle.std.specs.Prelude.{◌≡◌, ◌⊎◌, IfErr};
 ghost use Rattle.std.specs.Result.{result_err};
 ghost use Rattle.wasi_host.specs.declared.errors.ErrorCode.TheVariants as codes;
-ghost use Rattle.wasi_fs.specs.Calls.{may_change, may_rename, may_add_name};
+ghost use Rattle.wasi_fs.specs.Calls.{may_change, may_add_name};
 ghost use Rattle.wasi_fs.specs.Perms.{is_read_only, differ};
 
 use wasi_host::ErrorCode;
@@ -38,24 +38,10 @@ impl FsPerms {
         Ok(())
     }
 
-    /// Whether a name may move from a directory of these permissions to one of those; NotPermitted otherwise.
-    #[tactic(auto, unfolding(crate::specs::Calls::may_change, crate::specs::Calls::may_rename))]
-    pub(crate) fn check_rename(self, new: FsPerms) -> Result<(), ErrorCode>
-        ensures row { result_err result ≡ may_rename self new }
-        ensures code { IfErr result (λ code. code ≡ codes.NotPermitted) }
-    {
-        self.check_change()?;
-        new.check_change()?;
-        if self.differs_from(new) {
-            return Err(ErrorCode::NotPermitted);
-        }
-        Ok(())
-    }
-
-    /// Whether a node in a directory of these permissions may get a name in one of those: as `check_rename`, but that
-    /// a link isn't followed, which is Invalid.
+    /// Whether a node in a directory of these permissions may get a name in one of those: NotPermitted where either may
+    /// not be changed, Invalid where a link is to be followed, and then NotPermitted where the two differ.
     #[tactic(auto, unfolding(crate::specs::Calls::may_change, crate::specs::Calls::may_add_name))]
-    pub(crate) fn check_link(self, new: FsPerms, follow: bool) -> Result<(), ErrorCode>
+    pub(crate) fn check_add_name(self, new: FsPerms, follow: bool) -> Result<(), ErrorCode>
         ensures row { result_err result ≡ may_add_name self new follow }
         ensures code { IfErr result (λ code. (code ≡ codes.NotPermitted) ⊎ (code ≡ codes.Invalid)) }
     {

@@ -14,7 +14,9 @@ use bitflags::Flags;
 use std::alloc::Global;
 use wasi_host::{Host, HostError};
 
-/// Each call begins from the handles of this directory and of the other, which are to be live and may be one.
+/// Each call begins from the handles of this directory and of the other, which are to be live and may be one. A call that
+/// isn't permitted asks the host nothing. Memory is taken as the resolver takes it; where it is wanted, the tree and the
+/// live handles are as before.
 impl Dir {
     /// Gives the file or link under `old_path` a further name, `new_path` below the other directory: the crate's
     /// `link_at`. Refusals: NotPermitted where this directory is read-only, and then where the other is; Invalid of
@@ -44,7 +46,7 @@ impl Dir {
             (λ unit. unit) result }
     {
         let follow = old_path_flags.contains(PathFlags::SYMLINK_FOLLOW);
-        self.perms.check_link(new_dir.perms, follow)?;
+        self.perms.check_add_name(new_dir.perms, follow)?;
         wasi_resolve::hard_link(alloc, host, self.dir, old_path, new_dir.dir, new_path)
     }
 
@@ -72,7 +74,7 @@ impl Dir {
             ((H.world host.old).held new_dir.now.dir).node new_path.now Rename))
             (λ unit. unit) result }
     {
-        self.perms.check_rename(new_dir.perms)?;
+        self.perms.check_add_name(new_dir.perms, false)?;
         wasi_resolve::rename(alloc, host, self.dir, old_path, new_dir.dir, new_path)
     }
 }

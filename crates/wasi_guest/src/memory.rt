@@ -1,5 +1,5 @@
 //! A guest's memory: bytes at addresses below its length.
-ghost use Rattle.std.specs.Prelude.{◌≡◌, ◌↔◌, ◌+◌, ◌^◌, ◌<◌, ◌≤◌, ◌++◌, length, take, drop, slice_range, IsTrue, IsSome, IfSome, OnSome, IfOk, replicate, if◌then◌else◌};
+ghost use Rattle.std.specs.Prelude.{◌≡◌, ◌↔◌, ◌+◌, ◌^◌, ◌<◌, length, slice_range, IsTrue, IsSome, IfSome, OnSome, IfOk, replicate, if◌then◌else◌};
 ghost use Rattle.std.specs.Borrow.{sem};
 ghost use Rattle.std.specs.Bool.{OnTrue, OnFalse};
 ghost use Rattle.wasi_guest.specs.Range.{IsInMemory, in_memory, place, with_bytes};

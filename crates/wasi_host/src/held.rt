@@ -8,7 +8,7 @@ pub enum AccessMode {
     Read,
     Write,
     ReadWrite,
-    /// For looking up names and for metadata alone.
+    /// For what is done with names in a directory, for metadata and for times: neither bytes nor a listing.
     PathOnly,
 }
 

@@ -1,5 +1,5 @@
 //! The trait of hosts, with its laws.
-ghost use Rattle.std.specs.Prelude.{◌≡◌, ◌≤◌, ◌<◌, ◌^◌, ◌-◌, ℕ, Bool, true, false, IsTrue, Ok, IfOk, OnOk, OnErr, List, Some, None, All, length, map, take, drop};
+ghost use Rattle.std.specs.Prelude.{◌≡◌, ◌≤◌, ◌<◌, ◌^◌, ◌-◌, ℕ, Bool, true, IsTrue, Ok, IfOk, OnOk, OnErr, List, Some, None, All, length, map, take, drop};
 ghost use Rattle.std.specs.Ordering.{nat_cmp};
 ghost use Rattle.std.specs.String.{string_bytes};
 ghost use Rattle.std.specs.FinSet.{FinSet, contains, remove};
@@ -26,9 +26,9 @@ use wasi_paths::Name;
 /// The condition of every method is that its handles are live.
 ///
 /// Each method that takes a name refuses NotDirectory before all else where its handle is no directory's, of two the
-/// old one first, which no caller of this workspace asks. The rows for a name, first in each of these methods but where
-/// it says so: Invalid of a NUL in the name, NameTooLong of more than 255 bytes, Access where the directory may not be
-/// searched.
+/// old one first; no caller in this workspace asks so. The rows for a name, first in each of these methods but where it
+/// says so: Invalid of a NUL in the name, NameTooLong of more than 255 bytes, Access where the directory may not be
+/// searched. The rows and their order are this project's own, in the manner of Linux, and claim nothing of a kernel.
 pub trait Host {
     /// How often the host has failed by itself. It never falls, and stands still at 2^64 - 1.
     ghost faults: { Self → ℕ };
@@ -140,15 +140,15 @@ pub trait Host {
             (λ unit. unit) result };
 
     /// Moves what the old name in a directory holds to the new name in another, which may be the same; a link is not
-    /// followed. What the new name held loses it: a file or link stays while a handle stands for it, a directory is
-    /// removed. Where both names hold one node, both stay, as with POSIX's `rename`. `requires_dir` asks for a
-    /// directory, as a slash at the end of a path does. Refusals: the rows for the old name, then those for the new
-    /// one; Busy where either is `.`; NoEntry where the old name is missing; NotDirectory where a directory is asked
-    /// for and it holds none; Invalid where the new directory is the node that is to move, or is below it; NotEmpty
-    /// where the new name holds a directory which is the old one, or has it below. Where both names hold one node there
-    /// are no others. Access where the old directory may not be written, or the new one, or a directory that is to move
-    /// from one to the other; NoEntry where the new directory is removed; NotDirectory of a directory onto what is
-    /// none; IsDirectory of what is none onto a directory; NotEmpty onto a directory that has names.
+    /// followed. What the new name held loses it: a file or link has one name fewer, and stays with none too; a
+    /// directory is removed. Where both names hold one node, both stay, as with POSIX's `rename`. `requires_dir` asks
+    /// for a directory, as a slash at the end of a path does. Refusals: the rows for the old name, then those for the
+    /// new one; Busy where either is `.`; NoEntry where the old name is missing; NotDirectory where a directory is
+    /// asked for and it holds none; Invalid where the new directory is the node that is to move, or is below it;
+    /// NotEmpty where the new name holds a directory which is the old directory, or has it below. Where both names hold
+    /// one node there are no others. Access where the old directory may not be written, or the new one, or a directory
+    /// that is to move from one to the other; NoEntry where the new directory is removed; NotDirectory of a directory
+    /// onto what is none; IsDirectory of what is none onto a directory; NotEmpty onto a directory that has names.
     fn rename_at(
         &mut self,
         old: Handle,
@@ -167,8 +167,8 @@ pub trait Host {
             ((world self.old).held new).node (name_bytes new_name.entry) requires_dir)
             (λ unit. unit) result };
 
-    /// Drops a name of a file or link, which stays while a handle stands for it. Refusals: the rows for a name;
-    /// IsDirectory of `.`; NoEntry where the name is missing; Access where the directory may not be written;
+    /// Drops a name of a file or link, which has one name fewer, and stays with none too. Refusals: the rows for a
+    /// name; IsDirectory of `.`; NoEntry where the name is missing; Access where the directory may not be written;
     /// IsDirectory where the name holds a directory.
     fn unlink_at(&mut self, start: Handle, name: Name<'_>) -> Result<(), HostError>
         requires { contains (live self.old) start ≡ true }

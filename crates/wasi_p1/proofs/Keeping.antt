@@ -12,7 +12,7 @@ use Rattle.std.specs.Prelude.{codes}
 use Rattle.wasi_host.specs.declared.errors.ErrorCode.{ErrorCode}
 use Rattle.wasi_host.specs.declared.errors.ErrorCode.TheVariants.{IsDirectory}
 use Rattle.wasi_host.specs.Steps.{◌>>=◌}
-use Rattle.wasi_fs.specs.Calls.{may_change, may_link, may_rename, may_add_name, opens}
+use Rattle.wasi_fs.specs.Calls.{may_change, may_link, may_add_name, opens}
 use Rattle.wasi_fs.specs.OpenHow.{OpenHow, may_open, options_of}
 use Rattle.wasi_resolve.specs.Walk.{Open, Outcome, Stop, Name, Dot, walk, last_options}
 use Rattle.wasi_resolve.specs.AtPlace.{ReadLink, place_for, step_in}
@@ -117,15 +117,7 @@ unfolding may_link
 no_link ReadOnly target may is = absurd (cc)
 no_link perms target may is = absurd (cc)
 
--- nor does a name move between two directories
-pub no_rename : (old new : FsPerms) {u : Unit {0}} → permit (may_rename old new) ≡ Ok u
-    → (old ≡ ReadOnly → ⊥) × (new ≡ ReadOnly → ⊥)
-unfolding may_rename
-no_rename ReadOnly new may = absurd (cc)
-no_rename ReadWrite ReadOnly may = absurd (cc)
-no_rename ReadWrite ReadWrite may = (λ is. absurd (cc), λ is. absurd (cc))
-
--- nor is one added
+-- nor does a node get a name
 pub no_new_name : (old new : FsPerms) (follow : Bool) {u : Unit {0}} → permit (may_add_name old new follow) ≡ Ok u
     → (old ≡ ReadOnly → ⊥) × (new ≡ ReadOnly → ⊥)
 unfolding may_add_name

@@ -1,5 +1,5 @@
 -- What holds of each row, part by part.
-use Rattle.std.proofs.Common.{ℕ, ◌≡◌, length, [], ◌∷◌, refl, ap, sym, ◌∙◌, subst, take, slice_get, Option, Some, None, Ok, Err}
+use Rattle.std.proofs.Common.{ℕ, ◌≡◌, length, false, [], ◌∷◌, refl, ap, sym, ◌∙◌, subst, take, slice_get, Option, Some, None, Ok, Err}
 use Rattle.std.specs.Prelude.{Contains}
 use Rattle.wasi_fs.specs.declared.perms.FsPerms.{FsPerms}
 use Rattle.wasi_fs.specs.declared.perms.FsPerms.TheVariants.{ReadOnly}
@@ -30,7 +30,7 @@ use Rattle.wasi_host.proofs.Leaving.{Contains-here}
 use Rattle.wasi_resolve.proofs.Requests.{from_two}
 use Rattle.wasi_p1.proofs.Bytes.{put_bytes, range_bytes, text_utf8, cut}
 use Rattle.wasi_p1.proofs.Changing.{named_directory, named_file, named_node, start_is, directory_perms, file_perms, node_perms, put_back, put_closed, put_opened, put_nothing, written_places, written_ends, written_bytes, stated_places, stated_ends, stated_bytes}
-use Rattle.wasi_p1.proofs.Keeping.{open_keeps, read_only_kept, no_write, no_change, no_link, no_rename, no_new_name, link_leaves}
+use Rattle.wasi_p1.proofs.Keeping.{open_keeps, read_only_kept, no_write, no_change, no_link, no_new_name, link_leaves}
 use Rattle.wasi_p1.proofs.Near.{Has, StaysNear, AsksNear, IsNear, MayBeAsked, given_by}
 use Rattle.wasi_p1.proofs.Wanting.{Never, how_never, follow_never, times_never, node_never, text_never, directory_never, start_never, permit_never, buffer_never, file_never, range_never, write_never, live_never}
 
@@ -204,7 +204,7 @@ path_rename_near : (g : Guest) (old_fd old_path old_len new_fd new_path new_len 
 unfolding path_rename
 path_rename_near g old_fd old_path old_len new_fd new_path new_len =
     done_between_near g _ old_fd old_path old_len new_fd new_path new_len may_rename Rename refl refl
-    (λ old new _. no_rename old new)
+    (λ old new _. no_new_name old new false)
 
 path_link_near : (g : Guest) (old_fd old_flags old_path old_len new_fd new_path new_len : ℕ)
     → IsNear g (PathLink old_fd old_flags old_path old_len new_fd new_path new_len)

@@ -249,7 +249,7 @@ path_filestat_set_times g fd flags path len atim mtim fst_flags = do
   _ ← permit (may_change d.perms)
   ask (Path (TimesPath d.node text follow times.atime times.mtime)) (λ _. give (Nothing, g))
 
--- the same of a directory or file by its number, which isn't refused further
+-- the same of a directory or file by its number; no host refuses it
 unfoldable pub fd_filestat_set_times : Guest → ℕ → ℕ → ℕ → ℕ → Row (Program (Value × Guest))
 fd_filestat_set_times g fd atim mtim fst_flags = do
   times ← times_asked atim mtim fst_flags
@@ -274,7 +274,7 @@ unfoldable pub path_rename : Guest → ℕ → ℕ → ℕ → ℕ → ℕ → �
 path_rename g old_fd old_path old_len new_fd new_path new_len =
     done_between g old_fd old_path old_len new_fd new_path new_len may_rename Rename
 
--- the same, but that an unknown bit is refused `inval` before all, and a link that is to be followed isn't permitted
+-- the same, but that an unknown bit is refused `inval` before all, and a link that is to be followed in its place
 unfoldable pub path_link : Guest → ℕ → ℕ → ℕ → ℕ → ℕ → ℕ → ℕ → Row (Program (Value × Guest))
 path_link g old_fd old_flags old_path old_len new_fd new_path new_len = do
   follow ← follow_asked old_flags

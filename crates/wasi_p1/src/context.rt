@@ -507,8 +507,9 @@ impl<H: Host> WasiP1Ctx<H> {
     }
 
     /// Sets the times of the node of a descriptor, as `path_filestat_set_times` does. It takes no memory. Refusals, in
-    /// this order: Inval of an unknown flag, and of a time both given and the wall clock's; Badf where the number isn't a
-    /// directory's or file's; Perm under read-only permissions. POSIX's `futimens` refuses no others of an open node.
+    /// this order: Inval of an unknown flag, and of a time both given and the wall clock's; Badf where the number isn't
+    /// a directory's or file's; Perm under read-only permissions. No host refuses it further, where POSIX's `futimens`
+    /// may.
     #[tactic(auto, using(crate::proofs::Taking::refused), unfolding(crate::specs::Rows::fd_filestat_set_times))]
     pub fn fd_filestat_set_times(
         &mut self,
@@ -532,15 +533,15 @@ impl<H: Host> WasiP1Ctx<H> {
     }
 
     /// Gives the file or link under the path in one range of memory a further name, the path in another, each from the
-    /// directory of a descriptor of its own; a link itself gets the name, not what it leads to. Refusals, in this order:
-    /// Inval of an unknown flag; Badf where the old number isn't a directory's, and then where the new one isn't; trap
-    /// Pointer and Ilseq of the old text, and then of the new one; Perm where the old directory's permissions are
-    /// read-only, and then where the new one's are; Inval of SYMLINK_FOLLOW; Perm where the two differ; those of the walk
-    /// to the directory of the old name, as in `path_open`, Noent of an empty text among them, and then of the new one;
-    /// those of every host call by a name, as in `path_create_directory`, of the old name and then of the new one; then
-    /// those of POSIX's `linkat`: Noent where the old name is missing, Exist where the new one is there, `.` and `..` among
-    /// them, Noent where its directory is removed, Acces where that may not be written, Perm of a directory, Mlink of a
-    /// node that has as many names as it may.
+    /// directory of a descriptor of its own; a link itself gets the name, not what it leads to. Refusals, in this
+    /// order: Inval of an unknown flag; Badf where the old number isn't a directory's, and then where the new one
+    /// isn't; trap Pointer and Ilseq of the old text, and then of the new one; Perm where the old directory's
+    /// permissions are read-only, and then where the new one's are; Inval of SYMLINK_FOLLOW; Perm where the two differ;
+    /// those of the walk to the directory of the old name, as in `path_open`, Noent of an empty text among them, and
+    /// then of the new one; those of every host call by a name, as in `path_create_directory`, of the old name and then
+    /// of the new one; then those of POSIX's `linkat`: Noent where the old name is missing, Exist where the new one is
+    /// there, a path that ends in `/`, `.` or `..` among them, Noent where its directory is removed, Acces where that
+    /// may not be written, Perm of a directory, Mlink of a node that has as many names as it may.
     #[tactic(auto, using(crate::proofs::Taking::refused, crate::proofs::CallTracing::traced_between), unfolding(crate::specs::Rows::path_link))]
     pub fn path_link(
         &mut self,
@@ -570,19 +571,19 @@ impl<H: Host> WasiP1Ctx<H> {
     }
 
     /// Moves what is under the path in one range of memory to the path in another, each from the directory of a
-    /// descriptor of its own; a link itself is moved. Slashes behind either name are let go, and then a directory is asked
-    /// for. What the new name held loses it: a file or link stays while a descriptor stands for it, and an empty directory
-    /// is removed. Refusals, in this order: Badf where the old number isn't a directory's, and then where the new one
-    /// isn't; trap Pointer and Ilseq of the old text, and then of the new one; Perm where the old directory's permissions
-    /// are read-only, then where the new one's are, and then where the two differ; those of the walk to the directory of
-    /// the old name, as in `path_open`, Noent of an empty text among them, and then of the new one; those of every host
-    /// call by a name, as in `path_create_directory`, of the old name and then of the new one; then those of POSIX's
-    /// `renameat`: Busy of a path that ends in `.` or `..`, Noent where the old name is missing, Notdir where a directory
-    /// is asked for and it holds none, Inval of a directory into itself or below, Notempty onto a directory in or below
-    /// which the old name is. Where both names hold one node there are no others, and nothing changes. Acces where the old
-    /// directory may not be written, or the new one, or a directory that is to move from one to the other; Noent where the
-    /// new directory is removed; Notdir of a directory onto what is none; Isdir of what is none onto a directory; Notempty
-    /// onto a directory that has names.
+    /// descriptor of its own; a link itself is moved. Slashes behind either name are let go, and then a directory is
+    /// asked for. What the new name held loses it: a file or link has one name fewer, and stays with none too; an empty
+    /// directory is removed. Refusals, in this order: Badf where the old number isn't a directory's, and then where the
+    /// new one isn't; trap Pointer and Ilseq of the old text, and then of the new one; Perm where the old directory's
+    /// permissions are read-only, then where the new one's are, and then where the two differ; those of the walk to the
+    /// directory of the old name, as in `path_open`, Noent of an empty text among them, and then of the new one; those
+    /// of every host call by a name, as in `path_create_directory`, of the old name and then of the new one; then those
+    /// of POSIX's `renameat`: Busy of a path that ends in `.` or `..`, Noent where the old name is missing, Notdir
+    /// where a directory is asked for and it holds none, Inval of a directory into itself or below, Notempty onto a
+    /// directory in or below which the old name is. Where both names hold one node there are no others, and nothing
+    /// changes. Acces where the old directory may not be written, or the new one, or a directory that is to move from
+    /// one to the other; Noent where the new directory is removed; Notdir of a directory onto what is none; Isdir of
+    /// what is none onto a directory; Notempty onto a directory that has names.
     #[tactic(auto, using(crate::proofs::Taking::refused, crate::proofs::CallTracing::traced_between), unfolding(crate::specs::Rows::path_rename))]
     pub fn path_rename(
         &mut self,

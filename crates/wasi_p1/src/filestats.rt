@@ -1,6 +1,6 @@
 //! The record that tells of a node.
 ghost use Rattle.std.specs.Prelude.{◌≡◌, false, IfErr};
-ghost use Rattle.wasi_p1.specs.CallParts.{is_failure, NotMemory};
+ghost use Rattle.wasi_p1.specs.CallParts.{is_failure};
 ghost use Rattle.wasi_p1.specs.Filestats.{filetype_of, nanoseconds_in, filestat_in};
 
 use crate::error::P1Error;

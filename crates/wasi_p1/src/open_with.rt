@@ -1,5 +1,5 @@
 //! How a path is opened or looked at.
-ghost use Rattle.std.specs.Prelude.{◌≡◌, ◌||◌, false, IfErr};
+ghost use Rattle.std.specs.Prelude.{◌≡◌, false, IfErr};
 ghost use Rattle.std.specs.Result.{result_map_both};
 ghost use Rattle.wasi_fs.specs.OpenHow.{is_followed};
 ghost use Rattle.wasi_fs.specs.OpenHow.{how_of};

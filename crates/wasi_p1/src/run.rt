@@ -1,5 +1,5 @@
 //! A list of calls, one after another.
-ghost use Rattle.std.specs.Prelude.{◌≡◌, ◌≤◌, length, IsTrue, IfOk, IfErr, true};
+ghost use Rattle.std.specs.Prelude.{◌≡◌, ◌≤◌, length, IsTrue, IfOk, IfErr};
 ghost use Rattle.wasi_p1.specs.CallTurn.{Causes, OthersStay, Looks, FollowsRow};
 ghost use Rattle.wasi_p1.specs.Guest.{state_of};
 ghost use Rattle.wasi_p1.specs.Run.{AnswersEach, answer_of, ends, ios, Allows, answered_in, DidRun, StoodAt};

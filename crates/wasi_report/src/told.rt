@@ -1,9 +1,7 @@
 //! Writing the parts of a report.
 ghost use Rattle.std.specs.Prelude.{◌≡◌, ◌++◌, OnOk, All};
 ghost use Rattle.hex.specs.Hex.{IsBytes};
-ghost use Rattle.json.specs.Token.{key};
-ghost use Rattle.serde_json.specs.Data.{Data, array};
-ghost use Rattle.serde_json.specs.View.{items_of};
+ghost use Rattle.serde_json.specs.Data.{Data};
 ghost use Rattle.wasi_report.specs.ReadBack.{FitsNumber, FitsTime};
 ghost use Rattle.wasi_report.specs.Report.{list_value, hex_value, number_value, time_value};
 ghost use Rattle.wasi_report.specs.Told.{told};

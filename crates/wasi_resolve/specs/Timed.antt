@@ -15,7 +15,7 @@ reads_after (Code Access) = true
 reads_after (Code IsDirectory) = true
 reads_after (Code code) = false
 
--- where that is refused Access too, nothing is left by which times could be set
+-- where that is refused Access, nothing is left by which times could be set
 abbrev pub read_refused : HostError → HostError
 read_refused Memory = Memory
 read_refused (Code Access) = Code Unsupported

@@ -148,9 +148,9 @@ pub fn symlink<H: Host>(
 }
 
 /// Sets the given times of what the place holds that a path names below a start directory, that of its last read and
-/// that of its last change: the crate's `set_times_nofollow`. One that isn't given stays, and a link's times are its
-/// own. Refusals: those of the walk to the name's directory, NoEntry of the empty path, then those of the host's
-/// `times_at`.
+/// that of its last change: the crate's `set_times_nofollow`. One that isn't given stays. A link's times are its own,
+/// unless a slash stands behind it: then the place is `.` in the directory that it leads to. Refusals: those of the
+/// walk to the name's directory, NoEntry of the empty path, then those of the host's `times_at`.
 pub fn set_times_nofollow<H: Host>(
     alloc: Global,
     host: &mut H,

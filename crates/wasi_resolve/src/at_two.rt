@@ -18,8 +18,9 @@ use wasi_paths::{path_has_trailing_slash, strip_dir_suffix};
 
 /// Gives the file or link at the place that the old path names below one start directory a further name, at the place
 /// that the new path names below another: the crate's `hard_link`, as POSIX's `linkat` without its flag. A link itself
-/// gets the name, not what it leads to. Refusals: those of the walk to the old name's directory, NoEntry of the empty
-/// old path, then the same of the new path, then those of the host's `link_at`.
+/// gets the name, not what it leads to. A path that ends in `/`, `.` or `..` stands for a directory, so that such an
+/// old one is NotPermitted at the end, and such a new one Exist. Refusals: those of the walk to the old name's
+/// directory, NoEntry of the empty old path, then the same of the new path, then those of the host's `link_at`.
 ///
 /// Memory is taken as the walks take it. Where it is wanted, the tree and the live handles are as before.
 pub fn hard_link<H: Host>(
@@ -62,8 +63,9 @@ pub fn hard_link<H: Host>(
 
 /// Moves what the place holds that the old path names below one start directory to the place that the new path names
 /// below another: the crate's `rename`. Slashes behind either name are let go, and then a directory is asked for. What
-/// the new place held loses its name. Refusals: those of the walk to the old name's directory, NoEntry of the empty old
-/// path, then the same of the new path, then those of the host's `rename_at`, which moves nothing into itself or below.
+/// the new place held loses its name; where both places hold one node, all stays as it is. A path that then ends in `.`
+/// or `..` is Busy. Refusals: those of the walk to the old name's directory, NoEntry of the empty old path, then the
+/// same of the new path, then those of the host's `rename_at`, which moves nothing into itself or below.
 ///
 /// Memory is taken as the walks take it. Where it is wanted, the tree and the live handles are as before.
 pub fn rename<H: Host>(

@@ -3,7 +3,6 @@ ghost use Rattle.std.specs.Prelude.{◌≡◌, ◌∷◌, ◌&&◌, ◌||◌, no
 ghost use Rattle.std.specs.FinSet.{contains};
 ghost use Rattle.wasi_host.specs.Meaning.{HasCause, World};
 ghost use Rattle.wasi_host.specs.Lineage.{Traced, Only, Nothing};
-ghost use Rattle.wasi_host.specs.Tree.{is_link};
 ghost use Rattle.wasi_paths.specs.Text.{is_plain};
 ghost use Rattle.wasi_paths.specs.Name.{name_bytes};
 ghost use Rattle.wasi_paths.specs.Parts.{Component, Normal};

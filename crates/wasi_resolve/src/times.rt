@@ -14,8 +14,8 @@ use std::alloc::Global;
 use wasi_host::{ErrorCode, Handle, Host, HostError, OpenOptions, SystemTime};
 
 /// Sets the given times of what a path leads to below a start directory, links followed: that of its last read, and
-/// that of its last change. One that isn't given stays. The crate's `set_times` of `manually`: what the path leads to is
-/// opened for writing; only after Access or IsDirectory is it opened for reading; where that is refused Access too, the
+/// that of its last change. One that isn't given stays. The crate's `set_times` of `manually`: what the path leads to
+/// is opened for writing; only after Access or IsDirectory is it opened for reading; where that is refused Access, the
 /// answer is Unsupported. Every other refusal is that of the open. Then the times are set through the handle.
 ///
 /// Memory is taken as the walks take it. Where it is wanted, the tree and the live handles are as before.

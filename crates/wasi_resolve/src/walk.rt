@@ -1,11 +1,10 @@
 //! The walk along the parts of a path.
-ghost use Rattle.std.specs.Prelude.{◌≡◌, ◌∷◌, ◌++◌, [], ◌≤◌, ◌+◌, ◌*◌, ◌&&◌, ◌||◌, ℕ, true, IsTrue, List, length};
+ghost use Rattle.std.specs.Prelude.{◌≡◌, ◌∷◌, ◌≤◌, ◌+◌, ◌*◌, ◌&&◌, ◌||◌, ℕ, true, IsTrue, List, length};
 ghost use Rattle.std.specs.FinSet.{contains};
-ghost use Rattle.wasi_host.specs.Meaning.{HasCause, LiveGot, World};
+ghost use Rattle.wasi_host.specs.Meaning.{HasCause, World};
 ghost use Rattle.wasi_host.specs.Lineage.{Traced, Only, Nothing};
 ghost use Rattle.wasi_paths.specs.Parts.{Component, trailing_slash, is_empty};
 ghost use Rattle.wasi_resolve.specs.Walk.{walk};
-ghost use Rattle.wasi_resolve.specs.ByNodes.{walk_nodes};
 ghost use Rattle.wasi_resolve.specs.NameText.{left_bytes};
 ghost use Rattle.wasi_resolve.specs.Left.{component_left, parts_left, is_nil};
 ghost use Rattle.wasi_resolve.specs.Stack.{Stands, Among};

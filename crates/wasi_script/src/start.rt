@@ -1,5 +1,5 @@
 //! The context and the memory in which the calls of a script begin, and the memory that is shown after them.
-ghost use Rattle.std.specs.Prelude.{◌≡◌, ℕ, true, length, map, replicate, All, IfOk};
+ghost use Rattle.std.specs.Prelude.{◌≡◌, true, length, map, replicate, All, IfOk};
 ghost use Rattle.std.specs.List.{list_all};
 ghost use Rattle.wasi_host.specs.Tree.{node_at, is_directory};
 ghost use Rattle.wasi_host.specs.ValidTree.{AreLimits};

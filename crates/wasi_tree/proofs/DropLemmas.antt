@@ -9,7 +9,7 @@ use Rattle.wasi_host.specs.Step.{with_nodes, without_name, one_name_less, made_g
 use Rattle.wasi_host.specs.declared.errors.ErrorCode.{ErrorCode}
 use Rattle.wasi_host.specs.declared.errors.ErrorCode.TheVariants as codes
 use Rattle.wasi_host.proofs.Changes.{node_at-other}
-use Rattle.wasi_tree.specs.DropRows.{dropping_rows, name_lost, name_taken, node_lost}
+use Rattle.wasi_tree.specs.DropRows.{dropping_rows, name_lost, directory_without, node_lost}
 use Rattle.wasi_tree.proofs.NameLemmas.{get-no_names}
 use Rattle.wasi_tree.proofs.StoreLemmas.{child_is}
 
@@ -137,7 +137,7 @@ removes {t} {n = n} may is = dropped_as may name_lost made_gone (lost_directory 
 
 -- the directory is another node than the one that loses the name
 pub dropped_apart : (t : Tree) (d n : ℕ) (name : List ℕ) → d < next_of t → nat_eq n d ≡ false
-    → node_lost (name_taken t d name) n ≡ name_dropped t d name name_lost n
+    → node_lost (directory_without t d name) n ≡ name_dropped t d name name_lost n
 dropped_apart t d n name within apart =
     ap (λ (node : Node). record t {
       nodes = slice_set (slice_set t.nodes d (without_name (node_at t d) name)) n

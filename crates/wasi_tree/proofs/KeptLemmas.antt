@@ -11,7 +11,7 @@ use Rattle.wasi_host.specs.Step.{node_made, file_cut, no_bytes, bytes_put, piece
 use Rattle.wasi_host.specs.declared.system_time.SystemTime.{SystemTime}
 use Rattle.wasi_host.proofs.Changes.{changed, directory_within, next_of-changed, next_of-made, node_at-other}
 use Rattle.wasi_tree.specs.LinkRows.{name_put, node_gained}
-use Rattle.wasi_tree.specs.Parents.{parent_in, named_at, AreParents, IsKept}
+use Rattle.wasi_tree.specs.ParentOf.{parent_of, named_at, AreParents, IsKept}
 use Rattle.wasi_tree.proofs.LinkLemmas.{MayLink, none_there, added_apart, links_directory, links_none, links_missing, links_apart}
 use Rattle.wasi_tree.proofs.ParentLemmas.{SameNames, names_same, names_changed, parents_after, parents_same, stands_leaf, taken_kinds, parents_taken, parents_put_leaf, parents_grown}
 use Rattle.wasi_tree.proofs.SoundLemmas.{Seen, seen, seen-no_bytes, seen-piece_in, seen-one_name_more, seen-one_name_less, seen-made_gone}
@@ -193,7 +193,7 @@ parents_leaf {t} {n} {parents} parent within leaf are =
       still = λ d m name other is. is;
       before = λ d m name other is. is;
     })
-    (stands_leaf (parent_in parents n) within leaf)
+    (stands_leaf (parent_of parents n) within leaf)
     (record { here = refl; others = λ m other. sym (get_or-set_other parents n m parent None other) })
     (sym (length-set parents n parent) ∙ are.len)
 

@@ -12,9 +12,9 @@ use Rattle.wasi_host.specs.Tree.{Tree, Node, Nodes, Names, Directory, node_at, n
 use Rattle.wasi_host.specs.Step.{with_nodes, with_name, without_name, name_dropped, name_lost}
 use Rattle.wasi_host.proofs.Changes.{changed, directory_within, next_of-changed, node_at-changed, node_at-other, node_at-same}
 use Rattle.wasi_host.proofs.EntryLemmas.{nat_eq-refl}
-use Rattle.wasi_tree.specs.DropRows.{name_taken, node_lost}
+use Rattle.wasi_tree.specs.DropRows.{directory_without, node_lost}
 use Rattle.wasi_tree.specs.LinkRows.{name_put}
-use Rattle.wasi_tree.specs.Parents.{named_at}
+use Rattle.wasi_tree.specs.ParentOf.{named_at}
 use Rattle.wasi_tree.specs.RenameRows.{IsMove, found_lost, name_moved_onto}
 use Rattle.wasi_tree.proofs.NameLemmas.{same_names}
 use Rattle.wasi_tree.proofs.ParentLemmas.{same_name}
@@ -262,7 +262,7 @@ module _ (t : Tree) (old new n : ℕ) (old_name new_name : List ℕ) where
   worked_some m = same_set nat_cmp_total nat_cmp-IsAntisymmetric _ _ (λ q. grind (arith, members, nat_tests))
 
   pub moved_as : (there : Option ℕ) → IsMove t old old_name new new_name n there
-      → name_taken (found_lost (name_put t new new_name n) there) old old_name
+      → directory_without (found_lost (name_put t new new_name n) there) old old_name
       ≡ name_moved_onto t old old_name new new_name n there
   moved_as None is = λ i.
       let u : Tree = record {

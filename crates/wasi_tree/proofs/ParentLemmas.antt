@@ -13,16 +13,16 @@ use Rattle.wasi_host.specs.Step.{without_name, with_name, node_made}
 use Rattle.wasi_host.proofs.Changes.{changed, directory_within, next_of-changed, node_at-changed, node_at-other, node_at-same, node_at-past, node_at-parent, node_at-apart, node_at-made, node_at-kept, next_of-made}
 use Rattle.wasi_host.proofs.EntryLemmas.{unnamed, get-inserted, get-kept, get-removed, get-left}
 use Rattle.wasi_host.proofs.Leaving.{no_name, node_made_leaves, without_name_names}
-use Rattle.wasi_tree.specs.Parents.{parent_in, named_at, AreParents}
+use Rattle.wasi_tree.specs.ParentOf.{parent_of, named_at, AreParents}
 
 -- ---- one node stands elsewhere
 
 -- a node has this parent, and each other the one that it had
 pub record Places (old new : List (Option ℕ)) (n : ℕ) (parent : Option ℕ) : Type 0 where
-  pub here : parent_in new n ≡ parent
-  pub others : (m : ℕ) → m ≢ n → parent_in new m ≡ parent_in old m
+  pub here : parent_of new n ≡ parent
+  pub others : (m : ℕ) → m ≢ n → parent_of new m ≡ parent_of old m
 
-pub places_same : (parents : List (Option ℕ)) (n : ℕ) → Places parents parents n (parent_in parents n)
+pub places_same : (parents : List (Option ℕ)) (n : ℕ) → Places parents parents n (parent_of parents n)
 places_same parents n = record { here = refl; others = λ m other. refl }
 
 pub places_set : (parents : List (Option ℕ)) (n : ℕ) (parent : Option ℕ) → n < length parents
@@ -91,7 +91,7 @@ module _ {t u : Tree} {n : ℕ} {parent : Option ℕ} {old new : List (Option �
     ];
     up = λ d m name directory is. elim (cases_eq m n) [
       | inl here ↦
-          ap (parent_in new) here ∙ places.here
+          ap (parent_of new) here ∙ places.here
           ∙ stands.up d name (here_directory here directory) (is ∙ ap Some here)
       | inr other ↦
           places.others m other
@@ -100,7 +100,7 @@ module _ {t u : Tree} {n : ℕ} {parent : Option ℕ} {old new : List (Option �
     down = λ d m directory is. elim (cases_eq m n) [
       | inl here ↦
           let found = stands.down d (here_directory here directory)
-          (sym places.here ∙ sym (ap (parent_in new) here) ∙ is) in
+          (sym places.here ∙ sym (ap (parent_of new) here) ∙ is) in
           (found.0, found.1 ∙ ap Some (sym here))
       | inr other ↦
           let found = are.down d m (directory_before m other directory) (sym (places.others m other) ∙ is) in
@@ -363,7 +363,7 @@ module _ (t : Tree) (d n : ℕ) (name : List ℕ) (worked : Nodes) (directory : 
   parents_put_leaf {parents} are within leaf =
       let next = next_of-changed t d (with_name (node_at t d) name n) worked in
       parents_after are put_moves
-      (stands_leaf (parent_in parents n) (omega (arith, within, next)) (put_kinds n ∙ leaf))
+      (stands_leaf (parent_of parents n) (omega (arith, within, next)) (put_kinds n ∙ leaf))
       (places_same parents n) (are.len ∙ sym next)
 
 -- ---- a node more, under a name of a directory

@@ -9,7 +9,7 @@ use Rattle.wasi_tree.specs.declared.node.NewEntry.{NewEntry}
 use Rattle.wasi_tree.specs.declared.node.NewNode.{NewNode}
 use Rattle.wasi_tree.specs.Given.{Given, pair_of, given, given_content, given_entries}
 use Rattle.wasi_tree.specs.FitTests.{entry_numbers}
-use Rattle.wasi_tree.specs.Parents.{parent_in, ArePut, numbers_at, TellParents}
+use Rattle.wasi_tree.specs.ParentOf.{parent_of, ArePut, numbers_at, TellParents}
 use Rattle.wasi_tree.proofs.CountLemmas.{entry_numbers-take}
 use Rattle.wasi_tree.proofs.FoundLemmas.{only, first_of, entries_are, has_numbers}
 
@@ -34,12 +34,12 @@ pub put_here : (d n : ℕ) (parents : List (Option ℕ)) → n < length parents
 put_here d n parents within = record {
   len = length-set parents n (Some d);
   given = λ m has inside.
-      subst (λ k. parent_in (slice_set parents n (Some d)) k ≡ Some d) (only n m has)
+      subst (λ k. parent_of (slice_set parents n (Some d)) k ≡ Some d) (only n m has)
       (get_or-set_same parents n (Some d) None within);
   from = λ m. elim (cases_eq m n) [
     | inl here ↦ inr (
       subst (Contains (n ∷ [])) (sym here) (first_of n),
-      ap (parent_in (slice_set parents n (Some d))) here ∙ get_or-set_same parents n (Some d) None within,
+      ap (parent_of (slice_set parents n (Some d))) here ∙ get_or-set_same parents n (Some d) None within,
     )
     | inr other ↦ inl (get_or-set_other parents n m (Some d) None other)
   ];
@@ -77,15 +77,15 @@ put_entry {d} {old} {mid} {new} entries i entry are within at more =
 pub record TellFirst (nodes : List Given) (count : ℕ) (parents : List (Option ℕ)) : Type 0 where
   pub len : length parents ≡ length nodes
   pub given : (d n : ℕ) → d < count → Contains (numbers_at nodes d) n → n < length nodes
-      → (e : ℕ) × (parent_in parents n ≡ Some e)
-  pub from : (d n : ℕ) → parent_in parents n ≡ Some d → Contains (numbers_at nodes d) n
+      → (e : ℕ) × (parent_of parents n ≡ Some e)
+  pub from : (d n : ℕ) → parent_of parents n ≡ Some d → Contains (numbers_at nodes d) n
 
 pub tell_none : {start : List (Option ℕ)} (nodes : List NewNode) → start ≡ replicate (length nodes) None
     → TellFirst (map given nodes) 0 start
 tell_none {start} nodes is =
     let count : length start ≡ length nodes = ap length is ∙ length-replicate (length nodes) None in
-    let nothing : (n : ℕ) → parent_in start n ≡ None = λ n. elim (cases_lt n (length nodes)) [
-      | inl within ↦ ap (λ ps. parent_in ps n) is ∙ get_or-replicate (length nodes) n None None within
+    let nothing : (n : ℕ) → parent_of start n ≡ None = λ n. elim (cases_lt n (length nodes)) [
+      | inl within ↦ ap (λ ps. parent_of ps n) is ∙ get_or-replicate (length nodes) n None None within
       | inr past ↦ get_or_past start n None (omega (arith, count, past))
     ] in record {
       len = count ∙ sym (length-map nodes given);

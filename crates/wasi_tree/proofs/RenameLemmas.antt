@@ -13,7 +13,7 @@ use Rattle.wasi_host.specs.Step.{found_under, with_nodes, moved_step, rename_ste
 use Rattle.wasi_host.specs.declared.errors.ErrorCode.{ErrorCode}
 use Rattle.wasi_host.specs.declared.errors.HostError.TheVariants.{Code}
 use Rattle.wasi_host.proofs.EntryLemmas.{nat_eq-refl}
-use Rattle.wasi_tree.specs.Parents.{AreParents}
+use Rattle.wasi_tree.specs.ParentOf.{AreParents}
 use Rattle.wasi_tree.specs.RenameRows.{naming_rows, is_dir_at, loop_rows, moving_by, IsMove, name_moved_onto}
 use Rattle.wasi_tree.specs.TouchedTree.{Touched, Answers, Refuses}
 use Rattle.wasi_tree.proofs.DropLemmas.{refused_before, left_behind}

@@ -9,7 +9,7 @@ use Rattle.wasi_host.specs.Tree.{Tree, Content, File, Directory, Link, node_at, 
 use Rattle.wasi_host.specs.Below.{is_within, is_below}
 use Rattle.wasi_host.proofs.EntryLemmas.{find_in, unnamed, get_entry, nat_eq-refl}
 use Rattle.wasi_host.proofs.Touching.{or_left, or_right, one_of}
-use Rattle.wasi_tree.specs.Parents.{parent_in, named_at, AreParents, goes_up, is_on_way}
+use Rattle.wasi_tree.specs.ParentOf.{parent_of, named_at, AreParents, goes_up, is_on_way}
 
 -- ---- tests of some entry
 
@@ -94,21 +94,21 @@ module _ (t : Tree) where
 
 module _ (parents : List (Option ℕ)) where
   -- at its upper end
-  way_longer : (k m top n : ℕ) → parent_in parents m ≡ Some top → is_on_way parents k m n ≡ true
+  way_longer : (k m top n : ℕ) → parent_of parents m ≡ Some top → is_on_way parents k m n ≡ true
       → is_on_way parents (suc k) top n ≡ true
   unfolding is_on_way
   way_longer zero m top n up is =
-      or_right (nat_eq n top) (goes_up (is_on_way parents zero top) (parent_in parents n))
-      (ap (λ j. goes_up (is_on_way parents zero top) (parent_in parents j)) (eqb-true n m is)
+      or_right (nat_eq n top) (goes_up (is_on_way parents zero top) (parent_of parents n))
+      (ap (λ j. goes_up (is_on_way parents zero top) (parent_of parents j)) (eqb-true n m is)
       ∙ ap (goes_up (is_on_way parents zero top)) up ∙ nat_eq-refl top)
   way_longer (suc k) m top n up is =
-      or_right (nat_eq n top) (goes_up (is_on_way parents (suc k) top) (parent_in parents n))
-      (elim (one_of (nat_eq n m) (goes_up (is_on_way parents k m) (parent_in parents n)) is) [
-        | inl later ↦ by (parent_in parents n) (λ p rest. way_longer k m top p up rest) later
+      or_right (nat_eq n top) (goes_up (is_on_way parents (suc k) top) (parent_of parents n))
+      (elim (one_of (nat_eq n m) (goes_up (is_on_way parents k m) (parent_of parents n)) is) [
+        | inl later ↦ by (parent_of parents n) (λ p rest. way_longer k m top p up rest) later
         | inr here ↦
-            ap (λ j. goes_up (is_on_way parents (suc k) top) (parent_in parents j)) (eqb-true n m here)
+            ap (λ j. goes_up (is_on_way parents (suc k) top) (parent_of parents j)) (eqb-true n m here)
             ∙ ap (goes_up (is_on_way parents (suc k) top)) up
-            ∙ or_left (nat_eq top top) (goes_up (is_on_way parents k top) (parent_in parents top)) (nat_eq-refl top)
+            ∙ or_left (nat_eq top top) (goes_up (is_on_way parents k top) (parent_of parents top)) (nat_eq-refl top)
       ])
     where
       by : (above : Option ℕ)
@@ -123,7 +123,7 @@ pub way_here : (parents : List (Option ℕ)) (k top n : ℕ) → n ≡ top → i
 unfolding is_on_way
 way_here parents zero top n here = ap (λ j. nat_eq j top) here ∙ nat_eq-refl top
 way_here parents (suc k) top n here =
-    or_left (nat_eq n top) (goes_up (is_on_way parents k top) (parent_in parents n))
+    or_left (nat_eq n top) (goes_up (is_on_way parents k top) (parent_of parents n))
     (ap (λ j. nat_eq j top) here ∙ nat_eq-refl top)
 
 pub way_ends : (parents : List (Option ℕ)) (top n : ℕ) → is_on_way parents 0 top n ≡ nat_eq n top
@@ -131,12 +131,12 @@ unfolding is_on_way
 way_ends parents top n = refl
 
 pub way_up : (parents : List (Option ℕ)) (k top n : ℕ) → n ≢ top
-    → is_on_way parents (k + 1) top n ≡ goes_up (is_on_way parents k top) (parent_in parents n)
+    → is_on_way parents (k + 1) top n ≡ goes_up (is_on_way parents k top) (parent_of parents n)
 unfolding is_on_way
 way_up parents k top n other =
     let more : k + 1 ≡ suc k = omega arith in
     ap (λ m. is_on_way parents m top n) more
-    ∙ ap (λ b. b || goes_up (is_on_way parents k top) (parent_in parents n)) (ne_eqb n top other)
+    ∙ ap (λ b. b || goes_up (is_on_way parents k top) (parent_of parents n)) (ne_eqb n top other)
 
 -- ---- both ways
 
@@ -152,12 +152,12 @@ module _ {t : Tree} {parents : List (Option ℕ)} (are : AreParents t parents) w
   unfolding is_within is_on_way
   way_within zero top n directory is = is
   way_within (suc k) top n directory is =
-      elim (one_of (nat_eq n top) (goes_up (is_on_way parents k top) (parent_in parents n)) is) [
-        | inl later ↦ by (parent_in parents n) refl (λ p kind rest. way_within k top p kind rest) later
+      elim (one_of (nat_eq n top) (goes_up (is_on_way parents k top) (parent_of parents n)) is) [
+        | inl later ↦ by (parent_of parents n) refl (λ p kind rest. way_within k top p kind rest) later
         | inr here ↦ or_left (nat_eq n top) (list_any (λ e. is_within t k e.1 n) (below_of t top)) here
       ]
     where
-      by : (above : Option ℕ) → parent_in parents n ≡ above
+      by : (above : Option ℕ) → parent_of parents n ≡ above
           → ((p : ℕ) → is_directory (node_at t p).content ≡ true → is_on_way parents k top p ≡ true
           → is_within t k top p ≡ true)
           → goes_up (is_on_way parents k top) above ≡ true → is_within t (suc k) top n ≡ true
@@ -180,7 +180,7 @@ module _ {t : Tree} {parents : List (Option ℕ)} (are : AreParents t parents) w
             (are.up top entry.1 entry.0 (within_directory t k entry.1 n directory found.2)
             (get_entry (names_of (node_at t top).content) found.0 ([], 0) found.1))
             (within_way k entry.1 n directory found.2)
-        | inr here ↦ or_left (nat_eq n top) (goes_up (is_on_way parents k top) (parent_in parents n)) here
+        | inr here ↦ or_left (nat_eq n top) (goes_up (is_on_way parents k top) (parent_of parents n)) here
       ]
 
   pub way_is_below : (top n : ℕ) → is_directory (node_at t n).content ≡ true

@@ -19,8 +19,8 @@ dropping_rows t d name dot =
     ∷ []
 
 -- a directory without this name
-abbrev pub name_taken : Tree → ℕ → List ℕ → Tree
-name_taken t d name = record t {
+abbrev pub directory_without : Tree → ℕ → List ℕ → Tree
+directory_without t d name = record t {
   nodes = slice_set t.nodes d (without_name (node_at t d) name);
   worked = with_nodes t.worked (d ∷ []);
 }

@@ -9,7 +9,7 @@ use Rattle.wasi_host.specs.declared.errors.ErrorCode.{ErrorCode}
 use Rattle.wasi_host.specs.declared.errors.ErrorCode.TheVariants as codes
 use Rattle.wasi_tree.specs.DropRows.{name_lost, node_lost}
 use Rattle.wasi_tree.specs.LinkRows.{both_rows}
-use Rattle.wasi_tree.specs.Parents.{named_at}
+use Rattle.wasi_tree.specs.ParentOf.{named_at}
 
 -- the rows for the names, and for what the old one holds
 abbrev pub old_rows : Tree → ℕ → List ℕ → List ℕ → Bool → List (Bool × ErrorCode)

@@ -125,7 +125,7 @@ impl MemTree {
         Ok(self.slots.give(Held { node, mode }))
     }
 
-    /// The numbers of the touched nodes, rising: of each call's handle, of the node under its name, and of those made.
+    /// The numbers of the touched nodes, rising: of each call's handles, of the nodes under its names, and of those made.
     pub fn touched(&self, alloc: Global) -> Result<Vec<u64>, AllocError>
         ensures nodes { IfOk result (λ nodes. from_list nodes.items ≡ self.now.touched) }
         ensures rising { IfOk result (λ nodes. IsStrictlySortedBy nat_cmp nodes.items) }

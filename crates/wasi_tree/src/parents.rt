@@ -1,9 +1,9 @@
 //! In which directory each directory stands.
-ghost use Rattle.std.specs.Prelude.{◌≡◌, ◌<◌, ◌≤◌, ◌++◌, ◌∷◌, [], IfOk, OnOk, length, map, Some, slice_set, vec_len, vec_capacity};
+ghost use Rattle.std.specs.Prelude.{◌≡◌, ◌<◌, ◌++◌, ◌∷◌, [], IfOk, OnOk, length, map, Some, slice_set, vec_len, vec_capacity};
 ghost use Rattle.std.specs.Option.{ForSome};
 ghost use Rattle.wasi_tree.specs.Given.{given};
 ghost use Rattle.wasi_tree.specs.FitTests.{entry_numbers};
-ghost use Rattle.wasi_tree.specs.Parents.{parent_in, is_on_way, without_parent, ArePut, TellParents};
+ghost use Rattle.wasi_tree.specs.ParentOf.{parent_of, is_on_way, without_parent, ArePut, TellParents};
 
 use crate::fit::entries_of;
 use crate::node::{NewEntry, NewNode};
@@ -67,7 +67,7 @@ impl Parents {
 
     /// The directory of a node; none of a number out of range.
     fn parent(&self, node: u64) -> Option<u64>
-        ensures { result ≡ parent_in self.now.rows.items node }
+        ensures { result ≡ parent_of self.now.rows.items node }
     {
         if node >= self.rows.len() as u64 {
             return None;

@@ -1,7 +1,7 @@
 //! One node, as it is stored.
 ghost use Rattle.std.specs.Prelude.{◌≡◌, ◌+◌, ◌-◌, ◌^◌, ◌<◌, ◌≤◌, List, IfOk, OnOk, OnErr, length, map, true, not, nat_eq, ◌&&◌};
 ghost use Rattle.std.specs.FinMap as maps;
-ghost use Rattle.wasi_host.specs.Tree.{Directory, is_directory, is_file, is_link, is_gone, names_of, bytes_of, text_of};
+ghost use Rattle.wasi_host.specs.Tree.{Directory, is_directory, is_file, is_link, is_gone, names_of, links_of, bytes_of, text_of};
 ghost use Rattle.std.specs.String.{string_bytes};
 ghost use Rattle.wasi_host.specs.Step.{new_node, new_file, new_directory, new_link, no_bytes, piece_in, with_piece, with_times, one_name_more};
 ghost use Rattle.wasi_host.specs.declared.limits.TheConstants.{FILE_MAX};
@@ -9,7 +9,7 @@ ghost use Rattle.wasi_tree.specs.Given.{Given, pair_of, given, given_content, gi
 ghost use Rattle.wasi_tree.specs.Lent.{lent, lent_content};
 ghost use Rattle.wasi_tree.specs.StoredTree.{names_in, stored_content};
 ghost use Rattle.wasi_tree.specs.DropRows.{name_lost};
-ghost use Rattle.wasi_host.specs.Answer.{kind_of, size_of, links_of, metadata_from};
+ghost use Rattle.wasi_host.specs.Answer.{kind_of, size_of, metadata_from};
 
 use crate::node::{LentContent, LentNode, NewContent, NewEntry, NewNode, new_bits};
 use std::alloc::{AllocError, Global};

@@ -1,11 +1,11 @@
 //! The nodes by number.
-ghost use Rattle.std.specs.Prelude.{◌≡◌, ◌+◌, ◌-◌, ◌<◌, ◌≤◌, ◌^◌, ℕ, OnOk, Some, None, IfSome, IfOk, IfErr, OnErr, MatchResult, Ok, Err, if◌then◌else◌, take, drop, length, map, true, false, nat_eq, IsTrue, All};
+ghost use Rattle.std.specs.Prelude.{◌≡◌, ◌+◌, ◌-◌, ◌<◌, ◌≤◌, ◌^◌, OnOk, Some, None, IfSome, IfOk, IfErr, OnErr, MatchResult, Ok, Err, if◌then◌else◌, take, drop, length, map, true, false, IsTrue, All};
 ghost use Rattle.wasi_paths.specs.Name.{name_bytes};
 ghost use Rattle.wasi_paths.specs.Text.{is_entry_name};
-ghost use Rattle.wasi_host.specs.Tree.{Tree, next_of, node_at, child, is_directory, links_of};
-ghost use Rattle.wasi_host.specs.HostCall.{OpenAt, StatAt, ReadLinkAt, MakeDirAt, SymlinkAt, LinkAt, UnlinkAt, RemoveDirAt, TimesAt, Access, Stat, Pread, Pwrite};
+ghost use Rattle.wasi_host.specs.Tree.{Tree, next_of, node_at, child, is_directory};
+ghost use Rattle.wasi_host.specs.HostCall.{OpenAt, StatAt, MakeDirAt, SymlinkAt, Access};
 ghost use Rattle.wasi_host.specs.Refusal.{refusal, first_row, name_rows, text_rows};
-ghost use Rattle.wasi_host.specs.Step.{is_cut, file_cut, node_made, file_made, directory_made, link_made, bytes_put, write_step, name_dropped, unlink_step, remove_step, times_set, times_step, name_added};
+ghost use Rattle.wasi_host.specs.Step.{is_cut, file_cut, node_made, file_made, directory_made, link_made, bytes_put, write_step, times_set};
 ghost use Rattle.wasi_host.specs.Answer.{metadata_of, kind_of, stat_at_answer, link_answer, access_answer, bytes_read, bytes_taken, entry_of, listed, list_answer};
 ghost use Rattle.wasi_host.specs.declared.limits.TheConstants.{FILE_MAX};
 ghost use Rattle.std.specs.Option.{ForSome};
@@ -17,8 +17,6 @@ ghost use Rattle.wasi_tree.specs.StoredTree.{stored_node, names_in};
 ghost use Rattle.std.specs.FinMap as maps;
 ghost use Rattle.wasi_tree.specs.OpenRows.{missing_rows, found_rows};
 ghost use Rattle.wasi_tree.specs.NewRows.{entry_rows, growing_rows, new_name_rows};
-ghost use Rattle.wasi_tree.specs.DropRows.{dropping_rows, name_lost, name_taken, node_lost};
-ghost use Rattle.wasi_tree.specs.LinkRows.{links_rows, name_put, node_gained};
 ghost use Rattle.wasi_tree.specs.TouchedTree.{MeansCode};
 
 use crate::errors::TreeError;
@@ -367,7 +365,7 @@ impl Store {
     }
 
     /// The text of the link that a name holds.
-    pub fn link_at(
+    pub fn read_link_at(
         &self,
         directory: u64,
         name: Name<'_>,

@@ -8,7 +8,7 @@ ghost use Rattle.wasi_host.specs.HostCall.{LinkAt, UnlinkAt, RemoveDirAt, TimesA
 ghost use Rattle.wasi_host.specs.Refusal.{refusal, first_row};
 ghost use Rattle.wasi_host.specs.Step.{name_dropped, unlink_step, remove_step, times_step, name_added};
 ghost use Rattle.wasi_tree.specs.Sound.{Stays};
-ghost use Rattle.wasi_tree.specs.DropRows.{dropping_rows, name_lost, name_taken, node_lost};
+ghost use Rattle.wasi_tree.specs.DropRows.{dropping_rows, name_lost, directory_without, node_lost};
 ghost use Rattle.wasi_tree.specs.LinkRows.{both_rows, links_rows, name_put, node_gained};
 ghost use Rattle.wasi_tree.specs.RenameRows.{naming_rows, access_rows, replacing_rows, moving_by, IsMove, found_lost, name_moved_onto};
 
@@ -394,7 +394,7 @@ impl Store {
     /// Takes a name out of a directory.
     fn take_name(&mut self, directory: u64, name: Name<'_>)
         requires { is_directory (node_at self.old directory).content ≡ true }
-        ensures taken { self.new ≡ name_taken self.old directory (name_bytes name.entry) }
+        ensures taken { self.new ≡ directory_without self.old directory (name_bytes name.entry) }
         ensures stays { Stays self.old self.new }
         ensures count { next_of self.new ≡ next_of self.old }
     {

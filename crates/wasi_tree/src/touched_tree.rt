@@ -4,7 +4,7 @@ ghost use Rattle.std.specs.FinSet.{empty};
 ghost use Rattle.std.specs.String.{string_bytes};
 ghost use Rattle.wasi_paths.specs.Name.{name_bytes};
 ghost use Rattle.wasi_paths.specs.Text.{is_entry_name};
-ghost use Rattle.wasi_host.specs.Tree.{Tree, next_of, node_at, is_directory, hold_one};
+ghost use Rattle.wasi_host.specs.Tree.{next_of, node_at, is_directory, hold_one};
 ghost use Rattle.wasi_host.specs.Below.{is_below};
 ghost use Rattle.wasi_host.specs.Refusal.{first_row};
 ghost use Rattle.wasi_host.specs.Answer.{entry_of};
@@ -37,7 +37,7 @@ pub struct TouchedTree {
 }
 
 impl Model for TouchedTree {
-    ghost use Rattle.wasi_tree.specs.Parents.{IsKept};
+    ghost use Rattle.wasi_tree.specs.ParentOf.{IsKept};
     ghost use Rattle.wasi_tree.specs.TouchedTree.{Touched, touched_code};
 
     ghost Value = { Touched };
@@ -145,7 +145,7 @@ impl TouchedTree {
     {
         let found = self.store.child(directory, name);
         self.touched.mark_found(directory, found);
-        let text = self.store.link_at(directory, name, found)?;
+        let text = self.store.read_link_at(directory, name, found)?;
         Ok(String::from_str(alloc, text)?)
     }
 
@@ -262,20 +262,20 @@ impl TouchedTree {
         requires new { is_directory (node_at self.now.tree new).content ≡ true }
         ensures { result ≡ first_row (loop_rows self.now.tree old new (Some node) there) }
     {
-        if self.holds(node, new) {
+        if self.has_below(node, new) {
             return Some(ErrorCode::Invalid);
         }
         let Some(lost) = there else {
             return None;
         };
-        if self.holds(lost, old) {
+        if self.has_below(lost, old) {
             return Some(ErrorCode::NotEmpty);
         }
         None
     }
 
     /// Whether a node is a directory, and another directory is this one or below it.
-    fn holds(&self, top: u64, directory: u64) -> bool
+    fn has_below(&self, top: u64, directory: u64) -> bool
         requires { is_directory (node_at self.now.tree directory).content ≡ true }
         ensures { result ≡ (is_directory (node_at self.now.tree top).content && is_below self.now.tree top directory) }
     {

@@ -100,9 +100,9 @@ const TIMING: Calls = &[
 
 // Node 0 has a directory of a directory of a file, an empty directory, a file with two names, and a link. Node 6 may not
 // be written: it has an empty directory, which may be, and a file. Node 9 may not be searched. Node 10, which may not be
-// written, is empty, and node 11 is removed.
+// written, is empty, and nodes 11 and 14 are removed, of which the second may not be written.
 const MOVES: &str =
-    "a=1,e=3,f=4,g=4,l=5,w=6,x=9,z=10 b=2,s=12 k=13 - :hello @f m=7,n=8!r-x - : -!rw- -!r-x - - :";
+    "a=1,e=3,f=4,g=4,l=5,w=6,x=9,z=10 b=2,s=12 k=13 - :hello @f m=7,n=8!r-x - : -!rw- -!r-x - - : -!r-x";
 
 // The rows in order, each where those behind it would refuse too, if they can.
 const RENAMING: Calls = &[
@@ -115,9 +115,11 @@ const RENAMING: Calls = &[
     ("0 . 0 n", "Busy"),
     ("0 n 0 .", "Busy"),
     ("0 n 0 f/", "NoEntry"),
+    ("1 q 0 a", "NoEntry"),
     ("0 f 0 n/", "NotDirectory"),
     ("0 l 0 m/", "NotDirectory"),
     ("6 n 6 p/", "NotDirectory"),
+    ("2 k 0 a/", "NotDirectory"),
     ("0 a 1 n", "Invalid"),
     ("0 a 2 n", "Invalid"),
     ("0 a 1 b", "Invalid"),
@@ -134,6 +136,9 @@ const RENAMING: Calls = &[
     ("0 f 6 m", "Access"),
     ("0 z 11 n", "Access"),
     ("0 z 1 s", "Access"),
+    ("0 e 14 n", "Access"),
+    ("0 z 2 k", "Access"),
+    ("0 z 1 b", "Access"),
     ("0 e 11 n", "NoEntry"),
     ("0 f 11 n", "NoEntry"),
     ("0 e 0 f", "NotDirectory"),
@@ -164,7 +169,7 @@ const MOVED: Calls = &[
     ("rename 12 n 0 f", "NotDirectory"),
     (
         "tree",
-        "-,f=13,g=4,l=5,s=12,w=6,x=9,z=10!rwx -,b=3!rwx -!rwx -!rwx :hello!rw- @f!rwx -,m=7,n=8!r-x -!rwx :!rw- -!rw- -!r-x -!rwx -,n=1!rwx :!rw- ",
+        "-,f=13,g=4,l=5,s=12,w=6,x=9,z=10!rwx -,b=3!rwx -!rwx -!rwx :hello!rw- @f!rwx -,m=7,n=8!r-x -!rwx :!rw- -!rw- -!r-x -!rwx -,n=1!rwx :!rw- -!r-x ",
     ),
     ("touched", "0 1 2 3 4 12 13 "),
     (
@@ -351,8 +356,8 @@ fn answered(rt: HostRuntime) {
         (TREE, 10, "rmdir ", REMOVING),
         (TREE, 10, "link ", LINKING),
         (TREE, 10, "times 1 2 ", TIMING),
-        (MOVES, 13, "rename ", RENAMING),
-        (MOVES, 13, "", MOVED),
+        (MOVES, 14, "rename ", RENAMING),
+        (MOVES, 14, "", MOVED),
         (GUESTS, 5, "", GUEST_MOVES),
         (LISTED, 4, "", LISTINGS),
         ("f=1,d=2 :hello -", 2, "", LINKS),

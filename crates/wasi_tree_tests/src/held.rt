@@ -3,7 +3,7 @@ ghost use Rattle.std.specs.Prelude.{◌≡◌, true};
 ghost use Rattle.std.specs.FinSet.{contains};
 ghost use Rattle.wasi_tree.specs.MemState.{live_of};
 
-use crate::asked::Change::{MakeDir, RemoveDir, Symlink, Unlink};
+use crate::asked::Change::{MakeDir, RemoveDir, Symlink, Times, Unlink};
 use crate::asked::{apply, changed, moment, name_of, opened};
 use crate::listed::tree_of;
 use std::test::Fail;
@@ -17,7 +17,7 @@ fn refusals(
     directory: Handle,
     text: &str,
     target: &str,
-) -> [Option<HostError>; 4]
+) -> [Option<HostError>; 5]
     requires { contains (live_of tree.old.handles) directory ≡ true }
     ensures { live_of tree.new.handles ≡ live_of tree.old.handles }
 {
@@ -26,7 +26,8 @@ fn refusals(
     let linked = apply(tree, directory, name, Symlink(target)).err();
     let unlinked = apply(tree, directory, name, Unlink).err();
     let removed = apply(tree, directory, name, RemoveDir).err();
-    [made, linked, unlinked, removed]
+    let timed = apply(tree, directory, name, Times(None, None)).err();
+    [made, linked, unlinked, removed, timed]
 }
 
 #[test]
@@ -39,7 +40,7 @@ fn removed_directory(rt: HostRuntime) -> Result<(), Fail> {
     };
     assert_eq!(rt; apply(&mut tree, root, name_of("d"), RemoveDir), Ok(()));
     let refused = refusals(&mut tree, directory, "n", "t");
-    assert_eq!(rt; refused, [Some(HostError::Code(NoEntry)); 4]);
+    assert_eq!(rt; refused, [Some(HostError::Code(NoEntry)); 5]);
     let told = tree
         .stat(directory)
         .map(|told| (told.ino(), told.file_type()));
@@ -53,10 +54,17 @@ fn open_file(rt: HostRuntime) -> Result<(), Fail> {
     let mut tree = tree_of(rt.alloc(), "f=1 :hello", 3)?;
     let file = opened(&mut tree, 0, "f", "rw")?;
     let refused = refusals(&mut tree, file, "n\0", "");
-    assert_eq!(rt; refused, [Some(HostError::Code(NotDirectory)); 4]);
+    assert_eq!(rt; refused, [Some(HostError::Code(NotDirectory)); 5]);
     let Ok(root) = tree.handle(0) else {
         panic!(rt; "node 0");
     };
+    let beside = [
+        tree.link_at(file, name_of("n\0"), root, name_of("n\0")),
+        tree.link_at(root, name_of("n\0"), file, name_of("n\0")),
+        tree.rename_at(file, name_of("n\0"), root, name_of("n\0"), true),
+        tree.rename_at(root, name_of("n\0"), file, name_of("n\0"), true),
+    ];
+    assert_eq!(rt; beside, [Err(HostError::Code(NotDirectory)); 4]);
     assert_eq!(rt; apply(&mut tree, root, name_of("f"), Unlink), Ok(()));
     assert_eq!(rt; tree.pwrite(file, b"J", 0), Ok(1));
     let mut buf = [0; 8];

@@ -194,7 +194,15 @@ const TIMES_REFUSED: Case<'static> = Case {
 #[test]
 fn moved(rt: HostRuntime) -> Result<(), Fail> {
     let alloc = rt.alloc();
-    for case in [LINKS, NO_MORE_NODES, STAYING, MOVED_OVER, MOVED, BITS] {
+    for case in [
+        LINKS,
+        NO_MORE_NODES,
+        STAYING,
+        MOVED_OVER,
+        MOVED,
+        BITS,
+        TIMES,
+    ] {
         let calls = case.calls;
         assert!(rt; ends_so(alloc, case)?, "of {calls}");
     }
@@ -209,7 +217,6 @@ fn refused(rt: HostRuntime) -> Result<(), Fail> {
         RENAMES_REFUSED,
         OLD_LINK_OUTSIDE,
         OLD_NAME_OUTSIDE,
-        TIMES,
         TIMES_REFUSED,
     ] {
         let calls = case.calls;

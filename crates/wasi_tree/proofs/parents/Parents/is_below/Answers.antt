@@ -1,5 +1,5 @@
 use Rattle.std.proofs.Common.{◌≡◌, ◌∙◌, ◌+◌, ◌-◌, ℕ, None, length, sym, ap, arith}
-use Rattle.wasi_tree.specs.Parents.{parent_in, goes_up, is_on_way}
+use Rattle.wasi_tree.specs.ParentOf.{parent_of, goes_up, is_on_way}
 use Rattle.wasi_tree.proofs.TouchedLemmas.{none_of}
 use Rattle.wasi_tree.proofs.WayLemmas.{way_here, way_ends, way_up}
 use Rattle.wasi_tree.proofs.parents.Parents.is_below.Goals as goal
@@ -14,7 +14,7 @@ returns-then-here-top c =
 pub returns-in_default : goal.returns-in_default
 returns-in_default c =
     let left : ℕ = length c.args.self.now.rows.items - (c.loop-step._step + 1) in
-    let top : parent_in c.args.self.now.rows.items c.loop-step.here ≡ None =
+    let top : parent_of c.args.self.now.rows.items c.loop-step.here ≡ None =
     sym c.parent.ensures ∙ none_of _ c.in_default.not-Some in
     sym (way_up c.args.self.now.rows.items left c.args.top c.loop-step.here c.if-here-top.false
     ∙ ap (goes_up (is_on_way c.args.self.now.rows.items left c.args.top)) top)

@@ -1,5 +1,5 @@
 use Rattle.std.proofs.Common.{◌≡◌, ◌+◌, ℕ, length}
-use Rattle.wasi_tree.specs.Parents.{is_on_way}
+use Rattle.wasi_tree.specs.ParentOf.{is_on_way}
 use Rattle.wasi_tree.proofs.parents.Parents.is_below.Given as goal
 
 abbrev pub invariant-loop-step : goal.invariant-loop-step

@@ -1,7 +1,7 @@
 use Rattle.std.proofs.Common.{◌≡◌, ◌∙◌, ap}
 use Rattle.wasi_paths.specs.Name.{name_bytes}
 use Rattle.wasi_host.specs.Tree.{Tree, node_at, is_directory}
-use Rattle.wasi_tree.specs.DropRows.{name_taken}
+use Rattle.wasi_tree.specs.DropRows.{directory_without}
 use Rattle.wasi_tree.specs.LinkRows.{name_put}
 use Rattle.wasi_tree.specs.RenameRows.{found_lost}
 use Rattle.wasi_tree.proofs.MoveLemmas.{moved_as, put_from}
@@ -22,6 +22,6 @@ take_name-requires c =
 pub returns-clause-moved : goal.returns-clause-moved
 returns-clause-moved c =
     c.take_name.ensures.taken
-    ∙ ap (λ (u : Tree). name_taken u c.args.old (name_bytes c.args.old_name))
+    ∙ ap (λ (u : Tree). directory_without u c.args.old (name_bytes c.args.old_name))
     (lost (goal.at.returns-clause-moved c).After-lose_found)
     ∙ moved_as _ _ _ _ _ _ c.args.there c.requires

@@ -1,7 +1,7 @@
 use Rattle.std.proofs.Common.{map, sym, subst, arith}
 use Rattle.std.proofs.lemmas.Grind.{common_steps}
 use Rattle.wasi_tree.specs.Given.{given}
-use Rattle.wasi_tree.specs.Parents.{AreParents, TellParents}
+use Rattle.wasi_tree.specs.ParentOf.{AreParents, TellParents}
 use Rattle.wasi_tree.proofs.NewParents.{new_parents}
 use Rattle.wasi_tree.proofs.touched_tree.TouchedTree.new.Goals as goal
 

@@ -5,12 +5,12 @@ use Rattle.wasi_tree.proofs.touched_tree.TouchedTree.refuse_loop.Goals as goal
 
 pub returns-in_default : goal.returns-in_default
 returns-in_default c =
-    sym (loop_none _ _ _ _ _ c.requires.new (sym c.if-holds.ensures) (none_of _ c.in_default.not-Some))
+    sym (loop_none _ _ _ _ _ c.requires.new (sym c.if-has_below.ensures) (none_of _ c.in_default.not-Some))
 
-pub returns-then-holds-2 : goal.returns-then-holds-2
-returns-then-holds-2 c =
-    sym (loop_some _ _ _ _ _ c.requires.new true (sym c.if-holds.ensures) c.in-Some.is (sym c.if-holds-2.ensures))
+pub returns-then-has_below-2 : goal.returns-then-has_below-2
+returns-then-has_below-2 c =
+    sym (loop_some _ _ _ _ _ c.requires.new true (sym c.if-has_below.ensures) c.in-Some.is (sym c.if-has_below-2.ensures))
 
 pub returns : goal.returns
 returns c =
-    sym (loop_some _ _ _ _ _ c.requires.new false (sym c.if-holds.ensures) c.in-Some.is (sym c.if-holds-2.ensures))
+    sym (loop_some _ _ _ _ _ c.requires.new false (sym c.if-has_below.ensures) c.in-Some.is (sym c.if-has_below-2.ensures))

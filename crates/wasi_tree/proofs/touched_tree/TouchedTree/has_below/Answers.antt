@@ -3,7 +3,7 @@ use Rattle.wasi_host.specs.Below.{is_below}
 use Rattle.wasi_host.specs.Tree.{is_directory, node_at}
 use Rattle.wasi_tree.specs.TouchedTree.{Touched}
 use Rattle.wasi_tree.proofs.WayLemmas.{way_is_below}
-use Rattle.wasi_tree.proofs.touched_tree.TouchedTree.holds.Goals as goal
+use Rattle.wasi_tree.proofs.touched_tree.TouchedTree.has_below.Goals as goal
 
 pub returns-then-is_directory : goal.returns-then-is_directory
 returns-then-is_directory c =

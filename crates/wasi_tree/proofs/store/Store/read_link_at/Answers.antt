@@ -2,7 +2,7 @@ use Rattle.std.proofs.Common.{◌∙◌, sym, ap}
 use Rattle.std.proofs.lemmas.Result.{err_from_is_err_and}
 use Rattle.wasi_host.specs.Tree.{Node, is_link, text_of}
 use Rattle.wasi_tree.proofs.StoreLemmas.{link_refused, no_link_refused, link_is}
-use Rattle.wasi_tree.proofs.store.Store.link_at.Goals as goal
+use Rattle.wasi_tree.proofs.store.Store.read_link_at.Goals as goal
 
 pub returns-in_err-node-clause-meaning : goal.returns-in_err-node-clause-meaning
 returns-in_err-node-clause-meaning c =

@@ -6,8 +6,8 @@ use Rattle.wasi_tree.specs.Given.{Given}
 use Rattle.wasi_tree.specs.Fit.{entries_at}
 
 -- the directory of a node; none of a number out of range
-abbrev pub parent_in : List (Option ℕ) → ℕ → Option ℕ
-parent_in parents n = slice_index_or parents n None
+abbrev pub parent_of : List (Option ℕ) → ℕ → Option ℕ
+parent_of parents n = slice_index_or parents n None
 
 -- what a name of a node holds
 abbrev pub named_at : Tree → ℕ → List ℕ → Option ℕ
@@ -18,8 +18,8 @@ pub record AreParents (t : Tree) (parents : List (Option ℕ)) : Type 0 where
   pub len : length parents ≡ next_of t
   pub within : (d n : ℕ) (name : List ℕ) → named_at t d name ≡ Some n → n < next_of t
   pub up : (d n : ℕ) (name : List ℕ) → is_directory (node_at t n).content ≡ true → named_at t d name ≡ Some n
-      → parent_in parents n ≡ Some d
-  pub down : (d n : ℕ) → is_directory (node_at t n).content ≡ true → parent_in parents n ≡ Some d
+      → parent_of parents n ≡ Some d
+  pub down : (d n : ℕ) → is_directory (node_at t n).content ≡ true → parent_of parents n ≡ Some d
       → (name : List ℕ) × (named_at t d name ≡ Some n)
   pub once : (d n : ℕ) (name other : List ℕ) → is_directory (node_at t n).content ≡ true → named_at t d name ≡ Some n
       → named_at t d other ≡ Some n → name ≡ other
@@ -41,13 +41,13 @@ goes_up from (Some parent) = from parent
 
 unfoldable pub is_on_way : List (Option ℕ) → ℕ → ℕ → ℕ → Bool
 is_on_way parents zero top n = nat_eq n top
-is_on_way parents (suc steps) top n = nat_eq n top || goes_up (is_on_way parents steps top) (parent_in parents n)
+is_on_way parents (suc steps) top n = nat_eq n top || goes_up (is_on_way parents steps top) (parent_of parents n)
 
 -- each of these numbers that is in range stands in this directory, and each other as before
 pub record ArePut (d : ℕ) (numbers : List ℕ) (old new : List (Option ℕ)) : Type 0 where
   pub len : length new ≡ length old
-  pub given : (n : ℕ) → Contains numbers n → n < length old → parent_in new n ≡ Some d
-  pub from : (n : ℕ) → (parent_in new n ≡ parent_in old n) ⊎ (Contains numbers n × (parent_in new n ≡ Some d))
+  pub given : (n : ℕ) → Contains numbers n → n < length old → parent_of new n ≡ Some d
+  pub from : (n : ℕ) → (parent_of new n ≡ parent_of old n) ⊎ (Contains numbers n × (parent_of new n ≡ Some d))
 
 -- the numbers of the entries of a node
 abbrev pub numbers_at : List Given → ℕ → List ℕ
@@ -56,5 +56,5 @@ numbers_at nodes d = map (λ e. e.1) (entries_at nodes d)
 -- each number that entries give stands in a directory whose entries give it
 pub record TellParents (nodes : List Given) (parents : List (Option ℕ)) : Type 0 where
   pub len : length parents ≡ length nodes
-  pub given : (d n : ℕ) → Contains (numbers_at nodes d) n → n < length nodes → (e : ℕ) × (parent_in parents n ≡ Some e)
-  pub from : (d n : ℕ) → parent_in parents n ≡ Some d → Contains (numbers_at nodes d) n
+  pub given : (d n : ℕ) → Contains (numbers_at nodes d) n → n < length nodes → (e : ℕ) × (parent_of parents n ≡ Some e)
+  pub from : (d n : ℕ) → parent_of parents n ≡ Some d → Contains (numbers_at nodes d) n
