@@ -3,7 +3,7 @@ use Rattle.std.proofs.Common.{sym, length-append, ℕ, List, ◌<◌, ◌+◌, �
 use Rattle.std.proofs.Math.Seq.{take-add, drop-append_seam}
 use Rattle.std.proofs.lemmas.List.{length-take, length-drop, drop_all, drop-drop, take-append-drop}
 use Rattle.std.proofs.lemmas.Grind.{common_steps}
-use Rattle.wasi_ends.specs.Ends.{Gave}
+use Rattle.wasi_ends.specs.Ends.{Gave, ReadFront, most_bytes}
 
 pub grown : (had now taken text : List ℕ) (done n : ℕ) → now ≡ had ++ take n (take (length text - done) (drop done text)) → had ≡ taken ++ take done text → n ≤ length text - done
     → now ≡ taken ++ take (done + n) text
@@ -28,3 +28,12 @@ pub too_long : (left all rest : List ℕ) (most : ℕ) → left ≡ all ++ rest 
 too_long left all rest most is over fits =
     let len : length all ≡ most + 1 = omega arith in
     (rw is (omega (arith, length-append all rest)), rw (is, ← len) (sym (drop-append_seam all rest)))
+
+-- a front that was read, and what was given behind it
+pub read_on : {left now rest buf : List ℕ} {n : ℕ} (all : List ℕ) → left ≡ all ++ now → Gave now rest buf n
+    → length all + n ≤ most_bytes + 1 → ReadFront left rest
+read_on {left} {now} {rest} {buf} {n} all is gave short = record {
+  front = all ++ take n buf;
+  whole = is ∙ rw (gave.next, append_assoc) refl;
+  short = omega (arith, length-append all (take n buf), length-take n buf);
+}

@@ -1,5 +1,5 @@
 -- What reads and writes do to what is left and taken, and which calls of an end in memory fail.
-use Rattle.std.specs.Prelude.{ℕ, List, [], ◌+◌, ◌-◌, ◌^◌, ◌<◌, ◌≤◌, ◌≡◌, ◌++◌, Bool, true, ◌&&◌, if◌then◌else◌, nat_eq, nat_lt, min, length, take, drop, Result, Ok, Err}
+use Rattle.std.specs.Prelude.{ℕ, List, [], ◌+◌, ◌-◌, ◌^◌, ◌<◌, ◌≤◌, ◌≡◌, ◌++◌, Bool, true, ◌&&◌, if◌then◌else◌, nat_eq, nat_lt, min, length, take, drop, Option, Result, Ok, Err}
 use Rattle.std.specs.List.{list_any}
 use Rattle.wasi_ends.specs.declared.reading.Unfinished.{Unfinished}
 use Rattle.wasi_ends.specs.declared.reading.Unfinished.TheVariants.{Long, Fault, Memory}
@@ -14,12 +14,23 @@ pub record TookFront (taken now text : List ℕ) : Type 0 where
   pub count : ℕ
   pub front : now ≡ taken ++ take count text
 
--- what reading to the end gives of what was left, and what is left then: a text that is too long is read one byte past the limit
-abbrev pub ReadAll : ℕ → Result (List ℕ) Unfinished → List ℕ → List ℕ → Type 0
-ReadAll most (Ok bytes) left rest = (bytes ≡ left) × (rest ≡ []) × (length bytes ≤ most)
-ReadAll most (Err Long) left rest = (most < length left) × (rest ≡ drop (most + 1) left)
-ReadAll most (Err Fault) left rest = Unit {0}
-ReadAll most (Err Memory) left rest = Unit {0}
+-- how many bytes are read at most
+abbrev pub most_bytes : ℕ
+most_bytes = 16777216
+
+-- a front of what was left was read, at most one byte past the limit
+pub record ReadFront (left rest : List ℕ) : Type 0 where
+  pub front : List ℕ
+  pub whole : left ≡ front ++ rest
+  pub short : length front ≤ most_bytes + 1
+
+-- What reading to the end gives of what was left, and what is left then. A text that is too long is read one byte past
+-- the limit, and no more than that is read before a fault or want of memory.
+abbrev pub ReadAll : Result (List ℕ) Unfinished → List ℕ → List ℕ → Type 0
+ReadAll (Ok bytes) left rest = (bytes ≡ left) × (rest ≡ []) × (length bytes ≤ most_bytes)
+ReadAll (Err Long) left rest = (most_bytes < length left) × (rest ≡ drop (most_bytes + 1) left)
+ReadAll (Err Fault) left rest = ReadFront left rest
+ReadAll (Err Memory) left rest = ReadFront left rest
 
 -- so many calls came, the calls of these numbers fail, and so many failed
 pub record Schedule : Type 0 where
@@ -42,6 +53,16 @@ after_call s failed = record {
   failing = s.failing;
   faults = if failed then one_more s.faults else s.faults;
 }
+
+-- what is known of the bytes that a reader has left, and how often it failed
+pub record KnownLeft : Type 0 where
+  pub left : Option (List ℕ)
+  pub faults : ℕ
+
+-- what is known of the bytes that a writer holds, and how often it failed, or took nothing
+pub record KnownTaken : Type 0 where
+  pub taken : Option (List ℕ)
+  pub faults : ℕ
 
 -- the bytes that a source in memory has left
 pub record BytesLeft : Type 0 where

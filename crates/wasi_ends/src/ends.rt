@@ -18,8 +18,9 @@ pub trait Source {
     /// How often it failed. The count stands still at 2^64 - 1.
     ghost faults: { Self → ℕ };
 
-    /// Puts the next bytes into the front of the buffer, and answers how many: 0 for a buffer that isn't empty exactly
-    /// where none is left. The rest of the buffer stays as it was, and after a failure all of it.
+    /// Puts the next bytes into the front of the buffer, and answers how many: where it tells its bytes, 0 for a buffer
+    /// that isn't empty exactly where none is left. The rest of the buffer stays as it was, and after a failure all of
+    /// it, and none of its bytes is lost then.
     fn read(&mut self, buf: &mut [u8]) -> Result<usize, Failed>
         ensures fits { IfOk result (λ n. n ≤ length buf.old) }
         ensures bytes { IsTrue told → IfOk result (λ n. Gave (left self.old) (left self.new) buf.new n) }

@@ -10,5 +10,5 @@ mod writing;
 pub use bytes_ends::{BytesSink, BytesSource};
 pub use ends::{Failed, Sink, Source};
 pub use reading::{MOST, Unfinished, read_all};
-pub use standard_ends::{StdinSource, StdoutSink};
+pub use standard_ends::{ReaderSource, StdinSource, StdoutSink, WriterSink};
 pub use writing::write_all;

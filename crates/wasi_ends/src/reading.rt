@@ -7,7 +7,7 @@ ghost use Rattle.wasi_ends.specs.Ends.{ReadAll};
 use crate::ends::Source;
 use std::alloc::Global;
 
-/// The largest script has so many bytes.
+/// How many bytes are read at most: 16,777,216, as many as the largest script has.
 pub const MOST: usize = 16_777_216;
 
 // How many bytes are read at once.
@@ -16,7 +16,7 @@ const CHUNK: usize = 65_536;
 /// Why a source wasn't read to its end.
 #[derive(Clone, Copy, Debug, PartialEq, Eq)]
 pub enum Unfinished {
-    /// More than `MOST` bytes were left.
+    /// More than 16,777,216 bytes were left.
     Long,
     /// A read failed.
     Fault,
@@ -24,9 +24,9 @@ pub enum Unfinished {
     Memory,
 }
 
-/// All that is left of a source, at most `MOST` bytes. At most one more byte is read.
+/// All that is left of a source, at most 16,777,216 bytes. Whatever the answer, at most one more byte is taken of it.
 pub fn read_all<S: Source>(alloc: Global, source: &mut S) -> Result<Vec<u8>, Unfinished>
-    ensures bytes { IsTrue S.told → ReadAll MOST (result_map_both (λ v. v.items) (λ e. e) result) (S.left source.old) (S.left source.new) }
+    ensures bytes { IsTrue S.told → ReadAll (result_map_both (λ v. v.items) (λ e. e) result) (S.left source.old) (S.left source.new) }
     ensures count { S.faults source.old ≤ S.faults source.new }
     ensures cause { IsErrOf result Unfinished.Fault → Rose (S.faults source.old) (S.faults source.new) }
 {
@@ -43,7 +43,7 @@ fn read_by<S: Source>(
     chunk: &mut [u8],
 ) -> Result<Vec<u8>, Unfinished>
     requires { 0 < length chunk.old }
-    ensures bytes { IsTrue S.told → ReadAll MOST (result_map_both (λ v. v.items) (λ e. e) result) (S.left source.old) (S.left source.new) }
+    ensures bytes { IsTrue S.told → ReadAll (result_map_both (λ v. v.items) (λ e. e) result) (S.left source.old) (S.left source.new) }
     ensures count { S.faults source.old ≤ S.faults source.new }
     ensures cause { IsErrOf result Unfinished.Fault → Rose (S.faults source.old) (S.faults source.new) }
 {

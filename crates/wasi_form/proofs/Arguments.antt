@@ -4,16 +4,16 @@ use Rattle.std.specs.Prelude.{nat_eq}
 use Rattle.std.specs.Str.{bytes_eq}
 use Rattle.std.proofs.lemmas.Bool.Decides.{nat_tests}
 use Rattle.std.proofs.lemmas.List.{drop_all}
-use Rattle.serde_json.specs.View.{items_view}
-use Rattle.serde_json.specs.declared.value.Value.{Value}
+use Rattle.serde_json.specs.Data.{Data}
+use Rattle.serde_json.specs.View.{items_of}
 use Rattle.wasi_form.specs.declared.calls.Argument.{Argument}
 use Rattle.wasi_form.specs.CallForm.{at_name, are_arguments}
 
-pub none_left : (types : List Argument) (values : List Value) → length types < 1
-    → nat_eq (length values) 0 ≡ are_arguments types (items_view values)
-none_left [] [] none = refl
-none_left [] (v ∷ vs) none = grind (arith, nat_tests)
-none_left (t ∷ ts) values none = absurd (omega arith)
+pub none_left : {T : Type 0} (see : T → Data) (types : List Argument) (values : List T) → length types < 1
+    → nat_eq (length values) 0 ≡ are_arguments types (items_of (map see values))
+none_left see [] [] none = refl
+none_left see [] (v ∷ vs) none = grind (arith, nat_tests)
+none_left see (t ∷ ts) values none = absurd (omega arith)
 
 pub next_row : {T : Type 0} (see : T → List ℕ × List Argument) (rows : List T) (i : ℕ) (d : T) (name : List ℕ)
     → i < length rows

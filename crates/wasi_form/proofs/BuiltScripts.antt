@@ -1,5 +1,5 @@
 -- What is known of an accepted script.
-use Rattle.std.proofs.Common.{ℕ, List, ◌≡◌, ◌+◌, ◌≤◌, ◌<◌, length, Bool, Option, Some, None, Result, Ok, Err, refl, sym, ap, ◌∙◌, true, false, arith, subst, map}
+use Rattle.std.proofs.Common.{ℕ, List, ◌≡◌, ◌+◌, ◌≤◌, ◌<◌, length, Bool, Option, Some, None, Result, Ok, Err, refl, sym, ap, ◌∙◌, true, false, arith, subst}
 use Rattle.std.specs.Prelude.{sum_by, nat_le, IfSome}
 use Rattle.std.specs.Bool.{Decides}
 use Rattle.std.specs.List.{list_all}
@@ -8,16 +8,15 @@ use Rattle.std.proofs.lemmas.Bool.Decides.{same_from_decides}
 use Rattle.serde_json.specs.Data.{Data}
 use Rattle.wasi_host.specs.Steps.{◌>>=◌}
 use Rattle.wasi_host.specs.ValidTree.{AreLimits}
-use Rattle.wasi_tree.specs.Given.{given}
 use Rattle.wasi_tree.specs.Fit.{AreFit}
-use Rattle.wasi_tree.specs.declared.node.NewNode.{NewNode}
 use Rattle.wasi_form.specs.Plan.{Plan, plan}
 use Rattle.wasi_form.specs.ScriptForm.{script_of}
 use Rattle.wasi_form.specs.Built.{default_table, most_memory, are_preopens_directories, is_piece_within, is_shown_within, is_built_call, is_built, is_within_limits, is_built_script}
-use Rattle.wasi_form.specs.Verdict.{holds, found, value_of, built, plan_in, built_plan, most_script, verdict_of, IsFitFor, IsVerdict, Reads}
+use Rattle.wasi_form.specs.Verdict.{holds, found, value_of, built, plan_in, built_plan, most_script, verdict_of, IsFitFor, IsVerdict, Reads, ReadsDraft, IsTestOf}
 use Rattle.wasi_form.specs.declared.verdict.Refusal.{Refusal}
 use Rattle.wasi_form.specs.declared.verdict.Refusal.TheVariants.{Long, Shape, Later, Tree, Limit}
 use Rattle.wasi_form.specs.declared.script.Script.{Script}
+use Rattle.wasi_form.specs.declared.script.Draft.{Draft}
 use Rattle.wasi_form.proofs.ScriptLimits.{IsInRange, FormInRange, script_in_range}
 use Rattle.wasi_form.specs.declared.verdict.ScriptError.{ScriptError}
 use Rattle.wasi_form.specs.declared.verdict.ScriptError.TheVariants.{Refused, Memory}
@@ -36,9 +35,9 @@ not_too_many bytes verdict fits is =
     let short : nat_le (length bytes) most_script ≡ true = grind (arith) in rw short is
 
 -- what is read of the value is read of the bytes
-pub reads_within : (result : Result Script ScriptError) (bytes : List ℕ) → length bytes ≤ most_script
-    → Reads result (λ verdict. plan_in (value_of bytes) ≡ verdict)
-    → Reads result (λ verdict. built_plan bytes ≡ verdict)
+pub reads_within : (result : Result Draft ScriptError) (bytes : List ℕ) → length bytes ≤ most_script
+    → ReadsDraft result (λ verdict. plan_in (value_of bytes) ≡ verdict)
+    → ReadsDraft result (λ verdict. built_plan bytes ≡ verdict)
 reads_within (Ok s) bytes fits reads = not_too_many bytes _ fits reads
 reads_within (Err (Refused refusal)) bytes fits reads = not_too_many bytes _ fits reads
 reads_within (Err Memory) bytes fits reads = reads
@@ -85,7 +84,7 @@ pub refused_before : {bytes : List ℕ} {refusal : Refusal} → built_plan bytes
 unfolding verdict_of
 refused_before is = record { fit = true; is_test = rw is tt; is = rw is refl }
 
-pub unread_before : (bytes : List ℕ) (error : ScriptError) → Reads (Err error) (λ verdict. built_plan bytes ≡ verdict)
+pub unread_before : (bytes : List ℕ) (error : ScriptError) → ReadsDraft (Err error) (λ verdict. built_plan bytes ≡ verdict)
     → Reads (Err error) (IsVerdict bytes)
 unread_before bytes (Refused refusal) is = refused_before is
 unread_before bytes Memory is = tt
@@ -95,13 +94,25 @@ pub record IsTested (bytes : List ℕ) (p : Plan) (fit : Bool) : Type 0 where
   pub plan_is : built_plan bytes ≡ Ok p
   pub decides : Decides fit (AreFit p.limits p.nodes)
 
-pub tested : {bytes : List ℕ} {nodes : List NewNode} {fit : Bool} (s : Script) → built_plan bytes ≡ Ok (plan s)
-    → nodes ≡ s.nodes.items → Decides fit (AreFit s.limits (map given nodes)) → IsTested bytes (plan s) fit
-tested s is nodes-are decides = record { plan_is = is; decides = rw nodes-are at decides }
+-- nodes that passed the test, and nodes that didn't
+pub tested : {bytes : List ℕ} {p : Plan} (s : Script) → built_plan bytes ≡ Ok p → IsTestOf p (Ok s)
+    → IsTested bytes (plan s) true
+tested {bytes} {p} s is passed =
+    subst (λ q. IsTested bytes q true) (sym passed.0) (record { plan_is = is; decides = (λ _. passed.1, λ _. refl) })
+
+untested : {bytes : List ℕ} {p : Plan} → built_plan bytes ≡ Ok p → (AreFit p.limits p.nodes → ⊥) → IsTested bytes p false
+untested is failed = record { plan_is = is; decides = (λ same. absurd (cc), λ fit. absurd (failed fit)) }
 
 pub no_tree : {bytes : List ℕ} {p : Plan} {fit : Bool} → IsTested bytes p fit → fit ≡ false → IsVerdict bytes (Err Tree)
 unfolding verdict_of
 no_tree {p} {fit} is unfit = record { fit = fit; is_test = rw is.plan_is is.decides; is = rw (is.plan_is, unfit) refl }
+
+-- the end of the test that failed
+pub refused_by : (bytes : List ℕ) (p : Plan) (error : ScriptError) → built_plan bytes ≡ Ok p → IsTestOf p (Err error)
+    → Reads (Err error) (IsVerdict bytes)
+refused_by bytes p (Refused refusal) is failed =
+    subst (λ r. IsVerdict bytes (Err r)) (sym failed.0) (no_tree (untested is failed.1) refl)
+refused_by bytes p Memory is failed = tt
 
 pub past_limit : {bytes : List ℕ} {p : Plan} {fit : Bool} → IsTested bytes p fit → fit ≡ true
     → is_within_limits p ≡ false → IsVerdict bytes (Err Limit)

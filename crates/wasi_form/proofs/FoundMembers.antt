@@ -54,7 +54,7 @@ keys_ordered keys Greater k l d e ms more equal here =
     rw here (both_ways (has_key keys l) (has_key keys k) (all_keys keys ms))
 
 -- a member that is put in adds its key
-all_keys-put : (keys : List (List ℕ)) (k : List ℕ) (d : Data) (ms : Members)
+pub all_keys-put : (keys : List (List ℕ)) (k : List ℕ) (d : Data) (ms : Members)
     → all_keys keys (put k d ms) ≡ has_key keys k && all_keys keys ms
 all_keys-put keys k d no_members = refl
 all_keys-put keys k d (member l e ms) =
@@ -72,7 +72,7 @@ at_other : (name k : List ℕ) (d : Data) (ms : Members) → bytes_eq k name ≡
 at_other name k d ms other = get_member-put_other name k d ms (λ same. other_texts k name other (sym same))
 
 -- what is made of what stands at a name, after a member was put in
-made-put : {A : Type 0} (of : Option Data → A) (name k : List ℕ) (d : Data) (ms : Members)
+pub made-put : {A : Type 0} (of : Option Data → A) (name k : List ℕ) (d : Data) (ms : Members)
     → of (get_member name (put k d ms)) ≡ (if bytes_eq k name then of (Some d) else of (get_member name ms))
 made-put of name k d ms =
     elim (cases_Bool (bytes_eq k name)) [
@@ -181,7 +181,7 @@ found_in-put k d ms = λ i. record {
   waiting = waiting-put k d ms (waiting_key k) refl i;
 }
 
-at_key : (P : List ℕ → Type 0) (key name : List ℕ) → bytes_eq key name ≡ true → P name → P key
+pub at_key : (P : List ℕ → Type 0) (key name : List ℕ) → bytes_eq key name ≡ true → P name → P key
 at_key P key name is here = subst P (sym (same_texts key name is)) here
 
 pub with_nodes : (key : List ℕ) (d : Data) (found : Found) → bytes_eq key (codes "nodes") ≡ true

@@ -2,7 +2,9 @@ pub mod Grammar
 pub mod Firsts
 pub mod Unreads
 pub mod FoundMembers
+pub mod NodeMembers
 pub mod Items
+pub mod AtomLists
 pub mod Keys
 pub mod Entries
 pub mod Lengths

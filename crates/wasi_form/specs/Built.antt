@@ -5,17 +5,16 @@ use Rattle.wasi_tree.specs.Given.{Given}
 use Rattle.wasi_tree.specs.GivenTests.{is_dir_content}
 use Rattle.wasi_guest.specs.declared.call.Call.{Call}
 use Rattle.wasi_guest.specs.declared.call.Call.TheVariants.{FdClose, FdFilestatSetTimes, FdRead, FdWrite, PathCreateDirectory, PathFilestatGet, PathFilestatSetTimes, PathLink, PathOpen, PathReadlink, PathRemoveDirectory, PathUnlinkFile, PathRename, PathSymlink}
-use Rattle.wasi_form.specs.declared.built.TheConstants.{MOST_MEMORY, DEFAULT_TABLE}
 use Rattle.wasi_form.specs.declared.script.Shown.{Shown}
 use Rattle.wasi_form.specs.Plan.{PlannedPreopen, PlannedPiece, Plan}
 
--- how many descriptors there may be
+-- how many descriptors there may be in a script that doesn't say it
 abbrev pub default_table : ℕ
-default_table = DEFAULT_TABLE
+default_table = 1024
 
--- how large a memory may be, and how much of it may be shown
+-- how many bytes a memory has at most, and how many of them are shown at most
 abbrev pub most_memory : ℕ
-most_memory = MOST_MEMORY
+most_memory = 16777216
 
 -- An open with flags of the descriptor waits, and so does a read, a write or a close of a standard stream.
 abbrev pub is_built_call : Call → Bool

@@ -1,6 +1,7 @@
 pub mod IsRead
 pub mod Lists
 pub mod Shapes
+pub mod Atoms
 pub mod Plan
 pub mod NodeForm
 pub mod PreopenForm
@@ -13,3 +14,4 @@ pub mod Built
 pub mod Verdict
 pub mod Tokens
 pub mod FoundParts
+pub mod FoundNodes

@@ -3,14 +3,13 @@ use Rattle.std.specs.Prelude.{ℕ, ◌^◌, Bool, ◌&&◌, nat_le, codes, Optio
 use Rattle.serde_json.specs.Data.{Data}
 use Rattle.serde_json.specs.Find as find
 use Rattle.wasi_host.specs.declared.limits.Limits.{Limits}
-use Rattle.wasi_form.specs.declared.limits.TheConstants.{DEFAULT_LIMITS}
 use Rattle.wasi_form.specs.declared.shapes.Form.TheVariants as forms
 use Rattle.wasi_form.specs.Lists.{◌>>=◌, only_if, needed}
 use Rattle.wasi_form.specs.Shapes.{u64_of, is_object}
 
 -- the limits of a tree whose script doesn't set them
 abbrev pub default_limits : Limits
-default_limits = DEFAULT_LIMITS
+default_limits = record { nodes = 1048576; links = 65000 }
 
 -- from 1 to 2^32
 abbrev pub is_limit : ℕ → Bool

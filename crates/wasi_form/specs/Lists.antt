@@ -40,6 +40,14 @@ items_all of (item d ds) = do
 abbrev pub always : {A : Type 0} → (Data → Option A) → Data → Option (Option A)
 always of d = option_map Some (of d)
 
+-- a form that always waits
+abbrev pub waits : {A : Type 0} → (Data → Option A) → Data → Option (Option A)
+waits of d = option_map (λ _. None) (of d)
+
+-- a form of the items of a list that never waits
+abbrev pub always_in : {A : Type 0} → (Items → Option A) → Items → Option (Option A)
+always_in of ds = option_map Some (of ds)
+
 -- the list, where none of its items waits
 abbrev pub none_waits : {A : Type 0} → List (Option A) → Option (List A)
 none_waits [] = Some []

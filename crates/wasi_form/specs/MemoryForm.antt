@@ -1,11 +1,11 @@
 -- The forms of the guest's memory, of what stands in it, and of what is shown of it.
 use Rattle.std.specs.Prelude.{ℕ, List, [], ◌∷◌, Bool, codes, if◌then◌else◌, Option, Some, None, option_map}
-use Rattle.serde_json.specs.Data.{Data, Members}
+use Rattle.serde_json.specs.Data.{Data, Items, Members}
 use Rattle.serde_json.specs.Find as find
 use Rattle.serde_json.specs.Find.{get_member}
 use Rattle.wasi_form.specs.declared.script.Shown.{Shown}
 use Rattle.wasi_form.specs.Lists.{◌>>=◌, only_if, needed, always, forms_of}
-use Rattle.wasi_form.specs.Shapes.{u32_of, hex_of, is_text, two_of, three_of, all_keys}
+use Rattle.wasi_form.specs.Shapes.{u32_of, hex_of, is_text, two_in, three_in, all_keys}
 use Rattle.wasi_form.specs.Plan.{PlannedPiece, PlannedMemory}
 
 -- the bytes of a text that is of the kind named before it
@@ -14,12 +14,15 @@ piece_bytes kind d =
     if is_text (codes "hex") kind then hex_of d else (if is_text (codes "text") kind then find.as_str d else None)
 
 -- `[OFFSET, "hex", HEX]` or `[OFFSET, "text", TEXT]`
-abbrev pub piece_of : Data → Option PlannedPiece
-piece_of d = do
-  three ← three_of d
+abbrev pub piece_in : Items → Option PlannedPiece
+piece_in ds = do
+  three ← three_in ds
   offset ← u32_of three.0
   bytes ← piece_bytes three.1 three.2
   Some (record { offset = offset; bytes = bytes })
+
+abbrev pub piece_of : Data → Option PlannedPiece
+piece_of d = find.as_array d >>= piece_in
 
 -- where nothing is said of the memory
 abbrev pub no_memory : PlannedMemory
@@ -55,9 +58,12 @@ abbrev pub memory_of : Data → Option (Option PlannedMemory)
 memory_of d = find.as_object d >>= (λ ms. memory_found (memory_in ms))
 
 -- `[PTR, LEN]`
-abbrev pub shown_of : Data → Option Shown
-shown_of d = do
-  two ← two_of d
+abbrev pub shown_in : Items → Option Shown
+shown_in ds = do
+  two ← two_in ds
   ptr ← u32_of two.0
   len ← u32_of two.1
   Some (record { ptr = ptr; len = len })
+
+abbrev pub shown_of : Data → Option Shown
+shown_of d = find.as_array d >>= shown_in

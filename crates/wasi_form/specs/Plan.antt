@@ -6,6 +6,7 @@ use Rattle.wasi_tree.specs.Given.{Given, given}
 use Rattle.wasi_fs.specs.declared.perms.FsPerms.{FsPerms}
 use Rattle.wasi_guest.specs.declared.call.Call.{Call}
 use Rattle.wasi_form.specs.declared.script.Script.{Script}
+use Rattle.wasi_form.specs.declared.script.Draft.{Draft}
 use Rattle.wasi_form.specs.declared.script.ScriptPreopen.{ScriptPreopen}
 use Rattle.wasi_form.specs.declared.script.Piece.{Piece}
 use Rattle.wasi_form.specs.declared.memory.ScriptMemory.{ScriptMemory}
@@ -49,6 +50,18 @@ planned_memory memory = record { size = memory.size; pieces = map planned_piece 
 -- what a script in Rust stands for
 abbrev pub plan : Script → Plan
 plan s = record {
+  nodes = s.nodes.nodes;
+  limits = s.nodes.limits;
+  preopens = map planned_preopen s.preopens.items;
+  size = s.size;
+  pieces = map planned_piece s.pieces.items;
+  show = s.show.items;
+  calls = s.calls.items;
+}
+
+-- the same, before its nodes were tested
+abbrev pub drafted : Draft → Plan
+drafted s = record {
   nodes = map given s.nodes.items;
   limits = s.limits;
   preopens = map planned_preopen s.preopens.items;

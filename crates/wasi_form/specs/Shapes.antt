@@ -31,8 +31,11 @@ ok_of (Ok x) = Some x
 ok_of (Err e) = None
 
 -- the bytes of a hex text
+abbrev pub hex_in : List ℕ → Option (List ℕ)
+hex_in text = ok_of (decode_of text)
+
 abbrev pub hex_of : Data → Option (List ℕ)
-hex_of d = find.as_str d >>= (λ text. ok_of (decode_of text))
+hex_of d = find.as_str d >>= hex_in
 
 -- it is this text
 abbrev pub is_text : List ℕ → Data → Bool

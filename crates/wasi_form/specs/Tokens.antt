@@ -5,6 +5,10 @@ use Rattle.json.specs.Token.{Token}
 use Rattle.serde_json.specs.Data.{Data, Items, Members, put}
 use Rattle.serde_json.specs.Read.{of_json, of_items, of_members, converted}
 
+-- how deep lists and objects nest in a script
+abbrev pub most_nesting : ℕ
+most_nesting = 127
+
 -- a value, in which lists and objects nest so deep
 abbrev pub next_value : ℕ → List Token → Option (Data × List Token)
 next_value depth ts = converted of_json (json.value depth ts)

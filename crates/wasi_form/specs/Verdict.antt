@@ -7,13 +7,14 @@ use Rattle.serde_json.specs.Data.{Data}
 use Rattle.serde_json.specs.Read.{read}
 use Rattle.wasi_host.specs.Steps.{◌>>=◌}
 use Rattle.wasi_tree.specs.Fit.{AreFit}
-use Rattle.wasi_ends.specs.declared.reading.TheConstants.{MOST}
+use Rattle.wasi_ends.specs.Ends.{most_bytes}
+use Rattle.wasi_form.specs.declared.script.Draft.{Draft}
 use Rattle.wasi_form.specs.declared.script.Script.{Script}
 use Rattle.wasi_form.specs.declared.verdict.Refusal.{Refusal}
 use Rattle.wasi_form.specs.declared.verdict.Refusal.TheVariants.{Long, Json, Shape, Later, Tree, Limit}
 use Rattle.wasi_form.specs.declared.verdict.ScriptError.{ScriptError}
 use Rattle.wasi_form.specs.declared.verdict.ScriptError.TheVariants.{Refused, Memory}
-use Rattle.wasi_form.specs.Plan.{Plan, plan}
+use Rattle.wasi_form.specs.Plan.{Plan, plan, drafted}
 use Rattle.wasi_form.specs.ScriptForm.{script_of}
 use Rattle.wasi_form.specs.Built.{is_built, is_within_limits}
 
@@ -28,7 +29,7 @@ found refusal (Some x) = Ok x
 
 -- how many bytes a script has at most
 abbrev pub most_script : ℕ
-most_script = MOST
+most_script = most_bytes
 
 -- the value that is read of bytes
 unfoldable pub value_of : List ℕ → Option Data
@@ -81,3 +82,15 @@ abbrev pub Reads : Result Script ScriptError → (Result Plan Refusal → Type 0
 Reads (Ok s) Is = Is (Ok (plan s))
 Reads (Err (Refused refusal)) Is = Is (Err refusal)
 Reads (Err Memory) Is = Unit {0}
+
+-- the same, before its nodes were tested
+abbrev pub ReadsDraft : Result Draft ScriptError → (Result Plan Refusal → Type 0) → Type 0
+ReadsDraft (Ok s) Is = Is (Ok (drafted s))
+ReadsDraft (Err (Refused refusal)) Is = Is (Err refusal)
+ReadsDraft (Err Memory) Is = Unit {0}
+
+-- the test of a plan's nodes: whether a tree can be made of them
+abbrev pub IsTestOf : Plan → Result Script ScriptError → Type 0
+IsTestOf p (Ok s) = (plan s ≡ p) × AreFit p.limits p.nodes
+IsTestOf p (Err (Refused refusal)) = (refusal ≡ Tree) × (AreFit p.limits p.nodes → ⊥)
+IsTestOf p (Err Memory) = Unit {0}

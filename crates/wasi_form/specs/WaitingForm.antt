@@ -7,7 +7,7 @@ use Rattle.serde_json.specs.Find.{get_member}
 use Rattle.wasi_host.specs.declared.TheConstants.{NANOSECONDS}
 use Rattle.wasi_form.specs.declared.waiting.Kind.{Kind}
 use Rattle.wasi_form.specs.declared.waiting.Kind.TheVariants.{U64, U32, Faults, Hex, Texts, Pairs, Moment}
-use Rattle.wasi_form.specs.Lists.{◌>>=◌, only_if, always, forms_of}
+use Rattle.wasi_form.specs.Lists.{◌>>=◌, only_if, always, waits, forms_of}
 use Rattle.wasi_form.specs.Shapes.{u64_of, u32_of, hex_of, is_text, two_of}
 
 -- the number of `[NUMBER, "before"]` or `[NUMBER, "after"]`
@@ -31,17 +31,19 @@ rise (Some (Some numbers)) = rise_above 0 numbers
 
 -- any text, which waits
 abbrev pub text_of : Data → Option (Option (List ℕ))
-text_of d = do
-  _ ← find.as_str d
-  Some None
+text_of = waits find.as_str
 
--- `[KEY, VALUE]`, two texts, which wait
-abbrev pub pair_of : Data → Option (Option (List ℕ × List ℕ))
-pair_of d = do
+-- `[KEY, VALUE]`, two texts
+abbrev pub pair_in : Data → Option (List ℕ × List ℕ)
+pair_in d = do
   two ← two_of d
-  _ ← find.as_str two.0
-  _ ← find.as_str two.1
-  Some None
+  key ← find.as_str two.0
+  text ← find.as_str two.1
+  Some (key, text)
+
+-- such a pair, which waits
+abbrev pub pair_of : Data → Option (Option (List ℕ × List ℕ))
+pair_of = waits pair_in
 
 -- `[SECONDS, NANOSECONDS]`
 abbrev pub moment_of : Data → Option (Unit {0})

@@ -3,17 +3,17 @@ ghost use Rattle.std.specs.Prelude.{◌≡◌, ◌+◌, length, map, slice_get, 
 ghost use Rattle.std.specs.List.{list_all};
 ghost use Rattle.wasi_tree.specs.Given.{given};
 ghost use Rattle.wasi_form.specs.Built as specs;
-ghost use Rattle.wasi_form.specs.Plan.{plan, planned_preopen, planned_piece};
+ghost use Rattle.wasi_form.specs.Plan.{plan, drafted, planned_preopen, planned_piece};
 ghost use Rattle.wasi_form.specs.Built.{default_table, most_memory};
 
-use crate::script::{Piece, Script, ScriptPreopen, Shown};
+use crate::script::{Draft, Piece, Script, ScriptPreopen, Shown};
 use wasi_guest::Call;
 use wasi_tree::{NewContent, NewNode};
 
-/// How many descriptors there are at most in a script that doesn't say it.
+/// How many descriptors there are at most in a script that doesn't say it: 1,024.
 pub const DEFAULT_TABLE: u32 = 1_024;
 
-/// How many bytes a guest's memory has at most, and how many of them are shown at most.
+// How many bytes a guest's memory has at most, and how many of them are shown at most: 16,777,216.
 const MOST_MEMORY: u32 = 16_777_216;
 
 fn is_directory(nodes: &Vec<NewNode>, node: u64) -> bool
@@ -121,10 +121,10 @@ fn are_built_calls(calls: &[Call]) -> bool
 
 /// Whether all forms of a script are built.
 #[tactic(auto, unfolding(crate::specs::Built::is_built))]
-pub fn is_built(script: &Script) -> bool
-    ensures { result ≡ specs.is_built (plan script.now) }
+pub fn is_built(draft: &Draft) -> bool
+    ensures { result ≡ specs.is_built (drafted draft.now) }
 {
-    are_built_calls(script.calls.as_slice())
+    are_built_calls(draft.calls.as_slice())
 }
 
 /// Whether a script is within the limits.
@@ -132,7 +132,7 @@ pub fn is_built(script: &Script) -> bool
 pub fn is_within_limits(script: &Script) -> bool
     ensures { result ≡ specs.is_within_limits (plan script.now) }
 {
-    are_preopens_directories(&script.nodes, script.preopens.as_slice())
+    are_preopens_directories(script.nodes.list(), script.preopens.as_slice())
         && has_room(script.preopens.as_slice())
         && script.size <= MOST_MEMORY
         && are_pieces_within(script.size, script.pieces.as_slice())

@@ -1,14 +1,16 @@
 //! The calls of a script.
 ghost use Rattle.std.specs.Prelude.{◌≡◌, option_map, map};
 ghost use Rattle.serde_json.specs.Find as find;
-ghost use Rattle.serde_json.specs.View.{view, items_view};
+ghost use Rattle.wasi_form.specs.Atoms.{atom_data, atoms_data};
 ghost use Rattle.wasi_form.specs.CallForm as specs;
 ghost use Rattle.wasi_form.specs.IsRead.{IsRead};
 ghost use Rattle.wasi_form.specs.Lists.{same};
 
+use crate::atoms::Atom;
 use crate::calls::Argument::{I64, U32, U64};
-use crate::shapes::{Item, Unread, as_u32, require};
-use serde_json::Value;
+use crate::lists::{Item, Listed, next_listed};
+use crate::shapes::{Unread, require};
+use json::Reader;
 use std::alloc::Global;
 use wasi_guest::Call;
 
@@ -94,25 +96,25 @@ fn arguments_of(name: &str) -> Option<&'static [Argument]>
 }
 
 impl Argument {
-    fn is(self, value: &Value) -> bool
-        ensures { result ≡ specs.is_argument self (view value.now) }
+    fn is(self, value: Atom<'_>) -> bool
+        ensures { result ≡ specs.is_argument self (atom_data value.entry) }
     {
         match self {
-            Argument::U32 => as_u32(value).is_some(),
+            Argument::U32 => value.as_u32().is_some(),
             Argument::U64 => value.as_u64().is_some(),
             Argument::I64 => value.as_i64().is_some(),
         }
     }
 }
 
-fn are_arguments(mut types: &[Argument], mut values: &[Value]) -> bool
-    ensures { result ≡ specs.are_arguments types.entry.now (items_view values.entry.now) }
+fn are_arguments(mut types: &[Argument], mut values: &[Atom<'_>]) -> bool
+    ensures { result ≡ specs.are_arguments types.entry.now (atoms_data values.entry.now) }
 {
     while let [argument, types_left @ ..] = types {
         let [value, values_left @ ..] = values else {
             return false;
         };
-        if !argument.is(value) {
+        if !argument.is(*value) {
             return false;
         }
         types = types_left;
@@ -121,31 +123,27 @@ fn are_arguments(mut types: &[Argument], mut values: &[Value]) -> bool
     values.is_empty()
 }
 
-fn value_at(values: &[Value], i: usize) -> Option<&Value>
-    ensures { option_map (λ v. view v.now) result ≡ find.get_item i (items_view values.now) }
+fn atom_at<'a>(atoms: &[Atom<'a>], i: usize) -> Option<Atom<'a>>
+    ensures { option_map atom_data result ≡ find.get_item i (atoms_data atoms.now) }
 {
-    if i < values.len() {
-        Some(&values[i])
-    } else {
-        None
-    }
+    atoms.get(i).copied()
 }
 
-fn u64_at(values: &[Value], i: usize) -> Option<u64>
-    ensures { result ≡ specs.u64_at i (items_view values.now) }
+fn u64_at(atoms: &[Atom<'_>], i: usize) -> Option<u64>
+    ensures { result ≡ specs.u64_at i (atoms_data atoms.now) }
 {
-    value_at(values, i)?.as_u64()
+    atom_at(atoms, i)?.as_u64()
 }
 
-fn u32_at(values: &[Value], i: usize) -> Option<u32>
-    ensures { result ≡ specs.u32_at i (items_view values.now) }
+fn u32_at(atoms: &[Atom<'_>], i: usize) -> Option<u32>
+    ensures { result ≡ specs.u32_at i (atoms_data atoms.now) }
 {
-    as_u32(value_at(values, i)?)
+    atom_at(atoms, i)?.as_u32()
 }
 
 #[tactic(auto, unfolding(crate::specs::CallForm::path_open_of))]
-fn path_open(arguments: &[Value]) -> Option<Call>
-    ensures { result ≡ specs.path_open_of (items_view arguments.now) }
+fn path_open(arguments: &[Atom<'_>]) -> Option<Call>
+    ensures { result ≡ specs.path_open_of (atoms_data arguments.now) }
 {
     Some(Call::PathOpen {
         fd: u32_at(arguments, 0)?,
@@ -160,8 +158,8 @@ fn path_open(arguments: &[Value]) -> Option<Call>
 }
 
 #[tactic(auto, unfolding(crate::specs::CallForm::fd_read_of))]
-fn fd_read(arguments: &[Value]) -> Option<Call>
-    ensures { result ≡ specs.fd_read_of (items_view arguments.now) }
+fn fd_read(arguments: &[Atom<'_>]) -> Option<Call>
+    ensures { result ≡ specs.fd_read_of (atoms_data arguments.now) }
 {
     Some(Call::FdRead {
         fd: u32_at(arguments, 0)?,
@@ -171,8 +169,8 @@ fn fd_read(arguments: &[Value]) -> Option<Call>
 }
 
 #[tactic(auto, unfolding(crate::specs::CallForm::fd_write_of))]
-fn fd_write(arguments: &[Value]) -> Option<Call>
-    ensures { result ≡ specs.fd_write_of (items_view arguments.now) }
+fn fd_write(arguments: &[Atom<'_>]) -> Option<Call>
+    ensures { result ≡ specs.fd_write_of (atoms_data arguments.now) }
 {
     Some(Call::FdWrite {
         fd: u32_at(arguments, 0)?,
@@ -182,8 +180,8 @@ fn fd_write(arguments: &[Value]) -> Option<Call>
 }
 
 #[tactic(auto, unfolding(crate::specs::CallForm::fd_close_of))]
-fn fd_close(arguments: &[Value]) -> Option<Call>
-    ensures { result ≡ specs.fd_close_of (items_view arguments.now) }
+fn fd_close(arguments: &[Atom<'_>]) -> Option<Call>
+    ensures { result ≡ specs.fd_close_of (atoms_data arguments.now) }
 {
     Some(Call::FdClose {
         fd: u32_at(arguments, 0)?,
@@ -191,8 +189,8 @@ fn fd_close(arguments: &[Value]) -> Option<Call>
 }
 
 #[tactic(auto, unfolding(crate::specs::CallForm::fd_filestat_set_times_of))]
-fn fd_filestat_set_times(arguments: &[Value]) -> Option<Call>
-    ensures { result ≡ specs.fd_filestat_set_times_of (items_view arguments.now) }
+fn fd_filestat_set_times(arguments: &[Atom<'_>]) -> Option<Call>
+    ensures { result ≡ specs.fd_filestat_set_times_of (atoms_data arguments.now) }
 {
     Some(Call::FdFilestatSetTimes {
         fd: u32_at(arguments, 0)?,
@@ -203,8 +201,8 @@ fn fd_filestat_set_times(arguments: &[Value]) -> Option<Call>
 }
 
 #[tactic(auto, unfolding(crate::specs::CallForm::path_create_directory_of))]
-fn path_create_directory(arguments: &[Value]) -> Option<Call>
-    ensures { result ≡ specs.path_create_directory_of (items_view arguments.now) }
+fn path_create_directory(arguments: &[Atom<'_>]) -> Option<Call>
+    ensures { result ≡ specs.path_create_directory_of (atoms_data arguments.now) }
 {
     Some(Call::PathCreateDirectory {
         fd: u32_at(arguments, 0)?,
@@ -214,8 +212,8 @@ fn path_create_directory(arguments: &[Value]) -> Option<Call>
 }
 
 #[tactic(auto, unfolding(crate::specs::CallForm::path_filestat_get_of))]
-fn path_filestat_get(arguments: &[Value]) -> Option<Call>
-    ensures { result ≡ specs.path_filestat_get_of (items_view arguments.now) }
+fn path_filestat_get(arguments: &[Atom<'_>]) -> Option<Call>
+    ensures { result ≡ specs.path_filestat_get_of (atoms_data arguments.now) }
 {
     Some(Call::PathFilestatGet {
         fd: u32_at(arguments, 0)?,
@@ -226,8 +224,8 @@ fn path_filestat_get(arguments: &[Value]) -> Option<Call>
 }
 
 #[tactic(auto, unfolding(crate::specs::CallForm::path_filestat_set_times_of))]
-fn path_filestat_set_times(arguments: &[Value]) -> Option<Call>
-    ensures { result ≡ specs.path_filestat_set_times_of (items_view arguments.now) }
+fn path_filestat_set_times(arguments: &[Atom<'_>]) -> Option<Call>
+    ensures { result ≡ specs.path_filestat_set_times_of (atoms_data arguments.now) }
 {
     Some(Call::PathFilestatSetTimes {
         fd: u32_at(arguments, 0)?,
@@ -241,8 +239,8 @@ fn path_filestat_set_times(arguments: &[Value]) -> Option<Call>
 }
 
 #[tactic(auto, unfolding(crate::specs::CallForm::path_link_of))]
-fn path_link(arguments: &[Value]) -> Option<Call>
-    ensures { result ≡ specs.path_link_of (items_view arguments.now) }
+fn path_link(arguments: &[Atom<'_>]) -> Option<Call>
+    ensures { result ≡ specs.path_link_of (atoms_data arguments.now) }
 {
     Some(Call::PathLink {
         old_fd: u32_at(arguments, 0)?,
@@ -256,8 +254,8 @@ fn path_link(arguments: &[Value]) -> Option<Call>
 }
 
 #[tactic(auto, unfolding(crate::specs::CallForm::path_readlink_of))]
-fn path_readlink(arguments: &[Value]) -> Option<Call>
-    ensures { result ≡ specs.path_readlink_of (items_view arguments.now) }
+fn path_readlink(arguments: &[Atom<'_>]) -> Option<Call>
+    ensures { result ≡ specs.path_readlink_of (atoms_data arguments.now) }
 {
     Some(Call::PathReadlink {
         fd: u32_at(arguments, 0)?,
@@ -269,8 +267,8 @@ fn path_readlink(arguments: &[Value]) -> Option<Call>
 }
 
 #[tactic(auto, unfolding(crate::specs::CallForm::path_remove_directory_of))]
-fn path_remove_directory(arguments: &[Value]) -> Option<Call>
-    ensures { result ≡ specs.path_remove_directory_of (items_view arguments.now) }
+fn path_remove_directory(arguments: &[Atom<'_>]) -> Option<Call>
+    ensures { result ≡ specs.path_remove_directory_of (atoms_data arguments.now) }
 {
     Some(Call::PathRemoveDirectory {
         fd: u32_at(arguments, 0)?,
@@ -280,8 +278,8 @@ fn path_remove_directory(arguments: &[Value]) -> Option<Call>
 }
 
 #[tactic(auto, unfolding(crate::specs::CallForm::path_unlink_file_of))]
-fn path_unlink_file(arguments: &[Value]) -> Option<Call>
-    ensures { result ≡ specs.path_unlink_file_of (items_view arguments.now) }
+fn path_unlink_file(arguments: &[Atom<'_>]) -> Option<Call>
+    ensures { result ≡ specs.path_unlink_file_of (atoms_data arguments.now) }
 {
     Some(Call::PathUnlinkFile {
         fd: u32_at(arguments, 0)?,
@@ -291,8 +289,8 @@ fn path_unlink_file(arguments: &[Value]) -> Option<Call>
 }
 
 #[tactic(auto, unfolding(crate::specs::CallForm::path_rename_of))]
-fn path_rename(arguments: &[Value]) -> Option<Call>
-    ensures { result ≡ specs.path_rename_of (items_view arguments.now) }
+fn path_rename(arguments: &[Atom<'_>]) -> Option<Call>
+    ensures { result ≡ specs.path_rename_of (atoms_data arguments.now) }
 {
     Some(Call::PathRename {
         old_fd: u32_at(arguments, 0)?,
@@ -305,8 +303,8 @@ fn path_rename(arguments: &[Value]) -> Option<Call>
 }
 
 #[tactic(auto, unfolding(crate::specs::CallForm::path_symlink_of))]
-fn path_symlink(arguments: &[Value]) -> Option<Call>
-    ensures { result ≡ specs.path_symlink_of (items_view arguments.now) }
+fn path_symlink(arguments: &[Atom<'_>]) -> Option<Call>
+    ensures { result ≡ specs.path_symlink_of (atoms_data arguments.now) }
 {
     Some(Call::PathSymlink {
         old_path: u32_at(arguments, 0)?,
@@ -318,8 +316,8 @@ fn path_symlink(arguments: &[Value]) -> Option<Call>
 }
 
 // The call of a name, `None` where it waits.
-fn call_named(name: &str, arguments: &[Value]) -> Option<Call>
-    ensures { result ≡ specs.call_named name.now (items_view arguments.now) }
+fn call_named(name: &str, arguments: &[Atom<'_>]) -> Option<Call>
+    ensures { result ≡ specs.call_named name.now (atoms_data arguments.now) }
 {
     match name {
         "fd_close" => fd_close(arguments),
@@ -340,20 +338,28 @@ fn call_named(name: &str, arguments: &[Value]) -> Option<Call>
     }
 }
 
-fn call_in(values: &[Value]) -> Result<Option<Call>, Unread>
-    ensures { IsRead same result (specs.call_in (items_view values.now)) }
-{
-    let [name, arguments @ ..] = values else {
-        return Err(Unread::Shape);
-    };
-    let Some(name) = name.as_str() else {
-        return Err(Unread::Shape);
-    };
-    let Some(types) = arguments_of(name) else {
-        return Err(Unread::Shape);
-    };
-    require(are_arguments(types, arguments))?;
-    Ok(call_named(name, arguments))
+impl Listed for Call {
+    ghost use Rattle.wasi_guest.specs.declared.call.Call.{Call};
+
+    ghost Seen = { Call };
+
+    ghost see = { same };
+
+    ghost of = { specs.call_in };
+
+    fn read(_alloc: Global, atoms: &[Atom<'_>]) -> Result<Option<Call>, Unread> {
+        let [name, arguments @ ..] = atoms else {
+            return Err(Unread::Shape);
+        };
+        let Some(name) = name.as_str() else {
+            return Err(Unread::Shape);
+        };
+        let Some(types) = arguments_of(name) else {
+            return Err(Unread::Shape);
+        };
+        require(are_arguments(types, arguments))?;
+        Ok(call_named(name, arguments))
+    }
 }
 
 impl Item for Call {
@@ -365,10 +371,11 @@ impl Item for Call {
 
     ghost of = { specs.call_of };
 
-    fn read(_alloc: Global, value: &Value) -> Result<Option<Call>, Unread> {
-        match value.as_array() {
-            Some(values) => call_in(values.as_slice()),
-            None => Err(Unread::Shape),
-        }
+    fn next(
+        alloc: Global,
+        reader: &mut Reader<'_>,
+        depth: usize,
+    ) -> Result<Option<Option<Call>>, Unread> {
+        next_listed(alloc, reader, depth)
     }
 }

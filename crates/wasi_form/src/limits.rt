@@ -8,7 +8,7 @@ use serde_json::Value;
 use std::alloc::Global;
 use wasi_host::Limits;
 
-/// The limits of a tree whose script doesn't set them.
+/// The limits of a tree whose script doesn't set them: 1,048,576 nodes, and 65,000 names of a file or a link.
 pub const DEFAULT_LIMITS: Limits = Limits {
     nodes: 1_048_576,
     links: 65_000,

@@ -1,17 +1,40 @@
 //! Lists that are read item by item: the value of an item is let go before the next is read.
-ghost use Rattle.std.specs.Prelude.{◌≡◌, ◌∷◌, option_map, IfOk};
+ghost use Rattle.std.specs.Prelude.{◌≡◌, ◌∷◌, Option, option_map, option_and_then, IfOk};
 ghost use Rattle.json.specs.Json.{parse_map};
 ghost use Rattle.json.specs.Reads.{token_of};
+ghost use Rattle.serde_json.specs.Data.{Data, Items};
+ghost use Rattle.serde_json.specs.Find as find;
 ghost use Rattle.serde_json.specs.View.{view};
+ghost use Rattle.wasi_form.specs.Atoms.{atoms_data, SeesAtoms};
 ghost use Rattle.wasi_form.specs.IsRead.{IsRead};
 ghost use Rattle.wasi_form.specs.Lists.{forms_in, forms_of, forms_seen, pushed, form_pushed};
 ghost use Rattle.wasi_form.specs.Tokens.{next_value, next_items};
 
-use crate::shapes::{Item, Shaped, Unread};
+use crate::atoms::{Atom, list_atoms};
+use crate::shapes::{Shaped, Unread};
 use crate::tokens::{value, value_after};
 use json::{Reader, Token};
 use serde_json::Value;
 use std::alloc::{AllocError, Global};
+
+/// An item of a list of a script, whose form may wait until it is built.
+pub trait Item: Drop + Sized {
+    /// What is seen of what is read.
+    ghost Seen: { Type 0 };
+
+    ghost see: { Self → Self.Seen };
+
+    ghost of: { Data → Option (Option Self.Seen) };
+
+    /// The next value of a text. `None` where it is of another shape, `Some(None)` where it waits.
+    fn next(
+        alloc: Global,
+        reader: &mut Reader<'_>,
+        depth: usize,
+    ) -> Result<Option<Option<Self>>, Unread>
+        ensures { IsRead (λ found. (option_map (λ item. option_map see item) found, reader.new)) result
+            (parse_map of (next_value depth reader.old)) };
+}
 
 /// What a list is read as: `None` where it is of another shape, `Some(None)` where one of its items waits.
 pub type Forms<T> = Option<Option<Vec<T>>>;
@@ -64,34 +87,10 @@ fn items_left<T: Item>(
 {
     let mut found = Some(Some(Vec::new(alloc)));
     'items: while !reader.take_end_array() {
-        let item = form(alloc, reader, depth)?;
+        let item = T::next(alloc, reader, depth)?;
         found = with_form(found, item)?;
     }
     Ok(found)
-}
-
-// The next value of a text, read as an item. `None` where it is of another shape, `Some(None)` where it waits.
-fn form<T: Item>(
-    alloc: Global,
-    reader: &mut Reader<'_>,
-    depth: usize,
-) -> Result<Option<Option<T>>, Unread>
-    ensures { IsRead (λ found. (option_map (λ item. option_map T.see item) found, reader.new)) result
-        (parse_map T.of (next_value depth reader.old)) }
-{
-    let value = value(alloc, reader, depth)?;
-    Ok(formed(alloc, &value)?)
-}
-
-// A value, read as an item.
-fn formed<T: Item>(alloc: Global, value: &Value) -> Result<Option<Option<T>>, AllocError>
-    ensures { IfOk result (λ found. option_map (λ item. option_map T.see item) found ≡ T.of (view value.now)) }
-{
-    match T::read(alloc, value) {
-        Ok(found) => Ok(Some(found)),
-        Err(Unread::Shape) => Ok(None),
-        Err(Unread::Memory) => Err(AllocError),
-    }
 }
 
 // The list with an item at its end, `None` where one of them is of another shape.
@@ -125,7 +124,7 @@ fn with_item<T: Drop>(list: Option<Vec<T>>, item: Option<T>) -> Result<Option<Ve
 }
 
 /// The next value of a text, in its shape. `None` where it is of another shape.
-pub fn item<T: Shaped>(
+pub fn next_shaped<T: Shaped>(
     alloc: Global,
     reader: &mut Reader<'_>,
     depth: usize,
@@ -137,11 +136,58 @@ pub fn item<T: Shaped>(
     Ok(shaped(alloc, &value)?)
 }
 
-// A value in its shape.
+// A value in its shape. `None` where it is of another one.
 fn shaped<T: Shaped>(alloc: Global, value: &Value) -> Result<Option<T>, AllocError>
     ensures { IfOk result (λ found. option_map T.see found ≡ T.of (view value.now)) }
 {
     match T::read(alloc, value) {
+        Ok(found) => Ok(Some(found)),
+        Err(Unread::Shape) => Ok(None),
+        Err(Unread::Memory) => Err(AllocError),
+    }
+}
+
+/// An item that is a list of numbers and texts, whose form may wait until it is built.
+pub trait Listed: Drop + Sized {
+    /// What is seen of what is read.
+    ghost Seen: { Type 0 };
+
+    ghost see: { Self → Self.Seen };
+
+    ghost of: { Items → Option (Option Self.Seen) };
+
+    /// `None` where the item waits.
+    fn read(alloc: Global, atoms: &[Atom<'_>]) -> Result<Option<Self>, Unread>
+        ensures { IsRead (λ item. option_map see item) result (of (atoms_data atoms.now)) };
+}
+
+/// The next value of a text, read as a list of numbers and texts. `None` where it is of another shape, `Some(None)`
+/// where it waits.
+pub fn next_listed<T: Listed>(
+    alloc: Global,
+    reader: &mut Reader<'_>,
+    depth: usize,
+) -> Result<Option<Option<T>>, Unread>
+    requires { SeesAtoms T.of }
+    ensures { IsRead (λ found. (option_map (λ item. option_map T.see item) found, reader.new)) result
+        (parse_map (λ d. option_and_then T.of (find.as_array d)) (next_value depth reader.old)) }
+{
+    let atoms = list_atoms(alloc, reader, depth)?;
+    Ok(formed(alloc, atoms)?)
+}
+
+// What numbers and texts are read as, where they are a list.
+fn formed<T: Listed>(
+    alloc: Global,
+    atoms: Option<Vec<Atom<'_>>>,
+) -> Result<Option<Option<T>>, AllocError>
+    ensures { IfOk result (λ found. option_map (λ item. option_map T.see item) found
+        ≡ option_and_then T.of (option_map (λ v. atoms_data v.items) atoms.entry)) }
+{
+    let Some(atoms) = atoms else {
+        return Ok(None);
+    };
+    match T::read(alloc, atoms.as_slice()) {
         Ok(found) => Ok(Some(found)),
         Err(Unread::Shape) => Ok(None),
         Err(Unread::Memory) => Err(AllocError),

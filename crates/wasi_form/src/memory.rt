@@ -1,32 +1,56 @@
 //! The guest's memory of a script, what stands in it, and what is shown of it.
 ghost use Rattle.std.specs.Prelude.{◌≡◌, option_map};
 ghost use Rattle.json.specs.Json.{parse_map};
-ghost use Rattle.serde_json.specs.View.{view};
+ghost use Rattle.wasi_form.specs.Atoms.{atom_data};
 ghost use Rattle.wasi_form.specs.IsRead.{IsRead};
-ghost use Rattle.wasi_form.specs.Lists.{same, always};
+ghost use Rattle.wasi_form.specs.Lists.{same, always, always_in};
 ghost use Rattle.wasi_form.specs.MemoryForm as specs;
 ghost use Rattle.wasi_form.specs.FoundParts.{memory_found_of};
 ghost use Rattle.wasi_form.specs.Plan as plans;
 ghost use Rattle.wasi_form.specs.Tokens.{next_value};
 
-use crate::lists::{Forms, item, list};
+use crate::atoms::Atom;
+use crate::lists::{Forms, Item, Listed, list, next_listed, next_shaped};
 use crate::objects::{Fields, object};
 use crate::script::{Piece, Shown};
-use crate::shapes::{Item, Shaped, Unread, hex_bytes, is_text, three, two};
+use crate::shapes::{Unread, hex_of_text};
 use crate::tokens::value;
 use json::Reader;
-use serde_json::Value;
 use std::alloc::Global;
 
-fn piece_bytes(alloc: Global, kind: &Value, text: &Value) -> Result<Vec<u8>, Unread>
-    ensures { IsRead (λ v. v.items) result (specs.piece_bytes (view kind.now) (view text.now)) }
+fn piece_bytes(alloc: Global, kind: Atom<'_>, text: Atom<'_>) -> Result<Vec<u8>, Unread>
+    ensures { IsRead (λ v. v.items) result (specs.piece_bytes (atom_data kind.entry) (atom_data text.entry)) }
 {
-    if is_text(kind, "hex") {
-        hex_bytes(alloc, text)
-    } else if is_text(kind, "text") {
-        Ok(<String as Shaped>::read(alloc, text)?.into_bytes())
+    let Some(text) = text.as_str() else {
+        return Err(Unread::Shape);
+    };
+    if kind.is_text("hex") {
+        hex_of_text(alloc, text)?.ok_or(Unread::Shape)
+    } else if kind.is_text("text") {
+        Ok(String::from_str(alloc, text)?.into_bytes())
     } else {
         Err(Unread::Shape)
+    }
+}
+
+impl Listed for Piece {
+    ghost use Rattle.wasi_form.specs.Plan.{PlannedPiece};
+
+    ghost Seen = { PlannedPiece };
+
+    ghost see = { plans.planned_piece };
+
+    ghost of = { always_in specs.piece_in };
+
+    #[tactic(auto, using(crate::proofs::Lengths::short_is_no_three, crate::proofs::Lengths::long_is_no_three))]
+    fn read(alloc: Global, atoms: &[Atom<'_>]) -> Result<Option<Piece>, Unread> {
+        let [offset, kind, text] = atoms else {
+            return Err(Unread::Shape);
+        };
+        Ok(Some(Piece {
+            offset: offset.as_u32().ok_or(Unread::Shape)?,
+            bytes: piece_bytes(alloc, *kind, *text)?,
+        }))
     }
 }
 
@@ -39,14 +63,12 @@ impl Item for Piece {
 
     ghost of = { always specs.piece_of };
 
-    fn read(alloc: Global, value: &Value) -> Result<Option<Piece>, Unread> {
-        let Some((offset, kind, text)) = three(value) else {
-            return Err(Unread::Shape);
-        };
-        Ok(Some(Piece {
-            offset: u32::read(alloc, offset)?,
-            bytes: piece_bytes(alloc, kind, text)?,
-        }))
+    fn next(
+        alloc: Global,
+        reader: &mut Reader<'_>,
+        depth: usize,
+    ) -> Result<Option<Option<Piece>>, Unread> {
+        next_listed(alloc, reader, depth)
     }
 }
 
@@ -93,7 +115,7 @@ impl Fields for MemoryParts {
         depth: usize,
     ) -> Result<MemoryParts, Unread> {
         if key == "size" {
-            let size = item(alloc, reader, depth)?;
+            let size = next_shaped(alloc, reader, depth)?;
             Ok(MemoryParts { size, ..self })
         } else if key == "pieces" {
             let pieces = list(alloc, reader, depth)?;
@@ -137,6 +159,27 @@ pub fn memory(
     }
 }
 
+impl Listed for Shown {
+    ghost use Rattle.wasi_form.specs.declared.script.Shown.{Shown};
+
+    ghost Seen = { Shown };
+
+    ghost see = { same };
+
+    ghost of = { always_in specs.shown_in };
+
+    #[tactic(auto, using(crate::proofs::Lengths::short_is_no_two, crate::proofs::Lengths::long_is_no_two))]
+    fn read(_alloc: Global, atoms: &[Atom<'_>]) -> Result<Option<Shown>, Unread> {
+        let [ptr, len] = atoms else {
+            return Err(Unread::Shape);
+        };
+        Ok(Some(Shown {
+            ptr: ptr.as_u32().ok_or(Unread::Shape)?,
+            len: len.as_u32().ok_or(Unread::Shape)?,
+        }))
+    }
+}
+
 impl Item for Shown {
     ghost use Rattle.wasi_form.specs.declared.script.Shown.{Shown};
 
@@ -146,14 +189,12 @@ impl Item for Shown {
 
     ghost of = { always specs.shown_of };
 
-    fn read(alloc: Global, value: &Value) -> Result<Option<Shown>, Unread> {
-        let Some((ptr, len)) = two(value) else {
-            return Err(Unread::Shape);
-        };
-        Ok(Some(Shown {
-            ptr: u32::read(alloc, ptr)?,
-            len: u32::read(alloc, len)?,
-        }))
+    fn next(
+        alloc: Global,
+        reader: &mut Reader<'_>,
+        depth: usize,
+    ) -> Result<Option<Option<Shown>>, Unread> {
+        next_listed(alloc, reader, depth)
     }
 }
 

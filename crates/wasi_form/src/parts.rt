@@ -5,16 +5,16 @@ ghost use Rattle.wasi_tree.specs.Given.{given};
 ghost use Rattle.wasi_form.specs.IsRead.{IsRead};
 ghost use Rattle.wasi_form.specs.Lists.{same};
 ghost use Rattle.wasi_form.specs.FoundParts.{found_of, with_waiting};
-ghost use Rattle.wasi_form.specs.Plan.{plan, planned_preopen, planned_memory};
+ghost use Rattle.wasi_form.specs.Plan.{drafted, planned_preopen, planned_memory};
 ghost use Rattle.wasi_form.specs.ScriptForm.{planned, script_found, script_of};
-ghost use Rattle.wasi_form.specs.Tokens.{next_value};
+ghost use Rattle.wasi_form.specs.Tokens.{most_nesting, next_value};
 ghost use Rattle.wasi_form.specs.WaitingForm.{waiting_key};
 
 use crate::limits::DEFAULT_LIMITS;
-use crate::lists::{Forms, item, list};
+use crate::lists::{Forms, list, next_shaped};
 use crate::memory::{ScriptMemory, memory, no_memory};
 use crate::objects::{Fields, object};
-use crate::script::{Script, ScriptPreopen, Shown};
+use crate::script::{Draft, ScriptPreopen, Shown};
 use crate::shapes::Unread;
 use crate::tokens::value;
 use crate::waiting::{Waiting, is_of_kind, waiting_key};
@@ -88,7 +88,7 @@ impl Fields for Parts {
             let show = list(alloc, reader, depth)?;
             Ok(Parts { show, ..self })
         } else if key == "limits" {
-            let limits = item(alloc, reader, depth)?;
+            let limits = next_shaped(alloc, reader, depth)?;
             Ok(Parts { limits, ..self })
         } else {
             self.with_waiting(alloc, key, reader, depth)
@@ -124,8 +124,8 @@ impl Parts {
 
     // The script of these parts. `None` where they are of another shape, `Some(None)` where one of them waits.
     #[tactic(auto, unfolding(crate::specs::ScriptForm::script_found))]
-    fn script(self) -> Option<Option<Script>>
-        ensures { option_map (λ script. option_map plan script) result ≡ script_found (found_of self) }
+    fn draft(self) -> Option<Option<Draft>>
+        ensures { option_map (λ draft. option_map drafted draft) result ≡ script_found (found_of self) }
     {
         let Parts {
             known,
@@ -162,8 +162,8 @@ fn built(
     calls: Option<Vec<Call>>,
     memory: Option<ScriptMemory>,
     show: Option<Vec<Shown>>,
-) -> Option<Script>
-    ensures { option_map plan result ≡ planned limits (option_map (λ v. map given v.items) nodes)
+) -> Option<Draft>
+    ensures { option_map drafted result ≡ planned limits (option_map (λ v. map given v.items) nodes)
         (option_map (λ v. map planned_preopen v.items) preopens) (option_map (λ v. map same v.items) calls)
         (option_map planned_memory memory) (option_map (λ v. map same v.items) show) }
 {
@@ -172,7 +172,7 @@ fn built(
     let calls = calls?;
     let ScriptMemory { size, pieces } = memory?;
     let show = show?;
-    Some(Script {
+    Some(Draft {
         nodes,
         limits,
         preopens,
@@ -185,13 +185,13 @@ fn built(
 
 /// The next value of a text, read as a script. `None` where it is of another shape, `Some(None)` where a form in it
 /// waits.
-pub fn script(alloc: Global, reader: &mut Reader<'_>) -> Result<Option<Option<Script>>, Unread>
-    ensures { IsRead (λ found. (option_map (λ script. option_map plan script) found, reader.new)) result
-        (parse_map script_of (next_value DEPTH reader.old)) }
+pub fn draft(alloc: Global, reader: &mut Reader<'_>) -> Result<Option<Option<Draft>>, Unread>
+    ensures { IsRead (λ found. (option_map (λ draft. option_map drafted draft) found, reader.new)) result
+        (parse_map script_of (next_value most_nesting reader.old)) }
 {
     let parts: Option<Parts> = object(alloc, reader, DEPTH)?;
     match parts {
-        Some(parts) => Ok(parts.script()),
+        Some(parts) => Ok(parts.draft()),
         None => Ok(None),
     }
 }

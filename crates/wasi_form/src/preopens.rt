@@ -3,8 +3,10 @@ ghost use Rattle.wasi_form.specs.Lists.{same, always};
 ghost use Rattle.wasi_form.specs.Plan as plans;
 ghost use Rattle.wasi_form.specs.PreopenForm as specs;
 
+use crate::lists::{Item, next_shaped};
 use crate::script::ScriptPreopen;
-use crate::shapes::{Form, Item, Shaped, Unread, is_text, needed, require};
+use crate::shapes::{Form, Shaped, Unread, is_text, needed, require};
+use json::Reader;
 use serde_json::Value;
 use std::alloc::Global;
 use wasi_fs::FsPerms;
@@ -29,6 +31,24 @@ impl Shaped for FsPerms {
     }
 }
 
+impl Shaped for ScriptPreopen {
+    ghost use Rattle.wasi_form.specs.Plan.{PlannedPreopen};
+
+    ghost Seen = { PlannedPreopen };
+
+    ghost see = { plans.planned_preopen };
+
+    ghost of = { specs.preopen_of };
+
+    fn read(alloc: Global, value: &Value) -> Result<ScriptPreopen, Unread> {
+        require(Form::Preopen.is_of(value))?;
+        let node = needed(alloc, value.get("node"))?;
+        let name = needed(alloc, value.get("name"))?;
+        let perms = needed(alloc, value.get("perms"))?;
+        Ok(ScriptPreopen { node, name, perms })
+    }
+}
+
 impl Item for ScriptPreopen {
     ghost use Rattle.wasi_form.specs.Plan.{PlannedPreopen};
 
@@ -38,11 +58,12 @@ impl Item for ScriptPreopen {
 
     ghost of = { always specs.preopen_of };
 
-    fn read(alloc: Global, value: &Value) -> Result<Option<ScriptPreopen>, Unread> {
-        require(Form::Preopen.is_of(value))?;
-        let node = needed(alloc, value.get("node"))?;
-        let name = needed(alloc, value.get("name"))?;
-        let perms = needed(alloc, value.get("perms"))?;
-        Ok(Some(ScriptPreopen { node, name, perms }))
+    fn next(
+        alloc: Global,
+        reader: &mut Reader<'_>,
+        depth: usize,
+    ) -> Result<Option<Option<ScriptPreopen>>, Unread> {
+        let found: Option<ScriptPreopen> = next_shaped(alloc, reader, depth)?;
+        Ok(found.map(Some))
     }
 }

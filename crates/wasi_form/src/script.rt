@@ -3,7 +3,7 @@
 use wasi_fs::FsPerms;
 use wasi_guest::Call;
 use wasi_host::Limits;
-use wasi_tree::NewNode;
+use wasi_tree::{FitNodes, NewNode};
 
 /// A directory that the guest is given: its node's number, the name under which the guest knows it, and what may be
 /// done below it.
@@ -28,10 +28,21 @@ pub struct Shown {
     pub len: u32,
 }
 
-/// A tree of files and how large it may grow, the directories that the guest is given, the size of its memory in bytes,
-/// the pieces that are written there before the run, the ranges that are shown after it, and the calls.
+/// The nodes of a tree of files and how large it may grow, the directories that the guest is given, the size of its
+/// memory in bytes, the pieces that are written there before the run, the ranges that are shown after it, and the calls.
 #[derive(Drop)]
 pub struct Script {
+    pub nodes: FitNodes,
+    pub preopens: Vec<ScriptPreopen>,
+    pub size: u32,
+    pub pieces: Vec<Piece>,
+    pub show: Vec<Shown>,
+    pub calls: Vec<Call>,
+}
+
+/// A script whose nodes weren't tested yet.
+#[derive(Drop)]
+pub struct Draft {
     pub nodes: Vec<NewNode>,
     pub limits: Limits,
     pub preopens: Vec<ScriptPreopen>,

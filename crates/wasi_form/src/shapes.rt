@@ -1,5 +1,5 @@
 //! What a value of JSON is read as.
-ghost use Rattle.std.specs.Prelude.{◌≡◌, Option, string_bytes, option_map};
+ghost use Rattle.std.specs.Prelude.{◌≡◌, Option, string_bytes, option_map, IfOk};
 ghost use Rattle.std.specs.List.{list_all};
 ghost use Rattle.std.specs.BTreeMap.{keys};
 ghost use Rattle.serde_json.specs.Data.{Data};
@@ -107,20 +107,6 @@ pub trait Shaped: Drop + Sized {
 
     fn read(alloc: Global, value: &Value) -> Result<Self, Unread>
         ensures { IsRead Self.see result (Self.of (view value.now)) };
-}
-
-/// An item of a list of a script, whose form may wait until it is built.
-pub trait Item: Drop + Sized {
-    /// What is seen of what is read.
-    ghost Seen: { Type 0 };
-
-    ghost see: { Self → Self.Seen };
-
-    ghost of: { Data → Option (Option Self.Seen) };
-
-    /// `None` where the item waits.
-    fn read(alloc: Global, value: &Value) -> Result<Option<Self>, Unread>
-        ensures { IsRead (λ item. option_map Self.see item) result (Self.of (view value.now)) };
 }
 
 impl Shaped for u64 {
@@ -243,16 +229,23 @@ pub fn is_text(value: &Value, text: &str) -> bool
     }
 }
 
-/// The bytes of a hex text.
+/// The bytes of a hex text. `None` where it is none.
+pub fn hex_of_text(alloc: Global, text: &str) -> Result<Option<Vec<u8>>, AllocError>
+    ensures { IfOk result (λ found. option_map (λ v. v.items) found ≡ shapes.hex_in text.now) }
+{
+    match hex::decode(alloc, text) {
+        Ok(bytes) => Ok(Some(bytes)),
+        Err(FromHexError::OutOfMemory) => Err(AllocError),
+        Err(_) => Ok(None),
+    }
+}
+
+/// The bytes of a value that is a hex text.
 pub fn hex_bytes(alloc: Global, value: &Value) -> Result<Vec<u8>, Unread>
     ensures { IsRead (λ v. v.items) result (shapes.hex_of (view value.now)) }
 {
     let Some(text) = value.as_str() else {
         return Err(Unread::Shape);
     };
-    match hex::decode(alloc, text) {
-        Ok(bytes) => Ok(bytes),
-        Err(FromHexError::OutOfMemory) => Err(Unread::Memory),
-        Err(_) => Err(Unread::Shape),
-    }
+    hex_of_text(alloc, text)?.ok_or(Unread::Shape)
 }

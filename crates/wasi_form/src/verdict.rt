@@ -2,26 +2,26 @@
 ghost use Rattle.std.specs.Prelude.{◌≡◌, ℕ, List, Result, option_map};
 ghost use Rattle.serde_json.specs.Read.{read as read_text};
 ghost use Rattle.wasi_form.specs.IsRead.{IsRead};
-ghost use Rattle.wasi_form.specs.Plan.{Plan, plan};
+ghost use Rattle.wasi_form.specs.Plan.{Plan, drafted};
 ghost use Rattle.wasi_form.specs.ScriptForm.{script_of};
 ghost use Rattle.wasi_form.specs.declared.verdict.Refusal.{Refusal};
-ghost use Rattle.wasi_form.specs.Verdict.{Reads, IsVerdict, value_of, built, plan_in, built_plan};
+ghost use Rattle.wasi_form.specs.Verdict.{Reads, ReadsDraft, IsTestOf, IsVerdict, value_of, built, plan_in, built_plan};
 
 use crate::built::{is_built, is_within_limits};
-use crate::parts::script;
-use crate::script::Script;
+use crate::parts::draft;
+use crate::script::{Draft, Script};
 use crate::shapes::Unread;
 use json::{Reader, Scratch};
 use std::alloc::{AllocError, Global};
 use std::str;
 use thiserror::Error;
 use wasi_ends::MOST;
-use wasi_tree::are_fit;
+use wasi_tree::{FitNodes, TreeError};
 
 /// Why bytes aren't taken as a script. The first that holds is the refusal.
 #[derive(Clone, Copy, Debug, PartialEq, Eq)]
 pub enum Refusal {
-    /// They are more than `wasi_ends::MOST`.
+    /// They are more than 16,777,216.
     Long,
     /// No value of JSON is read from them.
     Json,
@@ -31,11 +31,12 @@ pub enum Refusal {
     Later,
     /// Its nodes are no tree: `MemTree::new` would refuse one of them.
     Tree,
-    /// Its memory or what is shown of it is too large, a piece or a shown range leaves the memory, a preopen isn't a
-    /// directory, or there are more preopens than descriptors.
+    /// Its memory, or what is shown of it, has more than 16,777,216 bytes, a piece or a shown range leaves the memory, a
+    /// preopen isn't a directory, or there are more than 1,021 preopens.
     Limit,
 }
 
+/// Why no script was read: the bytes aren't one, or memory was wanted.
 #[derive(Debug, Drop, Error)]
 pub enum ScriptError {
     #[error("script refused")]
@@ -73,31 +74,57 @@ impl From<AllocError> for ScriptError {
 pub fn read_script(alloc: Global, bytes: &[u8]) -> Result<Script, ScriptError>
     ensures verdict { Reads result (IsVerdict bytes.now) }
 {
-    let script = built_script(alloc, bytes)?;
-    if !are_fit(alloc, script.nodes.as_slice(), script.limits)? {
-        return Err(ScriptError::Refused(Refusal::Tree));
-    }
+    let draft = built_draft(alloc, bytes)?;
+    let script = tested(alloc, draft)?;
     if !is_within_limits(&script) {
         return Err(ScriptError::Refused(Refusal::Limit));
     }
     Ok(script)
 }
 
+// The script, where a tree can be made of its nodes.
+fn tested(alloc: Global, draft: Draft) -> Result<Script, ScriptError>
+    ensures { IsTestOf (drafted draft) result }
+{
+    let Draft {
+        nodes,
+        limits,
+        preopens,
+        size,
+        pieces,
+        show,
+        calls,
+    } = draft;
+    let nodes = match FitNodes::new(alloc, nodes, limits) {
+        Ok(nodes) => nodes,
+        Err(TreeError::Invalid(_)) => return Err(ScriptError::Refused(Refusal::Tree)),
+        Err(TreeError::Memory) => return Err(ScriptError::Memory),
+    };
+    Ok(Script {
+        nodes,
+        preopens,
+        size,
+        pieces,
+        show,
+        calls,
+    })
+}
+
 #[tactic(auto, using(crate::proofs::BuiltScripts::too_many, crate::proofs::BuiltScripts::reads_within))]
-fn built_script(alloc: Global, bytes: &[u8]) -> Result<Script, ScriptError>
-    ensures { Reads result (λ verdict. built_plan bytes.now ≡ verdict) }
+fn built_draft(alloc: Global, bytes: &[u8]) -> Result<Draft, ScriptError>
+    ensures { ReadsDraft result (λ verdict. built_plan bytes.now ≡ verdict) }
 {
     if bytes.len() > MOST {
         return Err(ScriptError::Refused(Refusal::Long));
     }
-    script_in(alloc, bytes)
+    draft_in(alloc, bytes)
 }
 
-fn script_in(alloc: Global, bytes: &[u8]) -> Result<Script, ScriptError>
-    ensures { Reads result (λ verdict. plan_in (value_of bytes.now) ≡ verdict) }
+fn draft_in(alloc: Global, bytes: &[u8]) -> Result<Draft, ScriptError>
+    ensures { ReadsDraft result (λ verdict. plan_in (value_of bytes.now) ≡ verdict) }
 {
-    match script_of_bytes(alloc, bytes) {
-        Ok(Some(Some(script))) => if_built(script),
+    match draft_of_bytes(alloc, bytes) {
+        Ok(Some(Some(draft))) => if_built(draft),
         Ok(Some(None)) => Err(ScriptError::Refused(Refusal::Later)),
         Ok(None) => Err(ScriptError::Refused(Refusal::Shape)),
         Err(Unread::Shape) => Err(ScriptError::Refused(Refusal::Json)),
@@ -105,33 +132,33 @@ fn script_in(alloc: Global, bytes: &[u8]) -> Result<Script, ScriptError>
     }
 }
 
-fn if_built(script: Script) -> Result<Script, ScriptError>
-    ensures { Reads result (λ verdict. built (plan script) ≡ verdict) }
+fn if_built(draft: Draft) -> Result<Draft, ScriptError>
+    ensures { ReadsDraft result (λ verdict. built (drafted draft) ≡ verdict) }
 {
-    if !is_built(&script) {
+    if !is_built(&draft) {
         return Err(ScriptError::Refused(Refusal::Later));
     }
-    Ok(script)
+    Ok(draft)
 }
 
 // `Shape` where there is no value of JSON; `None` where it is no script, `Some(None)` where a form in it waits.
-fn script_of_bytes(alloc: Global, bytes: &[u8]) -> Result<Option<Option<Script>>, Unread>
-    ensures { IsRead (λ found. option_map (λ script. option_map plan script) found) result
+fn draft_of_bytes(alloc: Global, bytes: &[u8]) -> Result<Option<Option<Draft>>, Unread>
+    ensures { IsRead (λ found. option_map (λ draft. option_map drafted draft) found) result
         (option_map script_of (value_of bytes.now)) }
 {
     match str::from_utf8(bytes) {
-        Ok(text) => script_of_text(alloc, text),
+        Ok(text) => draft_of_text(alloc, text),
         Err(_) => Err(Unread::Shape),
     }
 }
 
-fn script_of_text(alloc: Global, text: &str) -> Result<Option<Option<Script>>, Unread>
-    ensures { IsRead (λ found. option_map (λ script. option_map plan script) found) result
+fn draft_of_text(alloc: Global, text: &str) -> Result<Option<Option<Draft>>, Unread>
+    ensures { IsRead (λ found. option_map (λ draft. option_map drafted draft) found) result
         (option_map script_of (read_text text.now)) }
 {
     let mut scratch = Scratch::new(alloc);
     let mut reader = Reader::new(text, &mut scratch)?;
-    let found = script(alloc, &mut reader)?;
+    let found = draft(alloc, &mut reader)?;
     match reader.next() {
         Some(_) => Err(Unread::Shape),
         None => Ok(found),

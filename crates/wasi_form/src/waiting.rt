@@ -9,8 +9,8 @@ ghost use Rattle.wasi_form.specs.Shapes as shapes;
 ghost use Rattle.wasi_form.specs.Tokens.{next_value};
 ghost use Rattle.wasi_form.specs.WaitingForm as specs;
 
-use crate::lists::{Forms, item, list};
-use crate::shapes::{Item, Shaped, Unread, hex_bytes, is_text, require, two};
+use crate::lists::{Forms, Item, list, next_shaped};
+use crate::shapes::{Shaped, Unread, hex_bytes, is_text, require, two};
 use json::Reader;
 use serde_json::Value;
 use std::alloc::Global;
@@ -115,6 +115,27 @@ struct Fault {
     number: u64,
 }
 
+impl Shaped for Fault {
+    ghost use Rattle.std.specs.Prelude.{ℕ};
+
+    ghost Seen = { ℕ };
+
+    ghost see = { λ fault. fault.number };
+
+    ghost of = { specs.fault_of };
+
+    fn read(_alloc: Global, value: &Value) -> Result<Fault, Unread> {
+        let Some((number, when)) = two(value) else {
+            return Err(Unread::Shape);
+        };
+        let Some(number) = number.as_u64() else {
+            return Err(Unread::Shape);
+        };
+        require(is_text(when, "before") || is_text(when, "after"))?;
+        Ok(Fault { number })
+    }
+}
+
 impl Item for Fault {
     ghost use Rattle.std.specs.Prelude.{ℕ};
 
@@ -124,15 +145,13 @@ impl Item for Fault {
 
     ghost of = { always specs.fault_of };
 
-    fn read(_alloc: Global, value: &Value) -> Result<Option<Fault>, Unread> {
-        let Some((number, when)) = two(value) else {
-            return Err(Unread::Shape);
-        };
-        let Some(number) = number.as_u64() else {
-            return Err(Unread::Shape);
-        };
-        require(is_text(when, "before") || is_text(when, "after"))?;
-        Ok(Some(Fault { number }))
+    fn next(
+        alloc: Global,
+        reader: &mut Reader<'_>,
+        depth: usize,
+    ) -> Result<Option<Option<Fault>>, Unread> {
+        let found: Option<Fault> = next_shaped(alloc, reader, depth)?;
+        Ok(found.map(Some))
     }
 }
 
@@ -159,13 +178,38 @@ impl Item for String {
 
     ghost of = { specs.text_of };
 
-    fn read(_alloc: Global, value: &Value) -> Result<Option<String>, Unread> {
-        require(value.is_string())?;
-        Ok(None)
+    fn next(
+        alloc: Global,
+        reader: &mut Reader<'_>,
+        depth: usize,
+    ) -> Result<Option<Option<String>>, Unread> {
+        let found: Option<String> = next_shaped(alloc, reader, depth)?;
+        Ok(found.map(|_| None))
     }
 }
 
-/// A key and a value, which wait.
+/// A key and a value, two texts.
+impl Shaped for (String, String) {
+    ghost use Rattle.std.specs.Prelude.{ℕ, List, string_bytes};
+
+    ghost Seen = { List ℕ × List ℕ };
+
+    ghost see = { λ pair. (string_bytes pair.0, string_bytes pair.1) };
+
+    ghost of = { specs.pair_in };
+
+    fn read(alloc: Global, value: &Value) -> Result<(String, String), Unread> {
+        let Some((key, text)) = two(value) else {
+            return Err(Unread::Shape);
+        };
+        Ok((
+            <String as Shaped>::read(alloc, key)?,
+            <String as Shaped>::read(alloc, text)?,
+        ))
+    }
+}
+
+/// Such a pair, which waits.
 impl Item for (String, String) {
     ghost use Rattle.std.specs.Prelude.{ℕ, List, string_bytes};
 
@@ -175,12 +219,13 @@ impl Item for (String, String) {
 
     ghost of = { specs.pair_of };
 
-    fn read(_alloc: Global, value: &Value) -> Result<Option<(String, String)>, Unread> {
-        let Some((key, text)) = two(value) else {
-            return Err(Unread::Shape);
-        };
-        require(key.is_string() && text.is_string())?;
-        Ok(None)
+    fn next(
+        alloc: Global,
+        reader: &mut Reader<'_>,
+        depth: usize,
+    ) -> Result<Option<Option<(String, String)>>, Unread> {
+        let found: Option<(String, String)> = next_shaped(alloc, reader, depth)?;
+        Ok(found.map(|_| None))
     }
 }
 
@@ -231,7 +276,7 @@ impl Shaped for Hex {
 fn is_item<T: Shaped>(alloc: Global, reader: &mut Reader<'_>, depth: usize) -> Result<bool, Unread>
     ensures { IsRead (λ is. (is, reader.new)) result (parse_map (λ d. is_some (T.of d)) (next_value depth reader.old)) }
 {
-    let found: Option<T> = item(alloc, reader, depth)?;
+    let found: Option<T> = next_shaped(alloc, reader, depth)?;
     Ok(found.is_some())
 }
 

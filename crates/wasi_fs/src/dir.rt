@@ -6,9 +6,9 @@ ghost use Rattle.std.specs.String.{string_bytes};
 ghost use Rattle.wasi_paths.specs.Parts.{has_root};
 ghost use Rattle.wasi_host.specs.Meaning.{HasCause};
 ghost use Rattle.wasi_host.specs.Lineage.{Traced, Only, Nothing};
+ghost use Rattle.wasi_host.specs.Numbers.{longest_link};
 ghost use Rattle.wasi_host.specs.declared.errors.ErrorCode.TheVariants as codes;
 ghost use Rattle.wasi_host.specs.declared.held.Held.{Held};
-ghost use Rattle.wasi_host.specs.declared.limits.TheConstants.{LINK_MAX};
 ghost use Rattle.wasi_resolve.specs.AtPlace.{CreateDir, RemoveFile, RemoveDir, Symlink, ReadLink};
 ghost use Rattle.wasi_resolve.specs.Finding.{is_directory_kind};
 ghost use Rattle.wasi_resolve.specs.PathRequest.{AtPlace, as_asked, meant_by};
@@ -169,7 +169,7 @@ impl Dir {
         ensures live { H.live host.new ≡ H.live host.old }
         ensures lineage { Traced (Only self.now.dir) Nothing Nothing (H.lookups host.old) (H.lookups host.new) }
         ensures some { IfOk result (λ text. 0 < length (string_bytes text)) }
-        ensures most { IfOk result (λ text. length (string_bytes text) ≤ LINK_MAX) }
+        ensures most { IfOk result (λ text. length (string_bytes text) ≤ longest_link) }
         ensures unrooted { IfOk result (λ text. has_root (string_bytes text) ≡ false) }
         ensures told { IsTrue H.told → Resolved (H.live host.old) (H.world host.old) (H.world host.new)
             (meant_by (H.world host.old).tree (AtPlace ((H.world host.old).held self.now.dir).node path.now ReadLink))

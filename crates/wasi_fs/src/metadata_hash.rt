@@ -27,30 +27,3 @@ impl MetadataHashValue {
         }
     }
 }
-
-#[cfg(test)]
-mod tests {
-    use super::*;
-    use wasi_host::{FileType, SystemTime};
-
-    #[test]
-    fn hashes_of_nodes(rt: HostRuntime) {
-        for (node, upper) in [
-            (0, 0x4009_21fb_5444_2d18),
-            (7, 0x4009_21fb_5444_2d1f),
-            (0x4009_21fb_5444_2d18, 0),
-        ] {
-            let metadata = Metadata {
-                kind: FileType::Directory,
-                size: 0,
-                atime: SystemTime::EPOCH,
-                mtime: SystemTime::EPOCH,
-                btime: SystemTime::EPOCH,
-                node,
-                links: 1,
-            };
-            let want = MetadataHashValue { lower: node, upper };
-            assert_eq!(rt; MetadataHashValue::new(&metadata), want, "of node {node}");
-        }
-    }
-}

@@ -39,26 +39,3 @@ impl Flags for OpenMode {
         OpenMode(bits)
     }
 }
-
-#[cfg(test)]
-mod tests {
-    use super::OpenMode;
-    use bitflags::Flags;
-
-    #[test]
-    fn modes_by_their_bits(rt: HostRuntime) {
-        let cases = [
-            (0, Some((false, false))),
-            (1, Some((true, false))),
-            (2, Some((false, true))),
-            (3, Some((true, true))),
-            (4, None),
-            (7, None),
-        ];
-        for (bits, want) in cases {
-            let mode = OpenMode::from_bits(bits);
-            let got = mode.map(|m| (m.contains(OpenMode::READ), m.contains(OpenMode::WRITE)));
-            assert_eq!(rt; got, want, "at {bits}");
-        }
-    }
-}

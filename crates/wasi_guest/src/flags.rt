@@ -313,6 +313,3 @@ impl Rights {
         <Rights as Flags>::from_bits(bits)
     }
 }
-
-#[cfg(test)]
-mod tests;

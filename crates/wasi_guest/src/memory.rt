@@ -159,6 +159,3 @@ impl GuestMemory {
         Some(Iovec { buf: 0, buf_len: 0 })
     }
 }
-
-#[cfg(test)]
-mod tests;

@@ -8,7 +8,7 @@ use Rattle.std.proofs.lemmas.List.Sums.{sum_by-cons, sum_by-set, sum_by-append}
 use Rattle.wasi_host.specs.Tree.{Tree, Node, Content, File, Directory, Link, Names, node_at, next_of, names_of, is_directory, is_gone, stray}
 use Rattle.wasi_host.specs.ValidTree.{has_nul, is_entry_name, names_for, name_count, Reached, held, IsEntry, IsValidContent, IsValidTree}
 use Rattle.wasi_host.specs.Step.{with_name, new_file, new_directory, new_link, node_made, file_made, directory_made, link_made}
-use Rattle.wasi_host.specs.declared.limits.TheConstants.{LINK_MAX}
+use Rattle.wasi_host.specs.Numbers.{longest_link}
 use Rattle.wasi_host.proofs.Changes as changes
 use Rattle.wasi_host.proofs.Changes.{directory_within}
 use Rattle.wasi_host.proofs.EntryLemmas.{times, once, times-cons, numbers, entries-no_names, All-no_names, times-inserted, All-inserted, get-inserted, get-kept, nat_eq-refl}
@@ -189,7 +189,7 @@ module _ {t : Tree} {d : ℕ} {name : List ℕ} (lacks : Lacks t d name) (valid 
         λ positive. inl (once.one, once.reached, ap (λ (n : Node). is_gone n.content) new),
       ))
 
-  pub valid-link : (text : List ℕ) → 0 < length text → length text ≤ LINK_MAX → IsUtf8 text → has_nul text ≡ false
+  pub valid-link : (text : List ℕ) → 0 < length text → length text ≤ longest_link → IsUtf8 text → has_nul text ≡ false
       → IsValidTree (link_made t d name text)
   valid-link text some short utf8 no_nul = valid-made lacks (new_link text) refl valid room (λ once.
       (some, short, utf8, no_nul, sym once.one, valid.limits.some_links))

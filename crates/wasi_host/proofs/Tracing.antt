@@ -1,7 +1,7 @@
 -- Lemmas for callers of a host, on the look-ups that they add.
 use Rattle.std.proofs.Common.{◌≡◌, ◌⊎◌, inl, inr, ℕ, List, [], ◌∷◌, ◌++◌, Option, Some, None, Result, Ok, Err, refl, sym, ap, ◌∙◌, append_assoc}
 use Rattle.std.proofs.lemmas.List.{append-nil}
-use Rattle.wasi_host.specs.Meaning.{Logged, LoggedErr, MaybeLogged, LoggedTwo, MaybeLoggedTwo, both_looked, got_by}
+use Rattle.wasi_host.specs.Meaning.{Handles, Logged, LoggedErr, MaybeLogged, LoggedGotErr, MaybeLoggedGot, one_looked, both_looked}
 use Rattle.wasi_host.specs.Lineage.{OrGot, OrGotIn, HasLineage, Traced, Only, OneOf, Nothing}
 use Rattle.wasi_host.specs.declared.errors.ErrorCode.TheVariants.{Io}
 use Rattle.wasi_host.specs.declared.errors.HostError.{HostError}
@@ -75,56 +75,54 @@ pub traced_got : (old new : List Lookup) (kind : LookKind) (from h : ℕ)
 traced_got old new kind from h adds =
     traced_one (Only from) Nothing (Only h) old new (record { kind = kind; from = from; got = Some h }) refl adds (λ q is. inr is)
 
-maybe_traced : (old new : List Lookup) (kind : LookKind) (from : ℕ) → MaybeLogged old kind from new
-    → Traced (Only from) Nothing Nothing old new
-maybe_traced old new kind from logged = elim logged [
+-- a call that was to get a handle, and failed
+maybe_traced_got : (live : Handles) (old new : List Lookup) (kind : LookKind) (from : ℕ)
+    → MaybeLoggedGot live old kind from new → Traced (Only from) Nothing Nothing old new
+maybe_traced_got live old new kind from logged = elim logged [
   | inl same ↦ traced_none (Only from) Nothing Nothing old new same (λ q none. none)
-  | inr adds ↦ traced_one (Only from) Nothing Nothing old new (record { kind = kind; from = from; got = got_by kind adds.0 }) refl
-      adds.1 (λ q none. absurd none)
+  | inr adds ↦ traced_one (Only from) Nothing Nothing old new (record { kind = kind; from = from; got = adds.got }) refl
+      adds.adds (λ q none. absurd none)
 ]
 
--- a call that failed
-pub traced_err : (old new : List Lookup) (kind : LookKind) (from : ℕ) (e : HostError) → LoggedErr old kind from e new
-    → Traced (Only from) Nothing Nothing old new
-traced_err old new kind from Memory logged = maybe_traced old new kind from logged
-traced_err old new kind from (Code Io) logged = maybe_traced old new kind from logged
-traced_err old new kind from (Code code) logged =
+pub traced_got_err : (live : Handles) (old new : List Lookup) (kind : LookKind) (from : ℕ) (e : HostError)
+    → LoggedGotErr live old kind from e new → Traced (Only from) Nothing Nothing old new
+traced_got_err live old new kind from Memory logged = maybe_traced_got live old new kind from logged
+traced_got_err live old new kind from (Code Io) logged = maybe_traced_got live old new kind from logged
+traced_got_err live old new kind from (Code code) logged =
     traced_one (Only from) Nothing Nothing old new (record { kind = kind; from = from; got = None }) refl logged (λ q none. absurd none)
 
--- a call at a handle, which gets none
-pub traced_call : {A : Type 0} {old new : List Lookup} (kind : LookKind) (from : ℕ) (r : Result A HostError)
-    → Logged old kind from (λ a. None) r new → Traced (Only from) Nothing Nothing old new
-traced_call kind from (Ok a) logged = record {
-  piece = record { kind = kind; from = from; got = None } ∷ [];
-  adds = logged;
-  lineage = (refl, tt);
-  ends = λ h none. absurd none;
-}
-traced_call {old = old} {new = new} kind from (Err e) logged = traced_err old new kind from e logged
+-- a call that gets no handle
+traced_piece : {Given : ℕ → Type 0} {old new : List Lookup} (piece : List Lookup) → HasLineage Given piece
+    → new ≡ old ++ piece → Traced Given Nothing Nothing old new
+traced_piece piece has adds = record { piece = piece; adds = adds; lineage = has; ends = λ h none. absurd none }
 
--- a call with two names
-both_traced : {before now : List Lookup} (kind : LookKind) (old new : ℕ) → now ≡ before ++ both_looked kind old new
-    → Traced (OneOf old new) Nothing Nothing before now
-both_traced kind old new adds = record {
-  piece = both_looked kind old new;
-  adds = adds;
-  lineage = (inl refl, (inr refl, tt));
-  ends = λ h none. absurd none;
-}
-
-maybe_both : {before now : List Lookup} (kind : LookKind) (old new : ℕ) → MaybeLoggedTwo before kind old new now
-    → Traced (OneOf old new) Nothing Nothing before now
-maybe_both {before = before} {now = now} kind old new logged = elim logged [
-  | inl same ↦ traced_none (OneOf old new) Nothing Nothing before now same (λ q none. none)
-  | inr adds ↦ both_traced kind old new adds
+maybe_traced : {Given : ℕ → Type 0} {old new : List Lookup} (piece : List Lookup) → HasLineage Given piece
+    → MaybeLogged old piece new → Traced Given Nothing Nothing old new
+maybe_traced {Given} {old} {new} piece has logged = elim logged [
+  | inl same ↦ traced_none Given Nothing Nothing old new same (λ q none. none)
+  | inr adds ↦ traced_piece piece has adds
 ]
 
+traced_err : {Given : ℕ → Type 0} {old new : List Lookup} (piece : List Lookup) → HasLineage Given piece
+    → (e : HostError) → LoggedErr old piece e new → Traced Given Nothing Nothing old new
+traced_err piece has Memory logged = maybe_traced piece has logged
+traced_err piece has (Code Io) logged = maybe_traced piece has logged
+traced_err piece has (Code code) logged = traced_piece piece has logged
+
+traced_logged : {A : Type 0} {Given : ℕ → Type 0} {old new : List Lookup} (piece : List Lookup) → HasLineage Given piece
+    → (r : Result A HostError) → Logged old piece r new → Traced Given Nothing Nothing old new
+traced_logged piece has (Ok a) logged = traced_piece piece has logged
+traced_logged piece has (Err e) logged = traced_err piece has e logged
+
+-- a call at one handle
+pub traced_call : {A : Type 0} {old new : List Lookup} (kind : LookKind) (from : ℕ) (r : Result A HostError)
+    → Logged old (one_looked kind from) r new → Traced (Only from) Nothing Nothing old new
+traced_call kind from r logged = traced_logged (one_looked kind from) (refl, tt) r logged
+
+-- a call with two names
 pub traced_two : {A : Type 0} {before now : List Lookup} (kind : LookKind) (old new : ℕ) (r : Result A HostError)
-    → LoggedTwo before kind old new r now → Traced (OneOf old new) Nothing Nothing before now
-traced_two kind old new (Ok a) logged = both_traced kind old new logged
-traced_two kind old new (Err Memory) logged = maybe_both kind old new logged
-traced_two kind old new (Err (Code Io)) logged = maybe_both kind old new logged
-traced_two kind old new (Err (Code code)) logged = both_traced kind old new logged
+    → Logged before (both_looked kind old new) r now → Traced (OneOf old new) Nothing Nothing before now
+traced_two kind old new r logged = traced_logged (both_looked kind old new) (inl refl, (inr refl, tt)) r logged
 
 -- ---- the same in other words
 

@@ -17,7 +17,7 @@ use Rattle.wasi_host.specs.Step.{with_nodes, directory_made, link_made, no_bytes
 use Rattle.wasi_host.specs.declared.errors.ErrorCode.{ErrorCode}
 use Rattle.wasi_host.specs.declared.held.Held.{Held}
 use Rattle.wasi_host.specs.declared.system_time.SystemTime.{SystemTime}
-use Rattle.wasi_host.specs.declared.limits.TheConstants.{FILE_MAX, LINK_MAX}
+use Rattle.wasi_host.specs.Numbers.{largest_file, longest_link}
 use Rattle.wasi_host.proofs.Changes as changes
 use Rattle.wasi_host.proofs.Changes.{changed, next_of-changed, directory_within}
 use Rattle.wasi_host.proofs.Pieces.{length-with_piece, are_bytes-with_piece}
@@ -55,9 +55,9 @@ valid-no_bytes t n (Directory names gone) v = v
 valid-no_bytes t n (Link text links) v = v
 
 valid-piece_in : (t : Tree) (n : ℕ) (content : Content) (offset : ℕ) (piece : List ℕ) → IsTrue (are_bytes piece)
-    → offset + length piece ≤ FILE_MAX → IsValidContent t n content → IsValidContent t n (piece_in content offset piece)
+    → offset + length piece ≤ largest_file → IsValidContent t n content → IsValidContent t n (piece_in content offset piece)
 valid-piece_in t n (File bytes links) offset piece are fits v =
-    let short : length (with_piece bytes offset piece) ≤ FILE_MAX =
+    let short : length (with_piece bytes offset piece) ≤ largest_file =
     omega (arith, length-with_piece bytes offset piece, v.1, fits) in
     (are_bytes-with_piece bytes offset piece v.0 are, short, v.2, v.3)
 valid-piece_in t n (Directory names gone) offset piece are fits v = v
@@ -141,7 +141,7 @@ valid-cut t n valid =
     valid-written t n (record (node_at t n) { content = no_bytes content }) (with_nodes t.worked (n ∷ []))
     (has_no_bytes content) valid (λ within. valid-no_bytes t n content (valid.nodes n within))
 
-valid-put : (t : Tree) (n offset : ℕ) (piece : List ℕ) → IsTrue (are_bytes piece) → offset + length piece ≤ FILE_MAX
+valid-put : (t : Tree) (n offset : ℕ) (piece : List ℕ) → IsTrue (are_bytes piece) → offset + length piece ≤ largest_file
     → IsValidTree t → IsValidTree (bytes_put t n offset piece)
 valid-put t n offset piece are fits valid =
     let content : Content = (node_at t n).content in
@@ -217,7 +217,7 @@ making t d name before none =
 
 -- of the text of a link
 text_fits : (text : List ℕ) → first_row (text_rows text) ≡ None
-    → (0 < length text) × (length text ≤ LINK_MAX) × (has_nul text ≡ false)
+    → (0 < length text) × (length text ≤ longest_link) × (has_nul text ≡ false)
 text_fits [] none = absurd (cc)
 text_fits (byte ∷ text) none = (omega arith, grind arith, grind arith)
 
@@ -520,7 +520,7 @@ valid-times_if t atime mtime (Some n) valid = valid-times t n atime mtime valid
 
 -- a write that isn't refused, of some bytes, ends within the largest file
 write_fits : (t : Tree) (file : Held) (offset byte : ℕ) (bytes : List ℕ)
-    → refusal t (Pwrite file offset (byte ∷ bytes)) ≡ None → offset + length (byte ∷ bytes) ≤ FILE_MAX
+    → refusal t (Pwrite file offset (byte ∷ bytes)) ≡ None → offset + length (byte ∷ bytes) ≤ largest_file
 unfolding refusal
 write_fits t file offset byte bytes none = grind arith
 

@@ -1,5 +1,5 @@
 -- What the calls of a host do to its meanings: the laws that every host keeps, and those of one that tells its world.
-use Rattle.std.specs.Prelude.{◌≡◌, ◌⊎◌, ℕ, ◌+◌, ◌-◌, ◌^◌, ◌<◌, ◌≤◌, min, true, false, List, [], ◌∷◌, ◌++◌, Option, None, Result, Ok, Err}
+use Rattle.std.specs.Prelude.{◌≡◌, ◌⊎◌, ℕ, ◌+◌, ◌-◌, ◌^◌, ◌<◌, ◌≤◌, min, true, false, List, [], ◌∷◌, ◌++◌, Option, Some, None, Result, Ok, Err}
 use Rattle.std.specs.Ordering.{nat_cmp}
 use Rattle.std.specs.FinSet.{FinSet, contains, insert}
 use Rattle.wasi_host.specs.Tree.{Tree, Nodes, node_at, next_of, is_file}
@@ -10,8 +10,6 @@ use Rattle.wasi_host.specs.Step.{step, found_by, made_by, with_nodes}
 use Rattle.wasi_host.specs.declared.held.Held.{Held}
 use Rattle.wasi_host.specs.declared.lookup.Lookup.{Lookup}
 use Rattle.wasi_host.specs.declared.lookup.LookKind.{LookKind}
-use Rattle.wasi_host.specs.declared.lookup.LookKind.TheVariants.{Open, Stat, ReadLink, Make, MakeLink, Link, Rename, Unlink, RemoveDir, Times, Dup}
-use Rattle.wasi_host.specs.declared.lookup.LookKind.TheVariants as kinds
 use Rattle.wasi_host.specs.declared.errors.ErrorCode.{ErrorCode}
 use Rattle.wasi_host.specs.declared.errors.ErrorCode.TheVariants.{Io}
 use Rattle.wasi_host.specs.declared.errors.HostError.{HostError}
@@ -41,55 +39,53 @@ abbrev pub LiveGot : Handles → Result ℕ HostError → Handles → Type 0
 LiveGot old (Ok h) new = (contains old h ≡ false) × (new ≡ insert old h)
 LiveGot old (Err e) new = new ≡ old
 
--- what a look-up of this kind may have got: a handle, if it makes one
-abbrev pub got_by : LookKind → Option ℕ → Option ℕ
-got_by Open got = got
-got_by Dup got = got
-got_by Stat got = None
-got_by ReadLink got = None
-got_by Make got = None
-got_by MakeLink got = None
-got_by Link got = None
-got_by Rename got = None
-got_by Unlink got = None
-got_by RemoveDir got = None
-got_by Times got = None
-got_by kinds.List got = None
+-- the look-up of a call that gets no handle: of this kind, from this handle
+abbrev pub one_looked : LookKind → ℕ → List Lookup
+one_looked kind from = record { kind = kind; from = from; got = None } ∷ []
 
--- after `Io` or want of memory: no entry, or one, with whatever handle the call had got before it failed
-abbrev pub MaybeLogged : List Lookup → LookKind → ℕ → List Lookup → Type 0
-MaybeLogged old kind from new =
-    (new ≡ old) ⊎ ((got : Option ℕ) × (new ≡ old ++ record { kind = kind; from = from; got = got_by kind got } ∷ []))
-
-abbrev pub LoggedErr : List Lookup → LookKind → ℕ → HostError → List Lookup → Type 0
-LoggedErr old kind from Memory new = MaybeLogged old kind from new
-LoggedErr old kind from (Code Io) new = MaybeLogged old kind from new
-LoggedErr old kind from (Code code) new = new ≡ old ++ record { kind = kind; from = from; got = None } ∷ []
-
--- a look-up of this kind from this handle, with the handle that it got
-abbrev pub Logged : {A : Type 0} → List Lookup → LookKind → ℕ → (A → Option ℕ) → Result A HostError → List Lookup
-    → Type 0
-Logged old kind from got (Ok a) new = new ≡ old ++ record { kind = kind; from = from; got = got a } ∷ []
-Logged old kind from got (Err e) new = LoggedErr old kind from e new
-
--- the look-ups of a call with two names: from the old side's handle, and then from the new side's; they get no handle
+-- the look-ups of a call with two names: from the old side's handle, and then from the new side's
 abbrev pub both_looked : LookKind → ℕ → ℕ → List Lookup
 both_looked kind old new =
     record { kind = kind; from = old; got = None } ∷ record { kind = kind; from = new; got = None } ∷ []
 
--- after `Io` or want of memory: no entry, or both
-abbrev pub MaybeLoggedTwo : List Lookup → LookKind → ℕ → ℕ → List Lookup → Type 0
-MaybeLoggedTwo before kind old new now = (now ≡ before) ⊎ (now ≡ before ++ both_looked kind old new)
+-- after `Io` or want of memory: none of these look-ups, or all
+abbrev pub MaybeLogged : List Lookup → List Lookup → List Lookup → Type 0
+MaybeLogged old piece new = (new ≡ old) ⊎ (new ≡ old ++ piece)
 
-abbrev pub LoggedTwoErr : List Lookup → LookKind → ℕ → ℕ → HostError → List Lookup → Type 0
-LoggedTwoErr before kind old new Memory now = MaybeLoggedTwo before kind old new now
-LoggedTwoErr before kind old new (Code Io) now = MaybeLoggedTwo before kind old new now
-LoggedTwoErr before kind old new (Code code) now = now ≡ before ++ both_looked kind old new
+abbrev pub LoggedErr : List Lookup → List Lookup → HostError → List Lookup → Type 0
+LoggedErr old piece Memory new = MaybeLogged old piece new
+LoggedErr old piece (Code Io) new = MaybeLogged old piece new
+LoggedErr old piece (Code code) new = new ≡ old ++ piece
 
--- two look-ups of this kind, from these handles
-abbrev pub LoggedTwo : {A : Type 0} → List Lookup → LookKind → ℕ → ℕ → Result A HostError → List Lookup → Type 0
-LoggedTwo before kind old new (Ok a) now = now ≡ before ++ both_looked kind old new
-LoggedTwo before kind old new (Err e) now = LoggedTwoErr before kind old new e now
+-- the look-ups of a call that gets no handle
+abbrev pub Logged : {A : Type 0} → List Lookup → List Lookup → Result A HostError → List Lookup → Type 0
+Logged old piece (Ok a) new = new ≡ old ++ piece
+Logged old piece (Err e) new = LoggedErr old piece e new
+
+-- no handle, or one that wasn't live
+abbrev pub IsNew : Handles → Option ℕ → Type 0
+IsNew live None = Unit {0}
+IsNew live (Some h) = contains live h ≡ false
+
+-- one look-up more, which got nothing or a handle that wasn't live before the call
+pub record LoggedNew (live : Handles) (old : List Lookup) (kind : LookKind) (from : ℕ) (new : List Lookup) : Type 0 where
+  pub got : Option ℕ
+  pub is_new : IsNew live got
+  pub adds : new ≡ old ++ record { kind = kind; from = from; got = got } ∷ []
+
+-- after `Io` or want of memory: no look-up, or such a one
+abbrev pub MaybeLoggedGot : Handles → List Lookup → LookKind → ℕ → List Lookup → Type 0
+MaybeLoggedGot live old kind from new = (new ≡ old) ⊎ LoggedNew live old kind from new
+
+abbrev pub LoggedGotErr : Handles → List Lookup → LookKind → ℕ → HostError → List Lookup → Type 0
+LoggedGotErr live old kind from Memory new = MaybeLoggedGot live old kind from new
+LoggedGotErr live old kind from (Code Io) new = MaybeLoggedGot live old kind from new
+LoggedGotErr live old kind from (Code code) new = new ≡ old ++ one_looked kind from
+
+-- the look-up of a call that answers a new handle, which is what it got
+abbrev pub LoggedGot : Handles → List Lookup → LookKind → ℕ → Result ℕ HostError → List Lookup → Type 0
+LoggedGot live old kind from (Ok h) new = new ≡ old ++ record { kind = kind; from = from; got = Some h } ∷ []
+LoggedGot live old kind from (Err e) new = LoggedGotErr live old kind from e new
 
 -- a refusal is the one that is meant; `Io` and want of memory say nothing of what is meant
 abbrev pub MeansErr : {B : Type 0} → Result B ErrorCode → HostError → Type 0

@@ -1,5 +1,5 @@
 //! The trait of hosts, with its laws.
-ghost use Rattle.std.specs.Prelude.{◌≡◌, ◌≤◌, ◌<◌, ◌^◌, ◌-◌, ℕ, Bool, true, IsTrue, Ok, IfOk, OnOk, OnErr, List, Some, None, All, length, map, take, drop};
+ghost use Rattle.std.specs.Prelude.{◌≡◌, ◌≤◌, ◌<◌, ◌^◌, ◌-◌, ℕ, Bool, true, IsTrue, Ok, IfOk, OnOk, OnErr, List, All, length, map, take, drop};
 ghost use Rattle.std.specs.Ordering.{nat_cmp};
 ghost use Rattle.std.specs.String.{string_bytes};
 ghost use Rattle.std.specs.FinSet.{FinSet, contains, remove};
@@ -7,8 +7,8 @@ ghost use Rattle.wasi_paths.specs.Name.{name_bytes};
 ghost use Rattle.wasi_paths.specs.Text.{is_entry_name};
 ghost use Rattle.wasi_host.specs.HostCall.{OpenAt, StatAt, ReadLinkAt, MakeDirAt, SymlinkAt, LinkAt, RenameAt, UnlinkAt, RemoveDirAt, TimesAt, Access, Stat, SetTimes, Pread, Pwrite, ListDir, Dup, Close};
 ghost use Rattle.wasi_host.specs.Answer.{entry_of};
-ghost use Rattle.wasi_host.specs.Meaning.{World, AllHeld, HasCause, Rose, LiveGot, Told, Logged, LoggedTwo, hosted, answered};
-ghost use Rattle.wasi_host.specs.declared.limits.TheConstants.{LINK_MAX};
+ghost use Rattle.wasi_host.specs.Meaning.{World, AllHeld, HasCause, Rose, LiveGot, Told, Logged, LoggedGot, one_looked, both_looked, hosted, answered};
+ghost use Rattle.wasi_host.specs.Numbers.{longest_link};
 ghost use Rattle.wasi_host.specs.declared.lookup.Lookup.{Lookup};
 ghost use Rattle.wasi_host.specs.Time.{HasTimes};
 
@@ -18,10 +18,10 @@ use wasi_paths::Name;
 
 /// A tree of files behind handles, which is all that the crates above ever see of one.
 ///
-/// Each method has laws that hold for every host (`cause`, `live` and what is said of the answer alone) and, where the
-/// host tells its world, the law `told`: every code but `Io` comes exactly by the first row of the host's table that
-/// holds, Ok has exactly the row's answer and makes the row's one step, a refused call leaves the tree, and the call
-/// touches the nodes that it comes to. `Io` comes only where the count of faults rose.
+/// Each method has laws that hold for every host (`cause`, `live`, `logged` and what is said of the answer alone) and,
+/// where the host tells its world, the law `told`: every code but `Io` comes exactly by the first row of the host's table
+/// that holds, Ok has exactly the row's answer and makes the row's one step, a refused call leaves the tree, and the call
+/// touches the nodes that it comes to and no others. `Io` comes only where the count of faults rose, and may hide a step.
 ///
 /// The condition of every method is that its handles are live.
 ///
@@ -37,7 +37,8 @@ pub trait Host {
     ghost live: { Self → FinSet nat_cmp };
 
     /// The look-ups so far. The methods that take a name add to them, one for each name, and `list` and `dup` one each;
-    /// no others do.
+    /// no others do. A call that answers `Io` or want of memory adds as many or none, and of one that would have got a
+    /// handle the look-up may have that handle, which wasn't live before.
     ghost lookups: { Self → List Lookup };
 
     /// Whether the host tells its world.
@@ -58,7 +59,7 @@ pub trait Host {
         requires { contains (live self.old) start ≡ true }
         ensures cause { HasCause (faults self.old) (faults self.new) result }
         ensures live { LiveGot (live self.old) result (live self.new) }
-        ensures logged { Logged (lookups self.old) LookKind.Open start (λ h. Some h) result (lookups self.new) }
+        ensures logged { LoggedGot (live self.old) (lookups self.old) LookKind.Open start result (lookups self.new) }
         ensures told { IsTrue told → Told (live self.old) (live self.new) (world self.old) (world self.new)
             (OpenAt ((world self.old).held start).node (name_bytes name.entry) options.now)
             (world self.new).held result };
@@ -69,7 +70,7 @@ pub trait Host {
         requires { contains (live self.old) start ≡ true }
         ensures cause { HasCause (faults self.old) (faults self.new) result }
         ensures live { live self.new ≡ live self.old }
-        ensures logged { Logged (lookups self.old) LookKind.Stat start (λ metadata. None) result (lookups self.new) }
+        ensures logged { Logged (lookups self.old) (one_looked LookKind.Stat start) result (lookups self.new) }
         ensures times { IfOk result HasTimes }
         ensures told { IsTrue told → Told (live self.old) (live self.new) (world self.old) (world self.new)
             (StatAt ((world self.old).held start).node (name_bytes name.entry))
@@ -86,9 +87,9 @@ pub trait Host {
         requires { contains (live self.old) start ≡ true }
         ensures cause { HasCause (faults self.old) (faults self.new) result }
         ensures live { live self.new ≡ live self.old }
-        ensures logged { Logged (lookups self.old) LookKind.ReadLink start (λ text. None) result (lookups self.new) }
+        ensures logged { Logged (lookups self.old) (one_looked LookKind.ReadLink start) result (lookups self.new) }
         ensures some { IfOk result (λ text. 0 < length (string_bytes text)) }
-        ensures most { IfOk result (λ text. length (string_bytes text) ≤ LINK_MAX) }
+        ensures most { IfOk result (λ text. length (string_bytes text) ≤ longest_link) }
         ensures told { IsTrue told → Told (live self.old) (live self.new) (world self.old) (world self.new)
             (ReadLinkAt ((world self.old).held start).node (name_bytes name.entry))
             (λ text. string_bytes text) result };
@@ -100,7 +101,7 @@ pub trait Host {
         requires { contains (live self.old) start ≡ true }
         ensures cause { HasCause (faults self.old) (faults self.new) result }
         ensures live { live self.new ≡ live self.old }
-        ensures logged { Logged (lookups self.old) LookKind.Make start (λ unit. None) result (lookups self.new) }
+        ensures logged { Logged (lookups self.old) (one_looked LookKind.Make start) result (lookups self.new) }
         ensures told { IsTrue told → Told (live self.old) (live self.new) (world self.old) (world self.new)
             (MakeDirAt ((world self.old).held start).node (name_bytes name.entry))
             (λ unit. unit) result };
@@ -112,7 +113,7 @@ pub trait Host {
         requires { contains (live self.old) start ≡ true }
         ensures cause { HasCause (faults self.old) (faults self.new) result }
         ensures live { live self.new ≡ live self.old }
-        ensures logged { Logged (lookups self.old) LookKind.MakeLink start (λ unit. None) result (lookups self.new) }
+        ensures logged { Logged (lookups self.old) (one_looked LookKind.MakeLink start) result (lookups self.new) }
         ensures told { IsTrue told → Told (live self.old) (live self.new) (world self.old) (world self.new)
             (SymlinkAt target.now ((world self.old).held start).node (name_bytes name.entry))
             (λ unit. unit) result };
@@ -133,7 +134,7 @@ pub trait Host {
         requires new { contains (live self.old) new ≡ true }
         ensures cause { HasCause (faults self.old) (faults self.new) result }
         ensures live { live self.new ≡ live self.old }
-        ensures logged { LoggedTwo (lookups self.old) LookKind.Link old new result (lookups self.new) }
+        ensures logged { Logged (lookups self.old) (both_looked LookKind.Link old new) result (lookups self.new) }
         ensures told { IsTrue told → Told (live self.old) (live self.new) (world self.old) (world self.new)
             (LinkAt ((world self.old).held old).node (name_bytes old_name.entry)
             ((world self.old).held new).node (name_bytes new_name.entry))
@@ -161,7 +162,7 @@ pub trait Host {
         requires new { contains (live self.old) new ≡ true }
         ensures cause { HasCause (faults self.old) (faults self.new) result }
         ensures live { live self.new ≡ live self.old }
-        ensures logged { LoggedTwo (lookups self.old) LookKind.Rename old new result (lookups self.new) }
+        ensures logged { Logged (lookups self.old) (both_looked LookKind.Rename old new) result (lookups self.new) }
         ensures told { IsTrue told → Told (live self.old) (live self.new) (world self.old) (world self.new)
             (RenameAt ((world self.old).held old).node (name_bytes old_name.entry)
             ((world self.old).held new).node (name_bytes new_name.entry) requires_dir)
@@ -174,7 +175,7 @@ pub trait Host {
         requires { contains (live self.old) start ≡ true }
         ensures cause { HasCause (faults self.old) (faults self.new) result }
         ensures live { live self.new ≡ live self.old }
-        ensures logged { Logged (lookups self.old) LookKind.Unlink start (λ unit. None) result (lookups self.new) }
+        ensures logged { Logged (lookups self.old) (one_looked LookKind.Unlink start) result (lookups self.new) }
         ensures told { IsTrue told → Told (live self.old) (live self.new) (world self.old) (world self.new)
             (UnlinkAt ((world self.old).held start).node (name_bytes name.entry))
             (λ unit. unit) result };
@@ -187,7 +188,7 @@ pub trait Host {
         requires { contains (live self.old) start ≡ true }
         ensures cause { HasCause (faults self.old) (faults self.new) result }
         ensures live { live self.new ≡ live self.old }
-        ensures logged { Logged (lookups self.old) LookKind.RemoveDir start (λ unit. None) result (lookups self.new) }
+        ensures logged { Logged (lookups self.old) (one_looked LookKind.RemoveDir start) result (lookups self.new) }
         ensures told { IsTrue told → Told (live self.old) (live self.new) (world self.old) (world self.new)
             (RemoveDirAt ((world self.old).held start).node (name_bytes name.entry))
             (λ unit. unit) result };
@@ -205,7 +206,7 @@ pub trait Host {
         requires { contains (live self.old) start ≡ true }
         ensures cause { HasCause (faults self.old) (faults self.new) result }
         ensures live { live self.new ≡ live self.old }
-        ensures logged { Logged (lookups self.old) LookKind.Times start (λ unit. None) result (lookups self.new) }
+        ensures logged { Logged (lookups self.old) (one_looked LookKind.Times start) result (lookups self.new) }
         ensures told { IsTrue told → Told (live self.old) (live self.new) (world self.old) (world self.new)
             (TimesAt ((world self.old).held start).node (name_bytes name.entry) atime mtime)
             (λ unit. unit) result };
@@ -218,7 +219,7 @@ pub trait Host {
         requires { contains (live self.old) directory ≡ true }
         ensures cause { HasCause (faults self.old) (faults self.new) result }
         ensures live { live self.new ≡ live self.old }
-        ensures logged { Logged (lookups self.old) LookKind.List directory (λ entries. None) result (lookups self.new) }
+        ensures logged { Logged (lookups self.old) (one_looked LookKind.List directory) result (lookups self.new) }
         ensures names { IfOk result (λ entries. All (λ entry. IsTrue (is_entry_name entry.0)) (map entry_of entries.items)) }
         ensures told { IsTrue told → Told (live self.old) (live self.new) (world self.old) (world self.new)
             (ListDir ((world self.old).held directory))
@@ -229,7 +230,7 @@ pub trait Host {
         requires { contains (live self.old) handle ≡ true }
         ensures cause { HasCause (faults self.old) (faults self.new) result }
         ensures live { LiveGot (live self.old) result (live self.new) }
-        ensures logged { Logged (lookups self.old) LookKind.Dup handle (λ h. Some h) result (lookups self.new) }
+        ensures logged { LoggedGot (live self.old) (lookups self.old) LookKind.Dup handle result (lookups self.new) }
         ensures told { IsTrue told → Told (live self.old) (live self.new) (world self.old) (world self.new)
             (Dup ((world self.old).held handle)) (world self.new).held result };
 
@@ -254,7 +255,7 @@ pub trait Host {
             (Stat ((world self.old).held handle).node)
             (λ metadata. metadata) (hosted result) };
 
-    /// Sets the given times of what a handle stands for, as `times_at` does. It takes no memory, and is never refused.
+    /// Sets the given times of what a handle stands for, as `times_at` does. It takes no memory, and no row refuses it.
     fn set_times(
         &mut self,
         handle: Handle,
@@ -269,9 +270,9 @@ pub trait Host {
             (SetTimes ((world self.old).held handle).node atime mtime)
             (λ unit. unit) (hosted result) };
 
-    /// Reads a file's bytes from an offset on into the front of `buf`, and answers how many: as many as there are and
-    /// `buf` takes, 0 at or past the end. The rest of `buf` stays. It takes no memory. Refusals: BadDescriptor without
-    /// read access or where it is no file; Invalid for an offset of 2^63 or more.
+    /// Reads a file's bytes from an offset on into the front of `buf`, and answers how many: where the host tells its
+    /// world as many as there are and `buf` takes, 0 at or past the end. The rest of `buf` stays. It takes no memory.
+    /// Refusals: BadDescriptor without read access or where it is no file; Invalid for an offset of 2^63 or more.
     fn pread(&mut self, file: Handle, buf: &mut [u8], offset: u64) -> Result<usize, ErrorCode>
         requires { contains (live self.old) file ≡ true }
         ensures cause { HasCause (faults self.old) (faults self.new) (hosted result) }

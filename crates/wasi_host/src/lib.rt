@@ -26,7 +26,7 @@ pub use file_type::FileType;
 pub use handle::Handle;
 pub use held::{AccessMode, Held};
 pub use host::Host;
-pub use laws::{below_is_reached, steps_keep_trees_valid};
+pub use laws::{below_is_reached, constants_are, epoch_is, steps_keep_trees_valid};
 pub use limits::{FILE_MAX, LINK_MAX, Limits};
 pub use lookup::{LookKind, Lookup};
 pub use metadata::Metadata;

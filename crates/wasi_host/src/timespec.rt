@@ -24,29 +24,3 @@ pub fn to_timespec(time: Option<SystemTime>) -> Timespec
         },
     }
 }
-
-#[cfg(test)]
-mod tests {
-    use super::*;
-    use crate::system_time_from_rustix;
-
-    #[test]
-    fn times(rt: HostRuntime) {
-        assert_eq!(rt; to_timespec(None), Timespec::Omit);
-        for (seconds, nanoseconds) in [
-            (-1, 500_000_000),
-            (-1, 999_999_999),
-            (-1, 0),
-            (0, 500_000_000),
-        ] {
-            let want = Timespec::At {
-                tv_sec: seconds,
-                tv_nsec: nanoseconds,
-            };
-            let Some(time) = system_time_from_rustix(seconds, nanoseconds as u64) else {
-                panic!(rt; "no time");
-            };
-            assert_eq!(rt; to_timespec(Some(time)), want);
-        }
-    }
-}

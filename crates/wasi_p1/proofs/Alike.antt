@@ -14,6 +14,7 @@ use Rattle.wasi_p1.specs.Stems.{opened_through}
 use Rattle.wasi_guest.specs.declared.call.Call.{Call}
 use Rattle.wasi_guest.specs.declared.answer.Value.{Value}
 use Rattle.wasi_host.proofs.Agreeing.{same_agree, still_closed}
+use Rattle.wasi_p1.proofs.Changing.{named_has}
 use Rattle.wasi_p1.proofs.RequestsAgree.{after_agree, reply_same, after_closed, given_seen}
 use Rattle.wasi_p1.proofs.Nearness.{row_near}
 
@@ -47,7 +48,7 @@ module _ {Seen : ℕ → Type 0} {s s' : State} (alike : Alike Seen s s') where
   module _ {call : Call} {r : Request} {next : Reply r → Row (Value × Guest)}
       (near : AsksNear s.guest call r next) where
     starts_seen : (n : ℕ) → Contains (starts_at r) n → Seen n
-    starts_seen n has = alike.places n (near.starts n has)
+    starts_seen n has = alike.places n (named_has (near.starts n has))
 
     next_alike : (reply : Reply r) → reply_of s.tree r ≡ Ok reply → (m : Row (Value × Guest))
         → KeepsPlaces s.guest (opened_through call) (given_by r reply) m

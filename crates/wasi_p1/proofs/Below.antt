@@ -20,7 +20,7 @@ use Rattle.wasi_p1.specs.CallParts.{Refused, Follows, IsReplied}
 use Rattle.wasi_p1.specs.CallTurn.{FollowsRow, Kept, may_want}
 use Rattle.wasi_p1.specs.Errnos.{errno_of, error_of}
 use Rattle.wasi_p1.specs.Guest.{Guest, places_of, guest_of, guest_by}
-use Rattle.wasi_p1.specs.Owners.{handles, Owned}
+use Rattle.wasi_p1.specs.Owners.{handles, Owned, SlotsOfCall}
 use Rattle.wasi_p1.specs.Request.{Request, Reply, MayReply, Path}
 use Rattle.wasi_p1.specs.Row.{Row, give, asking}
 use Rattle.wasi_host.specs.Steps.{◌>>=◌}
@@ -30,6 +30,7 @@ use Rattle.wasi_p1.specs.declared.error.P1Error.{P1Error}
 use Rattle.wasi_p1.specs.declared.error.P1Error.TheVariants.{Errno, Memory}
 use Rattle.wasi_p1.proofs.RowFronts.{tail, changes, with_nothing}
 use Rattle.wasi_p1.proofs.Placing.{places_stay}
+use Rattle.wasi_p1.proofs.Staying.{all_stay}
 use Rattle.wasi_p1.proofs.Resolving.{resolved_ok, resolved_err}
 use Rattle.wasi_p1.proofs.Taking.{refused, wanted, does_err, does_ok, makes_err, makes_ok, Did}
 
@@ -94,16 +95,17 @@ module _ {H : Type 0} {told : Bool} {world : H → World} {faults : H → ℕ} {
             again (inr is, host) = (inr (let same : e ≡ Memory = cc in ap Err same), host)
 
     pub permitted_ok : {y : Value} {x x' : A} → Refused own (Ok x) old.host new.host → length after ≡ length before
+        → SlotsOfCall old.slots new.slots before call
         → (own ≡ None → Follows r next (Ok x))
         → shown (guest_of world old before) x ≡ (y, guest_by (world old.host).held new after)
         → (IsTrue told → own ≡ None → Did world faults old new r next (Ok x')
         × (shown (guest_of world old before) x' ≡ (y, guest_of world new after)))
         → FollowsRow told world faults lookups old new before after call (Ok y)
-    permitted_ok {y} {x} {x'} refuses size follows at does = by own refl
+    permitted_ok {y} {x} {x'} refuses size slots follows at does = by own refl
       where
         by : (o : Option ErrorCode) → own ≡ o → FollowsRow told world faults lookups old new before after call (Ok y)
         by None none = does_ok next shown (subst (λ o. tail o r next shown (guest_of world old before)
-            ≡ row (guest_of world old before) call) none front) size (follows none) at (λ told. does told none)
+            ≡ row (guest_of world old before) call) none front) size slots (follows none) at (λ told. does told none)
         by (Some code) some = absurd (elim (subst (λ o. Refused o (Ok x) old.host new.host) some refuses).0 [
           | inl is ↦ (cc)
           | inr is ↦ (cc)
@@ -138,7 +140,7 @@ module _ {H : Type 0} {told : Bool} {world : H → World} {faults : H → ℕ} {
         → FollowsRow told world faults lookups old new before after call (Ok Nothing)
     changed_ok reply may refuses keeps asked = permitted_ok (λ _. give tt) with_nothing front {x = tt} {x' = tt}
         (by own refuses)
-        (ap length kept.memory) (λ none. (reply, may, refl)) (again (world old.host).held refl)
+        (ap length kept.memory) (all_stay kept.slots) (λ none. (reply, may, refl)) (again (world old.host).held refl)
         (λ told none. (
           (reply, asked told none, refl),
           again (world new.host).held (places_stay old.slots owned (keeps told none)),

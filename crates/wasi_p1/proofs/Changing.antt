@@ -11,14 +11,16 @@ use Rattle.wasi_host.specs.Steps.{◌>>=◌}
 use Rattle.wasi_guest.specs.declared.answer.Value.{Value}
 use Rattle.wasi_guest.specs.declared.answer.Value.TheVariants.{Number, Filestat as Told}
 use Rattle.wasi_guest.specs.Range.{with_bytes}
+use Rattle.wasi_guest.specs.declared.call.Call.{Call}
 use Rattle.wasi_guest.specs.declared.filestat.Filestat.{Filestat}
 use Rattle.wasi_p1.specs.Guest.{Guest, Place, OpenDirectory, OpenFile, closed, stream, directory, file, is_closed, new_number, with_place, node_in, nodes_of, perms_in}
+use Rattle.wasi_p1.specs.Owners.{descriptors_named}
 use Rattle.wasi_p1.specs.Numbering.{last_where, free_number, put_at, with_new}
 use Rattle.wasi_resolve.specs.PathRequest.{Opened}
 use Rattle.wasi_p1.specs.Row.{Row, give}
 use Rattle.wasi_p1.specs.Rows.{OpenNode, directory_in, start_in, file_in, open_node_in, new_place}
 use Rattle.wasi_p1.specs.Stems.{HasPerms}
-use Rattle.wasi_p1.proofs.Near.{Has, KeepsPlaces, StaysNear, AreBytes, KeepsBytes}
+use Rattle.wasi_p1.proofs.Near.{Has, IsNamed, KeepsPlaces, StaysNear, AreBytes, KeepsBytes}
 use Rattle.wasi_p1.proofs.Bytes.{put_bytes}
 use Rattle.wasi_p1.proofs.Numbers.{last_passes}
 
@@ -89,6 +91,9 @@ slice_named [] i n has = has
 slice_named (x ∷ xs) zero n has = Contains-append_left (node_in (Some x)) (nodes_of xs) n has
 slice_named (x ∷ xs) (suc i) n has = Contains-append_right (node_in (Some x)) (nodes_of xs) n (slice_named xs i n has)
 
+pub named_has : {call : Call} {g : Guest} {n : ℕ} → IsNamed g call n → Has g n
+named_has {g = g} {n = n} is = slice_named g.places is.fd n is.node
+
 directory_named : {d : OpenDirectory} (p : Option Place) (n : ℕ) → directory_in p ≡ Ok d → Contains (d.node ∷ []) n
     → Contains (node_in p) n
 directory_named {d} (Some (directory x)) n is has =
@@ -107,13 +112,15 @@ file_named (Some (stream s)) n is has = absurd (cc)
 file_named (Some closed) n is has = absurd (cc)
 file_named None n is has = absurd (cc)
 
-pub named_directory : {d : OpenDirectory} (g : Guest) (fd n : ℕ) → directory_in (slice_get g.places fd) ≡ Ok d
-    → Contains (d.node ∷ []) n → Has g n
-named_directory g fd n is has = slice_named g.places fd n (directory_named (slice_get g.places fd) n is has)
+pub named_directory : {d : OpenDirectory} {call : Call} (g : Guest) (fd n : ℕ) → Contains (descriptors_named g.memory call) fd
+    → directory_in (slice_get g.places fd) ≡ Ok d → Contains (d.node ∷ []) n → IsNamed g call n
+named_directory g fd n named is has =
+    record { fd = fd; named = named; node = directory_named (slice_get g.places fd) n is has }
 
-pub named_file : {f : OpenFile} (g : Guest) (fd n : ℕ) → file_in (slice_get g.places fd) ≡ Ok f
-    → Contains (f.node ∷ []) n → Has g n
-named_file g fd n is has = slice_named g.places fd n (file_named (slice_get g.places fd) n is has)
+pub named_file : {f : OpenFile} {call : Call} (g : Guest) (fd n : ℕ) → Contains (descriptors_named g.memory call) fd
+    → file_in (slice_get g.places fd) ≡ Ok f → Contains (f.node ∷ []) n → IsNamed g call n
+named_file g fd n named is has =
+    record { fd = fd; named = named; node = file_named (slice_get g.places fd) n is has }
 
 node_named : {o : OpenNode} (p : Option Place) (n : ℕ) → open_node_in p ≡ Ok o → Contains (o.node ∷ []) n
     → Contains (node_in p) n
@@ -125,9 +132,10 @@ node_named (Some (stream s)) n is has = absurd (cc)
 node_named (Some closed) n is has = absurd (cc)
 node_named None n is has = absurd (cc)
 
-pub named_node : {o : OpenNode} (g : Guest) (fd n : ℕ) → open_node_in (slice_get g.places fd) ≡ Ok o
-    → Contains (o.node ∷ []) n → Has g n
-named_node g fd n is has = slice_named g.places fd n (node_named (slice_get g.places fd) n is has)
+pub named_node : {o : OpenNode} {call : Call} (g : Guest) (fd n : ℕ) → Contains (descriptors_named g.memory call) fd
+    → open_node_in (slice_get g.places fd) ≡ Ok o → Contains (o.node ∷ []) n → IsNamed g call n
+named_node g fd n named is has =
+    record { fd = fd; named = named; node = node_named (slice_get g.places fd) n is has }
 
 -- a start is a directory
 pub start_is : {d : OpenDirectory} (p : Option Place) → start_in p ≡ Ok d → directory_in p ≡ Ok d
@@ -161,7 +169,7 @@ file_perms (Some closed) is = absurd (cc)
 file_perms None is = absurd (cc)
 
 -- one in the place of another
-set_cases : {A : Type 0} (xs : List A) (i n : ℕ) (y : A)
+pub set_cases : {A : Type 0} (xs : List A) (i n : ℕ) (y : A)
     → (slice_get (slice_set xs i y) n ≡ slice_get xs n) ⊎ ((n ≡ i) × (slice_get (slice_set xs i y) n ≡ Some y))
 set_cases [] i n y = inl refl
 set_cases (x ∷ xs) zero zero y = inr (refl, refl)
@@ -171,7 +179,7 @@ set_cases (x ∷ xs) (suc i) (suc n) y =
     elim (set_cases xs i n y) [ inl same ↦ inl same | inr new ↦ inr (ap suc new.0, new.1) ]
 
 -- one behind all
-push_cases : {A : Type 0} (xs : List A) (n : ℕ) (y : A)
+pub push_cases : {A : Type 0} (xs : List A) (n : ℕ) (y : A)
     → (slice_get (xs ++ y ∷ []) n ≡ slice_get xs n) ⊎ ((n ≡ length xs) × (slice_get (xs ++ y ∷ []) n ≡ Some y))
 push_cases [] zero y = inr (refl, refl)
 push_cases [] (suc n) y = inl refl
@@ -270,7 +278,7 @@ pub put_back : {f : OpenFile} {x : Value} {memory : List ℕ} (g : Guest) (fd po
 put_back {f} g fd position given is = record {
   nodes = λ n has. elim (in_set g.places fd (file (record f { position = position })) n has) [
     | inl was ↦ inl was
-    | inr own ↦ inl (named_file g fd n is own)
+    | inr own ↦ inl (slice_named g.places fd n (file_named (slice_get g.places fd) n is own))
   ];
   perms = λ n perms has. elim (set_perms g.places fd n (file (record f { position = position })) has) [
     | inl was ↦ was

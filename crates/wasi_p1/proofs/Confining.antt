@@ -17,6 +17,7 @@ use Rattle.wasi_p1.specs.Reach.{Inside, InReach, Confined}
 use Rattle.wasi_guest.specs.declared.call.Call.{Call}
 use Rattle.wasi_p1.specs.declared.error.P1Error.{P1Error}
 use Rattle.wasi_guest.specs.declared.answer.Value.{Value}
+use Rattle.wasi_p1.proofs.Changing.{named_has}
 use Rattle.wasi_p1.proofs.RequestsLeave.{request_leaves}
 use Rattle.wasi_host.proofs.Agreeing.{itself, still_closed, reach_closed, once, twice}
 use Rattle.wasi_p1.proofs.Nearness.{row_near}
@@ -104,7 +105,7 @@ module _ {Seen : ℕ → Type 0} {s : State} (holds : Holds Seen s) where
 starts_near : (g : Guest) (call : Call) (m : Row (Program (Value × Guest))) → IsNear g call m → (n : ℕ)
     → Contains (starts m) n → Has g n
 starts_near g call (Ok (done p)) near n has = absurd (omega (arith, has.1))
-starts_near g call (Ok (asking r next)) near n has = near.starts n has
+starts_near g call (Ok (asking r next)) near n has = named_has (near.starts n has)
 starts_near g call (Err e) near n has = absurd (omega (arith, has.1))
 
 pub turn_confines : {rose : Type 0} {start : State} {w v : World} {g g' : Guest} {call : Call}

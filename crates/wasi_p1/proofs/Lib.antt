@@ -10,7 +10,7 @@ mod Keeping
 mod Nearness
 mod Alike
 mod Moving
-mod Permitting
+pub mod Permitting
 mod Turns
 mod Taking
 mod RowFronts
@@ -21,6 +21,7 @@ mod Setting
 mod Reading
 mod Counting
 mod Owning
+mod Staying
 mod CallTracing
 mod Placing
 mod OpeningInto

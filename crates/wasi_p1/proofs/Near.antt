@@ -1,8 +1,8 @@
--- What holds of each row: its request starts at a descriptor, and may be asked of a host; no node comes to a descriptor
+-- What holds of each row: its request starts at descriptors that its call names, and may be asked of a host; no node comes to a descriptor
 -- but from the reply, and no permissions but from the descriptor that it stems from; it makes no step where a
 -- descriptor that its call names is under read-only permissions; it isn't refused after a step, nor before it asks
 -- because memory was wanted; and it leaves bytes in memory.
-use Rattle.std.specs.Prelude.{ℕ, ◌≡◌, ◌⊎◌, List, [], Contains, IsTrue, IsUtf8, Option, Ok, Err, OnErr}
+use Rattle.std.specs.Prelude.{ℕ, ◌≡◌, ◌⊎◌, List, [], slice_get, Contains, IsTrue, IsUtf8, Option, Ok, Err, OnErr}
 use Rattle.wasi_fs.specs.declared.perms.FsPerms.{FsPerms}
 use Rattle.wasi_host.specs.Tree.{Tree}
 use Rattle.wasi_host.specs.ValidTree.{are_bytes}
@@ -11,7 +11,8 @@ use Rattle.wasi_guest.specs.declared.answer.Value.{Value}
 use Rattle.wasi_guest.specs.declared.call.Call.{Call}
 use Rattle.wasi_p1.specs.CallParts.{NotMemory}
 use Rattle.wasi_p1.specs.CallTurn.{NamesReadOnly}
-use Rattle.wasi_p1.specs.Guest.{Guest, nodes_of}
+use Rattle.wasi_p1.specs.Guest.{Guest, node_in, nodes_of}
+use Rattle.wasi_p1.specs.Owners.{descriptors_named}
 use Rattle.wasi_p1.specs.Request.{Request, Reply, Path, Read, Write, SetTimes, reply_of, after, starts_at}
 use Rattle.wasi_p1.specs.Row.{Row, Program, done, asking}
 use Rattle.wasi_p1.specs.Stems.{opened_through, stems_through, HasPerms}
@@ -91,8 +92,14 @@ KeepsBytes (Err e) = Unit {0}
 
 -- ---- of a row
 
+-- a node is that of a descriptor that the call names
+pub record IsNamed (g : Guest) (call : Call) (n : ℕ) : Type 0 where
+  pub fd : ℕ
+  pub named : Contains (descriptors_named g.memory call) fd
+  pub node : Contains (node_in (slice_get g.places fd)) n
+
 pub record AsksNear (g : Guest) (call : Call) (r : Request) (next : Reply r → Row (Value × Guest)) : Type 0 where
-  pub starts : (n : ℕ) → Contains (starts_at r) n → Has g n
+  pub starts : (n : ℕ) → Contains (starts_at r) n → IsNamed g call n
   pub places : (reply : Reply r) → KeepsPlaces g (opened_through call) (given_by r reply) (next reply)
   pub ends : (t : Tree) (reply : Reply r) → reply_of t r ≡ Ok reply → OnErr (next reply) (after t r ≡ t)
   pub permits : NamesReadOnly g call → (t : Tree) (reply : Reply r) → reply_of t r ≡ Ok reply → after t r ≡ t

@@ -1,5 +1,5 @@
 -- What holds of each row, part by part.
-use Rattle.std.proofs.Common.{ℕ, ◌≡◌, length, false, [], ◌∷◌, refl, ap, sym, ◌∙◌, subst, take, slice_get, Option, Some, None, Ok, Err}
+use Rattle.std.proofs.Common.{ℕ, ◌≡◌, length, false, [], ◌∷◌, refl, ap, sym, ◌∙◌, subst, arith, take, slice_get, Option, Some, None, Ok, Err}
 use Rattle.std.specs.Prelude.{Contains}
 use Rattle.wasi_fs.specs.declared.perms.FsPerms.{FsPerms}
 use Rattle.wasi_fs.specs.declared.perms.FsPerms.TheVariants.{ReadOnly}
@@ -31,7 +31,7 @@ use Rattle.wasi_resolve.proofs.Requests.{from_two}
 use Rattle.wasi_p1.proofs.Bytes.{put_bytes, range_bytes, text_utf8, cut}
 use Rattle.wasi_p1.proofs.Changing.{named_directory, named_file, named_node, start_is, directory_perms, file_perms, node_perms, put_back, put_closed, put_opened, put_nothing, written_places, written_ends, written_bytes, stated_places, stated_ends, stated_bytes}
 use Rattle.wasi_p1.proofs.Keeping.{open_keeps, read_only_kept, no_write, no_change, no_link, no_new_name, link_leaves}
-use Rattle.wasi_p1.proofs.Near.{Has, StaysNear, AsksNear, IsNear, MayBeAsked, given_by}
+use Rattle.wasi_p1.proofs.Near.{IsNamed, StaysNear, AsksNear, IsNear, MayBeAsked, given_by}
 use Rattle.wasi_p1.proofs.Wanting.{Never, how_never, follow_never, times_never, node_never, text_never, directory_never, start_never, permit_never, buffer_never, file_never, range_never, write_never, live_never}
 
 -- a part of a row, and what follows it
@@ -59,7 +59,7 @@ path_open_near g fd dirflags path len oflags base inheriting fdflags =
     then g call (directory_in (slice_get g.places fd)) _ (directory_never (slice_get g.places fd)) (λ d is.
     then g call (permit (may_open how d.perms)) _ (permit_never (may_open how d.perms)) (λ _ may.
     let perms = directory_perms (slice_get g.places fd) is in record {
-      starts = λ n has. named_directory g fd n is has;
+      starts = λ n has. named_directory g fd n (Contains-here fd []) is has;
       places = λ found. put_opened g fd d.perms (mode_of how) found perms;
       ends = λ t found answered. tt;
       permits = λ names t found answered. open_keeps t d.node text how
@@ -76,7 +76,7 @@ fd_read_near g fd iovs n =
     then g call (file_in (slice_get g.places fd)) _ (file_never (slice_get g.places fd)) (λ f is.
     then g call (range g.memory buffer.buf buffer.buf_len) _ (range_never g.memory buffer.buf buffer.buf_len) (λ _ _.
     record {
-      starts = λ n has. named_file g fd n is has;
+      starts = λ n has. named_file g fd n (Contains-here fd []) is has;
       places = λ bytes. put_back g fd _ [] is;
       ends = λ _ _ _. tt;
       permits = λ _ _ _ _. refl;
@@ -92,7 +92,7 @@ fd_write_near g fd iovs n =
     then g call (file_in (slice_get g.places fd)) _ (file_never (slice_get g.places fd)) (λ f is.
     then g call (range g.memory buffer.buf buffer.buf_len) _ (range_never g.memory buffer.buf buffer.buf_len)
     (λ piece at. then g call (may_write f.perms) _ (write_never f.perms) (λ _ may. record {
-      starts = λ n has. named_file g fd n is has;
+      starts = λ n has. named_file g fd n (Contains-here fd []) is has;
       places = λ count. put_back g fd _ [] is;
       ends = λ _ _ _. tt;
       permits = λ names. absurd (no_write f.perms may
@@ -108,13 +108,13 @@ fd_close_near g fd =
     (λ _ _. record { places = put_closed g fd; bytes = λ are. are })
 
 -- of a row that starts from a directory, and asks for something at a path
-pub starts_near : {d : OpenDirectory} (g : Guest) (fd n : ℕ) → start_in (slice_get g.places fd) ≡ Ok d
-    → Contains (d.node ∷ []) n → Has g n
-starts_near g fd n is has = named_directory g fd n (start_is (slice_get g.places fd) is) has
+starts_near : {d : OpenDirectory} {call : Call} (g : Guest) (fd n : ℕ) → Contains (descriptors_named g.memory call) fd
+    → start_in (slice_get g.places fd) ≡ Ok d → Contains (d.node ∷ []) n → IsNamed g call n
+starts_near g fd n named is has = named_directory g fd n named (start_is (slice_get g.places fd) is) has
 
 -- of one that answers nothing but that it was done, and isn't permitted under read-only permissions
 changes_near : (g : Guest) (call : Call) (r : Request) → opened_through call ≡ None
-    → ((n : ℕ) → Contains (starts_at r) n → Has g n) → (NamesReadOnly g call → ⊥) → MayBeAsked r
+    → ((n : ℕ) → Contains (starts_at r) n → IsNamed g call n) → (NamesReadOnly g call → ⊥) → MayBeAsked r
     → AsksNear g call r (λ _. give (Nothing, g))
 changes_near g call r through starts never may = record {
   starts = starts;
@@ -142,7 +142,8 @@ done_near g call fd path len what named through target =
     then g call (start_in (slice_get g.places fd)) _ (start_never (slice_get g.places fd)) (λ d is.
     then g call (text_in g.memory path len) _ (text_never g.memory path len) (λ text read.
     then g call (permit (may_change d.perms)) _ (permit_never (may_change d.perms)) (λ _ may.
-    changes_near g call (Path (AtPlace d.node text what)) through (λ n has. starts_near g fd n is has)
+    changes_near g call (Path (AtPlace d.node text what)) through
+    (λ n has. starts_near g fd n (subst (λ fds. Contains fds fd) (sym named) (Contains-here fd [])) is has)
     (changes_never g call fd named is (no_change d.perms may)) (text_utf8 g.memory path len read, target))))
 
 path_filestat_set_times_near : (g : Guest) (fd flags path len atim mtim fst_flags : ℕ)
@@ -157,7 +158,7 @@ path_filestat_set_times_near g fd flags path len atim mtim fst_flags =
     then g call (text_in g.memory path len) _ (text_never g.memory path len) (λ text read.
     then g call (permit (may_change d.perms)) _ (permit_never (may_change d.perms)) (λ _ may.
     changes_near g call (Path (TimesPath d.node text follow times.atime times.mtime)) refl
-    (λ n has. starts_near g fd n is has) (changes_never g call fd refl is (no_change d.perms may))
+    (λ n has. starts_near g fd n (Contains-here fd []) is has) (changes_never g call fd refl is (no_change d.perms may))
     (text_utf8 g.memory path len read))))))
 
 fd_filestat_set_times_near : (g : Guest) (fd atim mtim fst_flags : ℕ)
@@ -168,7 +169,8 @@ fd_filestat_set_times_near g fd atim mtim fst_flags =
     then g call (times_asked atim mtim fst_flags) _ (times_never atim mtim fst_flags) (λ times _.
     then g call (open_node_in (slice_get g.places fd)) _ (node_never (slice_get g.places fd)) (λ node is.
     then g call (permit (may_change node.perms)) _ (permit_never (may_change node.perms)) (λ _ may.
-    changes_near g call (SetTimes node.node times.atime times.mtime) refl (λ n has. named_node g fd n is has)
+    changes_near g call (SetTimes node.node times.atime times.mtime) refl
+    (λ n has. named_node g fd n (Contains-here fd []) is has)
     (λ names. no_change node.perms may
     (read_only (only_named g fd names.fd names.named names.perms) (node_perms (slice_get g.places fd) is))) tt)))
 
@@ -186,14 +188,18 @@ done_between_near g call old_fd old_path old_len new_fd new_path new_len own wha
     then g call (text_in g.memory new_path new_len) _ (text_never g.memory new_path new_len) (λ new_text read'.
     then g call (permit (own old.perms new.perms)) _ (permit_never (own old.perms new.perms)) (λ done may.
     changes_near g call (Path (AtTwo old.node old_text new.node new_text what)) through
-    (from_two (Has g) (starts_near g old_fd old.node is (Contains-here old.node []))
-    (starts_near g new_fd new.node is' (Contains-here new.node [])))
+    (from_two (IsNamed g call)
+    (starts_near g old_fd old.node (among (Contains-here old_fd (new_fd ∷ []))) is (Contains-here old.node []))
+    (starts_near g new_fd new.node (among (1, omega arith, refl)) is' (Contains-here new.node [])))
     (λ names. from_two (λ fd. perms_in (slice_get g.places fd) ≡ Some ReadOnly → ⊥)
     (λ perms. (nevers old.perms new.perms done may).0 (read_only perms (start_perms old_fd is)))
     (λ perms. (nevers old.perms new.perms done may).1 (read_only perms (start_perms new_fd is')))
     names.fd (subst (λ fds. Contains fds names.fd) named names.named) names.perms)
     (text_utf8 g.memory old_path old_len read, text_utf8 g.memory new_path new_len read'))))))
   where
+    among : {fd : ℕ} → Contains (old_fd ∷ new_fd ∷ []) fd → Contains (descriptors_named g.memory call) fd
+    among {fd} has = subst (λ fds. Contains fds fd) (sym named) has
+
     start_perms : {d : OpenDirectory} (fd : ℕ) → start_in (slice_get g.places fd) ≡ Ok d
         → perms_in (slice_get g.places fd) ≡ Some d.perms
     start_perms fd at = directory_perms (slice_get g.places fd) (start_is (slice_get g.places fd) at)
@@ -226,7 +232,8 @@ path_symlink_near g old_path old_len fd new_path new_len =
     then g call (text_in g.memory old_path old_len) _ (text_never g.memory old_path old_len) (λ target told.
     then g call (text_in g.memory new_path new_len) _ (text_never g.memory new_path new_len) (λ text read.
     then g call (permit (may_link d.perms target)) _ (permit_never (may_link d.perms target)) (λ _ may.
-    changes_near g call (Path (AtPlace d.node text (Symlink target))) refl (λ n has. starts_near g fd n is has)
+    changes_near g call (Path (AtPlace d.node text (Symlink target))) refl
+    (λ n has. starts_near g fd n (Contains-here fd []) is has)
     (changes_never g call fd refl is (no_link d.perms target may))
     (text_utf8 g.memory new_path new_len read, text_utf8 g.memory old_path old_len told)))))
 
@@ -237,7 +244,7 @@ path_readlink_near g fd path len buf buf_len =
     let call = PathReadlink fd path len buf buf_len in
     then g call (start_in (slice_get g.places fd)) _ (start_never (slice_get g.places fd)) (λ d is.
     then g call (text_in g.memory path len) _ (text_never g.memory path len) (λ text read. record {
-      starts = λ n has. starts_near g fd n is has;
+      starts = λ n has. starts_near g fd n (Contains-here fd []) is has;
       places = λ link. written_places g buf (take buf_len link) (range g.memory buf (length (take buf_len link)));
       ends = λ t link answered. written_ends g buf (take buf_len link)
           (range g.memory buf (length (take buf_len link))) (link_leaves t d.node text);
@@ -255,7 +262,7 @@ path_filestat_get_near g fd flags path len =
     then g call (follow_asked flags) _ (follow_never flags) (λ follow _.
     then g call (start_in (slice_get g.places fd)) _ (start_never (slice_get g.places fd)) (λ d is.
     then g call (text_in g.memory path len) _ (text_never g.memory path len) (λ text read. record {
-      starts = λ n has. starts_near g fd n is has;
+      starts = λ n has. starts_near g fd n (Contains-here fd []) is has;
       places = λ metadata. stated_places g (filestat_in (stat_both metadata));
       ends = λ t metadata answered. stated_ends g (filestat_in (stat_both metadata)) refl;
       permits = λ _ _ _ _. refl;

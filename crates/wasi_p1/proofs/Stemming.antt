@@ -43,7 +43,7 @@ itself (Some fd) (Trap kind) {answer} n is =
     let same : answers.Trap kind ≡ answer = (cc) in ap (λ a. stems_through (Some fd) a n) (sym same)
 itself (Some fd) Memory n is = absurd (cc)
 
-turn_stems : (t : Turned) → Played t ⊎ Faulted t → (n : ℕ) (perms : FsPerms) → HasPerms t.after.guest n perms
+pub turn_stems : (t : Turned) → Played t ⊎ Faulted t → (n : ℕ) (perms : FsPerms) → HasPerms t.after.guest n perms
     → HasPerms t.before.guest (stems_from t.call t.answer n) perms
 turn_stems t (inl played) n perms has = by (turn t.before t.call) refl played
   where

@@ -1,6 +1,6 @@
 -- From what the parts of a call give to what the call does.
-use Rattle.std.proofs.Common.{Result, ℕ, true, ◌+◌, slice_set, List, ◌≡◌, inl, inr, refl, ap, sym, ◌∙◌, subst, Bool, Ok, Err, length}
-use Rattle.std.specs.Prelude.{IsTrue}
+use Rattle.std.proofs.Common.{Result, ℕ, true, ◌+◌, slice_get, slice_set, List, Some, ◌≡◌, inl, inr, refl, ap, sym, ◌∙◌, subst, Bool, Ok, Err, length}
+use Rattle.std.specs.Prelude.{IsTrue, Contains}
 use Rattle.wasi_host.specs.Steps.{◌>>=◌}
 use Rattle.std.specs.FinSet.{contains}
 use Rattle.wasi_host.specs.Meaning.{World, Handles, Rose}
@@ -11,7 +11,7 @@ use Rattle.wasi_p1.specs.Guest.{Guest, places_of, guest_of, guest_by}
 use Rattle.wasi_p1.specs.Request.{Request, Reply}
 use Rattle.wasi_p1.specs.Row.{Row, Program, give, done, asking}
 use Rattle.wasi_p1.specs.Rows.{row, moved}
-use Rattle.wasi_p1.specs.Owners.{handles, Owned}
+use Rattle.wasi_p1.specs.Owners.{handles, Owned, descriptors_named, SlotsOfCall}
 use Rattle.wasi_p1.specs.CallParts.{Follows, IsReplied, Makes, NotMemory, Stays, open_file_of}
 use Rattle.wasi_p1.specs.Asked.{Does}
 use Rattle.wasi_p1.specs.CallTurn.{FollowsRow, Kept, Same, Quiet, AtFront, TakesTurn, may_want}
@@ -27,6 +27,7 @@ use Rattle.wasi_p1.proofs.Near.{IsNear}
 use Rattle.wasi_p1.proofs.Nearness.{row_near}
 use Rattle.wasi_p1.proofs.Permitting.{turn_permits}
 use Rattle.wasi_p1.proofs.Placing.{places_stay, put_file_at}
+use Rattle.wasi_p1.proofs.Staying.{all_stay, put_stays}
 use Rattle.wasi_p1.proofs.Turns as turns
 
 -- why a call isn't answered Ok
@@ -50,6 +51,7 @@ refused {world = world} {faults = faults} {lookups = lookups} {view = view} {mem
       size = refl;
       kept = record { slots = refl; stdout = refl; stderr = refl; memory = refl };
       wants = λ want. absurd (never (reason want));
+      slots = all_stay refl;
       front = subst (AtFront (Same view view memory memory) (Quiet faults lookups view view) g (Err e)) is
           (inl refl, (refl, refl));
       turn = λ told. turns.refused is;
@@ -65,6 +67,7 @@ wanted {world = world} {faults = faults} {lookups = lookups} {view = view} {memo
       size = refl;
       kept = record { slots = refl; stdout = refl; stderr = refl; memory = refl };
       wants = λ _. may;
+      slots = all_stay refl;
       front = front (row (guest_of world view memory) call);
       turn = λ told. turns.wants_memory;
       permits = λ told names. refl;
@@ -127,14 +130,15 @@ guest_moved held old fd file n after = record (guest_by held old after) {
 
 module _ {H : Type 0} {told : Bool} {world : H → World} {faults : H → ℕ} {lookups : H → List Lookup}
     {old new : View H} {before after : List ℕ} {call : Call} where
-  answer_follows : {x : Value} → length after ≡ length before
+  answer_follows : {x : Value} → length after ≡ length before → SlotsOfCall old.slots new.slots before call
       → Front world faults lookups old new before after (Ok x) (row (guest_of world old before) call)
       → (IsTrue told → Turn world faults old new before after call (Ok x))
       → FollowsRow told world faults lookups old new before after call (Ok x)
-  answer_follows size front turn = record {
+  answer_follows size slots front turn = record {
     size = size;
     kept = tt;
     wants = λ want. absurd (never_ok want);
+    slots = slots;
     front = front;
     turn = turn;
     permits = λ is names. turn_permits (turn is) names;
@@ -142,11 +146,11 @@ module _ {H : Type 0} {told : Bool} {world : H → World} {faults : H → ℕ} {
 
   -- an answer without a request
   pub answered : {x : Value} → Ok (done (x, guest_then world old new after)) ≡ row (guest_of world old before) call
-      → length after ≡ length before
+      → length after ≡ length before → SlotsOfCall old.slots new.slots before call
       → Quiet faults lookups old new → (IsTrue told → Stays (world old.host) (world new.host) new.slots)
       → FollowsRow told world faults lookups old new before after call (Ok x)
-  answered {x} is size quiet stays =
-      answer_follows size (subst (Front world faults lookups old new before after (Ok x)) is (refl, quiet)) (λ told.
+  answered {x} is size slots quiet stays =
+      answer_follows size slots (subst (Front world faults lookups old new before after (Ok x)) is (refl, quiet)) (λ told.
       let still = stays told in
       let placed = ap (λ places. Ok (done (x, record (guest_of world new after) { places = places }))) still.places in
       turns.answered (placed ∙ is) still.tree still.touched)
@@ -164,6 +168,7 @@ module _ {H : Type 0} {told : Bool} {world : H → World} {faults : H → ℕ} {
       size = ap length kept.memory;
       kept = kept;
       wants = λ want. wants (reason want);
+      slots = all_stay kept.slots;
       front = subst (Front world faults lookups old new before after (Err e)) front (elim replied [
         | inl from ↦ inl from
         | inr (reply, may, is) ↦ inr (reply, may, ap then is)
@@ -183,13 +188,14 @@ module _ {H : Type 0} {told : Bool} {world : H → World} {faults : H → ℕ} {
         ]
 
     -- the row answered the reply
-    pub does_ok : {y : Value} {x x' : A} → length after ≡ length before → Follows r next (Ok x)
+    pub does_ok : {y : Value} {x x' : A} → length after ≡ length before → SlotsOfCall old.slots new.slots before call
+        → Follows r next (Ok x)
         → shown (guest_of world old before) x ≡ (y, guest_then world old new after)
         → (IsTrue told → Did world faults old new r next (Ok x')
         × (shown (guest_of world old before) x' ≡ (y, guest_of world new after)))
         → FollowsRow told world faults lookups old new before after call (Ok y)
-    does_ok {y} size (reply, may, is) at does =
-        answer_follows size
+    does_ok {y} size slots (reply, may, is) at does =
+        answer_follows size slots
         (subst (Front world faults lookups old new before after (Ok y)) front (reply, may, ap then is ∙ ap give at))
         (λ told. let (did, shows) = does told in turns.asked_ok front did.1 (ap then did.2 ∙ ap give shows))
       where
@@ -211,7 +217,7 @@ module _ {H : Type 0} {told : Bool} {world : H → World} {faults : H → ℕ} {
           → shown (guest_of world old before) x ≡ (y, guest_then world old new after) → new.slots ≡ old.slots
           → (IsTrue told → Made world faults old new live r next (Ok x))
           → FollowsRow told world faults lookups old new before after call (Ok y)
-      makes_ok {y} size follows shows same makes = does_ok size follows shows (λ told.
+      makes_ok {y} size follows shows same makes = does_ok size (all_stay same) follows shows (λ told.
           let made = makes told in
           let stays : places_of (world new.host).held new.slots ≡ places_of (world old.host).held new.slots =
           ap (places_of (world new.host).held) same ∙ places_stay old.slots owned made.keeps
@@ -223,11 +229,12 @@ module _ {H : Type 0} {told : Bool} {world : H → World} {faults : H → ℕ} {
       -- a file's descriptor was put back further on
       pub moved_ok : {fd n : ℕ} {file : FilePlace} {x : A} → length after ≡ length before → Follows r next (Ok x)
           → shown (guest_of world old before) x ≡ (Number n, guest_moved (world old.host).held old fd file n after)
-          → Moved old new fd file n → contains live file.file.file ≡ true
+          → Moved old new fd file n → Contains (descriptors_named before call) fd
+          → slice_get old.slots fd ≡ Some (File file.file file.position) → contains live file.file.file ≡ true
           → (IsTrue told → Made world faults old new live r next (Ok x))
           → FollowsRow told world faults lookups old new before after call (Ok (Number n))
-      moved_ok {fd} {n} {file} size follows shows moved held makes =
-          does_ok size follows (shows ∙ again (world old.host).held refl refl) (λ told.
+      moved_ok {fd} {n} {file} size follows shows moved named was held makes =
+          does_ok size (put_stays fd _ named was refl moved.slots) follows (shows ∙ again (world old.host).held refl refl) (λ told.
           let made = makes told in (
             made.does,
             shows ∙ again (world new.host).held (made.keeps file.file.file held) (places_stay old.slots owned made.keeps),

@@ -5,7 +5,7 @@ use Rattle.wasi_fs.specs.declared.perms.FsPerms.TheVariants.{ReadOnly}
 use Rattle.wasi_host.specs.Meaning.{World, Handles, Rose}
 use Rattle.wasi_host.specs.declared.lookup.Lookup.{Lookup}
 use Rattle.wasi_p1.specs.Slots.{View}
-use Rattle.wasi_p1.specs.Owners.{handles, unowned, descriptors_named, CallTraced}
+use Rattle.wasi_p1.specs.Owners.{handles, unowned, descriptors_named, CallTraced, SlotsOfCall}
 use Rattle.wasi_p1.specs.CallParts.{IsReplied, with_after}
 use Rattle.wasi_p1.specs.Guest.{Guest, State, perms_in, guest_of, guest_by}
 use Rattle.wasi_p1.specs.Row.{Row, Program, done, asking}
@@ -102,14 +102,16 @@ may_want (PathLink old_fd old_flags old_path old_path_len new_fd new_path new_pa
 may_want (PathRename old_fd old_path old_path_len new_fd new_path new_path_len) = true
 
 -- What a call does to its guest, by its row. Over every host: what the row says without the tree, where each handle
--- stands for what it stood for before the call; and only an answered call changes what is the guest's own. Over a host
--- that tells its world: the turn, which leaves the tree, whatever it answers, where a descriptor that the call names is
+-- stands for what it stood for before the call; only an answered call changes what is the guest's own; and descriptors
+-- stay under their numbers with their handles, but for those that the call names or closes. Over a host that tells its
+-- world: the turn, which leaves the tree, whatever it answers, where a descriptor that the call names is
 -- under read-only permissions
 pub record FollowsRow {H : Type 0} (told : Bool) (world : H → World) (faults : H → ℕ) (lookups : H → List Lookup)
     (old new : View H) (before after : List ℕ) (call : Call) (result : Result Value P1Error) : Type 0 where
   pub size : length after ≡ length before
   pub kept : OnErr result (Kept old new before after)
   pub wants : result ≡ Err Memory → IsTrue (may_want call)
+  pub slots : SlotsOfCall old.slots new.slots before call
   pub front : AtFront (Same old new before after) (Quiet faults lookups old new)
       (guest_by (world old.host).held new after) result (row (guest_of world old before) call)
   pub turn : IsTrue told → TakesTurn world (Rose (faults old.host) (faults new.host)) old new before after call result

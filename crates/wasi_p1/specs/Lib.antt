@@ -17,6 +17,7 @@ pub mod Reach
 pub mod StatesAgree
 pub mod RunLaws
 pub mod Stems
+pub mod ReadOnly
 pub mod Writing
 pub mod Validity
 pub mod Asked

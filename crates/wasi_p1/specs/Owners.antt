@@ -1,10 +1,11 @@
 -- Which handles are the descriptors' own.
-use Rattle.std.specs.Prelude.{ℕ, ◌≤◌, ◌==◌, ◌≡◌, Bool, true, false, List, [], ◌∷◌, map, slice_get, sum_by, Option, Some, None, option_to_list}
+use Rattle.std.specs.Prelude.{ℕ, ◌≤◌, ◌==◌, ◌≡◌, Bool, true, false, List, [], ◌∷◌, map, slice_get, sum_by, Contains, Option, Some, None, option_to_list}
 use Rattle.std.specs.List.{flat_map}
 use Rattle.std.specs.FinSet.{contains, insert, remove, retain}
 use Rattle.wasi_host.specs.Meaning.{Handles}
 use Rattle.wasi_host.specs.Lineage.{Traced}
 use Rattle.wasi_host.specs.declared.lookup.Lookup.{Lookup}
+use Rattle.wasi_p1.specs.Slots.{is_closed_slot}
 use Rattle.wasi_p1.specs.declared.context.Slot.{Slot}
 use Rattle.wasi_p1.specs.declared.context.Slot.TheVariants as slots
 use Rattle.wasi_guest.specs.declared.call.Call.{Call}
@@ -80,6 +81,11 @@ descriptors_named memory (PathLink old_fd old_flags old_path old_path_len new_fd
 descriptors_named memory (PathRename old_fd old_path old_path_len new_fd new_path new_path_len) =
     old_fd ∷ new_fd ∷ []
 
+-- the numbers of the descriptors that a call closes
+abbrev pub closed_by : Call → List ℕ
+closed_by (FdClose fd) = fd ∷ []
+closed_by call = []
+
 -- the handles of the descriptors of these numbers
 abbrev pub under : List (Option ℕ) → List ℕ → List (Option ℕ)
 under os fds = flat_map (λ fd. option_to_list (slice_get os fd)) fds
@@ -97,6 +103,34 @@ CallTraced table table' memory call old new =
 -- those of a run begin from the descriptors before it
 abbrev pub RunTraced : List Slot → List Slot → List Lookup → List Lookup → Type 0
 RunTraced table table' old new = SlotsTraced (IsHandle (handles table)) table table' old new
+
+-- the descriptor of a number has the handle
+abbrev pub HasHandle : List Slot → ℕ → ℕ → Type 0
+HasHandle table n h = slice_get (handles table) n ≡ Some (Some h)
+
+-- The descriptors stay under their numbers: one that isn't among those named, whole, its handle included; and one that
+-- isn't among those closed goes on to have its handle
+pub record SlotsStay (Named Closed : ℕ → Type 0) (table table' : List Slot) : Type 0 where
+  pub others : (n : ℕ) (slot : Slot) → slice_get table n ≡ Some slot → is_closed_slot slot ≡ false → (Named n → ⊥)
+      → slice_get table' n ≡ Some slot
+  pub handles : (n h : ℕ) → HasHandle table n h → (Closed n → ⊥) → HasHandle table' n h
+
+-- in a call, but for those that it names, and closes
+abbrev pub SlotsOfCall : List Slot → List Slot → List ℕ → Call → Type 0
+SlotsOfCall table table' memory call =
+    SlotsStay (Contains (descriptors_named memory call)) (Contains (closed_by call)) table table'
+
+-- a call of these names the number, by its arguments or by what memory may hold
+abbrev pub NamedBy : List Call → ℕ → Type 0
+NamedBy calls n = (call : Call) × Contains calls call × ((memory : List ℕ) × Contains (descriptors_named memory call) n)
+
+-- a call of these closes it
+abbrev pub ClosedBy : List Call → ℕ → Type 0
+ClosedBy calls n = (call : Call) × Contains calls call × Contains (closed_by call) n
+
+-- in a run of these calls
+abbrev pub SlotsOfRun : List Slot → List Slot → List Call → Type 0
+SlotsOfRun table table' calls = SlotsStay (NamedBy calls) (ClosedBy calls) table table'
 
 -- what is owned, at two numbers: a descriptor's handle is live, and another's is another
 abbrev pub OwnedApart : Handles → List (Option ℕ) → Type 0

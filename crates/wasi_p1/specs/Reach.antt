@@ -15,8 +15,12 @@ Inside start n = Reached start.tree (nodes_of start.guest.places) n
 abbrev pub InReach : State → State → ℕ → Type 0
 InReach start now n = Inside start n ⊎ IsMade start.tree now.tree n
 
+-- nothing that was touched is given up
+abbrev pub StaysTouched : Nodes → Nodes → Type 0
+StaysTouched old new = (n : ℕ) → contains old n ≡ true → contains new n ≡ true
+
 -- Each descriptor's node, each node that a directory in reach holds, and each touched node is in reach. Every turn
--- keeps it.
+-- keeps it, and so does every run, from whatever start: two runs after one another keep what the first began with.
 pub record Confined (start now : State) (touched : Nodes) : Type 0 where
   pub later : next_of start.tree ≤ next_of now.tree
   pub descriptors : (n : ℕ) → Contains (nodes_of now.guest.places) n → InReach start now n

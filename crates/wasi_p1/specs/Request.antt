@@ -7,7 +7,7 @@ use Rattle.wasi_host.specs.Answer.{bytes_read, bytes_taken}
 use Rattle.wasi_host.specs.declared.errors.ErrorCode.{ErrorCode}
 use Rattle.wasi_host.specs.declared.held.Held.{Held}
 use Rattle.wasi_host.specs.declared.system_time.SystemTime.{SystemTime}
-use Rattle.wasi_host.specs.declared.limits.TheConstants.{LINK_MAX}
+use Rattle.wasi_host.specs.Numbers.{longest_link}
 use Rattle.wasi_resolve.specs.AtPlace.{ReadLink}
 use Rattle.wasi_resolve.specs.PathRequest.{PathRequest, OpenPath, AtPlace, PathReply, path_reply, path_after, path_starts, path_ends}
 
@@ -33,7 +33,7 @@ Reply (SetTimes n atime mtime) = Unit {0}
 abbrev pub MayFind : (p : PathRequest) → PathReply p → Type 0
 MayFind (OpenPath s text o follow directory) found = IsTrue directory → IsTrue found.is_dir
 MayFind (AtPlace s text ReadLink) link =
-    (0 < length link) × (length link ≤ LINK_MAX) × (has_root link ≡ false)
+    (0 < length link) × (length link ≤ longest_link) × (has_root link ≡ false)
 MayFind p found = Unit {0}
 
 -- what a reply may be, whatever the tree: a read gives no more bytes than were asked for, and a write takes some of a

@@ -5,7 +5,7 @@ ghost use Rattle.std.specs.FinSet.{contains};
 ghost use Rattle.wasi_host.specs.Meaning.{HasCause, Rose};
 ghost use Rattle.wasi_host.specs.Lineage.{Traced, Only, Nothing};
 ghost use Rattle.wasi_p1.specs.CallTurn.{Causes};
-ghost use Rattle.wasi_p1.specs.Owners.{handle_in, handles, without, Owned, Owns, SlotsTraced};
+ghost use Rattle.wasi_p1.specs.Owners.{handle_in, handles, without, Owned, Owns, SlotsTraced, SlotsStay};
 ghost use Rattle.wasi_p1.specs.Guest.{place_of, places_of};
 ghost use Rattle.wasi_resolve.specs.PathRequest.{meant_by};
 ghost use Rattle.wasi_resolve.specs.Resolved.{Resolved};
@@ -263,6 +263,7 @@ pub fn move_file(descriptors: &mut Descriptors, fd: u32, file: File, position: u
 }
 
 /// Opens a path into the descriptors, and gives the new one's number. Its room is taken before the host is called.
+#[tactic(auto, using(crate::proofs::Staying::all_stay))]
 pub fn open_into<H: Host>(
     alloc: Global,
     host: &mut H,
@@ -276,6 +277,7 @@ pub fn open_into<H: Host>(
     ensures cause { Causes (H.faults host.old) (H.faults host.new) result }
 
     // The descriptors after it: a new one where it is answered, and else those that there were.
+    ensures used { SlotsStay Nothing Nothing descriptors.old.slots descriptors.new.slots }
     ensures kept { OnErr result (descriptors.new.slots ≡ descriptors.old.slots) }
     ensures owns { Owns (H.live host.old) (H.live host.new)
         (handles descriptors.old.slots) (handles descriptors.new.slots) }

@@ -158,6 +158,27 @@ impl<H: Host> WasiP1Ctx<H> {
         let _descriptors = &self.descriptors;
     }
 
+    /// The host, as the calls so far left it.
+    pub fn host(&self) -> &H
+        ensures host { result.now ≡ self.now.host }
+    {
+        &self.host
+    }
+
+    /// What the guest wrote to the standard output so far.
+    pub fn stdout(&self) -> &[u8]
+        ensures bytes { result.now ≡ self.now.stdout }
+    {
+        self.stdout.as_slice()
+    }
+
+    /// What the guest wrote to the standard error so far.
+    pub fn stderr(&self) -> &[u8]
+        ensures bytes { result.now ≡ self.now.stderr }
+    {
+        self.stderr.as_slice()
+    }
+
     /// The host, and what the guest wrote. Its handles stay live.
     pub fn into_parts(self) -> Ended<H>
         ensures host { result.host ≡ self.host }

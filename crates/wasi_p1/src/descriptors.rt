@@ -124,30 +124,3 @@ impl Descriptors {
         };
     }
 }
-
-#[cfg(test)]
-mod tests {
-    use super::*;
-    use wasi_fs::{File, FsPerms, OpenMode};
-    use wasi_host::Handle;
-
-    #[test]
-    fn numbers(rt: HostRuntime) -> Result<(), AllocError> {
-        let preopen = P1Preopen {
-            handle: Handle::from_number(7),
-            perms: FsPerms::ReadWrite,
-            name: String::from_str(rt.alloc(), "/")?,
-        };
-        let preopens = vec![in rt.alloc(); preopen]?;
-        let mut descriptors = Descriptors::first(rt.alloc(), &preopens)?;
-        for number in 4..40 {
-            assert!(rt; descriptors.get(number).is_none());
-            descriptors.reserve()?;
-            let file = File::new(Handle::from_number(8), FsPerms::ReadOnly, OpenMode::READ);
-            let slot = Slot::File { file, position: 0 };
-            assert_eq!(rt; descriptors.put(slot), number as u64);
-            assert!(rt; descriptors.get(number).is_some());
-        }
-        Ok(())
-    }
-}

@@ -3,6 +3,7 @@ ghost use Rattle.wasi_p1.specs.Owners.{LiveStays};
 ghost use Rattle.wasi_p1.specs.StatesAgree.{TurnsAgree, RunsAgree};
 ghost use Rattle.wasi_p1.specs.RunLaws.{RunsAreFunctions, TurnsAreConfined};
 ghost use Rattle.wasi_p1.specs.Stems.{PermissionsStem};
+ghost use Rattle.wasi_p1.specs.ReadOnly.{ReadOnlyTurnsLeaveTheTree, ReadOnlyRunsLeaveTheTree};
 ghost use Rattle.wasi_p1.specs.Validity.{RunsStayValid};
 ghost use Rattle.wasi_p1.specs.Writing.{WritesAreWhole};
 
@@ -38,6 +39,18 @@ pub fn live_handles_stay()
 /// directory through which it was opened, and every other from itself.
 pub fn permissions_stem()
     ensures stem { PermissionsStem }
+{}
+
+/// A turn that names a descriptor under read-only permissions leaves the tree, whatever it answers, and where the host
+/// failed too.
+pub fn read_only_turns_leave_the_tree()
+    ensures leave { ReadOnlyTurnsLeaveTheTree }
+{}
+
+/// A run of a guest whose directories and files are all under read-only permissions leaves the tree, however often the
+/// host fails.
+pub fn read_only_runs_leave_the_tree()
+    ensures leave { ReadOnlyRunsLeaveTheTree }
 {}
 
 /// A write that is answered put its first buffer that has bytes whole into the file, from its position on.

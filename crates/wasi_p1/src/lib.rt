@@ -15,8 +15,9 @@ mod run;
 pub use context::{CtxRefused, Ended, P1Preopen, Slot, Stream, WasiP1Ctx};
 pub use error::P1Error;
 pub use laws::{
-    live_handles_stay, permissions_stem, runs_agree, runs_are_functions, runs_stay_valid,
-    turns_agree, turns_are_confined, writes_are_whole,
+    live_handles_stay, permissions_stem, read_only_runs_leave_the_tree,
+    read_only_turns_leave_the_tree, runs_agree, runs_are_functions, runs_stay_valid, turns_agree,
+    turns_are_confined, writes_are_whole,
 };
 pub use run::{RunError, call, run_calls};
 pub use wasi_fs::FsPerms;

@@ -1,10 +1,10 @@
 //! A list of calls, one after another.
 ghost use Rattle.std.specs.Prelude.{◌≡◌, ◌≤◌, length, IsTrue, IfOk, IfErr};
 ghost use Rattle.wasi_p1.specs.CallTurn.{Causes, OthersStay, Looks, FollowsRow};
-ghost use Rattle.wasi_p1.specs.Guest.{state_of};
+ghost use Rattle.wasi_p1.specs.Guest.{State, state_of};
 ghost use Rattle.wasi_p1.specs.Run.{AnswersEach, answer_of, ends, ios, Allows, answered_in, DidRun, StoodAt};
-ghost use Rattle.wasi_p1.specs.Owners.{RunTraced};
-ghost use Rattle.wasi_p1.specs.Reach.{Confined};
+ghost use Rattle.wasi_p1.specs.Owners.{RunTraced, SlotsOfRun};
+ghost use Rattle.wasi_p1.specs.Reach.{Confined, StaysTouched};
 ghost use Rattle.wasi_p1.specs.Validity.{IsValidState};
 
 use crate::context::WasiP1Ctx;
@@ -161,6 +161,7 @@ pub fn run_calls<H: Host>(
     ensures answered { IfErr result (λ e. answered_in e ≤ length calls.now.items) }
     ensures ios { IfOk result (λ a. Allows (H.faults context.old.host) (H.faults context.new.host) (ios a.answers)) }
     ensures handles { OthersStay H.live context.old context.new }
+    ensures slots { SlotsOfRun context.old.slots context.new.slots calls.now.items }
     ensures lineage { RunTraced context.old.slots context.new.slots
         (H.lookups context.old.host) (H.lookups context.new.host) }
     ensures run { IsTrue H.told → IfOk result (λ a. DidRun (H.faults context.old.host) (H.faults context.new.host)
@@ -169,11 +170,11 @@ pub fn run_calls<H: Host>(
     ensures memory { IsTrue H.told → IfErr result (λ e. StoodAt (H.faults context.old.host) (H.faults context.new.host)
         (state_of H.world context.old memory.old) calls.now.items (answered_in e)
         (state_of H.world context.new memory.new) (H.world context.new.host).touched) }
-    ensures confined { IsTrue H.told
-        → Confined (state_of H.world context.old memory.old) (state_of H.world context.old memory.old)
-        (H.world context.old.host).touched
-        → Confined (state_of H.world context.old memory.old) (state_of H.world context.new memory.new)
-        (H.world context.new.host).touched }
+    ensures touched { IsTrue H.told
+        → StaysTouched (H.world context.old.host).touched (H.world context.new.host).touched }
+    ensures confined { IsTrue H.told → (start : State)
+        → Confined start (state_of H.world context.old memory.old) (H.world context.old.host).touched
+        → Confined start (state_of H.world context.new memory.new) (H.world context.new.host).touched }
     ensures valid { IsTrue H.told → IsValidState (state_of H.world context.old memory.old)
         → IsValidState (state_of H.world context.new memory.new) }
 {

@@ -1,15 +1,26 @@
 -- The names among the components are plain.
 use Rattle.std.proofs.Common.{ℕ, ◌≡◌, Bool, true, false, List, [], ◌∷◌, ◌++◌, map, refl, sym, subst, cond, get_or}
-use Rattle.std.specs.Prelude.{not, codes}
+use Rattle.std.specs.Prelude.{not, codes, ◌&&◌, ◌||◌, IsTrue}
 use Rattle.std.specs.Str.{bytes_eq}
 use Rattle.std.specs.List.{All, filter, onto_first}
 use Rattle.std.proofs.lemmas.Bool.{and_parts, not-true}
 use Rattle.std.proofs.lemmas.List.Elements.{All-nil, All-cons, All-head, All-tail, All-append, All-map, All-filter, filter_passes}
-use Rattle.wasi_paths.specs.Text.{has_slash, is_dot_text}
+use Rattle.wasi_paths.specs.Text.{has_slash, is_dot_text, is_plain, is_name_text}
 use Rattle.wasi_paths.specs.Parts.{RootDir, CurDir, ParentDir, Normal, has_root, is_slash, is_empty, segments, first_segment, lead, is_kept, component_of}
 use Rattle.wasi_paths.specs.TextLaws.{HasPlainName, HasPlainNames}
 use Rattle.wasi_paths.proofs.Segments.{HasFirst, first_of, IsOne, tail_is_one}
 use Rattle.wasi_paths.proofs.ComponentLemmas.{alone, components_are}
+
+-- the text of a name is plain, but where it is `.`
+pub plain_unless_dot : (text : List ℕ) → IsTrue (is_name_text text) → is_plain text ≡ not (is_dot_text text)
+plain_unless_dot text named =
+    by (not (bytes_eq text [])) (is_dot_text text) (not (bytes_eq text (codes ".."))) (not (has_slash text)) named
+  where
+    by : (some dot up segment : Bool) → IsTrue (dot || (some && not dot && up && segment))
+        → (some && not dot && up && segment) ≡ not dot
+    by true true up segment is = refl
+    by false true up segment is = refl
+    by some false up segment is = is
 
 pub one_lacks : (text : List ℕ) → IsOne text → has_slash text ≡ false
 one_lacks [] k = refl

@@ -2,7 +2,6 @@
 use Rattle.std.specs.Prelude.{ℕ, Bool, not, ◌&&◌, ◌||◌, nat_eq, nat_lt, List, [], length, codes, IsTrue}
 use Rattle.std.specs.Str.{bytes_eq, IsUtf8}
 use Rattle.std.specs.List.{list_any}
-use Rattle.wasi_paths.specs.declared.TheConstants.{NAME_MAX}
 
 -- it has the byte of `/`
 abbrev pub has_slash : List ℕ → Bool
@@ -27,9 +26,9 @@ pub record IsName (text : List ℕ) : Type 0 where
 abbrev pub has_nul : List ℕ → Bool
 has_nul text = list_any (λ b. nat_eq b 0) text
 
--- it is longer than a name in a directory can be
+-- it is longer than a name in a directory can be, which has at most 255 bytes
 abbrev pub is_long : List ℕ → Bool
-is_long text = nat_lt NAME_MAX (length text)
+is_long text = nat_lt 255 (length text)
 
 -- a name that a directory may hold: plain, without NUL, of at most 255 bytes
 abbrev pub is_entry_name : List ℕ → Bool

@@ -67,10 +67,11 @@ impl<'a> Name<'a> {
     }
 
     /// Whether a directory may hold it: it isn't `.`, has no NUL, and at most `NAME_MAX` bytes.
+    #[tactic(auto, using(crate::proofs::PlainNames::plain_unless_dot))]
     pub fn is_entry(&self) -> bool
         ensures test { result ≡ is_entry_name (name_bytes self.now) }
     {
-        is_plain(self.text) && !self.has_nul() && !self.is_long()
+        !self.is_dot() && !self.has_nul() && !self.is_long()
     }
 }
 
@@ -93,53 +94,4 @@ fn has_slash(text: &str) -> bool
     ensures { result ≡ has_slash text.now }
 {
     text.as_bytes().contains(&b'/')
-}
-
-#[cfg(test)]
-mod tests {
-    use super::*;
-
-    #[test]
-    fn plain_texts(rt: HostRuntime) {
-        for (text, want) in [
-            ("foo", true),
-            ("foo.", true),
-            ("...", true),
-            (".x", true),
-            ("..x", true),
-            ("", false),
-            (".", false),
-            ("..", false),
-            ("/", false),
-            ("a/b", false),
-            ("a/", false),
-            ("/a", false),
-        ] {
-            assert_eq!(rt; Name::plain(text).is_some(), want, "of {text}");
-        }
-    }
-
-    #[test]
-    fn entries(rt: HostRuntime) {
-        for (name, want) in [
-            (Name::dot(), false),
-            (Name::plain("top").unwrap_or(Name::dot()), true),
-            (Name::plain("a\0b").unwrap_or(Name::dot()), false),
-        ] {
-            assert_eq!(rt; name.is_entry(), want, "of {name:?}");
-        }
-    }
-
-    #[test]
-    fn names(rt: HostRuntime) {
-        let dot = Name::dot();
-        assert!(rt; dot.is_dot());
-        assert_eq!(rt; dot.as_str(), ".");
-        let Some(name) = Name::plain("top") else {
-            panic!(rt; "no name");
-        };
-        assert!(rt; !name.is_dot());
-        assert_eq!(rt; name.as_str(), "top");
-        assert!(rt; name != dot);
-    }
 }

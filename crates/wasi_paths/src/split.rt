@@ -54,33 +54,3 @@ fn up_to_last(path: &str) -> &str
     }
     text
 }
-
-#[cfg(test)]
-mod tests {
-    use super::*;
-
-    #[test]
-    fn splits(rt: HostRuntime) {
-        for (text, parent, last) in [
-            ("foo/bar/qux", "foo/bar", Part::Normal("qux")),
-            ("foo/bar", "foo", Part::Normal("bar")),
-            ("foo", "", Part::Normal("foo")),
-            ("foo/", "foo/", Part::CurDir),
-            ("foo/.", "foo/.", Part::CurDir),
-            (".", "", Part::CurDir),
-            ("..", "..", Part::CurDir),
-            ("../..", "../..", Part::CurDir),
-            ("../foo", "..", Part::Normal("foo")),
-            ("foo/..", "foo/..", Part::CurDir),
-            ("/foo", "/", Part::Normal("foo")),
-            ("/foo/", "/foo/", Part::CurDir),
-            ("/", "/", Part::CurDir),
-            ("a/./b", "a", Part::Normal("b")),
-            ("./b", ".", Part::Normal("b")),
-            ("//./b", "/", Part::Normal("b")),
-        ] {
-            assert_eq!(rt; split_parent(text), Some((parent, last)), "of {text}");
-        }
-        assert_eq!(rt; split_parent(""), None);
-    }
-}

@@ -1,7 +1,8 @@
 //! Laws of what is defined.
 ghost use Rattle.wasi_report.specs.ReadBack.{ReportsAreTold};
 
-/// Two reports with the same text are the same, where the names in each directory stand in byte order.
+/// Two reports with the same text are the same, where numbers fit 64 bits, bytes are bytes, and the names in each
+/// directory stand in strictly rising byte order, as in each report that `report` writes.
 pub fn reports_are_told()
     ensures told { ReportsAreTold }
 {}

@@ -9,7 +9,7 @@ use Rattle.wasi_host.specs.ValidTree.{Reached, root}
 use Rattle.wasi_host.specs.Answer.{HostAnswer}
 use Rattle.wasi_host.specs.Step.{step, found_by, found_under, made_by, added_step, moved_step, link_step, rename_step, dropped_step, name_lost, with_name, one_name_more}
 use Rattle.wasi_host.specs.Steps.{◌>>=◌}
-use Rattle.wasi_host.specs.Meaning.{World, Handles, Told, MeansErr, LoggedTwo, MaybeLoggedTwo, both_looked}
+use Rattle.wasi_host.specs.Meaning.{World, Handles, Told, MeansErr, Logged, MaybeLogged, both_looked}
 use Rattle.wasi_host.specs.Lineage.{Traced, Only, OneOf, Nothing}
 use Rattle.wasi_host.specs.declared.lookup.Lookup.{Lookup}
 use Rattle.wasi_host.specs.declared.errors.ErrorCode.{ErrorCode}
@@ -360,7 +360,7 @@ module _ {old new : ℕ} {a b c : List Lookup} where
 
 -- a call at two places looks twice, and reads no link
 pub two_reads : {A : Type 0} {before now : List Lookup} (kind : LookKind) (old new : ℕ) (r : Result A HostError)
-    → links_read (both_looked kind old new) ≡ 0 → LoggedTwo before kind old new r now → FewReads 2 0 before now
+    → links_read (both_looked kind old new) ≡ 0 → Logged before (both_looked kind old new) r now → FewReads 2 0 before now
 two_reads {A = A} {before = before} {now = now} kind old new r none logged = by r logged
   where
     both : now ≡ before ++ both_looked kind old new → FewReads 2 0 before now
@@ -371,13 +371,13 @@ two_reads {A = A} {before = before} {now = now} kind old new r none logged = by 
           omega (arith, ap links_read adds, sums, none);
     }
 
-    maybe : MaybeLoggedTwo before kind old new now → FewReads 2 0 before now
+    maybe : MaybeLogged before (both_looked kind old new) now → FewReads 2 0 before now
     maybe logged = elim logged [
       | inl same ↦ record { calls = omega (arith, ap length same); links = omega (arith, ap links_read same) }
       | inr adds ↦ both adds
     ]
 
-    by : (x : Result A HostError) → LoggedTwo before kind old new x now → FewReads 2 0 before now
+    by : (x : Result A HostError) → Logged before (both_looked kind old new) x now → FewReads 2 0 before now
     by (Ok a) adds = both adds
     by (Err Memory) logged = maybe logged
     by (Err (Code Io)) logged = maybe logged

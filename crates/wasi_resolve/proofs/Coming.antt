@@ -8,23 +8,24 @@ use Rattle.wasi_host.specs.declared.errors.HostError.TheVariants.{Code}
 use Rattle.wasi_host.specs.declared.lookup.Lookup.{Lookup}
 use Rattle.wasi_paths.specs.Parts as texts
 use Rattle.wasi_paths.specs.Parts.{Component, trailing_slash, is_empty}
-use Rattle.wasi_resolve.specs.Walk.{Aim, Outcome, Stop, Leg, Ended, Linked, adds_slash, resume, Walk, ended, one_link_more, walk_from, walk}
+use Rattle.wasi_resolve.specs.Walk.{Aim, Outcome, Stop, Leg, Ended, Linked, adds_slash, resume, Walk, walk_looks, ended, one_link_more, walk_from, walk}
 use Rattle.wasi_resolve.specs.ByNodes.{leg_nodes, walk_nodes}
 use Rattle.wasi_resolve.specs.Resolved.{Resolved}
 use Rattle.wasi_resolve.specs.Stack.{nodes_under}
-use Rattle.wasi_resolve.specs.WalkSteps.{Walked, ReachesLink, EndsPast, LinkPast, FailsPast, Comes, whole_walk, meant_at, shown_found, taken_by}
+use Rattle.wasi_resolve.specs.WalkSteps.{Walked, ReachesLink, ReachFails, EndsPast, LinkPast, FailsPast, Comes, whole_walk, meant_at, shown_found, taken_by, leg_looks}
 use Rattle.wasi_resolve.specs.declared.found.Found.{Found}
 use Rattle.wasi_resolve.proofs.Calls.{resolved_err, fault_means, looks_none}
-use Rattle.wasi_resolve.proofs.Legs.{taken_most}
+use Rattle.wasi_resolve.proofs.Legs.{TakesMore, taken_most, takes_more}
 use Rattle.wasi_resolve.proofs.Reaching.{start_is, stop_resolved}
 use Rattle.wasi_resolve.proofs.Simulation.{walk-by_nodes}
 
 -- ---- by nodes
 
--- two walks end alike, though their numbers of links may differ
-pub record SameEnd (a b : Walk) : Type 0 where
+-- two walks end alike, though the one has read so many links more
+pub record SameEnd (read : ℕ) (a b : Walk) : Type 0 where
   pub outcome : a.outcome ≡ b.outcome
   pub parts : a.parts ≡ b.parts
+  pub links : a.links ≡ read + b.links
 
 abbrev last_turn : Bool → ℕ → List Component → List ℕ → Walk
 last_turn slash m left stack = ended m (Stop Loop)
@@ -41,11 +42,12 @@ module _ (t : Tree) (s : ℕ) (aim : Aim) (follow : Bool) where
 
   walk_turned : (links : ℕ) (slash : Bool) (m taken : ℕ) (parts behind : List Component) (nodes after text : List ℕ)
       → leg_nodes t s aim follow slash m parts nodes ≡ Linked taken after text behind
-      → SameEnd (walk_nodes t s aim follow (suc links) slash m parts nodes)
+      → SameEnd 1 (walk_nodes t s aim follow (suc links) slash m parts nodes)
       (walk_nodes t s aim follow links (slash || adds_slash text behind) taken (texts.parts text ++ behind) after)
   walk_turned links slash m taken parts behind nodes after text is = record {
     outcome = ap (λ l. (resume (next_turn links) slash l).outcome) is;
     parts = ap (λ l. (resume (next_turn links) slash l).parts) is;
+    links = omega (arith, ap (λ l. (resume (next_turn links) slash l).links) is);
   }
 
   walk_looped : (slash : Bool) (m taken : ℕ) (parts behind : List Component) (nodes after text : List ℕ)
@@ -74,13 +76,47 @@ module _ (t : Tree) (s : ℕ) (aim : Aim) (follow : Bool) where
       leg_most links slash m m (leg_nodes t s aim follow slash m left stack)
       (taken_most t s aim follow slash m left stack) (walk_most links)
 
-  pub parts_most : (links : ℕ) (slash : Bool) (m : ℕ) (left : List Component) (stack : List ℕ)
+  last_parts : (slash : Bool) (m : ℕ) (left : List Component) (stack : List ℕ)
       → taken_by (leg_nodes t s aim follow slash m left stack) ≤
-      (walk_nodes t s aim follow links slash m left stack).parts
-  parts_most zero slash m left stack =
-      last_most slash _ (leg_nodes t s aim follow slash m left stack) (omega arith)
-  parts_most (suc links) slash m left stack =
-      leg_most links slash m _ (leg_nodes t s aim follow slash m left stack) (omega arith) (walk_most links)
+      (walk_nodes t s aim follow zero slash m left stack).parts
+  last_parts slash m left stack = last_most slash _ (leg_nodes t s aim follow slash m left stack) (omega arith)
+
+  -- and no fewer look-ups are reckoned for it, where a link may be read
+  leg_within : (links : ℕ) (slash : Bool) (l : Leg (List ℕ))
+      → leg_looks l ≤ walk_looks (resume (next_turn links) slash l)
+  leg_within links slash (Ended taken outcome) = omega arith
+  leg_within links slash (Linked taken position text left) =
+      let rest = walk_most links (slash || adds_slash text left) taken (texts.parts text ++ left) position in
+      omega (arith, rest)
+
+  looks_within : (links : ℕ) (slash : Bool) (m : ℕ) (left : List Component) (stack : List ℕ)
+      → leg_looks (leg_nodes t s aim follow slash m left stack) ≤
+      walk_looks (walk_nodes t s aim follow (suc links) slash m left stack)
+  looks_within links slash m left stack = leg_within links slash (leg_nodes t s aim follow slash m left stack)
+
+  -- a walk takes a part for each link that it reads
+  leg_links : (links : ℕ) (slash : Bool) (m : ℕ) (l : Leg (List ℕ)) → TakesMore m l
+      → ((slash : Bool) (m : ℕ) (left : List Component) (stack : List ℕ)
+      → m + (walk_nodes t s aim follow links slash m left stack).links
+      ≤ (walk_nodes t s aim follow links slash m left stack).parts)
+      → m + (resume (next_turn links) slash l).links ≤ (resume (next_turn links) slash l).parts
+  leg_links links slash m (Ended taken outcome) more rest = omega (arith, more)
+  leg_links links slash m (Linked taken position text left) more rest =
+      let few = rest (slash || adds_slash text left) taken (texts.parts text ++ left) position in omega (arith, more, few)
+
+  last_links : (slash : Bool) (m : ℕ) (l : Leg (List ℕ)) → TakesMore m l
+      → m + (resume last_turn slash l).links ≤ (resume last_turn slash l).parts
+  last_links slash m (Ended taken outcome) more = omega (arith, more)
+  last_links slash m (Linked taken position text left) more = omega (arith, more)
+
+  pub links_within : (links : ℕ) (slash : Bool) (m : ℕ) (left : List Component) (stack : List ℕ)
+      → m + (walk_nodes t s aim follow links slash m left stack).links
+      ≤ (walk_nodes t s aim follow links slash m left stack).parts
+  links_within zero slash m left stack =
+      last_links slash m (leg_nodes t s aim follow slash m left stack) (takes_more t s aim follow slash m left stack)
+  links_within (suc links) slash m left stack =
+      leg_links links slash m (leg_nodes t s aim follow slash m left stack)
+      (takes_more t s aim follow slash m left stack) (links_within links)
 
 -- the walk of a text, by nodes
 pub walk_whole : (t : Tree) (s : ℕ) (text : List ℕ) (aim : Aim) (follow : Bool) → is_empty text ≡ false
@@ -107,17 +143,23 @@ pub record SoFar (first : Handles) (w v0 v : World) (start : ℕ) (aim : Aim) (f
     (old now : List Lookup) : Type 0 where
   pub walked : Walked first w v start stack
   pub taken : ℕ
-  pub same : SameEnd (whole_walk w.tree (w.held start).node aim follow slash parts (nodes_under v0.held before))
+  pub read : ℕ
+  pub same : SameEnd read (whole_walk w.tree (w.held start).node aim follow slash parts (nodes_under v0.held before))
       (walk_nodes w.tree (w.held start).node aim follow links slash_now taken left (nodes_under v.held stack))
-  pub few : length now ≤ length old + 3 * taken
+  pub few : length now ≤ length old + taken + 2 * read
 
 pub so_starts : {first : Handles} {w v : World} {start : ℕ} {stack : List ℕ} (aim : Aim) (follow slash : Bool)
     (parts : List Component)
     (old : List Lookup) → Walked first w v start stack
     → SoFar first w v v start aim follow slash parts stack 40 slash parts stack old old
 unfolding whole_walk
-so_starts aim follow slash parts old walked =
-    record { walked = walked; taken = 0; same = record { outcome = refl; parts = refl }; few = omega arith }
+so_starts aim follow slash parts old walked = record {
+  walked = walked;
+  taken = 0;
+  read = 0;
+  same = record { outcome = refl; parts = refl; links = omega arith };
+  few = omega arith;
+}
 
 module _ {first : Handles} {w v0 v : World} {start : ℕ} {aim : Aim} {follow slash : Bool} {parts : List Component}
     {before : List ℕ}
@@ -142,6 +184,7 @@ module _ {first : Handles} {w v0 v : World} {start : ℕ} {aim : Aim} {follow sl
       record {
         walked = past.walked;
         taken = past.taken;
+        read = so.read + 1;
         same = record {
           outcome =
               so.same.outcome ∙ ap (λ k. (walk_nodes w.tree (w.held start).node aim follow k slash_now so.taken left
@@ -149,6 +192,11 @@ module _ {first : Handles} {w v0 v : World} {start : ℕ} {aim : Aim} {follow sl
           parts =
               so.same.parts ∙ ap (λ k. (walk_nodes w.tree (w.held start).node aim follow k slash_now so.taken left
               (nodes_under v.held stack)).parts) at ∙ turned.parts ∙ ap (λ x. x.parts) same;
+          links =
+              let here =
+              ap (λ k. (walk_nodes w.tree (w.held start).node aim follow k slash_now so.taken left
+              (nodes_under v.held stack)).links) at in
+              omega (arith, so.same.links, here, turned.links, ap (λ x. x.links) same);
         };
         few = omega (arith, so.few, past.few);
       }
@@ -165,30 +213,54 @@ module _ {first : Handles} {w v0 v : World} {start : ℕ} {aim : Aim} {follow sl
         resolved =
             subst (λ o. Resolved first w u (meant_at w.tree aim (w.held start).node o) (shown_found u.held) r)
             (sym (so.same.outcome ∙ ap (λ x. x.outcome) is)) ends.resolved;
-        bound = let number = so.same.parts ∙ ap (λ x. x.parts) is in omega (arith, number, so.few, ends.few);
+        bound =
+            let number = so.same.parts ∙ ap (λ x. x.parts) is in
+            let none = ap (λ x. x.links) is in omega (arith, number, so.same.links, none, so.few, ends.few);
       }
 
-  pub so_fails : {links : ℕ} {u : World} {new : List Lookup} (e : HostError)
-      (so : SoFar first w v0 v start aim follow slash parts before links slash_now left stack old mid)
+  -- the host fails, or memory is wanted, while a link may be read
+  pub so_fails : {now : ℕ} (links : ℕ) {u : World} {new : List Lookup} (e : HostError)
+      (so : SoFar first w v0 v start aim follow slash parts before now slash_now left stack old mid) → now ≡ suc links
       → FailsPast first w v u start aim follow slash_now so.taken left stack mid new e
       → Comes first w v0 u start aim follow slash parts before old new (Err e)
-  so_fails {links} {u} e so fails = record {
+  so_fails links {u} e so at fails = record {
     resolved =
         resolved_err (meant_at w.tree aim (w.held start).node _) (shown_found u.held) e (start_is w.tree aim
         (w.held start).node _)
         (fault_means _ fails.fault) fails.looks;
     bound =
-        let most =
-        parts_most w.tree (w.held start).node aim follow links slash_now so.taken left
-        (nodes_under v.held stack) in
-        omega (arith, so.same.parts, so.few, fails.few, most);
+        let s = (w.held start).node in
+        let here =
+        ap (λ k. walk_looks (walk_nodes w.tree s aim follow k slash_now so.taken left (nodes_under v.held stack))) at in
+        let most = looks_within w.tree s aim follow links slash_now so.taken left (nodes_under v.held stack) in
+        omega (arith, so.same.parts, so.same.links, here, so.few, fails.few, most);
+  }
+
+  -- and where none may be read any more
+  pub so_fails_last : {now : ℕ} {u : World} {left' : List Component} {new : List Lookup} (e : HostError)
+      (so : SoFar first w v0 v start aim follow slash parts before now slash_now left stack old mid) → now ≡ zero
+      → ReachFails first w v u start aim follow slash_now so.taken left stack left' e
+      → length new + so.taken ≤ length mid + taken_by (leg_nodes w.tree (w.held start).node aim follow slash_now so.taken
+      left (nodes_under v.held stack)) + 1
+      → Comes first w v0 u start aim follow slash parts before old new (Err e)
+  so_fails_last {u = u} e so at fails few = record {
+    resolved =
+        resolved_err (meant_at w.tree aim (w.held start).node _) (shown_found u.held) e (start_is w.tree aim
+        (w.held start).node _)
+        (fault_means _ fails.fault) fails.looks;
+    bound =
+        let s = (w.held start).node in
+        let here =
+        ap (λ k. (walk_nodes w.tree s aim follow k slash_now so.taken left (nodes_under v.held stack)).parts) at in
+        let most = last_parts w.tree s aim follow slash_now so.taken left (nodes_under v.held stack) in
+        omega (arith, so.same.parts, so.same.links, here, so.few, few, most);
   }
 
   -- one link too many
   pub so_loops : {now : ℕ} {u : World} {left' : List Component} {after : List ℕ} {name : List ℕ} {new : List Lookup}
       (so : SoFar first w v0 v start aim follow slash parts before now slash_now left stack old mid) → now ≡ zero
       → (link : ReachesLink first w v u start aim follow slash_now so.taken left stack left' after name)
-      → length new + 3 * so.taken ≤ length mid + 3 * link.taken
+      → length new + so.taken ≤ length mid + link.taken + 1
       → Comes first w v0 u start aim follow slash parts before old new (Err (Code Loop))
   so_loops {u = u} {left' = left'} {after = after} so at link few =
       let is =
@@ -201,7 +273,9 @@ module _ {first : Handles} {w v0 v : World} {start : ℕ} {aim : Aim} {follow sl
             subst (λ o. Resolved first w u (meant_at w.tree aim (w.held start).node o) (shown_found u.held) (Err
             (Code Loop)))
             (sym (so.same.outcome ∙ ap (λ x. x.outcome) is)) (stop_resolved aim Loop refl link.walked.looks);
-        bound = let number = so.same.parts ∙ ap (λ x. x.parts) is in omega (arith, number, so.few, few);
+        bound =
+            let number = so.same.parts ∙ ap (λ x. x.parts) is in
+            let none = ap (λ x. x.links) is in omega (arith, number, so.same.links, none, so.few, few);
       }
 
 -- ---- the walk of a text
@@ -231,5 +305,5 @@ module _ {live : Handles} {w u : World} {start : ℕ} {aim : Aim} {follow : Bool
       subst (λ x. Resolved live w u (meant_at w.tree aim (w.held start).node x.outcome)
       (shown_found u.held) r) whole_is comes.resolved
 
-  pub comes_bound : length new ≤ length old + (3 * (walk w.tree (w.held start).node text aim follow).parts + 4)
-  comes_bound = subst (λ x. length new ≤ length old + (3 * x.parts + 4)) whole_is comes.bound
+  pub comes_bound : length new ≤ length old + walk_looks (walk w.tree (w.held start).node text aim follow)
+  comes_bound = subst (λ x. length new ≤ length old + walk_looks x) whole_is comes.bound

@@ -12,18 +12,18 @@ use Rattle.wasi_host.specs.Answer.{unless, reached, open_answer, stat_at_answer}
 use Rattle.wasi_host.specs.Meaning.{World, Handles, Told, MeansErr, AfterErr}
 use Rattle.wasi_host.proofs.Chain.{free}
 use Rattle.wasi_host.specs.declared.errors.ErrorCode.{ErrorCode}
-use Rattle.wasi_host.specs.declared.errors.ErrorCode.TheVariants.{Io}
+use Rattle.wasi_host.specs.declared.errors.ErrorCode.TheVariants.{Io, Loop, NotDirectory}
 use Rattle.wasi_host.specs.declared.errors.HostError.{HostError}
 use Rattle.wasi_host.specs.declared.errors.HostError.TheVariants.{Code, Memory}
 use Rattle.wasi_host.specs.declared.held.Held.{Held}
 use Rattle.wasi_host.specs.declared.metadata.Metadata.{Metadata}
 use Rattle.wasi_resolve.specs.Walk.{is_link_code}
 use Rattle.wasi_resolve.specs.Resolved.{Resolved}
-use Rattle.wasi_resolve.specs.Finding.{has_link_code, is_link_kind}
+use Rattle.wasi_resolve.specs.Finding.{is_loop, may_be_link, is_link_kind}
 use Rattle.wasi_resolve.specs.WalkSteps.{Looks, IsFault, OpensUnread, MeetsLink, open_meant}
 use Rattle.wasi_host.proofs.Touching.{open_ends, at_root}
 use Rattle.wasi_resolve.proofs.Calls.{call_ok, call_err, looks_of, looks_still, looks_then, resolved_err, err_means, same_live, still_live}
-use Rattle.wasi_resolve.proofs.Tables.{refused_by, looked_link, unmet_code, unmet_rule, unmet_unlooked}
+use Rattle.wasi_resolve.proofs.Tables.{refused_by, looked_link, loop_link, unrequired_link, unmet_code, unmet_rule, unmet_unlooked, both as both_true}
 
 pub ok_free : {B : Type 0} (r : Option ErrorCode) (b : B) → is_ok (unless r b) ≡ true → r ≡ None
 ok_free None b is = refl
@@ -51,14 +51,15 @@ module _ {old mid : Handles} {w v : World} {d : ℕ} {name : List ℕ} {o : Opti
   })
 
   -- the code isn't one that a link has
-  pub enters_other : (e : HostError) → has_link_code e ≡ false
+  pub enters_other : (e : HostError) → IsTrue (is_plain name) → is_loop e ≡ false
+      → may_be_link e o.dir_required ≡ false
       → Told {A = ℕ} old mid w v (OpenAt d name o) v.held (Err e)
       → (Looks old w v (d ∷ []) × IsFault e) ⊎ OpensUnread old w v d name o may_read (Err e)
-  enters_other Memory other told =
+  enters_other Memory plain loop other told =
       let resolved : Resolved old w v (open_meant w.tree d name o) v.held (Err Memory) =
       call_err {call = OpenAt d name o} {shown = v.held} Memory (reached w.tree d name ∷ []) same told in
       inl (looks_still resolved.tree resolved, inl refl)
-  enters_other (Code Io) other told =
+  enters_other (Code Io) plain loop other told =
       let resolved : Resolved old w v (open_meant w.tree d name o) v.held (Err (Code Io)) =
       call_err {call = OpenAt d name o} {shown = v.held} (Code Io) (reached w.tree d name ∷ []) same told in
       elim resolved.tree [
@@ -69,12 +70,43 @@ module _ {old mid : Handles} {w v : World} {d : ℕ} {name : List ℕ} {o : Opti
           resolved = resolved;
         })
       ]
-  enters_other (Code code) other told = inr (record {
-    unread = unmet_code w.tree d name o may_read (Some code) (refused_by _ _ told.meaning) other;
+  enters_other (Code NotDirectory) plain loop other told = inr (record {
+    unread =
+        ap (λ b. b && (may_read && is_link_code (refusal w.tree (OpenAt d name o)))) (unrequired_link w.tree d name o plain
+        other (refused_by _ _ told.meaning));
+    resolved =
+        call_err {call = OpenAt d name o} {shown = v.held} (Code NotDirectory) (reached w.tree d name ∷ []) same told;
+  })
+  enters_other (Code Loop) plain loop other told = absurd (cc)
+  enters_other (Code code) plain loop other told = inr (record {
+    unread = unmet_code w.tree d name o may_read (Some code) (refused_by _ _ told.meaning) refl;
     resolved = call_err {call = OpenAt d name o} {shown = v.held} (Code code) (reached w.tree d name ∷ []) same told;
   })
 
--- ---- a look behind it
+-- ---- a code that a link has
+
+abbrev has_link_code : HostError → Bool
+has_link_code Memory = false
+has_link_code (Code code) = is_link_code (Some code)
+
+pub loop_code : (e : HostError) → is_loop e ≡ true → has_link_code e ≡ true
+loop_code Memory is = absurd (cc)
+loop_code (Code Loop) is = refl
+loop_code (Code code) is = absurd (cc)
+
+pub doubtful_code : (e : HostError) (dir_required : Bool) → may_be_link e dir_required ≡ true → has_link_code e ≡ true
+doubtful_code Memory dir_required is = absurd (cc)
+doubtful_code (Code NotDirectory) dir_required is = refl
+doubtful_code (Code code) dir_required is = absurd (cc)
+
+first_two : (a b c : Bool) → (a && b) ≡ false → (a && (b && c)) ≡ false
+first_two true true c is = absurd (cc)
+first_two true false c is = refl
+first_two false b c is = refl
+
+loop_is : (code : ErrorCode) → is_loop (Code code) ≡ true → code ≡ Loop
+loop_is Loop is = refl
+loop_is code is = absurd (cc)
 
 -- the code of an open that may have met a link
 link_code : {B : Type 0} {meant : Result B ErrorCode} (e : HostError) → has_link_code e ≡ true → MeansErr meant e
@@ -121,6 +153,20 @@ module _ {old mid : Handles} {w v : World} (here : ℕ) {name : List ℕ} {o : O
   refusal_is : refusal w.tree (OpenAt d name o) ≡ Some found.0
   refusal_is = refused_by _ _ found.3
 
+  -- Loop needs no look
+  pub enters_loop : is_loop refused ≡ true → may_read ≡ true → MeetsLink old w v d name o may_read
+  enters_loop loop rule =
+      let code : found.0 ≡ Loop = loop_is found.0 (ap is_loop (sym found.1) ∙ loop) in
+      let link = loop_link w.tree d name o (refusal_is ∙ ap Some code) in
+      record {
+        reads = ap (λ b. b && (may_read && is_link_code (refusal w.tree (OpenAt d name o)))) link
+            ∙ ap (λ b. true && (b && is_link_code (refusal w.tree (OpenAt d name o)))) rule
+            ∙ ap (λ r. true && (true && is_link_code r)) refusal_is ∙ found.2;
+        looks = first;
+      }
+
+  -- ---- a look behind it
+
   module _ {new : Handles} {u : World} (still : new ≡ mid) where
     -- the look is refused
     pub enters_unlooked : (e : HostError)
@@ -156,19 +202,22 @@ module _ {old mid : Handles} {w v : World} (here : ℕ) {name : List ℕ} {o : O
       kind : holds w.tree d name (λ n. is_link n.content) ≡ is_link_kind m.kind
       kind = looked_link w.tree d name m (sym as_before ∙ looks.meaning)
 
-      -- it says that there is no link
-      pub enters_no_link : is_link_kind m.kind ≡ false
+      -- it says that there is no link, or none is read
+      pub enters_no_link : (is_link_kind m.kind && may_read) ≡ false
           → (Looks old w u (d ∷ []) × IsFault refused) ⊎ OpensUnread old w u d name o may_read (Err refused)
       enters_no_link other = inr (record {
-        unread = ap (λ b. b && (may_read && is_link_code (refusal w.tree (OpenAt d name o)))) (kind ∙ other);
+        unread = ap (λ b. b && (may_read && is_link_code (refusal w.tree (OpenAt d name o)))) kind
+            ∙ first_two (is_link_kind m.kind) may_read (is_link_code (refusal w.tree (OpenAt d name o))) other;
         resolved = resolved_err (open_meant w.tree d name o) u.held refused refl opens.meaning seen;
       })
 
-      -- it says that there is one
-      pub enters_link : may_read ≡ true → is_link_kind m.kind ≡ true → MeetsLink old w u d name o may_read
-      enters_link rule is = record {
-        reads = ap (λ b. b && (may_read && is_link_code (refusal w.tree (OpenAt d name o)))) (kind ∙ is)
-            ∙ ap (λ b. true && (b && is_link_code (refusal w.tree (OpenAt d name o)))) rule
-            ∙ ap (λ r. true && (true && is_link_code r)) refusal_is ∙ found.2;
-        looks = seen;
-      }
+      -- it says that there is one, which is read
+      pub enters_link : (is_link_kind m.kind && may_read) ≡ true → MeetsLink old w u d name o may_read
+      enters_link reads =
+          let tests = both_true (is_link_kind m.kind) may_read reads in
+          record {
+            reads = ap (λ b. b && (may_read && is_link_code (refusal w.tree (OpenAt d name o)))) (kind ∙ tests.0)
+                ∙ ap (λ b. true && (b && is_link_code (refusal w.tree (OpenAt d name o)))) tests.1
+                ∙ ap (λ r. true && (true && is_link_code r)) refusal_is ∙ found.2;
+            looks = seen;
+          }

@@ -1,5 +1,5 @@
 -- The laws.
-use Rattle.std.proofs.Common.{ℕ, zero, suc, ◌≤◌, true, false, cond, Bool, List, [], ◌++◌, arith}
+use Rattle.std.proofs.Common.{ℕ, zero, suc, ◌≤◌, true, false, cond, Bool, List, [], ◌++◌, sym, subst, arith}
 use Rattle.std.proofs.lemmas.List.Elements.{Contains-push}
 use Rattle.wasi_host.specs.Tree.{Tree}
 use Rattle.wasi_host.specs.ValidTree.{root, held}
@@ -7,8 +7,11 @@ use Rattle.wasi_host.specs.declared.errors.ErrorCode.TheVariants.{Loop, NoEntry}
 use Rattle.wasi_paths.specs.Parts.{Component, parts, trailing_slash, is_empty}
 use Rattle.wasi_resolve.specs.Walk.{Aim, Stop, Position, Leg, Ended, Linked, leg, Walk, ended, one_link_more, resume, walk_from, walk}
 use Rattle.wasi_host.specs.Agree.{IsClosed}
-use Rattle.wasi_resolve.specs.Laws.{WalksReadFewLinks, From, PathsStayInReach, PathsAgree}
+use Rattle.wasi_resolve.specs.ByNodes.{nodes_of}
+use Rattle.wasi_resolve.specs.Laws.{ReadsFewLinks, WalksReadFewLinks, From, PathsStayInReach, PathsAgree}
 use Rattle.wasi_host.proofs.Agreeing.{itself}
+use Rattle.wasi_resolve.proofs.Coming.{links_within}
+use Rattle.wasi_resolve.proofs.Simulation.{walk-by_nodes}
 use Rattle.wasi_resolve.proofs.WalkAgreeing as walks
 use Rattle.wasi_resolve.proofs.PathAgreeing as paths
 
@@ -32,10 +35,17 @@ pub walks_read_few_links : WalksReadFewLinks
 unfolding walk
 walks_read_few_links t s text aim follow = by (is_empty text)
   where
-    by : (b : Bool) → (cond b (ended 0 (Stop NoEntry)) (walk_from t s aim follow 40 (trailing_slash text) 0
-        (parts text) [])).links ≤ 40
-    by true = omega arith
-    by false = few_links t s aim follow 40 (trailing_slash text) 0 (parts text) []
+    whole : Walk
+    whole = walk_from t s aim follow 40 (trailing_slash text) 0 (parts text) []
+
+    within : whole.links ≤ whole.parts
+    within =
+        subst (λ (w : Walk). w.links ≤ w.parts) (sym (walk-by_nodes t s aim follow 40 (trailing_slash text) 0 (parts text) []))
+        (omega (arith, links_within t s aim follow 40 (trailing_slash text) 0 (parts text) (nodes_of t s [])))
+
+    by : (b : Bool) → ReadsFewLinks (cond b (ended 0 (Stop NoEntry)) whole)
+    by true = record { most = omega arith; parts = omega arith }
+    by false = record { most = few_links t s aim follow 40 (trailing_slash text) 0 (parts text) []; parts = within }
 
 start_in : (t : Tree) (s : ℕ) → From t s s
 start_in t s = root s (Contains-push [] s)

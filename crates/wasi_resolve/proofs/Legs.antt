@@ -191,6 +191,22 @@ taken_more t s aim follow slash m (Normal name) (part ∷ parts) nodes =
     (go_on (suc m) (suc m) (refused t aim slash false (top s nodes) name) _ (omega arith)
     (taken_most t s aim follow slash (suc m) (part ∷ parts) (reached t (top s nodes) name ∷ nodes)))
 
+-- and up to a link one more
+abbrev pub TakesMore : {P : Type 0} → ℕ → Leg P → Type 0
+TakesMore m (Ended taken outcome) = m ≤ taken
+TakesMore m (Linked taken position text left) = suc m ≤ taken
+
+by_taken : {P : Type 0} (m : ℕ) (l : Leg P) → suc m ≤ taken_by l → TakesMore m l
+by_taken m (Ended taken outcome) more = omega (arith, more)
+by_taken m (Linked taken position text left) more = more
+
+pub takes_more : (t : Tree) (s : ℕ) (aim : Aim) (follow slash : Bool) (m : ℕ) (parts : List Component) (nodes : List ℕ)
+    → TakesMore m (leg_nodes t s aim follow slash m parts nodes)
+takes_more t s aim follow slash m [] nodes = omega arith
+takes_more t s aim follow slash m (part ∷ parts) nodes =
+    by_taken m (leg_nodes t s aim follow slash m (part ∷ parts) nodes)
+    (taken_more t s aim follow slash m part parts nodes)
+
 -- ---- the node on top
 
 pub top_near : (t : Tree) (s : ℕ) (nodes : List ℕ) → AreReached t s nodes → Reached t (s ∷ []) (top s nodes)

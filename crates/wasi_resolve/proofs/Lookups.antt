@@ -1,10 +1,12 @@
 -- The look-ups of a walk: where they begin.
-use Rattle.std.proofs.Common.{ℕ, ◌≡◌, ◌⊎◌, inl, inr, List, [], ◌∷◌, ◌++◌, sym, subst, ◌∙◌}
+use Rattle.std.proofs.Common.{ℕ, ◌≡◌, ◌⊎◌, inl, inr, List, [], ◌∷◌, ◌++◌, Option, Some, None, refl, sym, ap, subst, ◌∙◌}
 use Rattle.std.specs.Prelude.{Contains}
 use Rattle.std.proofs.lemmas.List.Elements.{Contains-append_left, Contains-push_cases}
 use Rattle.wasi_host.specs.Lineage.{Traced, Only, Nothing}
 use Rattle.wasi_host.proofs.Tracing.{traced_given, traced_kept}
 use Rattle.wasi_host.specs.declared.lookup.Lookup.{Lookup}
+use Rattle.wasi_host.specs.declared.lookup.LookKind.{LookKind}
+use Rattle.wasi_resolve.specs.Resolved.{last_from, last_got}
 use Rattle.wasi_resolve.specs.Stack.{Among, top_handle}
 use Rattle.wasi_resolve.proofs.Stacks.{top_among}
 
@@ -33,3 +35,16 @@ pub among_more : {start : ℕ} (stack : List ℕ) (h : ℕ) → (q : ℕ) → Am
     → Among start stack q ⊎ (q ≡ h)
 among_more stack h q (inl is) = inl (inl is)
 among_more stack h q (inr has) = elim (Contains-push_cases stack h q has) [ inl was ↦ inl (inr was) | inr is ↦ inr (sym is) ]
+
+-- the last look-up
+
+last_from-push : (got : Option ℕ) (lookups : List Lookup) (entry : Lookup)
+    → last_from got (lookups ++ entry ∷ []) ≡ entry.got
+last_from-push got [] entry = refl
+last_from-push got (first ∷ rest) entry = last_from-push first.got rest entry
+
+pub last_is : (old new : List Lookup) (kind : LookKind) (from h : ℕ)
+    → new ≡ old ++ record { kind = kind; from = from; got = Some h } ∷ [] → last_got new ≡ Some h
+unfolding last_got
+last_is old new kind from h adds =
+    ap (last_from None) adds ∙ last_from-push None old (record { kind = kind; from = from; got = Some h })

@@ -1,8 +1,10 @@
 -- The place that a path names.
-use Rattle.std.proofs.Common.{◌≡◌, ℕ, Bool, true, false, List, [], ◌∷◌, Some, None, Result, Ok, Err, refl, sym, ap, subst, ◌∙◌}
+use Rattle.std.proofs.Common.{◌≡◌, ℕ, ◌≤◌, ◌+◌, Bool, true, false, cond, List, [], ◌∷◌, length, Option, Some, None, Result, Ok, Err, refl, sym, ap, subst, ◌∙◌, arith}
 use Rattle.std.specs.Prelude.{is_ok, codes, if◌then◌else◌}
 use Rattle.wasi_host.specs.Options.{Options, creates}
 use Rattle.wasi_host.specs.Tree.{Tree}
+use Rattle.wasi_host.specs.Agree.{Touches}
+use Rattle.wasi_host.specs.Answer.{unless, reached, access_of}
 use Rattle.wasi_host.specs.HostCall.{OpenAt}
 use Rattle.wasi_host.specs.Refusal.{refusal}
 use Rattle.wasi_host.specs.Steps.{◌>>=◌}
@@ -12,17 +14,18 @@ use Rattle.wasi_host.specs.declared.errors.ErrorCode.TheVariants.{IsDirectory, N
 use Rattle.wasi_host.specs.declared.errors.HostError.{HostError}
 use Rattle.wasi_host.specs.declared.errors.HostError.TheVariants.{Code}
 use Rattle.wasi_host.specs.declared.held.Held.{Held}
+use Rattle.wasi_host.specs.declared.lookup.Lookup.{Lookup}
 use Rattle.wasi_paths.specs.Name.{name_bytes}
 use Rattle.wasi_paths.specs.Parts.{Component, split, is_empty}
 use Rattle.wasi_paths.specs.declared.name.Name.{Name}
-use Rattle.wasi_resolve.specs.Walk.{Outcome, Stop, Name as NameEnd, Dot, Open, walk, last_options}
+use Rattle.wasi_resolve.specs.Walk.{Outcome, Stop, Name as NameEnd, Dot, Open, walk, walk_looks, last_options}
 use Rattle.wasi_resolve.specs.Paths.{Opening, Place, opening, opening_of, opened_by, step_of, opened, after_open, directory_options, parent, place, place_at, part_text}
-use Rattle.wasi_resolve.specs.Meanings.{opens_at}
+use Rattle.wasi_resolve.specs.Meanings.{ends_by, opened_node, opens_at}
 use Rattle.wasi_resolve.specs.Resolved.{Resolved}
-use Rattle.wasi_resolve.specs.Parents.{shown_place, places_at}
+use Rattle.wasi_resolve.specs.Parents.{parent_ends, parent_in, parent_looks, parent_text, shown_place, places_at}
 use Rattle.wasi_resolve.specs.declared.parent.MaybeOwned.TheVariants.{Borrowed, Owned}
 use Rattle.wasi_host.proofs.Touching.{touches_same}
-use Rattle.wasi_resolve.proofs.Calls.{found_ok, looks_of, looks_none, means_then, resolved_err}
+use Rattle.wasi_resolve.proofs.Calls.{looks_of, looks_none, means_then, resolved_err}
 use Rattle.wasi_resolve.proofs.Tables.{open_leaves}
 use Rattle.wasi_resolve.proofs.Entering.{ok_free}
 
@@ -100,6 +103,49 @@ place_none : (t : Tree) (s : ℕ) (path : List ℕ) → split path ≡ None → 
 unfolding place
 place_none t s path is = ap (place_at t s) is
 
+-- ---- where the path to a place ends
+
+-- at the directory of an open that is answered
+open_ends_at : (t : Tree) (r : Result Opening ErrorCode) (held : Held) → r >>= opened_by t ≡ Ok held
+    → ends_by (opened_node t) r ≡ held.node ∷ []
+open_ends_at t (Err code) held is = absurd (cc)
+open_ends_at t (Ok e) held is = by (refusal t (OpenAt e.directory e.name e.options)) is
+  where
+    by : (o : Option ErrorCode) → unless o (record { node = reached t e.directory e.name; mode = access_of e.options })
+        ≡ Ok held → ends_by (opened_node t) (Ok e) ≡ held.node ∷ []
+    by None same = ap (λ (r : Result Held ErrorCode). ends_by (λ (h : Held). h.node) r) same
+    by (Some code) wrong = absurd (cc)
+
+module _ (t : Tree) (s : ℕ) (path : List ℕ) {text : List ℕ} {part : Component} (is : split path ≡ Some (text, part)) where
+  text_is : parent_text path ≡ text
+  text_is = ap parent_in is
+
+  -- nowhere, where it is in the start itself
+  ends_nowhere : is_empty text ≡ true → parent_ends t s path ≡ []
+  unfolding parent_ends
+  ends_nowhere none =
+      ap (λ b. cond b [] (ends_by (λ (p : Place). p.directory) (place t s path))) (ap is_empty text_is ∙ none)
+
+  ends_there : is_empty text ≡ false → (p : Place) → place t s path ≡ Ok p → parent_ends t s path ≡ p.directory ∷ []
+  unfolding parent_ends
+  ends_there some p found =
+      ap (λ b. cond b [] (ends_by (λ (q : Place). q.directory) (place t s path))) (ap is_empty text_is ∙ some)
+      ∙ ap (ends_by (λ (q : Place). q.directory)) found
+
+  looks_there : is_empty text ≡ false
+      → parent_looks t s path ≡ walk_looks (walk t s text (Open directory_options) true)
+  unfolding parent_looks
+  looks_there some =
+      ap (λ b. cond b 0 (walk_looks (walk t s (parent_text path) (Open directory_options) true)))
+      (ap is_empty text_is ∙ some)
+      ∙ ap (λ l. walk_looks (walk t s l (Open directory_options) true)) text_is
+
+  -- so an open of the parent's text keeps the bound
+  pub placed_bound : (old new : List Lookup) → is_empty text ≡ false
+      → length new ≤ length old + walk_looks (walk t s text (Open directory_options) true)
+      → length new ≤ length old + parent_looks t s path
+  placed_bound old new some few = omega (arith, few, looks_there some)
+
 -- ---- over a told host
 
 pub placed_none : (live : Handles) (w : World) (s : ℕ) (path : List ℕ) → split path ≡ None
@@ -121,7 +167,9 @@ placed_start live w start path {text} {part} name is none named = record {
       ∙ ap (λ n. let r : Result Place ErrorCode =
       Ok (record { directory = (w.held start).node; name = n }) in r) (sym named);
   tree = refl;
-  touched = touches_same refl;
+  touched =
+      subst (λ ns. Touches w.tree w.tree ((w.held start).node ∷ []) ns w.touched w.touched)
+      (sym (ends_nowhere w.tree (w.held start).node path is none)) (touches_same refl);
   keeps = λ h within. refl;
 }
 
@@ -140,10 +188,16 @@ module _ {live : Handles} {w u : World} (s : ℕ) (path text : List ℕ) (part :
       place_opened w.tree s path text part is some
       ∙ ap (λ x. x >>= (λ (held : Held). Ok held.node) >>= (λ d. let p : Result Place ErrorCode =
       Ok (record { directory = d; name = part_text part }) in p)) resolved.answer in
-      found_ok (shown_place u.held) (record { directory = Owned h; name = name })
-      (opens ∙ ap (λ n. let r : Result Place ErrorCode =
-      Ok (record { directory = (u.held h).node; name = n }) in r) (sym named))
-      (looks_of (Ok h) (dir_leaves w.tree s text) resolved)
+      let ends = open_ends_at w.tree (opening w.tree s text directory_options true) (u.held h) resolved.answer in
+      record {
+        answer = opens ∙ ap (λ n. let r : Result Place ErrorCode =
+            Ok (record { directory = (u.held h).node; name = n }) in r) (sym named);
+        tree = (looks_of (Ok h) (dir_leaves w.tree s text) resolved).tree;
+        touched =
+            subst (λ ns. Touches w.tree u.tree (s ∷ []) ns w.touched u.touched)
+            (ends ∙ sym (ends_there w.tree s path is some _ opens)) resolved.touched;
+        keeps = resolved.keeps;
+      }
 
   pub placed_err : (e : HostError) → Resolved live w u (opens_at w.tree s text directory_options) u.held (Err e)
       → Resolved live w u (places_at w.tree s path) (shown_place u.held) (Err e)

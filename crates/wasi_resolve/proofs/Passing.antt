@@ -1,5 +1,5 @@
 -- Past a link: its text is read, and its parts are put before those that are left.
-use Rattle.std.proofs.Common.{◌≡◌, inl, inr, ℕ, ◌+◌, ◌*◌, ◌≤◌, Bool, ◌||◌, ◌&&◌, List, [], ◌∷◌, ◌++◌, length, None, Result, Ok, Err, refl, sym, ap, subst, ◌∙◌, arith}
+use Rattle.std.proofs.Common.{◌≡◌, inl, inr, ℕ, ◌+◌, ◌≤◌, Bool, ◌||◌, ◌&&◌, List, [], ◌∷◌, ◌++◌, length, None, Result, Ok, Err, refl, sym, ap, subst, ◌∙◌, arith}
 use Rattle.std.specs.Prelude.{◌==◌}
 use Rattle.std.proofs.lemmas.List.Elements.{All-nil}
 use Rattle.wasi_host.specs.HostCall.{ReadLinkAt}
@@ -13,16 +13,15 @@ use Rattle.wasi_host.specs.declared.errors.HostError.TheVariants.{Code, Memory}
 use Rattle.wasi_host.specs.declared.lookup.Lookup.{Lookup}
 use Rattle.wasi_paths.specs.Parts as texts
 use Rattle.wasi_paths.specs.Parts.{Component, trailing_slash}
-use Rattle.wasi_resolve.specs.Walk.{Aim, Leg, Linked, adds_slash}
+use Rattle.wasi_resolve.specs.Walk.{Aim, Leg, Ended, Linked, adds_slash}
 use Rattle.wasi_resolve.specs.ByNodes.{top, leg_nodes}
 use Rattle.wasi_resolve.specs.Left.{parts_left, is_nil}
 use Rattle.wasi_resolve.specs.Stack.{nodes_under}
-use Rattle.wasi_resolve.specs.Finding.{FewUntil, FewToEnd, FewReads}
-use Rattle.wasi_resolve.specs.WalkSteps.{Looks, IsFault, ReachesEnd, ReachesLink, ReachFails, ReadsText, ReadFails, EndsPast, LinkPast, FailsPast, taken_by}
+use Rattle.wasi_resolve.specs.Finding.{FewUntil, FewReads}
+use Rattle.wasi_resolve.specs.WalkSteps.{Looks, IsFault, ReachesEnd, ReachesLink, ReachFails, ReadsText, ReadFails, EndsPast, LinkPast, FailsPast, taken_by, leg_looks}
 use Rattle.wasi_resolve.specs.declared.found.Found.{Found}
 use Rattle.wasi_resolve.specs.declared.left.PartLeft.{PartLeft}
 use Rattle.wasi_resolve.proofs.Calls.{call_ok, call_err, looks_of, same_live}
-use Rattle.wasi_resolve.proofs.Legs.{taken_most}
 use Rattle.wasi_resolve.proofs.Putting.{length-parts}
 use Rattle.wasi_resolve.proofs.Going.{OnTop, node_is, looks_on, kept_on, walked_on, nil_left}
 
@@ -86,44 +85,54 @@ module _ {A : Type 0} {old new : Handles} {w u : World} {d : ℕ} {name : List �
 
 -- ---- the parts up to it, and then it
 
+looks_more : {P : Type 0} (l : Leg P) → taken_by l + 1 ≤ leg_looks l
+looks_more (Ended m outcome) = omega arith
+looks_more (Linked m position text left) = omega arith
+
 module _ {first : Handles} {w v u : World} {start : ℕ} {aim : Aim} {follow slash : Bool} {m : ℕ} {before : List ℕ}
     (items left : List PartLeft) {old mid : List Lookup} where
   pub ends_past : (r : Result Found HostError)
       → ReachesEnd first w v u start aim follow slash m (parts_left items) before (parts_left left) r
-      → FewToEnd items left old mid → EndsPast first w v u start aim follow slash m (parts_left items) before old mid r
+      → FewUntil 1 items left old mid → EndsPast first w v u start aim follow slash m (parts_left items) before old mid r
   ends_past r ends few = record {
     taken = ends.taken;
     outcome = ends.outcome;
     ends = ends.ends;
     resolved = ends.resolved;
-    few =
-        let most : m ≤ ends.taken =
-        subst (λ l. m ≤ taken_by l) ends.ends (taken_most w.tree (w.held start).node aim follow slash m
-        (parts_left items) (nodes_under v.held before)) in
-        omega (arith, few.calls, ends.count, length-parts items, length-parts left);
+    few = omega (arith, few.calls, ends.count, length-parts items, length-parts left);
   }
+
+  -- what the parts up to a failure cost
+  pub fails_few : {e : HostError}
+      (fails : ReachFails first w v u start aim follow slash m (parts_left items) before (parts_left left) e)
+      → FewUntil 1 items left old mid
+      → length mid + m ≤ length old + taken_by (leg_nodes w.tree (w.held start).node aim follow slash m
+      (parts_left items) (nodes_under v.held before)) + 1
+  fails_few fails few =
+      omega (arith, few.calls, fails.count, fails.most, length-parts items, length-parts left)
 
   pub fails_past : (e : HostError)
       → ReachFails first w v u start aim follow slash m (parts_left items) before (parts_left left) e
-      → FewToEnd items left old mid → FailsPast first w v u start aim follow slash m (parts_left items) before old mid e
+      → FewUntil 1 items left old mid → FailsPast first w v u start aim follow slash m (parts_left items) before old mid e
   fails_past e fails few = record {
     looks = fails.looks;
     fault = fails.fault;
     few =
-        let most =
-        taken_most w.tree (w.held start).node aim follow slash m (parts_left items) (nodes_under v.held before) in
-        omega (arith, few.calls, fails.count, fails.most, most, length-parts items, length-parts left);
+        let looks =
+        looks_more (leg_nodes w.tree (w.held start).node aim follow slash m (parts_left items)
+        (nodes_under v.held before)) in
+        omega (arith, fails_few fails few, looks);
   }
 
   -- what the parts up to a link cost
   pub link_few : {after : List ℕ} {name : List ℕ}
       (link : ReachesLink first w v u start aim follow slash m (parts_left items) before (parts_left left) after name)
-      → FewUntil items left old mid → length mid + 3 * m ≤ length old + 3 * link.taken
-  link_few link few = omega (arith, few.calls, link.count, link.more, length-parts items, length-parts left)
+      → FewUntil 1 items left old mid → length mid + m ≤ length old + link.taken + 1
+  link_few link few = omega (arith, few.calls, link.count, length-parts items, length-parts left)
 
   module _ {now : Handles} {stack : List ℕ} {here : ℕ} {name : List ℕ} (on : OnTop first now w u start stack here)
       (link : ReachesLink first w v u start aim follow slash m (parts_left items) before (parts_left left) stack name)
-      (few : FewUntil items left old mid) {new : List Lookup} (more : FewReads 1 1 mid new) where
+      (few : FewUntil 1 items left old mid) {new : List Lookup} (more : FewReads 1 1 mid new) where
     abbrev d : ℕ
     d = top (w.held start).node (nodes_under u.held stack)
 
@@ -145,7 +154,7 @@ module _ {first : Handles} {w v u : World} {start : ℕ} {aim : Aim} {follow sla
               (kept_on on reads.looks));
           put = reads.put ∙ ap (λ t. texts.parts t ++ parts_left left) text;
           now = reads.now ∙ ap (λ t. slash || adds_slash t (parts_left left)) text;
-          few = omega (arith, few.calls, more.calls, link.count, link.more, length-parts items, length-parts left);
+          few = omega (arith, link_few link few, more.calls);
         }
 
     pub link_fails : {z : World} (e : HostError) → ReadFails now u z (u.held here).node name e
@@ -154,10 +163,8 @@ module _ {first : Handles} {w v u : World} {start : ℕ} {aim : Aim} {follow sla
       looks = looks_on on fails.looks;
       fault = fails.fault (back link.free);
       few =
-          let most : link.taken ≤ taken_by (leg_nodes w.tree (w.held start).node aim follow slash m
-          (parts_left items) (nodes_under v.held before)) =
-          subst (λ l. link.taken ≤ taken_by l) (sym link.linked) (omega arith) in
-          omega (arith, few.calls, more.calls, link.count, link.more, most, length-parts items, length-parts left);
+          let looks = ap leg_looks link.linked in
+          omega (arith, link_few link few, more.calls, looks);
     }
       where
         back : refusal w.tree (ReadLinkAt d name) ≡ None → refusal u.tree (ReadLinkAt (u.held here).node name) ≡ None

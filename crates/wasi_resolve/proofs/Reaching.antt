@@ -16,7 +16,7 @@ use Rattle.wasi_resolve.specs.ByNodes.{top, leg_nodes}
 use Rattle.wasi_resolve.specs.NameText.{left_bytes}
 use Rattle.wasi_resolve.specs.Resolved.{Resolved}
 use Rattle.wasi_resolve.specs.Stack.{Stands, Among, top_handle, nodes_under}
-use Rattle.wasi_resolve.specs.Finding.{LiveFound, LiveReached, StandsFound, StandsReached, ReachedBy, ReachTraced, FewReads, FewBefore, FewOrEnds}
+use Rattle.wasi_resolve.specs.Finding.{LiveFound, LiveReached, StandsFound, StandsReached, ReachedBy, ReachTraced, FewReads, FewBefore, FewUntil}
 use Rattle.wasi_resolve.specs.WalkSteps.{Looks, GoesOn, AtLast, AtLink, Fails, EndsInDirectory, EndsUnread, EndsAtName, ReachesEnd, ReachesLink, ReachFails, Reaches, meant_at, shown_found, taken_by}
 use Rattle.wasi_resolve.specs.declared.found.Found.{Found}
 use Rattle.wasi_resolve.specs.declared.found.Found.TheVariants as found
@@ -83,15 +83,7 @@ reach_fails {w = w} {start = start} {left = left} e aim follow slash m fails =
       })
     ]
 
--- ---- a link takes a part at least
-
-pub link_more : (t : Tree) (s : ℕ) (aim : Aim) (follow slash : Bool) (m : ℕ) (parts : List Component) (nodes : List ℕ)
-    {taken : ℕ} {after text : List ℕ} {left : List Component}
-    → leg_nodes t s aim follow slash m parts nodes ≡ Linked taken after text left
-    → suc m ≤ taken
-link_more t s aim follow slash m [] nodes is = absurd (cc)
-link_more t s aim follow slash m (part ∷ parts) nodes is =
-    subst (λ l. suc m ≤ taken_by l) is (taken_more t s aim follow slash m part parts nodes)
+-- ---- a link
 
 pub reach_link : {first : Handles} {w v u : World} {start : ℕ} {parts left : List Component} {before after : List ℕ}
     (name : List ℕ)
@@ -110,7 +102,6 @@ reach_link {w =
       taken = suc at.taken;
       count = omega (arith, at.count);
       linked = is;
-      more = link_more w.tree (w.held start).node aim follow slash m parts (nodes_under v.held before) is;
       free = link.free;
     }
 
@@ -203,7 +194,6 @@ module _ {first now : Handles} {w v : World} {start : ℕ} {stack : List ℕ} {h
           taken = suc taken;
           count = count_is;
           linked = is;
-          more = link_more w.tree (w.held start).node aim follow slash m parts (nodes_under v0.held before) is;
           free =
               subst (λ ns. refusal w.tree (ReadLinkAt (top (w.held start).node ns) (left_bytes other.text)) ≡ None)
               (sym kept)
@@ -251,13 +241,7 @@ module _ {a b c : List Lookup} {here : ℕ} (start : ℕ) (before after : List �
       traced_then (λ h has. has) (λ h has. has) first (traced_top start after at (traced_stays start after second))
   reach_traced (Err e) second = found_traced second
 
-pub few_last : {before after : List PartLeft} {a b c : List Lookup} (r : Result Reach HostError)
-    → FewBefore before after a b
-    → FewReads 2 0 b c
-    → FewOrEnds before after a c r
-few_last (Ok (reach.Found it)) first second =
-    record { calls = omega (arith, first.calls, second.calls); links = omega (arith, first.links, second.links) }
-few_last (Ok (reach.Link name)) first second =
-    record { calls = omega (arith, first.calls, second.calls); links = omega (arith, first.links, second.links) }
-few_last (Err e) first second =
+pub few_last : {before after : List PartLeft} {a b c : List Lookup} → FewBefore before after a b → FewReads 2 0 b c
+    → FewUntil 1 before after a c
+few_last first second =
     record { calls = omega (arith, first.calls, second.calls); links = omega (arith, first.links, second.links) }

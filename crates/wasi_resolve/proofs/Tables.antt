@@ -1,6 +1,6 @@
 -- What the host's table says of a name: whether it holds a link, and what an open, a look and a read of it say
 -- together.
-use Rattle.std.proofs.Common.{◌≡◌, ◌⊎◌, inl, inr, ℕ, Bool, true, false, cond, not, ◌&&◌, ◌||◌, List, [], ◌∷◌, Option, Some, None, Ok, Err, IsTrue, refl, sym, ap, ◌∙◌, arith}
+use Rattle.std.proofs.Common.{◌≡◌, ◌≢◌, ◌⊎◌, inl, inr, ℕ, Bool, true, false, cond, not, ◌&&◌, ◌||◌, List, [], ◌∷◌, Option, Some, None, Ok, Err, IsTrue, refl, sym, ap, ◌∙◌, arith}
 use Rattle.std.specs.Prelude.{is_none}
 use Rattle.std.specs.FinMap as map
 use Rattle.wasi_paths.specs.Text.{is_dot_text, is_plain}
@@ -13,7 +13,7 @@ use Rattle.wasi_host.specs.Answer.{unless, reached, or_next, metadata_of, kind_o
 use Rattle.wasi_host.specs.Step.{open_step, opened_step, file_cut, is_cut}
 use Rattle.wasi_host.proofs.Chain.{free}
 use Rattle.wasi_host.specs.declared.errors.ErrorCode.{ErrorCode}
-use Rattle.wasi_host.specs.declared.errors.ErrorCode.TheVariants.{NotDirectory}
+use Rattle.wasi_host.specs.declared.errors.ErrorCode.TheVariants.{Loop, NotDirectory}
 use Rattle.wasi_host.specs.declared.metadata.Metadata.{Metadata}
 use Rattle.wasi_resolve.specs.Walk.{Aim, Open, Look, is_to_be_read, is_link_code, is_look, refused, middle_options, last_options}
 use Rattle.wasi_resolve.specs.Finding.{is_link_kind, is_directory_kind}
@@ -139,6 +139,38 @@ module _ (t : Tree) (d : ℕ) (name : List ℕ) (m : Metadata) (looks : stat_at_
   looked_directory =
       sym (directory_says (node_at t (reached t d name)).content) ∙ ap is_directory_kind (sym looked_kind)
 
+-- ---- what a refused open says of a link
+
+-- Loop is a link's alone
+no_loop : (t : Tree) (d : ℕ) (name : List ℕ) (o : Options) → holds t d name (λ n. is_link n.content) ≡ false
+    → refusal t (OpenAt d name o) ≢ Some Loop
+unfolding refusal
+no_loop t d name o none is = grind (arith)
+
+pub loop_link : (t : Tree) (d : ℕ) (name : List ℕ) (o : Options) → refusal t (OpenAt d name o) ≡ Some Loop
+    → holds t d name (λ n. is_link n.content) ≡ true
+loop_link t d name o is = by (holds t d name (λ n. is_link n.content)) refl
+  where
+    by : (b : Bool) → holds t d name (λ n. is_link n.content) ≡ b → holds t d name (λ n. is_link n.content) ≡ true
+    by true link = link
+    by false none = absurd (no_loop t d name o none is)
+
+-- without a directory required, NotDirectory is no link's
+no_link_in : (t : Tree) (d : ℕ) (name : List ℕ) (o : Options) → is_directory (node_at t d).content ≡ true
+    → o.dir_required ≡ false → refusal t (OpenAt d name o) ≡ Some NotDirectory
+    → holds t d name (λ n. is_link n.content) ≡ false
+unfolding refusal
+no_link_in t d name o directory none is = grind (arith)
+
+pub unrequired_link : (t : Tree) (d : ℕ) (name : List ℕ) (o : Options) → IsTrue (is_plain name)
+    → o.dir_required ≡ false → refusal t (OpenAt d name o) ≡ Some NotDirectory
+    → holds t d name (λ n. is_link n.content) ≡ false
+unrequired_link t d name o plain none is = by (is_directory (node_at t d).content) refl
+  where
+    by : (b : Bool) → is_directory (node_at t d).content ≡ b → holds t d name (λ n. is_link n.content) ≡ false
+    by true directory = no_link_in t d name o directory none is
+    by false directory = no_link t d name plain directory
+
 -- ---- a link that is met may be read
 
 held_reads : (t : Tree) (d : ℕ) (name : List ℕ) (o : Options) → is_directory (node_at t d).content ≡ true
@@ -153,7 +185,7 @@ looked_reads : (t : Tree) (d : ℕ) (name : List ℕ) → holds t d name (λ n. 
 unfolding refusal
 looked_reads t d name held none = grind (arith)
 
-both : (a b : Bool) → (a && b) ≡ true → (a ≡ true) × (b ≡ true)
+pub both : (a b : Bool) → (a && b) ≡ true → (a ≡ true) × (b ≡ true)
 both true b is = (refl, is)
 both false b is = absurd (cc)
 

@@ -1,16 +1,16 @@
 -- What a walk is for and what it finds, and what a part of it does over every host: to the handles and to the look-ups.
-use Rattle.std.specs.Prelude.{◌≡◌, ◌≤◌, ◌+◌, ◌*◌, ℕ, Bool, true, false, List, length, Option, Some, None, Result, Ok, Err}
+use Rattle.std.specs.Prelude.{◌≡◌, ◌≤◌, ◌+◌, ℕ, Bool, true, false, List, length, Option, Some, None, Result, Ok, Err}
 use Rattle.std.specs.FinSet.{contains, insert}
 use Rattle.wasi_host.specs.Lineage.{Traced, Nothing}
 use Rattle.wasi_host.specs.Meaning.{Handles}
+use Rattle.wasi_host.specs.declared.errors.ErrorCode.TheVariants.{Loop, NotDirectory}
 use Rattle.wasi_host.specs.declared.errors.HostError.{HostError}
 use Rattle.wasi_host.specs.declared.errors.HostError.TheVariants.{Code, Memory}
 use Rattle.wasi_host.specs.declared.file_type.FileType.{FileType}
 use Rattle.wasi_host.specs.declared.file_type.FileType.TheVariants as kinds
 use Rattle.wasi_host.specs.declared.lookup.Lookup.{Lookup}
 use Rattle.wasi_resolve.specs.Walk as walk
-use Rattle.wasi_resolve.specs.Walk.{is_link_code}
-use Rattle.wasi_resolve.specs.Resolved.{links_read}
+use Rattle.wasi_resolve.specs.Resolved.{last_got, links_read}
 use Rattle.wasi_resolve.specs.Meanings.{follows}
 use Rattle.wasi_resolve.specs.Stack.{Stands, Among}
 use Rattle.wasi_resolve.specs.declared.found.Aim.{Aim}
@@ -64,9 +64,19 @@ abbrev pub is_directory_kind : FileType → Bool
 is_directory_kind kinds.Directory = true
 is_directory_kind kind = false
 
-abbrev pub has_link_code : HostError → Bool
-has_link_code Memory = false
-has_link_code (Code code) = is_link_code (Some code)
+-- ---- the refusals of an open that met a link
+
+-- a link was met, of which no directory was required
+abbrev pub is_loop : HostError → Bool
+is_loop Memory = false
+is_loop (Code Loop) = true
+is_loop (Code code) = false
+
+-- a directory was required, and what was met is none, so it may be a link
+abbrev pub may_be_link : HostError → Bool → Bool
+may_be_link Memory dir_required = false
+may_be_link (Code NotDirectory) dir_required = dir_required
+may_be_link (Code code) dir_required = false
 
 -- ---- what is live afterwards: the new handle too, where one was found
 
@@ -119,6 +129,30 @@ ReachedBy (Ok (reach.Found it)) q = FoundBy (Ok it) q
 ReachedBy (Ok (reach.Link name)) q = ⊥
 ReachedBy (Err e) q = ⊥
 
+-- ---- what was found is what the last look-up got
+
+abbrev pub EnteredLast : Result (Option ℕ) HostError → List Lookup → Type 0
+EnteredLast (Ok (Some h)) lookups = last_got lookups ≡ Some h
+EnteredLast (Ok None) lookups = Unit {0}
+EnteredLast (Err e) lookups = Unit {0}
+
+abbrev pub FoundLast : Result Found HostError → List Lookup → Type 0
+FoundLast (Ok (found.Handle h)) lookups = last_got lookups ≡ Some h
+FoundLast (Ok (found.Metadata metadata)) lookups = Unit {0}
+FoundLast (Err e) lookups = Unit {0}
+
+abbrev pub ReachedLast : Result Reach HostError → List Lookup → Type 0
+ReachedLast (Ok (reach.Found it)) lookups = FoundLast (Ok it) lookups
+ReachedLast (Ok (reach.Link name)) lookups = Unit {0}
+ReachedLast (Err e) lookups = Unit {0}
+
+abbrev pub PastLast : Result Past HostError → List Lookup → Type 0
+PastLast (Ok (past.Found it)) lookups = FoundLast (Ok it) lookups
+PastLast (Ok (past.Link slash)) lookups = Unit {0}
+PastLast (Err e) lookups = Unit {0}
+
+-- ---- where look-ups begin
+
 -- up to a link the stack was got, and else what was found
 abbrev pub ReachTraced : ℕ → List ℕ → List ℕ → Result Reach HostError → List Lookup → List Lookup → Type 0
 ReachTraced start before after (Ok (reach.Link name)) old new =
@@ -141,36 +175,32 @@ pub record FewReads (most most_links : ℕ) (old new : List Lookup) : Type 0 whe
   pub calls : length new ≤ length old + most
   pub links : links_read new ≤ links_read old + most_links
 
--- at most two for each part that was taken, none of which reads a link
-pub record FewUntil (before after : List PartLeft) (old new : List Lookup) : Type 0 where
-  pub calls : length new + 2 * length after ≤ length old + 2 * length before
+-- a name that was opened needs no look beside the open
+abbrev pub ReadsOnce : List Lookup → List Lookup → Result (Option ℕ) HostError → Type 0
+ReadsOnce old new (Ok (Some h)) = FewReads 1 0 old new
+ReadsOnce old new (Ok None) = FewReads 2 0 old new
+ReadsOnce old new (Err e) = FewReads 2 0 old new
+
+-- at most one for each part that was taken, and so many more; none of them reads a link
+pub record FewUntil (more : ℕ) (before after : List PartLeft) (old new : List Lookup) : Type 0 where
+  pub calls : length new + length after ≤ length old + length before + more
   pub links : links_read new ≤ links_read old
 
--- two less, where the last part that was taken is a name of which nothing was asked
+-- one less, where the last part that was taken is a name of which nothing was asked
 pub record FewBefore (before after : List PartLeft) (old new : List Lookup) : Type 0 where
-  pub calls : length new + 2 * length after + 2 ≤ length old + 2 * length before
+  pub calls : length new + length after + 1 ≤ length old + length before
   pub links : links_read new ≤ links_read old
 
 -- of a last name nothing is asked
 abbrev pub ReadsBy : List Lookup → List Lookup → Result (Option stopping.Stop) HostError → Type 0
-ReadsBy old new (Ok None) = FewReads 2 0 old new
-ReadsBy old new (Ok (Some stops.Dot)) = FewReads 2 0 old new
+ReadsBy old new (Ok None) = FewReads 1 0 old new
+ReadsBy old new (Ok (Some stops.Dot)) = FewReads 1 0 old new
 ReadsBy old new (Ok (Some (stops.Last name))) = FewReads 0 0 old new
 ReadsBy old new (Ok (Some (stops.Link name))) = FewReads 2 0 old new
 ReadsBy old new (Err e) = FewReads 2 0 old new
 
 abbrev pub ReadsTo : List PartLeft → List PartLeft → List Lookup → List Lookup → Result stopping.Stop HostError → Type 0
-ReadsTo before after old new (Ok stops.Dot) = FewUntil before after old new
+ReadsTo before after old new (Ok stops.Dot) = FewUntil 0 before after old new
 ReadsTo before after old new (Ok (stops.Last name)) = FewBefore before after old new
-ReadsTo before after old new (Ok (stops.Link name)) = FewUntil before after old new
-ReadsTo before after old new (Err e) = FewUntil before after old new
-
--- and two more at an end
-pub record FewToEnd (before after : List PartLeft) (old new : List Lookup) : Type 0 where
-  pub calls : length new + 2 * length after ≤ length old + 2 * length before + 2
-  pub links : links_read new ≤ links_read old
-
-abbrev pub FewOrEnds : List PartLeft → List PartLeft → List Lookup → List Lookup → Result Reach HostError → Type 0
-FewOrEnds before after old new (Ok (reach.Link name)) = FewUntil before after old new
-FewOrEnds before after old new (Ok (reach.Found it)) = FewToEnd before after old new
-FewOrEnds before after old new (Err e) = FewToEnd before after old new
+ReadsTo before after old new (Ok (stops.Link name)) = FewUntil 1 before after old new
+ReadsTo before after old new (Err e) = FewUntil 1 before after old new

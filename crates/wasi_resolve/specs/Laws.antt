@@ -5,7 +5,7 @@ use Rattle.wasi_host.specs.Tree.{Tree}
 use Rattle.wasi_host.specs.ValidTree.{Reached}
 use Rattle.wasi_host.specs.declared.held.Held.{Held}
 use Rattle.wasi_host.specs.declared.errors.ErrorCode.{ErrorCode}
-use Rattle.wasi_resolve.specs.Walk.{Aim, Outcome, Stop, Name, Dot, walk}
+use Rattle.wasi_resolve.specs.Walk.{Aim, Outcome, Stop, Name, Dot, Walk, walk}
 use Rattle.wasi_resolve.specs.Paths.{Opening, opening, opened, looked, Place, place, timed}
 use Rattle.wasi_host.specs.Agree.{AgreeOn}
 
@@ -20,10 +20,14 @@ abbrev pub GivesIn : {A : Type 0} → (ℕ → Type 0) → (A → ℕ) → Resul
 GivesIn Seen node (Ok value) = Seen (node value)
 GivesIn Seen node (Err code) = Unit {0}
 
--- a walk reads at most 40 links
+-- at most 40 links are read, and a part is taken for each
+pub record ReadsFewLinks (w : Walk) : Type 0 where
+  pub most : w.links ≤ 40
+  pub parts : w.links ≤ w.parts
+
 abbrev pub WalksReadFewLinks : Type 0
 WalksReadFewLinks =
-    (t : Tree) (s : ℕ) (text : List ℕ) (aim : Aim) (follow : Bool) → (walk t s text aim follow).links ≤ 40
+    (t : Tree) (s : ℕ) (text : List ℕ) (aim : Aim) (follow : Bool) → ReadsFewLinks (walk t s text aim follow)
 
 -- what is reached from a node, itself included
 abbrev pub From : Tree → ℕ → ℕ → Type 0

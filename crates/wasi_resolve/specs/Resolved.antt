@@ -1,5 +1,5 @@
 -- What a call of the resolver does, over every host and over one that tells its world.
-use Rattle.std.specs.Prelude.{ℕ, ◌≡◌, ◌⊎◌, Bool, true, false, List, [], count_by, Result, Ok, Err, is_ok, if◌then◌else◌}
+use Rattle.std.specs.Prelude.{ℕ, ◌≡◌, ◌⊎◌, Bool, true, false, List, [], ◌∷◌, count_by, Option, Some, None, Result, Ok, Err, is_ok, if◌then◌else◌}
 use Rattle.std.specs.FinSet.{contains}
 use Rattle.wasi_host.specs.Tree.{Tree}
 use Rattle.wasi_host.specs.Agree.{Touches}
@@ -33,6 +33,20 @@ is_link_read entry = by entry.kind
 -- how many links were read
 abbrev pub links_read : List Lookup → ℕ
 links_read lookups = count_by is_link_read lookups
+
+-- what the last of these look-ups got; of none, this
+abbrev pub last_from : Option ℕ → List Lookup → Option ℕ
+last_from got [] = got
+last_from got (entry ∷ rest) = last_from entry.got rest
+
+-- the handle that the last look-up got, if it got one
+unfoldable pub last_got : List Lookup → Option ℕ
+last_got lookups = last_from None lookups
+
+-- the handle of an answer is what the last look-up got, so nothing was looked up behind it
+abbrev pub GotLast : Result ℕ HostError → List Lookup → Type 0
+GotLast (Ok h) lookups = last_got lookups ≡ Some h
+GotLast (Err e) lookups = Unit {0}
 
 -- the handle of an answer was got by the call
 abbrev pub GotBy : Result ℕ HostError → ℕ → Type 0

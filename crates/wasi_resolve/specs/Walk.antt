@@ -1,5 +1,5 @@
 -- The walk along the parts of a path. A position is a list of names, looked up afresh each time.
-use Rattle.std.specs.Prelude.{ℕ, zero, suc, Bool, true, false, not, ◌&&◌, ◌||◌, is_none, if◌then◌else◌, List, [], ◌∷◌, ◌++◌, Option, Some, None}
+use Rattle.std.specs.Prelude.{ℕ, zero, suc, ◌+◌, ◌*◌, Bool, true, false, not, ◌&&◌, ◌||◌, is_none, if◌then◌else◌, List, [], ◌∷◌, ◌++◌, Option, Some, None}
 use Rattle.wasi_host.specs.Options.{Options, no_options}
 use Rattle.wasi_host.specs.Tree.{Tree, node_at, is_link}
 use Rattle.wasi_host.specs.HostCall.{HostCall, OpenAt, StatAt}
@@ -105,6 +105,10 @@ pub record Walk : Type 0 where
   pub outcome : Outcome
   pub parts : ℕ
   pub links : ℕ
+
+-- how many look-ups a walk makes at most: one for each part, two more for each link that it reads, and one more
+abbrev pub walk_looks : Walk → ℕ
+walk_looks w = w.parts + 2 * w.links + 1
 
 abbrev pub ended : ℕ → Outcome → Walk
 ended m outcome = record { outcome = outcome; parts = m; links = 0 }

@@ -1,6 +1,6 @@
 -- What a part of a walk does over a host that tells its world: w is the world in which the walk began, v that before
 -- the part, u that behind it.
-use Rattle.std.specs.Prelude.{◌≡◌, ◌⊎◌, ◌≤◌, ◌+◌, ◌*◌, ℕ, suc, Bool, true, false, ◌&&◌, ◌||◌, List, [], ◌∷◌, ◌++◌, length, Option, Some, None, Result, Ok, Err}
+use Rattle.std.specs.Prelude.{◌≡◌, ◌⊎◌, ◌≤◌, ◌+◌, ℕ, suc, Bool, true, false, ◌&&◌, ◌||◌, List, [], ◌∷◌, ◌++◌, length, Option, Some, None, Result, Ok, Err}
 use Rattle.std.specs.FinSet.{contains}
 use Rattle.wasi_host.specs.Options.{Options}
 use Rattle.wasi_host.specs.Tree.{Tree, is_link}
@@ -22,7 +22,7 @@ use Rattle.wasi_host.specs.declared.lookup.Lookup.{Lookup}
 use Rattle.wasi_host.specs.declared.metadata.Metadata.{Metadata}
 use Rattle.wasi_paths.specs.Parts as texts
 use Rattle.wasi_paths.specs.Parts.{Component, Normal}
-use Rattle.wasi_resolve.specs.Walk.{Aim, Open, Look, Outcome, Stop, Name, Dot, is_to_be_read, is_link_code, Leg, Ended, Linked, Walk, adds_slash}
+use Rattle.wasi_resolve.specs.Walk.{Aim, Open, Look, Outcome, Stop, Name, Dot, is_to_be_read, is_link_code, Leg, Ended, Linked, Walk, walk_looks, adds_slash}
 use Rattle.wasi_resolve.specs.ByNodes.{top, leg_nodes, walk_nodes}
 use Rattle.wasi_resolve.specs.Paths.{opening_of, opened_by, step_of, looked_at}
 use Rattle.wasi_resolve.specs.Meanings.{ends_by, opened_node}
@@ -238,6 +238,12 @@ abbrev pub taken_by : {P : Type 0} → Leg P → ℕ
 taken_by (Ended m outcome) = m
 taken_by (Linked m position text left) = m
 
+-- how many look-ups such parts come to at most, with those before them: one for each part, and one more, or two where
+-- their link is read
+abbrev pub leg_looks : {P : Type 0} → Leg P → ℕ
+leg_looks (Ended m outcome) = m + 1
+leg_looks (Linked m position text left) = m + 2
+
 -- the walk ends there
 pub record ReachesEnd (first : Handles) (w v u : World) (start : ℕ) (aim : Aim) (follow slash : Bool) (m : ℕ)
     (parts : List Component) (before : List ℕ) (left : List Component) (result : Result Found HostError) : Type 0 where
@@ -257,7 +263,6 @@ pub record ReachesLink (first : Handles) (w v u : World) (start : ℕ) (aim : Ai
   pub linked : let s = (w.held start).node in let nodes = nodes_under u.held after in
       leg_nodes w.tree s aim follow slash m parts (nodes_under v.held before)
       ≡ Linked taken nodes (link_text w.tree (top s nodes) name) left
-  pub more : suc m ≤ taken
   pub free : refusal w.tree (ReadLinkAt (top (w.held start).node (nodes_under u.held after)) name) ≡ None
 
 -- the host fails, or memory is wanted, at one of its parts
@@ -309,7 +314,7 @@ pub record EndsPast (first : Handles) (w v u : World) (start : ℕ) (aim : Aim) 
   pub ends : leg_nodes w.tree (w.held start).node aim follow slash m parts
       (nodes_under v.held before) ≡ Ended taken outcome
   pub resolved : Resolved first w u (meant_at w.tree aim (w.held start).node outcome) (shown_found u.held) result
-  pub few : length new + 3 * m ≤ length old + (3 * taken + 4)
+  pub few : length new + m ≤ length old + taken + 1
 
 -- the link was read, and the walk goes on with the parts of its text
 pub record LinkPast (first : Handles) (w v u : World) (start : ℕ) (aim : Aim) (follow slash : Bool) (m : ℕ)
@@ -323,16 +328,15 @@ pub record LinkPast (first : Handles) (w v u : World) (start : ℕ) (aim : Aim) 
       ≡ Linked taken (nodes_under u.held after) text behind
   pub put : left ≡ texts.parts text ++ behind
   pub now : slash' ≡ (slash || adds_slash text behind)
-  pub few : length new + 3 * m ≤ length old + 3 * taken
+  pub few : length new + m ≤ length old + taken + 2
 
 -- the host fails, or memory is wanted
 pub record FailsPast (first : Handles) (w v u : World) (start : ℕ) (aim : Aim) (follow slash : Bool) (m : ℕ)
     (parts : List Component) (before : List ℕ) (old new : List Lookup) (e : HostError) : Type 0 where
   pub looks : Looks first w u ((w.held start).node ∷ [])
   pub fault : IsFault e
-  pub few : length new + 3 * m
-      ≤ length old + (3 * taken_by (leg_nodes w.tree (w.held start).node aim follow slash m parts
-      (nodes_under v.held before)) + 4)
+  pub few : length new + m
+      ≤ length old + leg_looks (leg_nodes w.tree (w.held start).node aim follow slash m parts (nodes_under v.held before))
 
 abbrev pub Passes : Handles → World → World → World → ℕ → Aim → Bool → Bool → ℕ → List Component → List ℕ
     → List Component → List ℕ → List Lookup → List Lookup → Result Past HostError → Type 0
@@ -358,5 +362,5 @@ pub record Comes (first : Handles) (w v u : World) (start : ℕ) (aim : Aim) (fo
       (meant_at w.tree aim s (whole_walk w.tree s aim follow slash parts (nodes_under v.held before)).outcome)
       (shown_found u.held) result
   pub bound : length new
-      ≤ length old + (3 * (whole_walk w.tree (w.held start).node aim follow slash parts
-      (nodes_under v.held before)).parts + 4)
+      ≤ length old + walk_looks (whole_walk w.tree (w.held start).node aim follow slash parts
+      (nodes_under v.held before))

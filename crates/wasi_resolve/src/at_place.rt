@@ -4,12 +4,12 @@ ghost use Rattle.std.specs.FinSet.{contains};
 ghost use Rattle.std.specs.String.{string_bytes};
 ghost use Rattle.wasi_host.specs.Meaning.{HasCause};
 ghost use Rattle.wasi_host.specs.Lineage.{Traced, Only, Nothing};
+ghost use Rattle.wasi_host.specs.Numbers.{longest_link};
 ghost use Rattle.wasi_host.specs.declared.errors.ErrorCode.TheVariants as codes;
 ghost use Rattle.wasi_host.specs.declared.errors.HostError.TheVariants.{Code};
-ghost use Rattle.wasi_host.specs.declared.limits.TheConstants.{LINK_MAX};
 ghost use Rattle.wasi_paths.specs.Name.{name_bytes};
 ghost use Rattle.wasi_paths.specs.Parts.{has_root, strip_dir_suffix};
-ghost use Rattle.wasi_resolve.specs.Parents.{parent_parts};
+ghost use Rattle.wasi_resolve.specs.Parents.{parent_looks};
 ghost use Rattle.wasi_resolve.specs.Resolved.{links_read, Resolved};
 ghost use Rattle.wasi_resolve.specs.Finding.{FewReads};
 ghost use Rattle.wasi_resolve.specs.AtPlace.{CreateDir, RemoveFile, RemoveDir, Symlink, ReadLink, SetTimes, done_in, does_at};
@@ -39,8 +39,8 @@ pub fn create_dir<H: Host>(
     ensures told { IsTrue H.told → Resolved (H.live host.old) (H.world host.old) (H.world host.new)
         (does_at (H.world host.old).tree ((H.world host.old).held start).node path.now CreateDir)
         (λ unit. unit) result }
-    ensures bound { IsTrue H.told → length (H.lookups host.new) ≤ length (H.lookups host.old) + (3 *
-        parent_parts (H.world host.old).tree ((H.world host.old).held start).node (strip_dir_suffix path.now) + 5) }
+    ensures bound { IsTrue H.told → length (H.lookups host.new) ≤ length (H.lookups host.old)
+        + parent_looks (H.world host.old).tree ((H.world host.old).held start).node (strip_dir_suffix path.now) + 1 }
 {
     let place = match open_parent(alloc, host, start, strip_dir_suffix(path)) {
         Ok(place) => place,
@@ -69,8 +69,8 @@ pub fn remove_file<H: Host>(
     ensures told { IsTrue H.told → Resolved (H.live host.old) (H.world host.old) (H.world host.new)
         (does_at (H.world host.old).tree ((H.world host.old).held start).node path.now RemoveFile)
         (λ unit. unit) result }
-    ensures bound { IsTrue H.told → length (H.lookups host.new) ≤ length (H.lookups host.old) + (3 *
-        parent_parts (H.world host.old).tree ((H.world host.old).held start).node path.now + 5) }
+    ensures bound { IsTrue H.told → length (H.lookups host.new) ≤ length (H.lookups host.old)
+        + parent_looks (H.world host.old).tree ((H.world host.old).held start).node path.now + 1 }
 {
     let place = match open_parent(alloc, host, start, path) {
         Ok(place) => place,
@@ -99,8 +99,8 @@ pub fn remove_dir<H: Host>(
     ensures told { IsTrue H.told → Resolved (H.live host.old) (H.world host.old) (H.world host.new)
         (does_at (H.world host.old).tree ((H.world host.old).held start).node path.now RemoveDir)
         (λ unit. unit) result }
-    ensures bound { IsTrue H.told → length (H.lookups host.new) ≤ length (H.lookups host.old) + (3 *
-        parent_parts (H.world host.old).tree ((H.world host.old).held start).node path.now + 5) }
+    ensures bound { IsTrue H.told → length (H.lookups host.new) ≤ length (H.lookups host.old)
+        + parent_looks (H.world host.old).tree ((H.world host.old).held start).node path.now + 1 }
 {
     let place = match open_parent(alloc, host, start, path) {
         Ok(place) => place,
@@ -132,8 +132,8 @@ pub fn symlink<H: Host>(
         → Resolved (H.live host.old) (H.world host.old) (H.world host.new)
         (does_at (H.world host.old).tree ((H.world host.old).held start).node path.now (Symlink target.now))
         (λ unit. unit) result }
-    ensures bound { IsTrue H.told → length (H.lookups host.new) ≤ length (H.lookups host.old) + (3 *
-        parent_parts (H.world host.old).tree ((H.world host.old).held start).node path.now + 5) }
+    ensures bound { IsTrue H.told → length (H.lookups host.new) ≤ length (H.lookups host.old)
+        + parent_looks (H.world host.old).tree ((H.world host.old).held start).node path.now + 1 }
 {
     if has_root(target) {
         return Err(HostError::Code(ErrorCode::NotPermitted));
@@ -167,8 +167,8 @@ pub fn set_times_nofollow<H: Host>(
     ensures told { IsTrue H.told → Resolved (H.live host.old) (H.world host.old) (H.world host.new)
         (does_at (H.world host.old).tree ((H.world host.old).held start).node path.now (SetTimes atime mtime))
         (λ unit. unit) result }
-    ensures bound { IsTrue H.told → length (H.lookups host.new) ≤ length (H.lookups host.old) + (3 *
-        parent_parts (H.world host.old).tree ((H.world host.old).held start).node path.now + 5) }
+    ensures bound { IsTrue H.told → length (H.lookups host.new) ≤ length (H.lookups host.old)
+        + parent_looks (H.world host.old).tree ((H.world host.old).held start).node path.now + 1 }
 {
     let place = match open_parent(alloc, host, start, path) {
         Ok(place) => place,
@@ -194,13 +194,13 @@ pub fn read_link<H: Host>(
     ensures lineage { Traced (Only start) Nothing Nothing (H.lookups host.old) (H.lookups host.new) }
     ensures links { links_read (H.lookups host.new) ≤ links_read (H.lookups host.old) + 41 }
     ensures some { IfOk result (λ text. 0 < length (string_bytes text)) }
-    ensures most { IfOk result (λ text. length (string_bytes text) ≤ LINK_MAX) }
+    ensures most { IfOk result (λ text. length (string_bytes text) ≤ longest_link) }
     ensures unrooted { IfOk result (λ text. has_root (string_bytes text) ≡ false) }
     ensures told { IsTrue H.told → Resolved (H.live host.old) (H.world host.old) (H.world host.new)
         (does_at (H.world host.old).tree ((H.world host.old).held start).node path.now ReadLink)
         (λ text. string_bytes text) result }
-    ensures bound { IsTrue H.told → length (H.lookups host.new) ≤ length (H.lookups host.old) + (3 *
-        parent_parts (H.world host.old).tree ((H.world host.old).held start).node path.now + 5) }
+    ensures bound { IsTrue H.told → length (H.lookups host.new) ≤ length (H.lookups host.old)
+        + parent_looks (H.world host.old).tree ((H.world host.old).held start).node path.now + 1 }
 {
     let place = match open_parent(alloc, host, start, path) {
         Ok(place) => place,
@@ -224,7 +224,7 @@ fn unrooted_link_at<H: Host>(
     ensures lineage { Traced (Only directory) Nothing Nothing (H.lookups host.old) (H.lookups host.new) }
     ensures reads { FewReads 1 1 (H.lookups host.old) (H.lookups host.new) }
     ensures some { IfOk result (λ text. 0 < length (string_bytes text)) }
-    ensures most { IfOk result (λ text. length (string_bytes text) ≤ LINK_MAX) }
+    ensures most { IfOk result (λ text. length (string_bytes text) ≤ longest_link) }
     ensures unrooted { IfOk result (λ text. has_root (string_bytes text) ≡ false) }
     ensures told { IsTrue H.told → Resolved (H.live host.old) (H.world host.old) (H.world host.new)
         (done_in (H.world host.old).tree ((H.world host.old).held directory).node

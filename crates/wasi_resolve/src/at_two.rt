@@ -5,7 +5,7 @@ ghost use Rattle.wasi_host.specs.Meaning.{HasCause};
 ghost use Rattle.wasi_host.specs.Lineage.{Traced, OneOf, Nothing};
 ghost use Rattle.wasi_paths.specs.Parts.{strip_dir_suffix};
 ghost use Rattle.wasi_resolve.specs.AtTwo.{HardLink, Rename, asks_directory};
-ghost use Rattle.wasi_resolve.specs.Parents.{directory_of, parent_parts, released};
+ghost use Rattle.wasi_resolve.specs.Parents.{directory_of, parent_looks, released};
 ghost use Rattle.wasi_resolve.specs.PathRequest.{AtTwo, meant_by};
 ghost use Rattle.wasi_resolve.specs.Resolved.{links_read, Resolved};
 ghost use Rattle.wasi_resolve.specs.TwoParents.{both_at, both_released, shown_places, TracedBoth};
@@ -41,9 +41,9 @@ pub fn hard_link<H: Host>(
         (meant_by (H.world host.old).tree (AtTwo ((H.world host.old).held old).node old_path.now
         ((H.world host.old).held new).node new_path.now HardLink))
         (λ unit. unit) result }
-    ensures bound { IsTrue H.told → length (H.lookups host.new) ≤ length (H.lookups host.old) + (3 *
-        (parent_parts (H.world host.old).tree ((H.world host.old).held old).node old_path.now
-        + parent_parts (H.world host.old).tree ((H.world host.old).held new).node new_path.now) + 10) }
+    ensures bound { IsTrue H.told → length (H.lookups host.new) ≤ length (H.lookups host.old)
+        + parent_looks (H.world host.old).tree ((H.world host.old).held old).node old_path.now
+        + parent_looks (H.world host.old).tree ((H.world host.old).held new).node new_path.now + 2 }
 {
     let TwoParents { old: from, new: to } = match open_both(
         alloc, host, old, old_path, new, new_path,
@@ -86,10 +86,9 @@ pub fn rename<H: Host>(
         (meant_by (H.world host.old).tree (AtTwo ((H.world host.old).held old).node old_path.now
         ((H.world host.old).held new).node new_path.now Rename))
         (λ unit. unit) result }
-    ensures bound { IsTrue H.told → length (H.lookups host.new) ≤ length (H.lookups host.old) + (3 *
-        (parent_parts (H.world host.old).tree ((H.world host.old).held old).node (strip_dir_suffix old_path.now)
-        + parent_parts (H.world host.old).tree ((H.world host.old).held new).node (strip_dir_suffix new_path.now))
-        + 10) }
+    ensures bound { IsTrue H.told → length (H.lookups host.new) ≤ length (H.lookups host.old)
+        + parent_looks (H.world host.old).tree ((H.world host.old).held old).node (strip_dir_suffix old_path.now)
+        + parent_looks (H.world host.old).tree ((H.world host.old).held new).node (strip_dir_suffix new_path.now) + 2 }
 {
     let requires_dir = asks_directory(old_path, new_path);
     let TwoParents { old: from, new: to } = match open_both(
@@ -169,9 +168,9 @@ fn open_both<'a, 'b, H: Host>(
         (both_at (H.world host.old).tree ((H.world host.old).held old).node old_path.entry.now
         ((H.world host.old).held new).node new_path.entry.now)
         (shown_places (H.world host.new).held) result }
-    ensures bound { IsTrue H.told → length (H.lookups host.new) ≤ length (H.lookups host.old) + (3 *
-        (parent_parts (H.world host.old).tree ((H.world host.old).held old).node old_path.entry.now
-        + parent_parts (H.world host.old).tree ((H.world host.old).held new).node new_path.entry.now) + 8) }
+    ensures bound { IsTrue H.told → length (H.lookups host.new) ≤ length (H.lookups host.old)
+        + parent_looks (H.world host.old).tree ((H.world host.old).held old).node old_path.entry.now
+        + parent_looks (H.world host.old).tree ((H.world host.old).held new).node new_path.entry.now }
 {
     let first = match open_parent(alloc, host, old, old_path) {
         Ok(first) => first,

@@ -2,7 +2,7 @@
 ghost use Rattle.wasi_resolve.specs.Laws.{WalksReadFewLinks, PathsStayInReach, PathsAgree};
 ghost use Rattle.wasi_resolve.specs.Table.{WalksHaveOneEnd};
 
-/// A walk reads at most 40 links, whatever the tree.
+/// A walk reads at most 40 links, whatever the tree, and takes a part for each of them.
 pub fn walks_read_few_links()
     ensures { WalksReadFewLinks }
 {}

@@ -10,7 +10,7 @@ ghost use Rattle.wasi_resolve.specs.Walk.{Open, Look, middle_options, last_optio
 ghost use Rattle.wasi_resolve.specs.Meanings.{follows};
 ghost use Rattle.wasi_resolve.specs.NameText.{left_bytes};
 ghost use Rattle.wasi_resolve.specs.Stack.{Stands, Among};
-ghost use Rattle.wasi_resolve.specs.Finding.{follow_of, aim_of, LiveEntered, EnteredBy, LiveReached, ReachedBy, FewReads, ReadsBy, has_link_code, is_link_kind, is_directory_kind, FoundAs};
+ghost use Rattle.wasi_resolve.specs.Finding.{follow_of, aim_of, LiveEntered, EnteredBy, LiveReached, ReachedBy, EnteredLast, ReachedLast, FewReads, ReadsBy, ReadsOnce, is_loop, may_be_link, is_link_kind, is_directory_kind, FoundAs};
 ghost use Rattle.wasi_resolve.specs.WalkSteps.{Walked, Enters, Goes, EndsAtName};
 
 use crate::found::{Aim, Found, Reach, Stop};
@@ -21,13 +21,23 @@ use wasi_host::{
 };
 use wasi_paths::Name;
 
-/// Whether an open was refused as that of a link may be.
-fn may_be_link(refused: HostError) -> bool
-    ensures { result ≡ has_link_code refused }
+/// Whether an open was refused as that of a link is, of which no directory is required.
+fn is_loop(refused: HostError) -> bool
+    ensures { result ≡ is_loop refused }
 {
     match refused {
         HostError::Code(ErrorCode::Loop) => true,
-        HostError::Code(ErrorCode::NotDirectory) => true,
+        HostError::Code(_) => false,
+        HostError::Memory => false,
+    }
+}
+
+/// Whether an open was refused as that of a link may be, of which a directory is required.
+fn may_be_link(refused: HostError, dir_required: bool) -> bool
+    ensures { result ≡ may_be_link refused dir_required }
+{
+    match refused {
+        HostError::Code(ErrorCode::NotDirectory) => dir_required,
         HostError::Code(_) => false,
         HostError::Memory => false,
     }
@@ -76,8 +86,10 @@ fn is_no_directory(kind: FileType, slash: bool) -> bool
     slash && !is_directory_kind(kind)
 }
 
-/// Opens a name. `None` is a link that is to be read, where links may be read: the open was refused as that of a link
-/// is, and a look says that it is one. Where the look fails, that is the answer.
+/// Opens a name. `None` is a link that is to be read, where links may be read. A name is a link's where the open is
+/// refused Loop; or is refused NotDirectory, a directory is required, and a look says so. Where that look fails, that is
+/// the answer.
+#[tactic(auto, using(crate::proofs::Lookups::last_is))]
 pub(crate) fn open_or_link<H: Host>(
     host: &mut H,
     here: Handle,
@@ -90,7 +102,9 @@ pub(crate) fn open_or_link<H: Host>(
     ensures cause { HasCause (H.faults host.old) (H.faults host.new) result }
     ensures live { LiveEntered (H.live host.old) result (H.live host.new) }
     ensures lineage { Traced (Only here) Nothing (EnteredBy result) (H.lookups host.old) (H.lookups host.new) }
-    ensures reads { FewReads 2 0 (H.lookups host.old) (H.lookups host.new) }
+    ensures last { EnteredLast result (H.lookups host.new) }
+    ensures reads { ReadsOnce (H.lookups host.old) (H.lookups host.new) result }
+    ensures once { options.now.dir_required ≡ false → FewReads 1 0 (H.lookups host.old) (H.lookups host.new) }
     ensures told { IsTrue H.told → Enters (H.live host.old) (H.world host.old) (H.world host.new)
         ((H.world host.old).held here).node (name_bytes name.entry) options.now may_read result }
 {
@@ -98,14 +112,20 @@ pub(crate) fn open_or_link<H: Host>(
         Ok(handle) => return Ok(Some(handle)),
         Err(refused) => refused,
     };
-    if !may_read {
+    if is_loop(refused) {
+        if !may_read {
+            return Err(refused);
+        }
+        return Ok(None);
+    }
+    if !may_be_link(refused, options.is_dir_required()) {
         return Err(refused);
     }
-    if !may_be_link(refused) {
-        return Err(refused);
-    }
-    let metadata = host.stat_at(here, name)?;
-    if !is_link_kind(metadata.kind) {
+    let kind = match host.stat_at(here, name) {
+        Ok(metadata) => metadata.kind,
+        Err(failed) => return Err(failed),
+    };
+    if !is_read(kind, may_read) {
         return Err(refused);
     }
     Ok(None)
@@ -176,6 +196,7 @@ pub(crate) fn at_last<'p, H: Host>(
     ensures live { LiveReached (H.live host.old) result (H.live host.new) }
     ensures for_aim { FoundAs aim.now result }
     ensures lineage { Traced (Only here) Nothing (ReachedBy result) (H.lookups host.old) (H.lookups host.new) }
+    ensures last { ReachedLast result (H.lookups host.new) }
     ensures reads { FewReads 2 0 (H.lookups host.old) (H.lookups host.new) }
     ensures told { IsTrue H.told → EndsAtName (H.live host.old) (H.world host.old) (H.world host.new)
         ((H.world host.old).held here).node (aim_of aim.now) (follow_of aim.now) slash (left_bytes name.entry.text)
@@ -200,6 +221,7 @@ fn open_last<'p, H: Host>(
     ensures live { LiveReached (H.live host.old) result (H.live host.new) }
     ensures for_aim { FoundAs (Aim.Open options.now) result }
     ensures lineage { Traced (Only here) Nothing (ReachedBy result) (H.lookups host.old) (H.lookups host.new) }
+    ensures last { ReachedLast result (H.lookups host.new) }
     ensures reads { FewReads 2 0 (H.lookups host.old) (H.lookups host.new) }
     ensures told { IsTrue H.told → EndsAtName (H.live host.old) (H.world host.old) (H.world host.new)
         ((H.world host.old).held here).node (Open options.now)
@@ -232,6 +254,7 @@ fn look_last<'p, H: Host>(
     ensures live { LiveReached (H.live host.old) result (H.live host.new) }
     ensures for_aim { FoundAs (Aim.Look follow) result }
     ensures lineage { Traced (Only here) Nothing (ReachedBy result) (H.lookups host.old) (H.lookups host.new) }
+    ensures last { ReachedLast result (H.lookups host.new) }
     ensures reads { FewReads 1 0 (H.lookups host.old) (H.lookups host.new) }
     ensures told { IsTrue H.told → EndsAtName (H.live host.old) (H.world host.old) (H.world host.new)
         ((H.world host.old).held here).node Look

@@ -5,10 +5,11 @@ ghost use Rattle.wasi_host.specs.Meaning.{HasCause};
 ghost use Rattle.wasi_host.specs.Lineage.{Traced, Only, Nothing};
 ghost use Rattle.wasi_paths.specs.Name.{name_bytes};
 ghost use Rattle.wasi_paths.specs.Part.{component};
+ghost use Rattle.wasi_paths.specs.Parts.{is_empty};
 ghost use Rattle.wasi_paths.specs.TextLaws.{IsLastPart};
 ghost use Rattle.wasi_resolve.specs.Paths.{part_text};
 ghost use Rattle.wasi_resolve.specs.Resolved.{links_read, Resolved};
-ghost use Rattle.wasi_resolve.specs.Parents.{directory_of, parent_parts, places_at, released, shown_place, GotParent, LiveParent};
+ghost use Rattle.wasi_resolve.specs.Parents.{directory_of, is_borrowed, parent_looks, parent_text, places_at, released, shown_place, GotParent, LastIn, LiveParent};
 ghost use Rattle.wasi_resolve.specs.WalkSteps.{Stayed};
 
 use crate::resolver::open_dir;
@@ -76,8 +77,9 @@ fn last_name<'p>(last: Part<'p>) -> Name<'p>
 }
 
 /// The place that a path names below a start directory: its last part, a plain name or `.`, in the directory that its
-/// parent text opens, or in the start itself: the crate's `open_parent` in `open_parent.rs`. The name itself
-/// is not looked up. The empty path is refused NoEntry, and any other as the open of its parent is.
+/// parent text opens: the crate's `open_parent` in `open_parent.rs`. The name itself is not looked up. Where the parent
+/// text is empty the directory is the start, borrowed, and nothing is asked of the host; else it was opened, and is the
+/// caller's to close. The empty path is refused NoEntry, and any other as the open of its parent is.
 #[tactic(auto, using(wasi_host::proofs::Chain::live_rules))]
 pub fn open_parent<'p, H: Host>(
     alloc: Global,
@@ -91,12 +93,15 @@ pub fn open_parent<'p, H: Host>(
     ensures held { IfOk result (λ parent. contains (H.live host.new) (directory_of parent.directory) ≡ true) }
     ensures closes { IfOk result (λ parent. released (H.live host.new) parent.directory ≡ H.live host.old) }
     ensures lineage { Traced (Only start) Nothing (GotParent result) (H.lookups host.old) (H.lookups host.new) }
+    ensures last { IfOk result (λ parent. LastIn parent.directory (H.lookups host.new)) }
     ensures links { links_read (H.lookups host.new) ≤ links_read (H.lookups host.old) + 40 }
+    ensures borrowed { IfOk result (λ parent. is_borrowed parent.directory ≡ is_empty (parent_text path.entry.now)) }
+    ensures unasked { is_empty (parent_text path.entry.now) ≡ true → host.new ≡ host.old }
     ensures told { IsTrue H.told → Resolved (H.live host.old) (H.world host.old) (H.world host.new)
         (places_at (H.world host.old).tree ((H.world host.old).held start).node path.entry.now)
         (shown_place (H.world host.new).held) result }
-    ensures bound { IsTrue H.told → length (H.lookups host.new) ≤ length (H.lookups host.old) + (3 *
-        parent_parts (H.world host.old).tree ((H.world host.old).held start).node path.entry.now + 4) }
+    ensures bound { IsTrue H.told → length (H.lookups host.new) ≤ length (H.lookups host.old)
+        + parent_looks (H.world host.old).tree ((H.world host.old).held start).node path.entry.now }
 {
     texts_have_one_split();
     let Some((parent, last)) = split_parent(path) else {

@@ -3,9 +3,9 @@ ghost use Rattle.std.specs.Prelude.{◌≡◌, ◌≤◌, ◌+◌, ◌*◌, true
 ghost use Rattle.std.specs.FinSet.{contains};
 ghost use Rattle.wasi_host.specs.Meaning.{HasCause, LiveGot};
 ghost use Rattle.wasi_host.specs.Lineage.{Traced, Only, Nothing};
-ghost use Rattle.wasi_resolve.specs.Walk.{Open, Look, walk};
+ghost use Rattle.wasi_resolve.specs.Walk.{Open, Look, walk, walk_looks};
 ghost use Rattle.wasi_resolve.specs.Paths.{directory_options};
-ghost use Rattle.wasi_resolve.specs.Resolved.{links_read, GotBy, Resolved};
+ghost use Rattle.wasi_resolve.specs.Resolved.{links_read, GotBy, GotLast, Resolved};
 ghost use Rattle.wasi_resolve.specs.Meanings.{follows, opens_at, looks_at};
 
 use crate::found::{Aim, Found};
@@ -16,7 +16,8 @@ use wasi_host::{FollowSymlinks, Handle, Host, HostError, Metadata, OpenOptions, 
 /// Opens a path below a start directory with the options, whose `follow` says whether a link under the last name is
 /// read: the crate's `open` in `manually/open.rs`. The walk takes one part after another, and reads links itself, so no
 /// path leaves the start directory; one that would is refused NotPermitted. It makes a file, or cuts one, where the
-/// options ask for it and nothing is refused. It reads at most 40 links, and is refused Loop at the next one.
+/// options ask for it and nothing is refused. It reads at most 40 links, and is refused Loop at the next one. It makes at
+/// most one look-up for each part that it takes, two more for each link that it reads, and one more.
 ///
 /// Memory is taken by the number of parts. Where it is wanted, the tree and the live handles are as before.
 pub fn open<H: Host>(
@@ -30,13 +31,14 @@ pub fn open<H: Host>(
     ensures cause { HasCause (H.faults host.old) (H.faults host.new) result }
     ensures live { LiveGot (H.live host.old) result (H.live host.new) }
     ensures lineage { Traced (Only start) Nothing (GotBy result) (H.lookups host.old) (H.lookups host.new) }
+    ensures last { GotLast result (H.lookups host.new) }
     ensures links { links_read (H.lookups host.new) ≤ links_read (H.lookups host.old) + 40 }
     ensures told { IsTrue H.told → Resolved (H.live host.old) (H.world host.old) (H.world host.new)
         (opens_at (H.world host.old).tree ((H.world host.old).held start).node path.now options.now)
         (H.world host.new).held result }
-    ensures bound { IsTrue H.told → length (H.lookups host.new) ≤ length (H.lookups host.old) + (3 *
-        (walk (H.world host.old).tree ((H.world host.old).held start).node path.now (Open options.now)
-        (follows options.now.follow)).parts + 4) }
+    ensures bound { IsTrue H.told → length (H.lookups host.new) ≤ length (H.lookups host.old)
+        + walk_looks (walk (H.world host.old).tree ((H.world host.old).held start).node path.now (Open options.now)
+        (follows options.now.follow)) }
 {
     let found = walk(alloc, host, start, path, &Aim::Open(*options))?;
     match found {
@@ -57,13 +59,14 @@ pub fn open_dir<H: Host>(
     ensures cause { HasCause (H.faults host.old) (H.faults host.new) result }
     ensures live { LiveGot (H.live host.old) result (H.live host.new) }
     ensures lineage { Traced (Only start) Nothing (GotBy result) (H.lookups host.old) (H.lookups host.new) }
+    ensures last { GotLast result (H.lookups host.new) }
     ensures links { links_read (H.lookups host.new) ≤ links_read (H.lookups host.old) + 40 }
     ensures told { IsTrue H.told → Resolved (H.live host.old) (H.world host.old) (H.world host.new)
         (opens_at (H.world host.old).tree ((H.world host.old).held start).node path.now directory_options)
         (H.world host.new).held result }
-    ensures bound { IsTrue H.told → length (H.lookups host.new) ≤ length (H.lookups host.old) + (3 *
-        (walk (H.world host.old).tree ((H.world host.old).held start).node path.now (Open directory_options)
-        true).parts + 4) }
+    ensures bound { IsTrue H.told → length (H.lookups host.new) ≤ length (H.lookups host.old)
+        + walk_looks (walk (H.world host.old).tree ((H.world host.old).held start).node path.now
+        (Open directory_options) true) }
 {
     open(alloc, host, start, path, &dir_options())
 }
@@ -87,8 +90,9 @@ pub fn stat<H: Host>(
     ensures told { IsTrue H.told → Resolved (H.live host.old) (H.world host.old) (H.world host.new)
         (looks_at (H.world host.old).tree ((H.world host.old).held start).node path.now follow)
         (λ metadata. metadata) result }
-    ensures bound { IsTrue H.told → length (H.lookups host.new) ≤ length (H.lookups host.old) + (3 *
-        (walk (H.world host.old).tree ((H.world host.old).held start).node path.now Look (follows follow)).parts + 4) }
+    ensures bound { IsTrue H.told → length (H.lookups host.new) ≤ length (H.lookups host.old)
+        + walk_looks (walk (H.world host.old).tree ((H.world host.old).held start).node path.now Look
+        (follows follow)) }
 {
     let found = walk(alloc, host, start, path, &Aim::Look(follow))?;
     match found {

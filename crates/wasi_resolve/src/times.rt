@@ -3,7 +3,7 @@ ghost use Rattle.std.specs.Prelude.{◌≡◌, ◌≤◌, ◌+◌, ◌*◌, true
 ghost use Rattle.std.specs.FinSet.{contains};
 ghost use Rattle.wasi_host.specs.Meaning.{HasCause, LiveGot};
 ghost use Rattle.wasi_host.specs.Lineage.{Traced, Only, Nothing};
-ghost use Rattle.wasi_resolve.specs.Walk.{Open, walk};
+ghost use Rattle.wasi_resolve.specs.Walk.{Open, walk, walk_looks};
 ghost use Rattle.wasi_resolve.specs.Paths.{reading, writing};
 ghost use Rattle.wasi_resolve.specs.PathRequest.{TimesPath, meant_by};
 ghost use Rattle.wasi_resolve.specs.Resolved.{links_read, GotBy, Resolved};
@@ -37,10 +37,9 @@ pub fn set_times<H: Host>(
         (meant_by (H.world host.old).tree
         (TimesPath ((H.world host.old).held start).node path.now true atime mtime))
         (λ unit. unit) result }
-    ensures bound { IsTrue H.told → length (H.lookups host.new) ≤ length (H.lookups host.old) + (3 *
-        ((walk (H.world host.old).tree ((H.world host.old).held start).node path.now (Open writing) true).parts
-        + (walk (H.world host.old).tree ((H.world host.old).held start).node path.now (Open reading) true).parts)
-        + 8) }
+    ensures bound { IsTrue H.told → length (H.lookups host.new) ≤ length (H.lookups host.old)
+        + walk_looks (walk (H.world host.old).tree ((H.world host.old).held start).node path.now (Open writing) true)
+        + walk_looks (walk (H.world host.old).tree ((H.world host.old).held start).node path.now (Open reading) true) }
 {
     let handle = match open_to_set(alloc, host, start, path) {
         Ok(handle) => handle,
@@ -69,10 +68,9 @@ fn open_to_set<H: Host>(
     ensures told { IsTrue H.told → Resolved (H.live host.old) (H.world host.old) (H.world host.new)
         (timed_at (H.world host.old).tree ((H.world host.old).held start).node path.now)
         (H.world host.new).held result }
-    ensures bound { IsTrue H.told → length (H.lookups host.new) ≤ length (H.lookups host.old) + (3 *
-        ((walk (H.world host.old).tree ((H.world host.old).held start).node path.now (Open writing) true).parts
-        + (walk (H.world host.old).tree ((H.world host.old).held start).node path.now (Open reading) true).parts)
-        + 8) }
+    ensures bound { IsTrue H.told → length (H.lookups host.new) ≤ length (H.lookups host.old)
+        + walk_looks (walk (H.world host.old).tree ((H.world host.old).held start).node path.now (Open writing) true)
+        + walk_looks (walk (H.world host.old).tree ((H.world host.old).held start).node path.now (Open reading) true) }
 {
     let refused = match open(alloc, host, start, path, &writing()) {
         Ok(handle) => return Ok(handle),
@@ -99,8 +97,8 @@ fn open_to_read<H: Host>(
     ensures told { IsTrue H.told → Resolved (H.live host.old) (H.world host.old) (H.world host.new)
         (read_at (H.world host.old).tree ((H.world host.old).held start).node path.now)
         (H.world host.new).held result }
-    ensures bound { IsTrue H.told → length (H.lookups host.new) ≤ length (H.lookups host.old) + (3 *
-        (walk (H.world host.old).tree ((H.world host.old).held start).node path.now (Open reading) true).parts + 4) }
+    ensures bound { IsTrue H.told → length (H.lookups host.new) ≤ length (H.lookups host.old)
+        + walk_looks (walk (H.world host.old).tree ((H.world host.old).held start).node path.now (Open reading) true) }
 {
     match open(alloc, host, start, path, &reading()) {
         Ok(handle) => Ok(handle),

@@ -4,12 +4,12 @@ ghost use Rattle.std.specs.FinSet.{contains};
 ghost use Rattle.wasi_host.specs.Meaning.{HasCause, World};
 ghost use Rattle.wasi_host.specs.Lineage.{Traced, Only, Nothing};
 ghost use Rattle.wasi_paths.specs.Parts.{Component, trailing_slash, is_empty};
-ghost use Rattle.wasi_resolve.specs.Walk.{walk};
+ghost use Rattle.wasi_resolve.specs.Walk.{walk, walk_looks};
 ghost use Rattle.wasi_resolve.specs.NameText.{left_bytes};
 ghost use Rattle.wasi_resolve.specs.Left.{component_left, parts_left, is_nil};
 ghost use Rattle.wasi_resolve.specs.Stack.{Stands, Among};
 ghost use Rattle.wasi_resolve.specs.Resolved.{links_read, Resolved};
-ghost use Rattle.wasi_resolve.specs.Finding.{follow_of, aim_of, LiveFound, FoundBy, StandsFound, StandsReached, StandsPast, ReachTraced, PastTraced, PastFor, FewReads, ReadsBy, ReadsTo, FewOrEnds, FoundAs, FoundOf};
+ghost use Rattle.wasi_resolve.specs.Finding.{follow_of, aim_of, LiveFound, FoundBy, StandsFound, StandsReached, StandsPast, ReachTraced, PastTraced, PastFor, FoundLast, ReachedLast, PastLast, FewReads, ReadsBy, ReadsTo, FewUntil, FoundAs, FoundOf};
 ghost use Rattle.wasi_resolve.specs.WalkSteps.{Walked, Goes, Stopped, EndsInDirectory, Reaches, ReadsLink, Passes, Comes, meant_at, shown_found};
 
 use crate::MAX_SYMLINK_EXPANSIONS;
@@ -112,12 +112,14 @@ fn leg<'p, H: Host>(
 }
 
 /// An open that ends in a directory.
+#[tactic(auto, using(crate::proofs::Lookups::last_is))]
 fn open_dot<H: Host>(host: &mut H, here: Handle, options: &OpenOptions) -> Result<Found, HostError>
     requires { contains (H.live host.old) here ≡ true }
     ensures cause { HasCause (H.faults host.old) (H.faults host.new) result }
     ensures live { LiveFound (H.live host.old) result (H.live host.new) }
     ensures for_aim { FoundOf (Aim.Open options.now) result }
     ensures lineage { Traced (Only here) Nothing (FoundBy result) (H.lookups host.old) (H.lookups host.new) }
+    ensures last { FoundLast result (H.lookups host.new) }
     ensures reads { FewReads 1 0 (H.lookups host.old) (H.lookups host.new) }
     ensures told { IsTrue H.told → EndsInDirectory (H.live host.old) (H.world host.old) (H.world host.new)
         ((H.world host.old).held here).node (aim_of (Aim.Open options.now)) result }
@@ -136,6 +138,7 @@ fn look_dot<H: Host>(host: &mut H, here: Handle) -> Result<Found, HostError>
     ensures live { LiveFound (H.live host.old) result (H.live host.new) }
     ensures for_aim { FoundOf (Aim.Look FollowSymlinks.No) result }
     ensures lineage { Traced (Only here) Nothing (FoundBy result) (H.lookups host.old) (H.lookups host.new) }
+    ensures last { FoundLast result (H.lookups host.new) }
     ensures reads { FewReads 1 0 (H.lookups host.old) (H.lookups host.new) }
     ensures told { IsTrue H.told → EndsInDirectory (H.live host.old) (H.world host.old) (H.world host.new)
         ((H.world host.old).held here).node (aim_of (Aim.Look FollowSymlinks.No)) result }
@@ -152,6 +155,7 @@ fn at_dot<H: Host>(host: &mut H, here: Handle, aim: &Aim) -> Result<Found, HostE
     ensures live { LiveFound (H.live host.old) result (H.live host.new) }
     ensures for_aim { FoundOf aim.now result }
     ensures lineage { Traced (Only here) Nothing (FoundBy result) (H.lookups host.old) (H.lookups host.new) }
+    ensures last { FoundLast result (H.lookups host.new) }
     ensures reads { FewReads 1 0 (H.lookups host.old) (H.lookups host.new) }
     ensures told { IsTrue H.told → EndsInDirectory (H.live host.old) (H.world host.old) (H.world host.new)
         ((H.world host.old).held here).node (aim_of aim.now) result }
@@ -178,7 +182,8 @@ fn reach<'p, H: Host>(
     ensures for_aim { FoundAs aim.now result }
     ensures lineage { ReachTraced start stack.old.items stack.new.items result
         (H.lookups host.old) (H.lookups host.new) }
-    ensures reads { FewOrEnds left.old.items left.new.items (H.lookups host.old) (H.lookups host.new) result }
+    ensures last { ReachedLast result (H.lookups host.new) }
+    ensures reads { FewUntil 1 left.old.items left.new.items (H.lookups host.old) (H.lookups host.new) }
     ensures told { IsTrue H.told → (first : _) (w : World) (m : ℕ)
         → Stands first (H.live host.old) start stack.old.items
         → Walked first w (H.world host.old) start stack.old.items
@@ -246,6 +251,7 @@ fn past_link<'p, H: Host>(
     ensures for_aim { PastFor aim.now result }
     ensures lineage { PastTraced start stack.old.items stack.new.items result
         (H.lookups host.old) (H.lookups host.new) }
+    ensures last { PastLast result (H.lookups host.new) }
     ensures links { links_read (H.lookups host.new) ≤ links_read (H.lookups host.old) + 1 }
     ensures told { IsTrue H.told → (first : _) (w : World) (m : ℕ)
         → Stands first (H.live host.old) start stack.old.items
@@ -282,6 +288,7 @@ fn along<'p, H: Host>(
     ensures for_aim { FoundOf aim.now result }
     ensures lineage { Traced (Among start stack.old.items) Nothing (FoundBy result)
         (H.lookups host.old) (H.lookups host.new) }
+    ensures last { FoundLast result (H.lookups host.new) }
     ensures links { links_read (H.lookups host.new) ≤ links_read (H.lookups host.old) + 40 }
     ensures told { IsTrue H.told → (first : _) (w : World)
         → Stands first (H.live host.old) start stack.old.items
@@ -324,15 +331,16 @@ pub(crate) fn walk<H: Host>(
     ensures live { LiveFound (H.live host.old) result (H.live host.new) }
     ensures for_aim { FoundOf aim.now result }
     ensures lineage { Traced (Only start) Nothing (FoundBy result) (H.lookups host.old) (H.lookups host.new) }
+    ensures last { FoundLast result (H.lookups host.new) }
     ensures links { links_read (H.lookups host.new) ≤ links_read (H.lookups host.old) + 40 }
     ensures told { IsTrue H.told → Resolved (H.live host.old) (H.world host.old) (H.world host.new)
         (meant_at (H.world host.old).tree (aim_of aim.now) ((H.world host.old).held start).node
         (walk (H.world host.old).tree ((H.world host.old).held start).node path.now (aim_of aim.now)
         (follow_of aim.now)).outcome)
         (shown_found (H.world host.new).held) result }
-    ensures bound { IsTrue H.told → length (H.lookups host.new) ≤ length (H.lookups host.old) + (3 *
-        (walk (H.world host.old).tree ((H.world host.old).held start).node path.now (aim_of aim.now)
-        (follow_of aim.now)).parts + 4) }
+    ensures bound { IsTrue H.told → length (H.lookups host.new) ≤ length (H.lookups host.old)
+        + walk_looks (walk (H.world host.old).tree ((H.world host.old).held start).node path.now (aim_of aim.now)
+        (follow_of aim.now)) }
 {
     if is_empty(path) {
         return Err(HostError::Code(ErrorCode::NoEntry));

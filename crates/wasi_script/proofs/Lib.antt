@@ -1,3 +1,4 @@
 mod Starts
 mod Headlines
+mod OwnTrees
 mod Tops

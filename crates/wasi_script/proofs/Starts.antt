@@ -2,6 +2,7 @@
 use Rattle.std.proofs.Common.{ℕ, zero, suc, ◌+◌, ◌<◌, ◌≤◌, ◌≡◌, ◌≢◌, inl, inr, Bool, true, false, subst, ap, List, [], ◌∷◌, ◌++◌, length, map, take, refl, sym, ◌∙◌, arith, get_or, slice_get, slice_index_or}
 use Rattle.std.specs.List.{list_all}
 use Rattle.std.specs.Ordering.{nat_cmp}
+use Rattle.std.specs.String.{string_bytes}
 use Rattle.std.specs.FinSet.{empty, contains, insert, contains-empty, members}
 use Rattle.std.proofs.lemmas.Bool.Decides.{nat_tests}
 use Rattle.wasi_host.specs.Meaning.{Handles}
@@ -17,8 +18,6 @@ use Rattle.wasi_host.specs.declared.held.AccessMode.TheVariants.{PathOnly}
 use Rattle.wasi_host.specs.declared.held.Held.{Held}
 use Rattle.wasi_host.specs.declared.limits.Limits.{Limits}
 use Rattle.wasi_tree.specs.Given.{Given, GivenContent, file, directory, link, content_from, nodes_from, tree_of}
-use Rattle.wasi_tree.specs.declared.errors.TreeError.TheVariants.{Invalid}
-use Rattle.wasi_tree.specs.Fit.{AreFit, IsTreeCause}
 use Rattle.wasi_tree.specs.GivenTests.{is_dir_content}
 use Rattle.wasi_tree.specs.MemState.{HeldMap, MemState, live_of, held_in, world_of}
 use Rattle.wasi_guest.specs.Range.{with_bytes}
@@ -42,11 +41,6 @@ passes_at p xs i d within all = elim (cases_Bool (p (get_or xs i d))) [
 -- a handle that was just given is live
 pub given_is_live : (before now : Handles) (h : ℕ) → now ≡ insert before h → contains now h ≡ true
 given_is_live before now h is = rw is (grind (arith, members, nat_tests))
-
--- no number of nodes that are fit breaks the rules
-pub never_unfit : (limits : Limits) (nodes : List Given) (n : ℕ) → AreFit limits nodes
-    → IsTreeCause limits nodes (Invalid n) → ⊥
-never_unfit limits nodes n fit lowest = lowest.breaks (fit n)
 
 directory_from : (all : List Given) (k : ℕ) (content : GivenContent) → is_dir_content content ≡ true → is_directory (content_from all k content) ≡ true
 directory_from all k (file bytes) is = absurd (cc)
@@ -88,7 +82,18 @@ places_again old new (p ∷ ps) lives same =
     λ i. here i ∷ places_again old new ps (All-tail (IsLiveIn old) p ps lives) same i
 
 pub none_given : {handles : HeldMap} → AreGiven handles [] []
-none_given = record { live = λ k d within. absurd (omega arith); once = λ i j d less within. absurd (omega arith); places = refl }
+none_given = record {
+  live = λ k d within. absurd (omega arith);
+  once = λ i j d less within. absurd (omega arith);
+  places = refl;
+  names = refl;
+}
+
+abbrev name_bytes : P1Preopen → List ℕ
+name_bytes preopen = string_bytes preopen.name
+
+abbrev planned_name : PlannedPreopen → List ℕ
+planned_name preopen = preopen.name
 
 -- a new handle, of one directory more
 pub record IsGivenTo (old new : HeldMap) (planned : PlannedPreopen) (preopen : P1Preopen) : Type 0 where
@@ -97,6 +102,7 @@ pub record IsGivenTo (old new : HeldMap) (planned : PlannedPreopen) (preopen : P
   pub held : held_in new preopen.handle ≡ record { node = planned.node; mode = PathOnly }
   pub others : (h : ℕ) → contains (live_of old) h ≡ true → held_in new h ≡ held_in old h
   pub perms : preopen.perms ≡ planned.perms
+  pub name : string_bytes preopen.name ≡ planned.name
 
 pub given_more : {old new : HeldMap} {planned : PlannedPreopen} {p : P1Preopen} (preopens : List PlannedPreopen)
     (given : List P1Preopen)
@@ -119,6 +125,8 @@ given_more {old} {new} {planned} {p} preopens given are is = record {
         map-append (place_of (held_in new)) (map given_slot given) (given_slot p ∷ []),
         map-append given_place preopens (planned ∷ []),
       ) (λ i. old_ones i ++ here i ∷ []);
+  names = rw (map-append name_bytes given (p ∷ []), map-append planned_name preopens (planned ∷ []))
+      (λ i. are.names i ++ is.name i ∷ []);
 }
   where
     still : (q : P1Preopen) → IsLiveIn old q → IsLiveIn new q

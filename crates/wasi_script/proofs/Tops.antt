@@ -1,8 +1,8 @@
 -- What the program has written, by its status.
-use Rattle.std.proofs.Common.{ℕ, ◌+◌, ◌≤◌, ◌≡◌, Bool, true, false, List, [], length}
+use Rattle.std.proofs.Common.{ℕ, ◌+◌, ◌≤◌, ◌≡◌, Bool, true, false, List, [], length, take}
 use Rattle.std.proofs.Common.{refl, sym, ◌∙◌, subst, arith, Result, Ok, Err}
-use Rattle.std.proofs.lemmas.List.{drop_all}
-use Rattle.wasi_ends.specs.Ends.{ReadAll}
+use Rattle.std.proofs.lemmas.List.{drop_all, length-take, take-append-drop}
+use Rattle.wasi_ends.specs.Ends.{ReadAll, ReadFront}
 use Rattle.wasi_form.specs.Plan.{Plan}
 use Rattle.wasi_form.specs.Verdict.{Reads, most_script, IsVerdict}
 use Rattle.wasi_ends.specs.declared.reading.Unfinished.{Unfinished}
@@ -12,33 +12,55 @@ use Rattle.wasi_form.specs.declared.verdict.ScriptError.{ScriptError}
 use Rattle.wasi_form.specs.declared.verdict.ScriptError.TheVariants as scripts
 use Rattle.wasi_form.proofs.BuiltScripts.{too_many, refused_before}
 use Rattle.wasi_script.specs.Exit.{unfinished_status, script_status}
-use Rattle.wasi_script.specs.Due.{Due, the_usage, the_refusal, the_report, IsOwed, OfDue, left_unread, NotRead}
+use Rattle.wasi_script.specs.Due.{Due, the_usage, the_refusal, the_report, IsOwed, OfDue, left_unread, LeavesBytes, NotRead}
 use Rattle.wasi_script.specs.Due.{IsText, IsDue, Writes, Written, whole, in_part, status_of}
 use Rattle.wasi_script.specs.declared.status.Status.{Status}
+use Rattle.wasi_script.specs.declared.status.Status.TheVariants as statuses
 
 -- ---- reading
 
--- bytes that aren't too many are judged whole, and leave nothing
+-- bytes that aren't too many leave nothing
+none_unread : {bytes left rest : List ℕ} → bytes ≡ left → rest ≡ [] → length bytes ≤ most_script
+    → rest ≡ left_unread left
+unfolding left_unread
+none_unread {left} whole-is none fits =
+    let fits_left : length left ≤ most_script + 1 = rw (← whole-is) (omega arith) in
+    none ∙ sym (drop_all (most_script + 1) left fits_left)
+
+-- and are judged whole
 pub judged : {bytes left rest : List ℕ} (verdict : Result Plan Refusal) → IsVerdict bytes verdict → bytes ≡ left
     → rest ≡ [] → length bytes ≤ most_script → IsVerdict left verdict × (rest ≡ left_unread left)
+judged verdict is whole-is none fits =
+    (subst (λ b. IsVerdict b verdict) whole-is is, none_unread whole-is none fits)
+
+-- reading that ended took no more than it may
+pub front_read : {rest : List ℕ} (left : List ℕ) → rest ≡ left_unread left → ReadFront left rest
 unfolding left_unread
-judged {left} verdict is whole-is none fits =
-    let fits_left : length left ≤ most_script + 1 = rw (← whole-is) (omega arith) in
-    (subst (λ b. IsVerdict b verdict) whole-is is, none ∙ sym (drop_all (most_script + 1) left fits_left))
+front_read left is = record {
+  front = take (most_script + 1) left;
+  whole = rw is (sym (take-append-drop (most_script + 1) left));
+  short = omega (arith, length-take (most_script + 1) left);
+}
 
 -- bytes that weren't read to their end
-pub unread : (left rest : List ℕ) (error : Unfinished) → ReadAll most_script (Err error) left rest
+pub unread : (left rest : List ℕ) (error : Unfinished) → ReadAll (Err error) left rest
     → NotRead (unfinished_status error) left rest
 unfolding left_unread
 unread left rest errors.Long (over, is) = (refused_before (too_many left over), is)
-unread left rest errors.Fault is = tt
-unread left rest errors.Memory is = tt
+unread left rest errors.Fault is = is
+unread left rest errors.Memory is = is
 
 -- bytes that aren't a script
 pub no_script : {bytes left rest : List ℕ} (error : ScriptError) → Reads (Err error) (IsVerdict bytes) → bytes ≡ left
     → rest ≡ [] → length bytes ≤ most_script → NotRead (script_status error) left rest
 no_script (scripts.Refused refusal) reads whole-is none fits = judged (Err refusal) reads whole-is none fits
-no_script scripts.Memory reads whole-is none fits = tt
+no_script scripts.Memory reads whole-is none fits = front_read _ (none_unread whole-is none fits)
+
+-- what reading left of a script, whose report was written
+pub leaves_unread : {told rose : Type 0} {taken now text rest : List ℕ} {status : Status} (left : List ℕ)
+    → rest ≡ left_unread left → Written told rose taken now text statuses.Done status → LeavesBytes status left rest
+leaves_unread left is (whole took) = is
+leaves_unread left is (in_part failed took) = is
 
 -- ---- writing
 

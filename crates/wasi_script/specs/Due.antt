@@ -1,8 +1,8 @@
 -- What the program has to write, and what stands after it, by its status.
 use Rattle.std.specs.Prelude.{◌≡◌, ℕ, ◌+◌, ◌++◌, Bool, true, false, List, [], ◌∷◌, drop, codes, Result, Ok, Err, ⊤}
 use Rattle.std.specs.Str.{bytes_eq}
-use Rattle.wasi_ends.specs.Ends.{TookFront}
-use Rattle.wasi_script.specs.Headline.{Reports}
+use Rattle.wasi_ends.specs.Ends.{ReadFront, TookFront}
+use Rattle.wasi_script.specs.Headline.{Reports, GivesReadOnly, TellsOwnTree}
 use Rattle.wasi_form.specs.Plan.{Plan, plan}
 use Rattle.wasi_form.specs.Verdict.{most_script, IsVerdict}
 use Rattle.wasi_form.specs.declared.verdict.Refusal.{Refusal}
@@ -100,13 +100,30 @@ Writes statuses.ReadFault d taken now = now ≡ taken
 Writes statuses.NoMemory d taken now = now ≡ taken
 Writes statuses.WriteFault d taken now = WroteFront d taken now
 
--- what the source has left, by the status, where the words are `run`
+-- of a report whose script gives the guest read-only directories alone, the sink took a text that tells the script's own
+-- tree
+abbrev pub TookOwnTree : Due → (List ℕ → Type 0) → Type 0
+TookOwnTree the_usage Took = ⊤
+TookOwnTree (the_refusal refusal) Took = ⊤
+TookOwnTree (the_report plan) Took = GivesReadOnly plan → (text : List ℕ) × TellsOwnTree plan text × Took text
+
+-- the same by the status: of a text that was taken whole, or a front of it
+abbrev pub KeepsTree : Status → Due → List ℕ → List ℕ → Type 0
+KeepsTree statuses.Done d taken now = TookOwnTree d (λ text. now ≡ taken ++ text)
+KeepsTree statuses.WriteFault d taken now = TookOwnTree d (TookFront taken now)
+KeepsTree statuses.Usage d taken now = ⊤
+KeepsTree (statuses.Refused refusal) d taken now = ⊤
+KeepsTree statuses.ReadFault d taken now = ⊤
+KeepsTree statuses.NoMemory d taken now = ⊤
+
+-- What the source has left, by the status, where the words are `run`. Where it wasn't read to its end, at most one byte
+-- past the limit was taken of it.
 abbrev pub LeavesBytes : Status → List ℕ → List ℕ → Type 0
 LeavesBytes statuses.Done left rest = rest ≡ left_unread left
 LeavesBytes statuses.Usage left rest = ⊤
 LeavesBytes (statuses.Refused refusal) left rest = rest ≡ left_unread left
-LeavesBytes statuses.ReadFault left rest = ⊤
-LeavesBytes statuses.NoMemory left rest = ⊤
+LeavesBytes statuses.ReadFault left rest = ReadFront left rest
+LeavesBytes statuses.NoMemory left rest = ReadFront left rest
 LeavesBytes statuses.WriteFault left rest = rest ≡ left_unread left
 
 -- after a fault of reading, or want of memory, the sink took nothing
@@ -132,11 +149,16 @@ EndsReading statuses.Done = ⊥
 EndsReading statuses.Usage = ⊥
 EndsReading statuses.WriteFault = ⊥
 
--- reading to the end gave the script, or a refusal; a fault and want of memory are free
+-- reading that gave no script: a refusal was due; a fault and want of memory are free
 abbrev pub NotRead : Status → List ℕ → List ℕ → Type 0
 NotRead (statuses.Refused refusal) left rest = IsVerdict left (Err refusal) × (rest ≡ left_unread left)
-NotRead status left rest = ⊤
+NotRead statuses.ReadFault left rest = ReadFront left rest
+NotRead statuses.NoMemory left rest = ReadFront left rest
+NotRead statuses.Done left rest = ⊥
+NotRead statuses.Usage left rest = ⊥
+NotRead statuses.WriteFault left rest = ⊥
 
+-- reading to the end gave the script, or none
 abbrev pub ReadsScript : Result Script Status → List ℕ → List ℕ → Type 0
 ReadsScript (Ok script) left rest = IsVerdict left (Ok (plan script)) × (rest ≡ left_unread left)
 ReadsScript (Err status) left rest = NotRead status left rest

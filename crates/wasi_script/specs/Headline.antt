@@ -1,8 +1,11 @@
 -- What the report of a script holds.
 use Rattle.std.specs.Prelude.{◌≡◌, ℕ, ◌+◌, List, map, slice_range, All, Contains}
+use Rattle.std.specs.FinMap as maps
 use Rattle.std.specs.List.Sorted.{IsStrictlySortedBy}
 use Rattle.std.specs.Ordering.{nat_cmp}
-use Rattle.wasi_tree.specs.Given.{given_of}
+use Rattle.wasi_host.specs.Tree.{Names}
+use Rattle.wasi_tree.specs.Given.{Given, GivenContent, file, directory, link, given_of}
+use Rattle.wasi_fs.specs.declared.perms.FsPerms.TheVariants.{ReadOnly}
 use Rattle.wasi_p1.specs.Reach.{InReach}
 use Rattle.wasi_report.specs.Report.{Report, report_text}
 use Rattle.wasi_report.specs.ReadBack.{IsOrdered}
@@ -40,3 +43,27 @@ pub record Reports (plan : Plan) (text : List ℕ) : Type 0 where
   pub in_reach : (n : ℕ) → Contains touched n → InReach (start plan) last n
   pub ordered : IsOrdered (told_of plan.show turns last touched)
   pub text_is : text ≡ report_text (told_of plan.show turns last touched)
+
+-- each directory that the guest is given is read-only
+abbrev pub GivesReadOnly : Plan → Type 0
+GivesReadOnly plan = All (λ preopen. preopen.perms ≡ ReadOnly) plan.preopens
+
+-- a directory's names in byte order
+abbrev pub in_order : GivenContent → GivenContent
+in_order (file bytes) = file bytes
+in_order (directory entries) = let names : Names = maps.from_entries entries in directory (maps.entries names)
+in_order (link text) = link text
+
+abbrev pub node_in_order : Given → Given
+node_in_order g = record g { content = in_order g.content }
+
+-- the script's own nodes
+abbrev pub own_nodes : Plan → List Given
+own_nodes plan = map node_in_order plan.nodes
+
+-- the text is that of a report whose tree is the script's own; it is in range and order, so that its text tells it
+pub record TellsOwnTree (plan : Plan) (text : List ℕ) : Type 0 where
+  pub report : Report
+  pub ordered : IsOrdered report
+  pub text_is : text ≡ report_text report
+  pub tree : report.tree ≡ own_nodes plan

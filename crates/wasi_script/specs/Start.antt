@@ -1,6 +1,7 @@
 -- The state in which the calls of a script begin.
 use Rattle.std.specs.Prelude.{◌≡◌, ◌≢◌, ℕ, List, [], ◌∷◌, map, replicate, true, All, AllPairs}
 use Rattle.std.specs.FinSet.{empty, contains}
+use Rattle.std.specs.String.{string_bytes}
 use Rattle.wasi_host.specs.Tree.{Tree}
 use Rattle.wasi_host.specs.Meaning.{World}
 use Rattle.wasi_tree.specs.Given.{tree_of}
@@ -43,8 +44,9 @@ pub record IsBegun {H : Type 0} (world : H → World) (context : View H) (tree :
   pub state : (memory : List ℕ) → state_of world context memory ≡ begun tree preopens memory
   pub untouched : (world context.host).touched ≡ empty
 
--- handles of these directories in their order, each live and another, with their permissions
+-- handles of these directories in their order, each live and another, with their permissions and names
 pub record AreGiven (handles : HeldMap) (preopens : List PlannedPreopen) (given : List P1Preopen) : Type 0 where
   pub live : All (λ preopen. contains (live_of handles) preopen.handle ≡ true) given
   pub once : AllPairs (λ one other. one.handle ≢ other.handle) given
   pub places : map (place_of (held_in handles)) (map given_slot given) ≡ map given_place preopens
+  pub names : map (λ preopen. string_bytes preopen.name) given ≡ map (λ preopen. preopen.name) preopens

@@ -2,9 +2,7 @@
 ghost use Rattle.std.specs.Prelude.{◌≡◌, true, length, map, replicate, All, IfOk};
 ghost use Rattle.std.specs.List.{list_all};
 ghost use Rattle.wasi_host.specs.Tree.{node_at, is_directory};
-ghost use Rattle.wasi_host.specs.ValidTree.{AreLimits};
-ghost use Rattle.wasi_tree.specs.Given.{given, tree_of};
-ghost use Rattle.wasi_tree.specs.Fit.{AreFit};
+ghost use Rattle.wasi_tree.specs.Given.{tree_of};
 ghost use Rattle.wasi_tree.specs.MemState.{world_of};
 ghost use Rattle.wasi_form.specs.Plan.{planned_piece, planned_preopen};
 ghost use Rattle.wasi_form.specs.Built.{are_preopens_directories, is_piece_within, is_shown_within};
@@ -15,7 +13,7 @@ use std::alloc::{AllocError, Global};
 use wasi_form::{Piece, ScriptPreopen, Shown};
 use wasi_guest::GuestMemory;
 use wasi_p1::{P1Preopen, WasiP1Ctx};
-use wasi_tree::{HandleError, Limits, MemTree, NewNode, TreeError};
+use wasi_tree::{FitNodes, HandleError, MemTree};
 
 /// A handle of each directory that the guest is given, in order.
 fn given_handles(
@@ -46,24 +44,17 @@ fn given_handles(
     Ok(given)
 }
 
-/// A context over the tree of these nodes within these limits, in which the guest is given these directories.
+/// A context over the tree of these nodes, in which the guest is given these directories.
 pub fn first_context(
     alloc: Global,
-    nodes: Vec<NewNode>,
-    limits: Limits,
+    nodes: FitNodes,
     preopens: &[ScriptPreopen],
 ) -> Result<WasiP1Ctx<MemTree>, AllocError>
-    requires limits { AreLimits limits }
-    requires fit { AreFit limits (map given nodes.items) }
-    requires directories { are_preopens_directories (map given nodes.items) (map planned_preopen preopens.now) ≡ true }
-    ensures begun { IfOk result (λ c. IsBegun world_of c (tree_of (map given nodes.items) limits)
+    requires directories { are_preopens_directories nodes.nodes (map planned_preopen preopens.now) ≡ true }
+    ensures begun { IfOk result (λ c. IsBegun world_of c (tree_of nodes.nodes nodes.limits)
         (map planned_preopen preopens.now)) }
 {
-    let mut tree = match MemTree::new(alloc, nodes, limits) {
-        Ok(tree) => tree,
-        Err(TreeError::Memory) => return Err(AllocError),
-        Err(TreeError::Invalid(_)) => unreachable!(),
-    };
+    let mut tree = MemTree::of(alloc, nodes)?;
     let given = given_handles(alloc, &mut tree, preopens)?;
     match WasiP1Ctx::new(alloc, tree, given) {
         Ok(context) => Ok(context),

@@ -50,7 +50,7 @@ impl Status {
                 "wasirun: standard input couldn't be read to its end, and nothing was written",
             ),
             Status::WriteFault => Some(
-                "wasirun: standard output took only a part of what was to be written",
+                "wasirun: standard output didn't take all of what was to be written",
             ),
             Status::NoMemory => Some("wasirun: out of memory, and nothing was written"),
         }

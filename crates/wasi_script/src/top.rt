@@ -2,13 +2,10 @@
 ghost use Rattle.std.specs.Prelude.{◌≡◌, ◌≤◌, ◌⊎◌, true, false, map, IsTrue, Err, IfOk, IfErr};
 ghost use Rattle.std.specs.String.{string_bytes};
 ghost use Rattle.wasi_host.specs.Meaning.{Rose};
-ghost use Rattle.wasi_host.specs.ValidTree.{AreLimits};
 ghost use Rattle.wasi_form.specs.Plan.{plan};
-ghost use Rattle.wasi_tree.specs.Given.{given};
-ghost use Rattle.wasi_tree.specs.Fit.{AreFit};
 ghost use Rattle.wasi_form.specs.Built.{is_built_script};
 ghost use Rattle.wasi_script.specs.Headline.{Reports};
-ghost use Rattle.wasi_script.specs.Due.{is_run, the_usage, refusal_line, OfDue, IsDue, Writes, LeavesBytes, KeepsSink, EndsReading, ReadsScript, Written};
+ghost use Rattle.wasi_script.specs.Due.{is_run, the_usage, refusal_line, OfDue, IsDue, Writes, KeepsTree, LeavesBytes, KeepsSink, EndsReading, ReadsScript, Written};
 
 use crate::start::{first_context, first_memory, shown};
 use crate::status::Status;
@@ -48,8 +45,6 @@ fn read_from<S: Source>(alloc: Global, source: &mut S) -> Result<Script, Status>
     ensures cause { result ≡ Err Status.ReadFault → Rose (S.faults source.old) (S.faults source.new) }
     ensures ends { IfErr result EndsReading }
     ensures built { IfOk result (λ script. is_built_script (plan script) ≡ true) }
-    ensures limits { IfOk result (λ script. AreLimits script.limits) }
-    ensures fit { IfOk result (λ script. AreFit script.limits (map given script.nodes.items)) }
     ensures read { IsTrue S.told → ReadsScript result (S.left source.old) (S.left source.new) }
 {
     let bytes = read_all(alloc, source)?;
@@ -57,24 +52,17 @@ fn read_from<S: Source>(alloc: Global, source: &mut S) -> Result<Script, Status>
 }
 
 fn report_of(alloc: Global, script: Script) -> Result<Vec<u8>, AllocError>
-    requires built { is_built_script (plan script) ≡ true }
-    requires limits { AreLimits script.limits }
-    requires fit { AreFit script.limits (map given script.nodes.items) }
+    requires { is_built_script (plan script) ≡ true }
     ensures { IfOk result (λ text. Reports (plan script) text.items) }
 {
     let mut memory = first_memory(alloc, script.size, script.pieces.as_slice())?;
-    let mut context = first_context(
-        alloc,
-        script.nodes,
-        script.limits,
-        script.preopens.as_slice(),
-    )?;
+    let mut context = first_context(alloc, script.nodes, script.preopens.as_slice())?;
     let Ok(answers) = run_calls(alloc, &mut context, &mut memory, &script.calls) else {
         return Err(AllocError);
     };
     let shown = shown(alloc, &memory, script.show.as_slice())?;
+    let touched = context.host().touched(alloc)?;
     let ended = context.into_parts();
-    let touched = ended.host.touched(alloc)?;
     let outcome = Outcome {
         answers,
         shown,
@@ -126,6 +114,9 @@ pub fn run_script<S: Source, K: Sink>(
     ensures writes { IsTrue S.told → IsTrue K.told
         → OfDue result (is_run (map string_bytes words.now.items)) (S.left source.old)
         (λ due. Writes result due (K.taken sink.old) (K.taken sink.new)) }
+    ensures read_only { IsTrue S.told → IsTrue K.told
+        → OfDue result (is_run (map string_bytes words.now.items)) (S.left source.old)
+        (λ due. KeepsTree result due (K.taken sink.old) (K.taken sink.new)) }
 {
     if !is_run(words.as_slice()) {
         return written(sink, USAGE.as_bytes(), Status::Usage);
@@ -146,12 +137,3 @@ pub fn run_script<S: Source, K: Sink>(
         Err(AllocError) => Status::NoMemory,
     }
 }
-
-#[cfg(test)]
-mod changes;
-#[cfg(test)]
-mod moves;
-#[cfg(test)]
-mod tests;
-#[cfg(test)]
-mod walks;

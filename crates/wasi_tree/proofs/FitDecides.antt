@@ -179,11 +179,3 @@ lowest_first limits nodes starts = record {
   breaks = λ keeps. true≢false (sym (keeps.first refl) ∙ starts);
   below = λ k h. absurd (omega (arith, h));
 }
-
--- nodes that are fit, and nodes one of which isn't
-pub fit_decided : {limits : Limits} {nodes : List Given} → AreFit limits nodes → Decides true (AreFit limits nodes)
-fit_decided are = (λ _. are, λ _. refl)
-
-pub unfit_decided : {limits : Limits} {nodes : List Given} (n : ℕ) → IsLowestUnfit limits nodes n
-    → Decides false (AreFit limits nodes)
-unfit_decided n lowest = (λ is. absurd (cc), λ are. absurd (lowest.breaks (are n)))

@@ -7,7 +7,7 @@ use Rattle.std.proofs.lemmas.Bool.{lt-ltb}
 use Rattle.std.proofs.lemmas.List.Folds.{list_all-map}
 use Rattle.wasi_paths.specs.Text.{has_nul, is_entry_name}
 use Rattle.wasi_host.specs.ValidTree.{are_bytes}
-use Rattle.wasi_host.specs.declared.limits.TheConstants.{LINK_MAX}
+use Rattle.wasi_host.specs.Numbers.{longest_link}
 use Rattle.wasi_tree.specs.declared.node.NewEntry.{NewEntry}
 use Rattle.wasi_tree.specs.Given.{pair_of}
 use Rattle.wasi_tree.specs.Fit.{is_fit_text, is_fit_entry}
@@ -17,10 +17,10 @@ pub is_fit_name-text : (name : List ℕ) → IsUtf8 name → (is_entry_name name
 is_fit_name-text name utf8 = ap (λ b. is_entry_name name && b) (is_utf8-from_IsUtf8 name utf8) ∙ and-true (is_entry_name name)
 
 pub is_fit_text-text : (text : List ℕ) → IsUtf8 text
-    → is_fit_text text ≡ (nat_lt 0 (length text) && nat_le (length text) LINK_MAX && not (has_nul text))
+    → is_fit_text text ≡ (nat_lt 0 (length text) && nat_le (length text) longest_link && not (has_nul text))
 is_fit_text-text text utf8 =
-    ap (λ b. b && not (has_nul text)) (ap (λ b. nat_lt 0 (length text) && nat_le (length text) LINK_MAX && b) (is_utf8-from_IsUtf8 text utf8)
-    ∙ and-true (nat_lt 0 (length text) && nat_le (length text) LINK_MAX))
+    ap (λ b. b && not (has_nul text)) (ap (λ b. nat_lt 0 (length text) && nat_le (length text) longest_link && b) (is_utf8-from_IsUtf8 text utf8)
+    ∙ and-true (nat_lt 0 (length text) && nat_le (length text) longest_link))
 
 pub are_bytes-fit : (bytes : List ℕ) → ((i : ℕ) → slice_index_or bytes i 0 < 256) → are_bytes bytes ≡ true
 are_bytes-fit [] fit = refl

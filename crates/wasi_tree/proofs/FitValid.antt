@@ -16,7 +16,7 @@ use Rattle.wasi_host.specs.Tree.{Node, Names, node_at, next_of, names_of, is_dir
 use Rattle.wasi_host.specs.ValidTree.{AreLimits, are_bytes, names_for, name_count, Reached, IsEntry, IsPlaced, IsValidContent, IsRoot, IsValidTree}
 use Rattle.wasi_host.specs.ValidTree as valid
 use Rattle.wasi_host.specs.declared.limits.Limits.{Limits}
-use Rattle.wasi_host.specs.declared.limits.TheConstants.{FILE_MAX, LINK_MAX}
+use Rattle.wasi_host.specs.Numbers.{largest_file, longest_link}
 use Rattle.wasi_tree.specs.Given.{Given, GivenContent, file, directory, link, given_entries, entry_count, content_from, node_from, nodes_from, tree_of}
 use Rattle.wasi_tree.specs.GivenTests.{is_dir_content, are_distinct, starts_with_directory}
 use Rattle.wasi_tree.specs.Fit.{is_fit_entry, IsFound, root, held, entries_held, HasPlace, IsFitContent, AreFit}
@@ -151,20 +151,20 @@ content_valid : (limits : Limits) (nodes : List Given) (n : ℕ) (content : Give
     → (node_at (tree_of nodes limits) n).content ≡ content_from nodes n content
     → IsFitContent limits nodes n content → IsValidContent (tree_of nodes limits) n (content_from nodes n content)
 content_valid limits nodes n (file bytes) are is fit =
-    let parts = and_parts (are_bytes bytes) (nat_le (length bytes) FILE_MAX) fit.0 in
+    let parts = and_parts (are_bytes bytes) (nat_le (length bytes) largest_file) fit.0 in
     let links = subst (λ (l : Limits). entry_count n nodes ≤ l.links) (sym (limits_are nodes limits)) fit.1 in
-    (parts.0, leb-true (length bytes) FILE_MAX parts.1, sym (count_is limits nodes n are), links)
+    (parts.0, leb-true (length bytes) largest_file parts.1, sym (count_is limits nodes n are), links)
 content_valid limits nodes n (directory entries) are is fit =
     (All-from (IsEntry (tree_of nodes limits)) entries fit.1 (entries_valid limits nodes entries fit.0), placed limits nodes n entries are is fit.2)
 content_valid limits nodes n (link text) are is fit =
     let some = nat_lt 0 (length text) in
-    let most = nat_le (length text) LINK_MAX in
+    let most = nat_le (length text) longest_link in
     let last = and_parts (some && most && is_utf8 text) (not (has_nul text)) fit.0 in
     let third = and_parts (some && most) (is_utf8 text) last.0 in
     let sizes = and_parts some most third.0 in
     let links = subst (λ (l : Limits). entry_count n nodes ≤ l.links) (sym (limits_are nodes limits)) fit.1 in (
       ltb-true 0 (length text) sizes.0,
-      leb-true (length text) LINK_MAX sizes.1,
+      leb-true (length text) longest_link sizes.1,
       IsUtf8-from_is_utf8 text third.1,
       not-true (has_nul text) last.1,
       sym (count_is limits nodes n are),

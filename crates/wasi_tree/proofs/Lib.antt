@@ -1,12 +1,15 @@
 pub mod DistinctLemmas
+pub mod RisingLemmas
 pub mod FitLemmas
 pub mod CountLemmas
 pub mod FoundLemmas
 pub mod GivenNames
 pub mod FitDecides
 pub mod FitValid
+pub mod ValidFit
 pub mod SlotLemmas
 pub mod MarkLemmas
+pub mod TextEntries
 pub mod NameLemmas
 pub mod NodeLemmas
 pub mod PutLemmas

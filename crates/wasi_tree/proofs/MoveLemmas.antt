@@ -17,7 +17,7 @@ use Rattle.wasi_tree.specs.LinkRows.{name_put}
 use Rattle.wasi_tree.specs.ParentOf.{named_at}
 use Rattle.wasi_tree.specs.RenameRows.{IsMove, found_lost, name_moved_onto}
 use Rattle.wasi_tree.proofs.NameLemmas.{same_names}
-use Rattle.wasi_tree.proofs.ParentLemmas.{same_name}
+use Rattle.wasi_tree.proofs.TextEntries.{same_name}
 
 -- ---- names
 

@@ -1,30 +1,28 @@
-use Rattle.std.proofs.Common.{◌≡◌, ℕ, true, List, [], ◌∷◌, ◌++◌, None, Option, map, refl, sym, ap, ◌∙◌, subst, cond, Some, Bool, false, ◌&&◌, length, nat_eq, arith}
+use Rattle.std.proofs.Common.{◌≡◌, ℕ, true, List, [], ◌∷◌, ◌++◌, None, Option, map, reverse, refl, sym, ap, ◌∙◌, cond, Some, Bool, false, length, nat_eq, arith}
 use Rattle.std.specs.Prelude.{◌↔◌, IsTrue}
 use Rattle.std.proofs.lemmas.Bool.{true≢false, ne_eqb}
 use Rattle.std.specs.String.{string_bytes}
 use Rattle.std.specs.declared.string.String.{String}
+use Rattle.std.specs.declared.alloc.Global.{Global}
 use Rattle.std.specs.Ordering.{nat_cmp, is_eq, eq_by_cmp}
 use Rattle.std.specs.Map.{lookup}
 use Rattle.std.specs.Cmp.{eq_by_cmp_equiv}
 use Rattle.std.specs.BTreeMap.{is_at}
 use Rattle.std.specs.Cmp.Lexicographic.{slice_cmp, nat_list_cmp_total}
-use Rattle.std.proofs.lemmas.List.{append-nil, map_push}
+use Rattle.std.proofs.lemmas.List.{append-nil}
 use Rattle.std.proofs.lemmas.Map.Text.{btree_map_updates_text, is_eq-slice_cmp}
-use Rattle.std.specs.BTreeMap.{BTreeMap, Updates, UpdatesBy}
-use lib.Dec.{T}
-use Rattle.std.specs.List.{AllByRecursion}
+use Rattle.std.specs.BTreeMap.{BTreeMap, Updates, UpdatesBy, IsFromIterResult}
 use Rattle.std.specs.List.Sorted.{IsStrictlySortedBy}
 use Rattle.std.specs.Map.{keys_of}
-use Rattle.std.specs.Ordering.{is_lt}
-use Rattle.std.specs.declared.cmp.Ordering.TheVariants.{Less}
 use Rattle.std.specs.Str.{bytes_eq}
 use Rattle.std.specs.String.{string_cmp}
-use Rattle.std.specs.FinMap.Entries.{below_all}
-use Rattle.std.specs.FinMap.{get, insert, remove, entries, from_entries, from_sorted, entries-from_sorted, get-from_sorted, get-from_entries, same_map, is_sorted, get-empty, get-insert, get-remove, len, len-empty, empty_of_len, nat_cmp-IsAntisymmetric, slice_cmp-IsAntisymmetric}
+use Rattle.std.specs.FinMap.Entries.{find}
+use Rattle.std.specs.FinMap.{get, insert, remove, entries, from_entries, from_sorted, entries-from_sorted, get-from_sorted, get-from_entries, same_map, get-empty, get-insert, get-remove, len, len-empty, empty_of_len, nat_cmp-IsAntisymmetric, slice_cmp-IsAntisymmetric}
 use Rattle.wasi_host.specs.Tree.{Names}
 use Rattle.wasi_tree.specs.Given.{pair_of}
 use Rattle.wasi_tree.specs.StoredTree.{names_in, text_entry}
 use Rattle.wasi_tree.specs.declared.node.NewEntry.{NewEntry}
+use Rattle.wasi_tree.proofs.TextEntries.{by_text, sorted_texts, collected}
 
 -- a look-up in the entries finds what the names have
 pub get-names_in : {Y : Type 0} (entries : List (String Y × ℕ)) (name : List ℕ)
@@ -39,20 +37,6 @@ get-no_names name = get-empty (slice_cmp nat_cmp) name
 
 pub len-no_names : len {X = ℕ} (from_entries {R = slice_cmp nat_cmp} []) ≡ 0
 len-no_names = len-empty (slice_cmp nat_cmp) ℕ
-
--- names with these entries put in, the last one first
-abbrev pub with_entries : List (List ℕ × ℕ) → Names → Names
-with_entries [] names = names
-with_entries (entry ∷ es) names = insert (with_entries es names) entry.0 entry.1
-
-pub with_entries-push : (es : List (List ℕ × ℕ)) (entry : List ℕ × ℕ) (names : Names)
-    → with_entries (es ++ entry ∷ []) names ≡ with_entries es (insert names entry.0 entry.1)
-with_entries-push [] entry names = refl
-with_entries-push (e ∷ es) entry names = ap (λ m. insert m e.0 e.1) (with_entries-push es entry names)
-
-pub with_entries-empty : (es : List (List ℕ × ℕ)) → with_entries es (from_entries []) ≡ from_entries es
-with_entries-empty [] = refl
-with_entries-empty (e ∷ es) = ap (λ m. insert m e.0 e.1) (with_entries-empty es)
 
 pub same_names : (m n : Names) → ((q : List ℕ) → get m q ≡ get n q) → m ≡ n
 same_names m n is = same_map nat_list_cmp_total (slice_cmp-IsAntisymmetric nat_cmp-IsAntisymmetric) m n is
@@ -100,22 +84,6 @@ no_entries false (entry ∷ es) is =
     let gone : get names name ≡ None = ap (λ m. get m name) (empty_of_len names none) ∙ get-no_names name in
     absurd (cc)))
 
-both : (a b : Bool) → T a → T b → T (a && b)
-both true b p q = q
-both false b p q = p
-
-below_texts : {Y : Type 0} (key : String Y) (es : List (String Y × ℕ))
-    → AllByRecursion (λ k. string_cmp key k ≡ Less) (keys_of es)
-    → T (below_all (slice_cmp nat_cmp) (string_bytes key) (map text_entry es))
-below_texts key [] below = tt
-below_texts key (e ∷ es) below = both _ _ (subst (λ r. T (is_lt r)) (sym below.0) tt) (below_texts key es below.1)
-
-sorted_texts : {Y : Type 0} (es : List (String Y × ℕ)) → IsStrictlySortedBy string_cmp (keys_of es)
-    → T (is_sorted (slice_cmp nat_cmp) (map text_entry es))
-unfolding IsStrictlySortedBy
-sorted_texts [] sorted = tt
-sorted_texts (e ∷ es) sorted = both _ _ (below_texts e.0 es sorted.0) (sorted_texts es sorted.1)
-
 -- the names of ordered entries are these entries
 pub entries-names_in : {Y : Type 0} (es : List (String Y × ℕ)) → IsStrictlySortedBy string_cmp (keys_of es)
     → entries (names_in es) ≡ map text_entry es
@@ -124,16 +92,6 @@ entries-names_in es sorted =
     ap entries (same_names (names_in es) (from_sorted (map text_entry es)) (λ q.
     get-from_entries nat_list_cmp_total (map text_entry es) q ∙ sym (get-from_sorted (slice_cmp nat_cmp) (map text_entry es) q rising)))
     ∙ entries-from_sorted (slice_cmp nat_cmp) (map text_entry es) rising
-
--- the last entry is put in
-pub last_put : {Y : Type 0} (old new : List NewEntry) (entry : NewEntry) (m n : BTreeMap (String Y) ℕ) (all : Names)
-    → old ≡ new ++ entry ∷ [] → names_in n.entries ≡ insert (names_in m.entries) (string_bytes entry.name) entry.node
-    → with_entries (map pair_of old) (names_in m.entries) ≡ all
-    → with_entries (map pair_of new) (names_in n.entries) ≡ all
-last_put old new entry m n all popped put so_far =
-    ap (with_entries (map pair_of new)) put
-    ∙ sym (ap (λ l. with_entries l (names_in m.entries)) (ap (map pair_of) popped ∙ map_push pair_of new entry) ∙ with_entries-push (map pair_of new) (pair_of entry) (names_in m.entries))
-    ∙ so_far
 
 -- all entries are copied
 pub all_copied : {Y : Type 0} (copied : List NewEntry) (left es : List (String Y × ℕ)) → left ≡ []
@@ -150,9 +108,21 @@ all_listed f told left es done so_far sorted =
     sym (append-nil told) ∙ sym (ap (λ l. told ++ map f (map text_entry l)) done) ∙ so_far
     ∙ ap (map f) (sym (entries-names_in es sorted))
 
--- no entry is put in yet
-pub none_put : {Y : Type 0} (es : List (List ℕ × ℕ)) (none : List (String Y × ℕ)) → none ≡ []
-    → with_entries es (names_in none) ≡ from_entries es
-none_put es none is = ap (λ l. with_entries es (names_in l)) is ∙ with_entries-empty es
+-- an entry, as a map holds it
+abbrev pub as_pair : NewEntry → String Global × ℕ
+as_pair entry = (entry.name, entry.node)
+
+pairs_by_text : (entries : List NewEntry) → map by_text (map as_pair entries) ≡ map pair_of entries
+pairs_by_text [] = refl
+pairs_by_text (e ∷ entries) = ap (λ es. pair_of e ∷ es) (pairs_by_text entries)
+
+-- entries are collected, the last one first: of two of one name the first one stays
+pub collected_names : (entries : List NewEntry) (made : BTreeMap (String Global) ℕ)
+    → IsFromIterResult string_cmp (reverse (map as_pair entries)) made
+    → names_in made.entries ≡ from_entries (map pair_of entries)
+collected_names entries made is = same_names _ _ (λ text.
+    get-from_entries nat_list_cmp_total (map text_entry made.entries) text ∙ collected (map as_pair entries) made is text
+    ∙ ap (find (slice_cmp nat_cmp) text) (pairs_by_text entries)
+    ∙ sym (get-from_entries nat_list_cmp_total (map pair_of entries) text))
 
 pub ruleset name_rules = (get-names_in, get-no_names, len-no_names)

@@ -13,7 +13,7 @@ use Rattle.std.specs.FinSet as set
 use Rattle.wasi_paths.specs.Text.{has_nul, is_entry_name}
 use Rattle.wasi_host.specs.Tree.{Tree, Node, Nodes, node_at, stray, names_of, text_of, is_link}
 use Rattle.wasi_host.specs.declared.limits.Limits.{Limits}
-use Rattle.wasi_host.specs.declared.limits.TheConstants.{LINK_MAX}
+use Rattle.wasi_host.specs.Numbers.{longest_link}
 use Rattle.wasi_tree.specs.Given.{Given, GivenContent, file, directory, link, entry_count, content_from, node_from, nodes_from, tree_of}
 use Rattle.wasi_tree.specs.GivenTests.{numbers_from}
 use Rattle.wasi_tree.specs.Fit.{is_fit_entry, IsFitContent, IsFit, AreFit, name_counts}
@@ -21,7 +21,7 @@ use Rattle.wasi_tree.specs.StoredTree.{stored_node, stored_tree}
 use Rattle.wasi_tree.specs.Sound.{IsSound, IsSoundNode, IsSoundText}
 use Rattle.wasi_tree.specs.declared.row.Row.{Row}
 use Rattle.wasi_host.proofs.EntryLemmas.{unnamed}
-use Rattle.wasi_tree.proofs.ParentLemmas.{same_name}
+use Rattle.wasi_tree.proofs.TextEntries.{same_name}
 use Rattle.wasi_tree.proofs.SoundLemmas.{bare}
 
 -- ---- the counts, by number
@@ -125,11 +125,11 @@ module _ (limits : Limits) (all : List Given) where
   content_text k (file bytes) fit linked = absurd (true≢false (sym linked))
   content_text k (directory entries) fit linked = absurd (true≢false (sym linked))
   content_text k (link text) fit linked =
-      let long : Bool = nat_lt 0 (length text) && nat_le (length text) LINK_MAX in
+      let long : Bool = nat_lt 0 (length text) && nat_le (length text) longest_link in
       let utf8 = and_parts (long && is_utf8 text) (not (has_nul text)) fit.0 in
       let short = and_parts long (is_utf8 text) utf8.0 in
-      let parts = and_parts (nat_lt 0 (length text)) (nat_le (length text) LINK_MAX) short.0 in
-      record { some = ltb-true 0 (length text) parts.0; most = leb-true (length text) LINK_MAX parts.1 }
+      let parts = and_parts (nat_lt 0 (length text)) (nat_le (length text) longest_link) short.0 in
+      record { some = ltb-true 0 (length text) parts.0; most = leb-true (length text) longest_link parts.1 }
 
   node_sound : (k : ℕ) (g : Given) → IsFit limits all k g → IsSoundNode (length all) (node_from all k g)
   node_sound k g fit = record {

@@ -3,8 +3,6 @@ use Rattle.std.proofs.Common.{◌≡◌, ◌≢◌, ◌⊎◌, inl, inr, ℕ, �
 use Rattle.std.proofs.Math.Seq.{get_or-append_seam}
 use Rattle.std.proofs.lemmas.Bool.{true≢false, cases_eq, cases_lt}
 use Rattle.std.proofs.lemmas.List.{length-set, length-append, get_or-set_same, get_or-set_other, get_or_append_left, get_or_past}
-use Rattle.std.proofs.lemmas.Map.Text.{is_eq-slice_cmp}
-use Rattle.std.proofs.lemmas.Slice.Eq.{bytes_eq-Decides}
 use Rattle.std.specs.Cmp.Lexicographic.{slice_cmp, nat_list_cmp_total}
 use Rattle.std.specs.FinMap as maps
 use Rattle.std.specs.Ordering.{nat_cmp, eq_by_cmp}
@@ -13,6 +11,7 @@ use Rattle.wasi_host.specs.Step.{without_name, with_name, node_made}
 use Rattle.wasi_host.proofs.Changes.{changed, directory_within, next_of-changed, node_at-changed, node_at-other, node_at-same, node_at-past, node_at-parent, node_at-apart, node_at-made, node_at-kept, next_of-made}
 use Rattle.wasi_host.proofs.EntryLemmas.{unnamed, get-inserted, get-kept, get-removed, get-left}
 use Rattle.wasi_host.proofs.Leaving.{no_name, node_made_leaves, without_name_names}
+use Rattle.wasi_tree.proofs.TextEntries.{same_name}
 use Rattle.wasi_tree.specs.ParentOf.{parent_of, named_at, AreParents}
 
 -- ---- one node stands elsewhere
@@ -158,10 +157,6 @@ parents_same same are = record {
 }
 
 -- ---- names
-
--- names that tie are one
-pub same_name : (q name : List ℕ) → eq_by_cmp (slice_cmp nat_cmp) q name ≡ true → q ≡ name
-same_name q name tie = (bytes_eq-Decides q name).0 (sym (is_eq-slice_cmp q name) ∙ tie)
 
 -- a name in a directory with one name more
 pub with_name_cases : (node : Node) (name q : List ℕ) (m n : ℕ)

@@ -6,7 +6,7 @@ use Rattle.std.specs.Str.{is_utf8}
 use Rattle.wasi_paths.specs.Text.{has_nul, is_entry_name}
 use Rattle.wasi_host.specs.ValidTree.{are_bytes}
 use Rattle.wasi_host.specs.declared.limits.Limits.{Limits}
-use Rattle.wasi_host.specs.declared.limits.TheConstants.{FILE_MAX, LINK_MAX}
+use Rattle.wasi_host.specs.Numbers.{largest_file, longest_link}
 use Rattle.wasi_tree.specs.Given.{Given, GivenContent, file, directory, link, given_entries, entry_count}
 use Rattle.wasi_tree.specs.GivenTests.{are_distinct, numbers_from, starts_with_directory}
 use Rattle.wasi_tree.specs.declared.errors.TreeError.{TreeError}
@@ -14,11 +14,11 @@ use Rattle.wasi_tree.specs.declared.errors.TreeError.TheVariants.{Invalid, Memor
 
 -- bytes, not too many for a file
 abbrev pub is_fit_file : List ℕ → Bool
-is_fit_file bytes = are_bytes bytes && nat_le (length bytes) FILE_MAX
+is_fit_file bytes = are_bytes bytes && nat_le (length bytes) largest_file
 
 -- a text that a link may have: some bytes, not too many, in UTF-8 and without NUL
 abbrev pub is_fit_text : List ℕ → Bool
-is_fit_text text = nat_lt 0 (length text) && nat_le (length text) LINK_MAX && is_utf8 text && not (has_nul text)
+is_fit_text text = nat_lt 0 (length text) && nat_le (length text) longest_link && is_utf8 text && not (has_nul text)
 
 -- an entry among so many nodes: a name that a directory may hold, in UTF-8, and the number of a node
 abbrev pub is_fit_entry : ℕ → List ℕ × ℕ → Bool

@@ -1,6 +1,8 @@
 -- Tests of lists of nodes, which several definitions take.
 use Rattle.std.specs.Prelude.{ℕ, zero, suc, ◌+◌, Bool, true, false, not, ◌&&◌, List, [], ◌∷◌}
 use Rattle.std.specs.List.{list_any}
+use Rattle.std.specs.Cmp.Lexicographic.{slice_cmp}
+use Rattle.std.specs.Ordering.{nat_cmp, is_lt}
 use Rattle.std.specs.Str.{bytes_eq}
 use Rattle.wasi_tree.specs.Given.{Given, GivenContent, file, directory, link}
 
@@ -13,6 +15,12 @@ is_dir_content (link text) = false
 abbrev pub are_distinct : List (List ℕ) → Bool
 are_distinct [] = true
 are_distinct (name ∷ names) = not (list_any (bytes_eq name) names) && are_distinct names
+
+-- each text is above the one before it, in byte order
+abbrev pub are_rising : List (List ℕ) → Bool
+are_rising [] = true
+are_rising (name ∷ []) = true
+are_rising (name ∷ next ∷ names) = is_lt (slice_cmp nat_cmp name next) && are_rising (next ∷ names)
 
 -- so many numbers, from k on
 abbrev pub numbers_from : ℕ → ℕ → List ℕ

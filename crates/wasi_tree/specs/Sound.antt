@@ -5,13 +5,13 @@ use Rattle.std.specs.FinSet.{contains}
 use Rattle.wasi_paths.specs.Text.{is_entry_name}
 use Rattle.wasi_host.specs.Tree.{Tree, Node, node_at, next_of, names_of, text_of, is_file, is_link}
 use Rattle.wasi_host.specs.Meaning.{IsHeld}
-use Rattle.wasi_host.specs.declared.limits.TheConstants.{LINK_MAX}
+use Rattle.wasi_host.specs.Numbers.{longest_link}
 use Rattle.wasi_tree.specs.MemState.{HeldMap, live_of, held_in}
 
 -- a link's text: some bytes, and not too many
 pub record IsSoundText (text : List ℕ) : Type 0 where
   pub some : 0 < length text
-  pub most : length text ≤ LINK_MAX
+  pub most : length text ≤ longest_link
 
 -- a node among so many: its names are those that a directory may hold, and hold nodes that are there, and where it is a
 -- link it has a text

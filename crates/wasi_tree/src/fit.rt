@@ -1,14 +1,16 @@
 //! Which lists of nodes a tree can be made of.
 ghost use Rattle.std.specs.Prelude.{◌≡◌, ◌+◌, ◌<◌, ◌≤◌, ◌&&◌, not, [], ◌∷◌, List, map, length, slice_index_or, slice_set, IfOk, IfErr, OnOk, false, true};
 ghost use Rattle.std.specs.Bool.{Decides};
+ghost use Rattle.std.specs.FinSet.{empty};
 ghost use Rattle.std.specs.List.{list_all};
 ghost use Rattle.std.specs.Vec.{vec_len, vec_capacity};
 ghost use Rattle.std.specs.Str.{is_utf8};
 ghost use Rattle.wasi_paths.specs.Text.{is_entry_name};
+ghost use Rattle.wasi_host.specs.Tree.{Tree};
 ghost use Rattle.wasi_host.specs.ValidTree.{AreLimits, IsValidTree};
 ghost use Rattle.wasi_host.specs.declared.limits.Limits.{Limits};
-ghost use Rattle.wasi_tree.specs.Given.{Given, given, given_content, given_entries, pair_of, tree_of};
-ghost use Rattle.wasi_tree.specs.GivenTests.{is_dir_content, are_distinct, starts_with_directory};
+ghost use Rattle.wasi_tree.specs.Given.{Given, given, given_content, given_entries, given_of, pair_of, tree_of};
+ghost use Rattle.wasi_tree.specs.GivenTests.{is_dir_content, are_distinct, are_rising, starts_with_directory};
 ghost use Rattle.wasi_tree.specs.Fit.{is_fit_file, is_fit_text, is_fit_entry, entries_at, AreFit, IsTreeCause, name_counts};
 ghost use Rattle.wasi_tree.specs.FitTests.{entry_numbers, AreCounted, AreMarked, TellFound, unmarked_count, has_place, is_fit_content, is_fit};
 
@@ -26,16 +28,8 @@ struct Place {
     is_found: bool,
 }
 
-/// How many entries give each number of a list of nodes, where a tree can be made of the list; else why none can.
-///
-/// Node 0 is a directory, and no entry gives it. Another directory is given by exactly one entry and is found from
-/// node 0 by entries, or it is removed: then no entry gives it, and it has none. A file or a link is given by any number
-/// of entries up to `limits.links`, also by none. A directory has no name twice, and its names are plain, without NUL,
-/// of at most 255 bytes; its entries give numbers of the list. A file has at most 2^30 bytes, and a link's text 1 to
-/// 4,095, without NUL. Each number is below `limits.nodes`.
-///
-/// `Invalid` carries the lowest number that breaks these rules, and 0 for an empty list. What is wrong with an entry
-/// counts for the directory that has it, all else for the node itself. `Memory` is want of memory alone.
+/// How many entries give each number of a list of nodes, where a tree can be made of the list; else why none can, as
+/// `FitNodes::new` says.
 #[tactic(auto, using(crate::proofs::FitDecides::lowest_first))]
 pub fn counted_names(
     alloc: Global,
@@ -53,18 +47,6 @@ pub fn counted_names(
     let found = found_nodes(alloc, nodes)?;
     check_nodes(alloc, nodes, limits, &counts, &found)?;
     Ok(counts)
-}
-
-/// Whether a tree can be made of a list of nodes within these limits: whether `MemTree::new` takes it. An `Err` is want of
-/// memory alone.
-pub fn are_fit(alloc: Global, nodes: &[NewNode], limits: Limits) -> Result<bool, AllocError>
-    ensures test { IfOk result (λ is. Decides is (AreFit limits (map given nodes.now))) }
-{
-    match counted_names(alloc, nodes, limits) {
-        Ok(_) => Ok(true),
-        Err(TreeError::Invalid(_)) => Ok(false),
-        Err(TreeError::Memory) => Err(AllocError),
-    }
 }
 
 /// Whether each node keeps the rules, of nodes that start with a directory.
@@ -215,8 +197,26 @@ fn is_fit_entry(count: u64, entry: &NewEntry) -> bool
 }
 
 /// Whether no name stands twice.
-#[tactic(auto, using(crate::proofs::DistinctLemmas::seen_rules))]
+#[tactic(auto, using(crate::proofs::RisingLemmas::rising_distinct))]
 fn are_distinct(alloc: Global, entries: &[NewEntry]) -> Result<bool, AllocError>
+    ensures test { IfOk result (λ is. is ≡ are_distinct (map (λ e. e.0) (map pair_of entries.now))) }
+{
+    if are_rising(entries) {
+        return Ok(true);
+    }
+    none_is_seen_twice(alloc, entries)
+}
+
+/// Whether each name is above the one before it, in byte order.
+fn are_rising(entries: &[NewEntry]) -> bool
+    ensures test { result ≡ are_rising (map (λ e. e.0) (map pair_of entries.now)) }
+{
+    entries.is_sorted_by(|entry, next| entry.name < next.name)
+}
+
+/// Whether no name stands twice, in whatever order.
+#[tactic(auto, using(crate::proofs::DistinctLemmas::seen_rules))]
+fn none_is_seen_twice(alloc: Global, entries: &[NewEntry]) -> Result<bool, AllocError>
     ensures test { IfOk result (λ is. is ≡ are_distinct (map (λ e. e.0) (map pair_of entries.now))) }
 {
     let mut seen = BTreeSet::new(alloc);
@@ -339,4 +339,12 @@ fn mark(marks: &mut Vec<bool>, number: u64) -> bool
 pub fn fit_trees_are_valid()
     ensures valid { (limits : Limits) (nodes : List Given)
         → AreLimits limits → AreFit limits nodes → IsValidTree (tree_of nodes limits) }
+{}
+
+/// The nodes of a valid tree, as a list gives them, keep the rules within its limits, and the tree of that list is the
+/// tree itself, where no step has worked on a node.
+pub fn valid_trees_are_fit()
+    ensures fit { (t : Tree) → IsValidTree t → AreFit t.limits (map given_of t.nodes) }
+    ensures again { (t : Tree) → IsValidTree t
+        → tree_of (map given_of t.nodes) t.limits ≡ record t { worked = empty } }
 {}

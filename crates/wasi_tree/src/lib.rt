@@ -3,6 +3,7 @@
 
 mod errors;
 mod fit;
+mod fit_nodes;
 mod marks;
 mod mem_tree;
 mod node;
@@ -14,7 +15,8 @@ mod store_names;
 mod touched_tree;
 
 pub use errors::{HandleError, TreeError};
-pub use fit::{are_fit, fit_trees_are_valid};
+pub use fit::{fit_trees_are_valid, valid_trees_are_fit};
+pub use fit_nodes::FitNodes;
 pub use mem_tree::MemTree;
 pub use node::{LentContent, LentNode, NewContent, NewEntry, NewNode};
 pub use wasi_host::{Bits, Limits};

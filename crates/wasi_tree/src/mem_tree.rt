@@ -12,6 +12,7 @@ ghost use Rattle.wasi_tree.specs.Lent.{lent};
 ghost use Rattle.wasi_tree.specs.MemState.{live_of, held_in, world_of};
 
 use crate::errors::{HandleError, TreeError};
+use crate::fit_nodes::FitNodes;
 use crate::node::{LentNode, NewNode};
 use crate::slots::Slots;
 use crate::touched_tree::TouchedTree;
@@ -51,21 +52,8 @@ impl Model for MemTree {
 
 #[tactic(auto, using(crate::proofs::MemLemmas::mem_rules))]
 impl MemTree {
-    /// A tree of these nodes, whose numbers are their places in the list. It has no live handle, no node is touched,
-    /// and there is no look-up. Bits and times are as given. Every entry counts as a name of the node that it gives: a
-    /// file or a link has as many links as names, and a directory but node 0 that has no name is removed.
-    ///
-    /// The rules: Node 0 is a directory without a name. Each other directory has exactly one name and is found from
-    /// node 0, or it is removed: it has no name and no entries. A name has 1 to 255 bytes, no NUL and no `/`, and isn't
-    /// `.` or `..`; a directory holds it once, and gives it the number of a node. A link's text has 1 to 4,095 bytes
-    /// and no NUL. No file has more than 2^30 bytes, no file or link more than `limits.links` names, and no number is
-    /// at or above `limits.nodes`.
-    ///
-    /// `Invalid` comes exactly where a number breaks the rules, with the lowest one that does. A bad name, a name that
-    /// stands twice, or an entry whose number is no node's counts for the directory that holds it. A wrong number of
-    /// names, entries of a directory without a name, and not being found from node 0 count for the directory itself. A
-    /// number at the limit, a count of names, a size or a link's text counts for its node. An empty list, or a node 0
-    /// that isn't a directory, is `Invalid(0)`.
+    /// A tree of these nodes, whose numbers are their places in the list, where they keep the rules; else the cause, as
+    /// `FitNodes::new` says both. It has no live handle, no node is touched, and there is no look-up.
     pub fn new(alloc: Global, nodes: Vec<NewNode>, limits: Limits) -> Result<MemTree, TreeError>
         requires limits { AreLimits limits }
         ensures tree { IfOk result (λ m. m.tree ≡ tree_of (map given nodes.items) limits) }
@@ -75,8 +63,21 @@ impl MemTree {
         ensures touched { IfOk result (λ m. m.touched ≡ empty) }
         ensures lookups { IfOk result (λ m. m.lookups ≡ []) }
     {
+        let fit = FitNodes::new(alloc, nodes, limits)?;
+        Ok(MemTree::of(alloc, fit)?)
+    }
+
+    /// The tree of these nodes. It has no live handle, no node is touched, and there is no look-up. Bits and times are
+    /// as given. Every entry counts as a name of the node that it gives: a file or a link has as many links as names,
+    /// and a directory but node 0 that has no name is removed.
+    pub fn of(alloc: Global, fit: FitNodes) -> Result<MemTree, AllocError>
+        ensures tree { IfOk result (λ m. m.tree ≡ tree_of fit.nodes fit.limits) }
+        ensures live { IfOk result (λ m. live_of m.handles ≡ empty) }
+        ensures touched { IfOk result (λ m. m.touched ≡ empty) }
+        ensures lookups { IfOk result (λ m. m.lookups ≡ []) }
+    {
         Ok(MemTree {
-            tree: TouchedTree::new(alloc, nodes, limits)?,
+            tree: TouchedTree::of(alloc, fit)?,
             slots: Slots::new(alloc),
             log: Vec::new(alloc),
         })

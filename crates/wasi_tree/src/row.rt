@@ -4,7 +4,7 @@ ghost use Rattle.std.specs.FinMap as maps;
 ghost use Rattle.wasi_host.specs.Tree.{Directory, is_directory, is_file, is_link, is_gone, names_of, links_of, bytes_of, text_of};
 ghost use Rattle.std.specs.String.{string_bytes};
 ghost use Rattle.wasi_host.specs.Step.{new_node, new_file, new_directory, new_link, no_bytes, piece_in, with_piece, with_times, one_name_more};
-ghost use Rattle.wasi_host.specs.declared.limits.TheConstants.{FILE_MAX};
+ghost use Rattle.wasi_host.specs.Numbers.{largest_file};
 ghost use Rattle.wasi_tree.specs.Given.{Given, pair_of, given, given_content, given_of, content_given, entry_count, content_from, node_from};
 ghost use Rattle.wasi_tree.specs.Lent.{lent, lent_content};
 ghost use Rattle.wasi_tree.specs.StoredTree.{names_in, stored_content};
@@ -274,7 +274,7 @@ impl RowContent {
     /// Puts a piece of bytes into a file from an offset on, with zeros in a gap before it. What is no file stays. Where
     /// memory is wanted, nothing has changed.
     pub fn put(&mut self, offset: usize, piece: &[u8]) -> Result<(), AllocError>
-        requires { offset + length piece.now ≤ FILE_MAX }
+        requires { offset + length piece.now ≤ largest_file }
         ensures put { OnOk result (stored_content self.new ≡ piece_in (stored_content self.old) offset piece.now) }
         ensures kept { OnErr result (stored_content self.new ≡ stored_content self.old) }
     {
@@ -396,18 +396,17 @@ fn is_removed(number: u64, links: u64) -> bool
 }
 
 /// The names of a list of entries. Of two entries of one name the first one stays.
-#[tactic(auto, using(crate::proofs::NameLemmas::name_rules))]
 fn first_names(
     alloc: Global,
     mut entries: Vec<NewEntry>,
 ) -> Result<BTreeMap<String, u64>, AllocError>
     ensures { IfOk result (λ names. names_in names.entries ≡ maps.from_entries (map pair_of entries.items)) }
 {
-    let mut names = BTreeMap::new(alloc);
-    while let Some(entry) = entries.pop() {
-        names.insert(entry.name, entry.node)?;
-    }
-    Ok(names)
+    entries.reverse();
+    entries
+        .into_iter()
+        .map(|entry| (entry.name, entry.node))
+        .collect(alloc)
 }
 
 /// The entries of a map, in byte order.
@@ -455,7 +454,7 @@ fn remove_entry(names: &mut BTreeMap<String, u64>, name: &str)
 /// Puts a piece into bytes from an offset on, with zeros in a gap before it. A piece that runs past the end is copied
 /// once, into room that grows by doubling. Where memory is wanted, the bytes are as they were.
 fn put_piece(bytes: &mut Vec<u8>, offset: usize, piece: &[u8]) -> Result<(), AllocError>
-    requires { offset + length piece.now ≤ FILE_MAX }
+    requires { offset + length piece.now ≤ largest_file }
     ensures put { OnOk result (bytes.new.items ≡ with_piece bytes.old.items offset piece.now) }
     ensures kept { OnErr result (bytes.new.items ≡ bytes.old.items) }
 {

@@ -7,10 +7,10 @@ ghost use Rattle.wasi_host.specs.HostCall.{OpenAt, StatAt, MakeDirAt, SymlinkAt,
 ghost use Rattle.wasi_host.specs.Refusal.{refusal, first_row, name_rows, text_rows};
 ghost use Rattle.wasi_host.specs.Step.{is_cut, file_cut, node_made, file_made, directory_made, link_made, bytes_put, write_step, times_set};
 ghost use Rattle.wasi_host.specs.Answer.{metadata_of, kind_of, stat_at_answer, link_answer, access_answer, bytes_read, bytes_taken, entry_of, listed, list_answer};
-ghost use Rattle.wasi_host.specs.declared.limits.TheConstants.{FILE_MAX};
+ghost use Rattle.wasi_host.specs.Numbers.{largest_file};
 ghost use Rattle.std.specs.Option.{ForSome};
 ghost use Rattle.wasi_tree.specs.Given.{given, given_of, nodes_from, tree_of};
-ghost use Rattle.wasi_tree.specs.Fit.{AreFit, IsTreeCause, name_counts};
+ghost use Rattle.wasi_tree.specs.Fit.{name_counts};
 ghost use Rattle.wasi_tree.specs.Lent.{lent};
 ghost use Rattle.wasi_tree.specs.Sound.{Stays, IsSoundText};
 ghost use Rattle.wasi_tree.specs.StoredTree.{stored_node, names_in};
@@ -19,8 +19,7 @@ ghost use Rattle.wasi_tree.specs.OpenRows.{missing_rows, found_rows};
 ghost use Rattle.wasi_tree.specs.NewRows.{entry_rows, growing_rows, new_name_rows};
 ghost use Rattle.wasi_tree.specs.TouchedTree.{MeansCode};
 
-use crate::errors::TreeError;
-use crate::fit::counted_names;
+use crate::fit_nodes::FitNodes;
 use crate::marks::Marks;
 use crate::node::{LentNode, NewNode};
 use crate::row::{Row, RowContent};
@@ -62,14 +61,16 @@ impl Store {
     ghost use Rattle.wasi_tree.specs.Sound.{IsSoundNode};
     ghost use Rattle.wasi_host.specs.Time.{HasTimes};
 
-    /// A tree of these nodes; else the lowest number that breaks the rules.
+    /// The tree of these nodes.
     #[tactic(auto, using(crate::proofs::NewTreeLemmas::new_tree_rules))]
-    pub fn new(alloc: Global, nodes: Vec<NewNode>, limits: Limits) -> Result<Store, TreeError>
-        ensures tree { IfOk result (λ store. store ≡ tree_of (map given nodes.items) limits) }
-        ensures fit { OnOk result (AreFit limits (map given nodes.items)) }
-        ensures cause { IfErr result (IsTreeCause limits (map given nodes.items)) }
+    pub fn of(alloc: Global, fit: FitNodes) -> Result<Store, AllocError>
+        ensures tree { IfOk result (λ store. store ≡ tree_of fit.nodes fit.limits) }
     {
-        let counts = counted_names(alloc, &nodes, limits)?;
+        let FitNodes {
+            nodes,
+            counts,
+            limits,
+        } = fit;
         let rows = rows_of(alloc, nodes, &counts)?;
         let worked = Marks::new(alloc, rows.len())?;
         Ok(Store {
@@ -610,7 +611,7 @@ impl Store {
     /// Puts a piece of bytes into a file from an offset on. Where memory is wanted, nothing has changed.
     fn put(&mut self, file: u64, offset: usize, piece: &[u8]) -> Result<(), AllocError>
         requires within { file < next_of self.old }
-        requires fits { offset + length piece.now ≤ FILE_MAX }
+        requires fits { offset + length piece.now ≤ largest_file }
         ensures put { OnOk result (self.new ≡ bytes_put self.old file offset piece.now) }
         ensures kept { OnErr result (self.new ≡ self.old) }
         ensures stays { Stays self.old self.new }

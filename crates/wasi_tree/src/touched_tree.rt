@@ -11,20 +11,18 @@ ghost use Rattle.wasi_host.specs.Answer.{entry_of};
 ghost use Rattle.wasi_host.specs.HostCall.{OpenAt, StatAt, ReadLinkAt, MakeDirAt, SymlinkAt, LinkAt, UnlinkAt, RemoveDirAt, TimesAt, Access, Stat, SetTimes, Pread, Pwrite, RenameAt, ListDir};
 ghost use Rattle.wasi_host.specs.Meaning.{IsHeld, hosted, answered};
 ghost use Rattle.wasi_host.specs.Time.{HasTimes};
-ghost use Rattle.wasi_tree.specs.Given.{given, tree_of};
-ghost use Rattle.wasi_tree.specs.Fit.{AreFit, IsTreeCause};
+ghost use Rattle.wasi_tree.specs.Given.{tree_of};
 ghost use Rattle.wasi_tree.specs.Sound.{Stays, IsSoundText};
 ghost use Rattle.wasi_tree.specs.RenameRows.{loop_rows};
 ghost use Rattle.wasi_tree.specs.TouchedTree.{Does};
 
-use crate::errors::TreeError;
+use crate::fit_nodes::FitNodes;
 use crate::marks::Marks;
-use crate::node::NewNode;
 use crate::parents::Parents;
 use crate::store::Store;
-use std::alloc::Global;
+use std::alloc::{AllocError, Global};
 use std::marker::Model;
-use wasi_host::{DirEntry, ErrorCode, Held, HostError, Limits, Metadata, OpenOptions, SystemTime};
+use wasi_host::{DirEntry, ErrorCode, Held, HostError, Metadata, OpenOptions, SystemTime};
 use wasi_paths::Name;
 
 /// A tree with the parents of its directories, and which of its nodes calls have touched. Contracts see the tree and the
@@ -51,15 +49,13 @@ impl Model for TouchedTree {
 
 #[tactic(auto, using(crate::proofs::TouchedLemmas::touched_rules))]
 impl TouchedTree {
-    /// A tree of these nodes, none of which is touched; else the lowest number that breaks the rules.
-    pub fn new(alloc: Global, nodes: Vec<NewNode>, limits: Limits) -> Result<TouchedTree, TreeError>
-        ensures tree { IfOk result (λ t. t.tree ≡ tree_of (map given nodes.items) limits) }
-        ensures fit { OnOk result (AreFit limits (map given nodes.items)) }
-        ensures cause { IfErr result (IsTreeCause limits (map given nodes.items)) }
+    /// The tree of these nodes, none of which is touched.
+    pub fn of(alloc: Global, fit: FitNodes) -> Result<TouchedTree, AllocError>
+        ensures tree { IfOk result (λ t. t.tree ≡ tree_of fit.nodes fit.limits) }
         ensures touched { IfOk result (λ t. t.touched ≡ empty) }
     {
-        let parents = Parents::of(alloc, &nodes)?;
-        let store = Store::new(alloc, nodes, limits)?;
+        let parents = Parents::of(alloc, fit.list())?;
+        let store = Store::of(alloc, fit)?;
         let touched = Marks::new(alloc, store.count() as usize)?;
         Ok(TouchedTree {
             store,

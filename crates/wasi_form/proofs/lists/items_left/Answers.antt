@@ -9,7 +9,7 @@ pub items-smaller : goal.items-smaller
 items-smaller g c =
     let goes_on : (after_end_array c.items.reader ≡ None) × (c.take_end_array.new.self ≡ c.items.reader) = grind arith in
     let item = made_of g.T.Item.of _ _ _ (rw goes_on.1 at c.in_ok-item.ensures) in
-    let shorter = next_value-shorter c.args.depth c.items.reader c.form.new.reader item.0 item.1 in
+    let shorter = next_value-shorter c.args.depth c.items.reader c.next.new.reader item.0 item.1 in
     omega arith
 
 pub items-preserved : goal.items-preserved

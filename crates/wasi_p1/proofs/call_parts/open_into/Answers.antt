@@ -6,6 +6,7 @@ use Rattle.wasi_p1.proofs.OpeningInto.{got_slot, opened_asked, unopened_stays}
 use Rattle.wasi_p1.proofs.Owning.{owns_new}
 use Rattle.wasi_p1.proofs.Placing.{opened_placed, places_stay}
 use Rattle.wasi_p1.proofs.Resolving.{resolved_ok}
+use Rattle.wasi_p1.proofs.Staying.{new_stays}
 use Rattle.wasi_p1.proofs.call_parts.open_into.Goals as goal
 
 pub returns-in_err-descriptor-clause-lineage : goal.returns-in_err-descriptor-clause-lineage
@@ -18,6 +19,9 @@ returns-in_err-descriptor-clause-stays g c = λ told.
     let error = err_from_is_err_and residual.result residual.ensures.1 in
     rw (error.1, c.reserve.ensures.slots) (unopened_stays _ _ g.H.Host.world _ _ _ _ c.requires.owned
     (λ told none. (c.in_err-descriptor.ensures.told told none).keeps) c.in_err-descriptor.ensures.permit told)
+
+pub returns-clause-used : goal.returns-clause-used
+returns-clause-used g c = rw (c.put.ensures.slots, c.reserve.ensures.slots) (new_stays _ refl)
 
 pub returns-clause-owns : goal.returns-clause-owns
 returns-clause-owns g c = rw (c.put.ensures.slots, c.reserve.ensures.slots, c.slot_of.ensures)

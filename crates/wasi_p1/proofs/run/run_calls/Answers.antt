@@ -1,11 +1,13 @@
 use Rattle.std.proofs.Common.{◌∙◌, inl, arith, sym, refl, length, drop, length-append, ◌≡◌, ◌+◌, ◌<◌, ◌≤◌}
 use Rattle.std.proofs.lemmas.List.{take_all}
+use Rattle.std.proofs.lemmas.List.Elements.{Contains-get_or}
 use Rattle.wasi_guest.specs.declared.call.Call.TheVariants.{FdClose}
 use Rattle.wasi_host.proofs.Tracing.{traced_none}
 use Rattle.wasi_p1.proofs.CallTracing.{traced_on}
 use Rattle.wasi_p1.proofs.Runs.{nothing_yet, io_counted, turned_on, stood, stood_first, ended, all_done, call_at, calls_at}
 use Rattle.wasi_p1.proofs.RunAnswers.{goes_on-push, each_answered, last_answered}
 use Rattle.wasi_p1.proofs.Confining.{turn_confines}
+use Rattle.wasi_p1.proofs.Staying.{all_stay, stay_on}
 use Rattle.wasi_p1.proofs.Validity.{turn_valid}
 use Rattle.wasi_p1.proofs.run.run_calls.Goals as goal
 
@@ -20,9 +22,11 @@ loop-one-init g c = record {
   ios = rw c.in-Ok.ensures.empty (inl (omega arith));
   goes = rw c.in-Ok.ensures.empty tt;
   handles = refl;
+  slots = all_stay refl;
   lineage = traced_none _ _ _ _ _ refl (λ h has. has);
   run = λ told. rw c.in-Ok.ensures.empty nothing_yet;
-  confined = λ told start. start;
+  touched = λ told n was. was;
+  confined = λ told start is. is;
   valid = λ told start. start;
   later = omega arith;
   count = rw c.in-Ok.ensures.empty (omega arith);
@@ -41,6 +45,9 @@ loop-one-preserved g c = record {
       rw c.push.ensures.answers
       (goes_on-push _ _ c.loop-one.invariant.goes (sym c.ends_run.ensures ∙ c.if-ends_run.false));
   handles = c.call-outcome.ensures.handles ∙ c.loop-one.invariant.handles;
+  slots = stay_on c.args.calls.now.items _ c.loop-one.memory
+      (rw c.deref-one-items.ensures.value (Contains-get_or _ _ _ (omega arith))) c.loop-one.invariant.slots
+      c.call-outcome.ensures.turn.slots;
   lineage = traced_on _ _ c.call-outcome.ensures.lineage c.loop-one.invariant.lineage;
   run = λ told.
       let within : c.loop-one.one-index < length c.args.calls.now.items = omega arith in
@@ -48,8 +55,10 @@ loop-one-preserved g c = record {
       let on = turned_on (sym c.in-Some.ensures) c.call-outcome.ensures.cause (c.call-outcome.ensures.turn.turn told)
       (c.loop-one.invariant.run told) (sym c.ends_run.ensures ∙ c.if-ends_run.false) in
       rw (c.push.ensures.answers, one) (rw c.deref-one-items.ensures.value at on);
-  confined = λ told start.
-      turn_confines (c.call-outcome.ensures.turn.turn told) (c.loop-one.invariant.confined told start);
+  touched = λ told n was.
+      (c.call-outcome.ensures.turn.turn told).touched.stays n (c.loop-one.invariant.touched told n was);
+  confined = λ told start is.
+      turn_confines (c.call-outcome.ensures.turn.turn told) (c.loop-one.invariant.confined told start is);
   valid = λ told start. turn_valid (c.call-outcome.ensures.turn.turn told) (c.loop-one.invariant.valid told start);
   later = omega arith;
   count = rw (c.push.ensures.answers, length-append) (omega arith);
@@ -74,9 +83,18 @@ returns-in-None-clause-memory g c = λ told.
     stood (sym c.in-None.ensures) c.call-outcome.ensures.cause (c.call-outcome.ensures.turn.turn told) (sym n)
     (rw at at (c.loop-one.invariant.run told))
 
+pub returns-in-None-clause-slots : goal.returns-in-None-clause-slots
+returns-in-None-clause-slots g c = stay_on c.args.calls.now.items _ c.loop-one.memory
+    (rw c.deref-one-items.ensures.value (Contains-get_or _ _ _ (omega arith))) c.loop-one.invariant.slots
+    c.call-outcome.ensures.turn.slots
+
+pub returns-in-None-clause-touched : goal.returns-in-None-clause-touched
+returns-in-None-clause-touched g c = λ told n was.
+    (c.call-outcome.ensures.turn.turn told).touched.stays n (c.loop-one.invariant.touched told n was)
+
 pub returns-in-None-clause-confined : goal.returns-in-None-clause-confined
-returns-in-None-clause-confined g c = λ told start.
-    turn_confines (c.call-outcome.ensures.turn.turn told) (c.loop-one.invariant.confined told start)
+returns-in-None-clause-confined g c = λ told start is.
+    turn_confines (c.call-outcome.ensures.turn.turn told) (c.loop-one.invariant.confined told start is)
 
 pub returns-in-None-clause-valid : goal.returns-in-None-clause-valid
 returns-in-None-clause-valid g c = λ told start.
@@ -112,9 +130,18 @@ returns-then-ends_run-clause-run g c = λ told.
     (sym c.ends_run.ensures ∙ c.if-ends_run.true) in
     rw (c.push.ensures.answers) (rw (c.deref-one-items.ensures.value, all) at on)
 
+pub returns-then-ends_run-clause-slots : goal.returns-then-ends_run-clause-slots
+returns-then-ends_run-clause-slots g c = stay_on c.args.calls.now.items _ c.loop-one.memory
+    (rw c.deref-one-items.ensures.value (Contains-get_or _ _ _ (omega arith))) c.loop-one.invariant.slots
+    c.call-outcome.ensures.turn.slots
+
+pub returns-then-ends_run-clause-touched : goal.returns-then-ends_run-clause-touched
+returns-then-ends_run-clause-touched g c = λ told n was.
+    (c.call-outcome.ensures.turn.turn told).touched.stays n (c.loop-one.invariant.touched told n was)
+
 pub returns-then-ends_run-clause-confined : goal.returns-then-ends_run-clause-confined
-returns-then-ends_run-clause-confined g c = λ told start.
-    turn_confines (c.call-outcome.ensures.turn.turn told) (c.loop-one.invariant.confined told start)
+returns-then-ends_run-clause-confined g c = λ told start is.
+    turn_confines (c.call-outcome.ensures.turn.turn told) (c.loop-one.invariant.confined told start is)
 
 pub returns-then-ends_run-clause-valid : goal.returns-then-ends_run-clause-valid
 returns-then-ends_run-clause-valid g c = λ told start.

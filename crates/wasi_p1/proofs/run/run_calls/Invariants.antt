@@ -1,10 +1,10 @@
 use Rattle.std.proofs.Common.{take, length, ◌+◌, ◌≤◌, ◌≡◌}
 use Rattle.std.specs.Prelude.{IsTrue}
-use Rattle.wasi_p1.specs.Guest.{state_of}
-use Rattle.wasi_p1.specs.Reach.{Confined}
+use Rattle.wasi_p1.specs.Guest.{State, state_of}
+use Rattle.wasi_p1.specs.Reach.{Confined, StaysTouched}
 use Rattle.wasi_p1.specs.Run.{ios, Allows}
 use Rattle.wasi_p1.specs.CallTurn.{OthersStay}
-use Rattle.wasi_p1.specs.Owners.{RunTraced}
+use Rattle.wasi_p1.specs.Owners.{RunTraced, SlotsOfRun}
 use Rattle.wasi_p1.specs.Validity.{IsValidState}
 use Rattle.wasi_p1.proofs.Runs.{SoFar}
 use Rattle.wasi_p1.proofs.RunAnswers.{GoesOn}
@@ -16,6 +16,7 @@ invariant-loop-one g l = record {
   ios : Allows (g.H.Host.faults l.fn.context.host) (g.H.Host.faults l.context.host) (ios l.answers.answers);
   goes : GoesOn l.answers.answers;
   handles : OthersStay g.H.Host.live l.fn.context l.context;
+  slots : SlotsOfRun l.fn.context.slots l.context.slots l.calls.items;
   lineage : RunTraced l.fn.context.slots l.context.slots (g.H.Host.lookups l.fn.context.host)
       (g.H.Host.lookups l.context.host);
   run : IsTrue g.H.Host.told
@@ -23,11 +24,11 @@ invariant-loop-one g l = record {
       (state_of g.H.Host.world l.fn.context l.fn.memory)
       (take l.one-index l.calls.items) l.answers.answers (state_of g.H.Host.world l.context l.memory)
       (g.H.Host.world l.context.host).touched;
-  confined : IsTrue g.H.Host.told
-      → Confined (state_of g.H.Host.world l.fn.context l.fn.memory) (state_of g.H.Host.world l.fn.context l.fn.memory)
-      (g.H.Host.world l.fn.context.host).touched
-      → Confined (state_of g.H.Host.world l.fn.context l.fn.memory) (state_of g.H.Host.world l.context l.memory)
-      (g.H.Host.world l.context.host).touched;
+  touched : IsTrue g.H.Host.told
+      → StaysTouched (g.H.Host.world l.fn.context.host).touched (g.H.Host.world l.context.host).touched;
+  confined : IsTrue g.H.Host.told → (start : State)
+      → Confined start (state_of g.H.Host.world l.fn.context l.fn.memory) (g.H.Host.world l.fn.context.host).touched
+      → Confined start (state_of g.H.Host.world l.context l.memory) (g.H.Host.world l.context.host).touched;
   valid : IsTrue g.H.Host.told → IsValidState (state_of g.H.Host.world l.fn.context l.fn.memory)
       → IsValidState (state_of g.H.Host.world l.context l.memory);
   later : g.H.Host.faults l.fn.context.host ≤ g.H.Host.faults l.context.host;

@@ -1,6 +1,6 @@
 use Rattle.std.proofs.Common.{sym, ◌∙◌}
 use Rattle.std.proofs.lemmas.Result.{err_from_is_err_and}
-use Rattle.wasi_resolve.proofs.Parenting.{placed_none, placed_start, placed_ok, placed_err}
+use Rattle.wasi_resolve.proofs.Parenting.{placed_none, placed_start, placed_ok, placed_err, placed_bound}
 use Rattle.wasi_resolve.proofs.parent.open_parent.Goals as goal
 
 pub returns-in_default-clause-told : goal.returns-in_default-clause-told
@@ -22,3 +22,13 @@ returns-in_err-directory-clause-told g c told =
     rw (error.1, error.2) (placed_err _ c.args.path.now _ _ (sym c.in-Some.ensures.split) (sym c.is_empty.ensures
     ∙ c.if-is_empty.false) c.in_err-directory.field-0.0
     (c.in_err-directory.ensures.told told))
+
+pub returns-clause-bound : goal.returns-clause-bound
+returns-clause-bound g c told =
+    placed_bound _ _ c.args.path.now (sym c.in-Some.ensures.split) _ _ (sym c.is_empty.ensures ∙ c.if-is_empty.false)
+    (c.in_ok-directory.ensures.bound told)
+
+pub returns-in_err-directory-clause-bound : goal.returns-in_err-directory-clause-bound
+returns-in_err-directory-clause-bound g c told =
+    placed_bound _ _ c.args.path.now (sym c.in-Some.ensures.split) _ _ (sym c.is_empty.ensures ∙ c.if-is_empty.false)
+    (c.in_err-directory.ensures.bound told)

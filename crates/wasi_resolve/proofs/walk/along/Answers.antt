@@ -3,8 +3,8 @@ use Rattle.std.proofs.lemmas.Result.{err_from_is_err_and}
 use Rattle.wasi_host.proofs.Tracing.{traced_none, traced_then, traced_last, traced_less}
 use Rattle.wasi_resolve.specs.Finding.{follow_of, aim_of}
 use Rattle.wasi_resolve.specs.Left.{parts_left}
-use Rattle.wasi_resolve.proofs.Passing.{ends_past, fails_past, link_few}
-use Rattle.wasi_resolve.proofs.Coming.{so_starts, so_turns, so_ends, so_fails, so_loops}
+use Rattle.wasi_resolve.proofs.Passing.{ends_past, fails_few, link_few}
+use Rattle.wasi_resolve.proofs.Coming.{so_starts, so_turns, so_ends, so_fails, so_fails_last, so_loops}
 use Rattle.wasi_resolve.proofs.walk.along.Goals as goal
 
 pub loop-links-init : goal.loop-links-init
@@ -44,7 +44,7 @@ returns-in_err-past-clause-told g c told first w stands walked =
     let error = err_from_is_err_and c.from_residual.result c.from_residual.ensures.1 in
     rw (error.1, error.2) (elim (c.in_err-past.ensures.told told first w so.taken
     (c.loop-links.invariant.stands first stands) so.walked) [
-      | inl fails ↦ so_fails c.in_err-past.field-0.0 so fails
+      | inl fails ↦ so_fails (40 - (c.loop-links.links + 1)) c.in_err-past.field-0.0 so (omega arith) fails
       | inr ends ↦ so_ends (Err c.in_err-past.field-0.0) so ends
     ])
 
@@ -74,7 +74,7 @@ returns-in_err-reached-clause-told g c told first w stands walked =
     let e = c.in_err-reached.field-0.0 in
     rw (error.1, error.2) (elim (c.in_err-reached.ensures.told told first w so.taken
     (c.loop-links.invariant.stands first stands) so.walked) [
-      | inl fails ↦ so_fails e so (fails_past c.loop-links.left.items c.reach.new.left.items e fails
+      | inl fails ↦ so_fails_last e so (omega arith) fails (fails_few c.loop-links.left.items c.reach.new.left.items fails
           c.in_err-reached.ensures.reads)
       | inr ends ↦ so_ends (Err e) so (ends_past c.loop-links.left.items c.reach.new.left.items (Err e) ends
           c.in_err-reached.ensures.reads)
@@ -92,7 +92,7 @@ returns-in-Found-reached-clause-told g c told first w stands walked =
     (ends_past c.loop-links.left.items c.reach.new.left.items (Ok c.in-Found-reached.found)
     (rw c.in-Found-reached.is at (c.in_ok-reached.ensures.told told first w so.taken
     (c.loop-links.invariant.stands first stands) so.walked))
-    (rw c.in-Found-reached.is at c.in_ok-reached.ensures.reads))
+    c.in_ok-reached.ensures.reads)
 
 pub returns-in-Found-reached-clause-lineage : goal.returns-in-Found-reached-clause-lineage
 returns-in-Found-reached-clause-lineage g c =
@@ -107,7 +107,7 @@ returns-in-Link-reached-clause-told g c told first w stands walked =
     (c.loop-links.invariant.stands first stands) so.walked) in
     so_loops so (omega arith) link
     (link_few c.loop-links.left.items c.reach.new.left.items link
-    (rw c.in-Link-reached.is at c.in_ok-reached.ensures.reads))
+    c.in_ok-reached.ensures.reads)
 
 pub returns-in-Link-reached-clause-lineage : goal.returns-in-Link-reached-clause-lineage
 returns-in-Link-reached-clause-lineage g c =

@@ -15,7 +15,7 @@ invariant-loop-part g l = record {
   lineage : Traced (Among l.start l.initial.stack.items) (Among l.start l.initial.stack.items)
       (Among l.start l.stack.items)
       (g.H.Host.lookups l.initial.host) (g.H.Host.lookups l.host);
-  reads : FewUntil l.initial.left.items l.left.items (g.H.Host.lookups l.initial.host) (g.H.Host.lookups l.host);
+  reads : FewUntil 0 l.initial.left.items l.left.items (g.H.Host.lookups l.initial.host) (g.H.Host.lookups l.host);
   told : IsTrue g.H.Host.told → (first : Handles) (w : World)
       → Stands first (g.H.Host.live l.initial.host) l.start l.initial.stack.items
       → Walked first w (g.H.Host.world l.initial.host) l.start l.initial.stack.items

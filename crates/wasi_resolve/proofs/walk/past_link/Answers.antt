@@ -26,7 +26,7 @@ pub returns-in-Found-clause-told : goal.returns-in-Found-clause-told
 returns-in-Found-clause-told g c told first w m stands walked =
     ends_past c.args.left.now.items c.reach.new.left.items (Ok c.in-Found.found)
     (rw c.in-Found.is at (c.in_ok-reached.ensures.told told first w m stands walked))
-    (rw c.in-Found.is at c.in_ok-reached.ensures.reads)
+    c.in_ok-reached.ensures.reads
 
 pub returns-in-Ok-clause-lineage : goal.returns-in-Ok-clause-lineage
 returns-in-Ok-clause-lineage g c =
@@ -51,7 +51,7 @@ returns-in-Ok-clause-told g c told first w m stands walked =
       at = c.top_of-here.ensures;
     }
     in
-    link_past c.args.left.now.items c.reach.new.left.items on link (rw c.in-Link.is at c.in_ok-reached.ensures.reads)
+    link_past c.args.left.now.items c.reach.new.left.items on link c.in_ok-reached.ensures.reads
     c.in-Ok.ensures.reads c.in-Ok.slash (c.in-Ok.ensures.told told)
 
 pub returns-in-Err-clause-told : goal.returns-in-Err-clause-told
@@ -66,5 +66,5 @@ returns-in-Err-clause-told g c told first w m stands walked =
       at = c.top_of-here.ensures;
     }
     in
-    inl (link_fails c.args.left.now.items c.reach.new.left.items on link (rw c.in-Link.is at c.in_ok-reached.ensures.reads)
+    inl (link_fails c.args.left.now.items c.reach.new.left.items on link c.in_ok-reached.ensures.reads
     c.in-Err.ensures.reads c.in-Err.e (c.in-Err.ensures.told told))

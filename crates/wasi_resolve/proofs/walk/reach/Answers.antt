@@ -43,7 +43,7 @@ returns-in-Last-clause-lineage g c =
 
 pub returns-in-Last-clause-reads : goal.returns-in-Last-clause-reads
 returns-in-Last-clause-reads g c =
-    few_last c.at_last.result (rw c.in-Last.is at c.in_ok-stop.ensures.reads) c.at_last.ensures.reads
+    few_last (rw c.in-Last.is at c.in_ok-stop.ensures.reads) c.at_last.ensures.reads
 
 pub returns-in-Ok-clause-told : goal.returns-in-Ok-clause-told
 returns-in-Ok-clause-told g c told first w m stands walked =

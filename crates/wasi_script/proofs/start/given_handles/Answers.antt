@@ -11,7 +11,14 @@ loop-preopen-preserved c =
       tree = handle.tree ∙ c.loop-preopen.invariant.tree;
       touched = handle.touched ∙ c.loop-preopen.invariant.touched;
       given =
-          let is : IsGivenTo c.loop-preopen.tree.handles c.handle.new.self.handles (planned_preopen c.preopen-item.result) _ = record { fresh = handle.fresh; live = handle.live; held = handle.held; others = handle.others; perms = refl } in
+          let is : IsGivenTo c.loop-preopen.tree.handles c.handle.new.self.handles (planned_preopen c.preopen-item.result) _ = record {
+            fresh = handle.fresh;
+            live = handle.live;
+            held = handle.held;
+            others = handle.others;
+            perms = refl;
+            name = c.in_ok-name.ensures.cases;
+          } in
           rw (
             c.in_ok-push.ensures.items,
             take_more _ _ c.preopen-item.result c.loop-preopen-test.true,

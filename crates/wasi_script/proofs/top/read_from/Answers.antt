@@ -19,12 +19,6 @@ returns-in_err-read_script-clause-read g c = λ told.
 pub returns-clause-built : goal.returns-clause-built
 returns-clause-built g c = (accepted c.in_ok-read_script.ensures.verdict).script
 
-pub returns-clause-limits : goal.returns-clause-limits
-returns-clause-limits g c = (accepted c.in_ok-read_script.ensures.verdict).limits
-
-pub returns-clause-fit : goal.returns-clause-fit
-returns-clause-fit g c = (accepted c.in_ok-read_script.ensures.verdict).fit
-
 pub returns-clause-read : goal.returns-clause-read
 returns-clause-read g c = λ told.
     let all = c.in_ok-bytes.ensures.bytes told in

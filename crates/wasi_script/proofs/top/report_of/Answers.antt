@@ -6,15 +6,16 @@ use Rattle.wasi_script.proofs.Headlines.{begun_at, RanPlan, reports}
 use Rattle.wasi_script.proofs.top.report_of.Goals as goal
 
 pub first_memory-requires : goal.first_memory-requires
-first_memory-requires c = rw c.as_slice.ensures.value (built_parts (plan c.args.script) c.requires.built).pieces
+first_memory-requires c = rw c.as_slice.ensures.value (built_parts (plan c.args.script) c.requires).pieces
 
-pub first_context-requires-clause-directories : goal.first_context-requires-clause-directories
-first_context-requires-clause-directories c =
-    rw c.as_slice-2.ensures.value (built_parts (plan c.args.script) c.requires.built).preopens
+pub first_context-requires : goal.first_context-requires
+first_context-requires c = record {
+  directories = rw c.as_slice-2.ensures.value (built_parts (plan c.args.script) c.requires).preopens;
+}
 
 pub shown-requires : goal.shown-requires
 shown-requires c =
-    let parts = built_parts (plan c.args.script) c.requires.built in
+    let parts = built_parts (plan c.args.script) c.requires in
     rw (c.as_slice-3.ensures.value, c.run_calls.ensures.size, c.in_ok-memory.ensures.size) parts.show
 
 pub returns : goal.returns
@@ -25,11 +26,11 @@ returns c =
       first = _;
       begins = begun_at (plan c.args.script) begun written;
       ran = c.in-Ok.ensures.run refl;
-      confined = c.in-Ok.ensures.confined refl (rw begun.untouched (confined_at_start _));
+      confined = c.in-Ok.ensures.confined refl _ (rw begun.untouched (confined_at_start _));
     } in
     let shown-is = rw c.as_slice-3.ensures.value at c.in_ok-shown.ensures.shown in
     let ended = c.into_parts-ended.ensures in
-    let listed = rw ended.host at c.in_ok-touched.ensures.nodes in
+    let listed = rw c.host.ensures.host at c.in_ok-touched.ensures.nodes in
     reports _ _ run listed c.in_ok-touched.ensures.rising
     (rw (shown-is, ended.host, ended.stderr, ended.stdout) at c.report.ensures.ordered)
     (rw (shown-is, ended.host, ended.stderr, ended.stdout) at c.report.ensures.text)

@@ -1,7 +1,9 @@
-use Rattle.std.proofs.Common.{refl}
+use Rattle.std.proofs.Common.{refl, []}
 use Rattle.std.proofs.lemmas.List.{map-set}
+use Rattle.wasi_host.proofs.Leaving.{Contains-here}
 use Rattle.wasi_p1.specs.Rows.{fd_close}
 use Rattle.wasi_p1.proofs.CallTracing.{traced_free}
+use Rattle.wasi_p1.proofs.Staying.{close_stays}
 use Rattle.wasi_p1.proofs.Taking.{answered}
 use Rattle.wasi_p1.proofs.context.WasiP1Ctx.fd_close.Goals as goal
 
@@ -12,5 +14,6 @@ pub returns-clause-turn : goal.returns-clause-turn
 unfolding fd_close
 returns-clause-turn g c = rw (← c.self.view_is) (answered
     (rw (← c.in_ok-slot.ensures.row, c.close_slot.ensures.slots, map-set) refl) refl
+    (close_stays _ (Contains-here _ []) (Contains-here _ []) c.close_slot.ensures.slots)
     (record { failed = c.close_slot.ensures.faults; looked = c.close_slot.ensures.logged })
     c.close_slot.ensures.stays)

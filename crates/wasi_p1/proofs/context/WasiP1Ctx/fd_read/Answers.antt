@@ -1,5 +1,6 @@
-use Rattle.std.proofs.Common.{refl}
+use Rattle.std.proofs.Common.{refl, []}
 use Rattle.std.proofs.lemmas.Result.{err_from_is_err_and}
+use Rattle.wasi_host.proofs.Leaving.{Contains-here}
 use Rattle.wasi_p1.specs.CallParts.{filled_at}
 use Rattle.wasi_p1.proofs.Taking.{makes_err, moved_ok}
 use Rattle.wasi_p1.proofs.RowFronts.{fd_read_asks, with_memory}
@@ -18,5 +19,6 @@ pub returns-clause-turn : goal.returns-clause-turn
 returns-clause-turn g c = rw (← c.self.view_is) (moved_ok (filled_at _ _) (with_memory _ _) (fd_read_asks _ _ _ _
     (rw c.in_ok-buffer.was at c.buffer_at.ensures) c.in_ok-file.ensures.row c.in_ok-bytes_at.ensures.row)
     c.self.invariant c.in_ok-count.ensures.size c.in_ok-count.ensures.front refl
-    (record { slots = c.move_file.ensures.slots; stdout = refl; stderr = refl }) c.in_ok-file.ensures.live
+    (record { slots = c.move_file.ensures.slots; stdout = refl; stderr = refl }) (Contains-here _ []) c.in_ok-file.ensures.is
+    c.in_ok-file.ensures.live
     c.in_ok-count.ensures.told)

@@ -1,5 +1,6 @@
-use Rattle.std.proofs.Common.{refl, rules}
+use Rattle.std.proofs.Common.{refl, rules, []}
 use Rattle.std.proofs.lemmas.Result.{err_from_is_err_and}
+use Rattle.wasi_host.proofs.Leaving.{Contains-here}
 use Rattle.wasi_p1.specs.Row.{give}
 use Rattle.wasi_p1.specs.Rows.{fd_write}
 use Rattle.wasi_p1.proofs.Taking.{refused, makes_err, moved_ok}
@@ -21,7 +22,8 @@ returns-clause-turn g c = rw (← c.self.view_is) (moved_ok give (with_position 
     (rw c.in_ok-buffer.was at c.buffer_at.ensures) c.in_ok-file.ensures.row c.in_ok-piece.ensures.row
     c.in_ok-check_write.ensures.row)
     c.self.invariant refl c.in_ok-count.ensures.front refl
-    (record { slots = c.move_file.ensures.slots; stdout = refl; stderr = refl }) c.in_ok-file.ensures.live
+    (record { slots = c.move_file.ensures.slots; stdout = refl; stderr = refl }) (Contains-here _ []) c.in_ok-file.ensures.is
+    c.in_ok-file.ensures.live
     c.in_ok-count.ensures.told)
 
 pub returns-clause-whole : goal.returns-clause-whole

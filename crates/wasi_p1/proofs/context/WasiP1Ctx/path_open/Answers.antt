@@ -5,6 +5,7 @@ use Rattle.wasi_p1.proofs.Below.{permitted_err, permitted_ok}
 use Rattle.wasi_p1.proofs.Changing.{with_places}
 use Rattle.wasi_p1.proofs.Taking.{refused}
 use Rattle.wasi_p1.proofs.RowFronts.{path_open_asks}
+use Rattle.wasi_p1.proofs.Staying.{none_changes}
 use Rattle.wasi_p1.proofs.context.WasiP1Ctx.path_open.Goals as goal
 
 pub returns-in_err-number-clause-turn : goal.returns-in_err-number-clause-turn
@@ -22,7 +23,7 @@ returns-clause-turn g c =
     let given = c.in_ok-number.ensures in
     rw (← c.self.view_is) (permitted_ok (opened_among _ c.in_ok-dir.dir.perms _) with_places
     (path_open_asks _ _ _ _ _ _ _ _ _ c.in_ok-with.ensures.row c.in_ok-text.ensures c.in_ok-dir.ensures.row)
-    given.permit refl given.front refl (λ told none. (given.told told none, refl)))
+    given.permit refl (none_changes given.used) given.front refl (λ told none. (given.told told none, refl)))
 
 pub returns-in_err-dir-clause-turn : goal.returns-in_err-dir-clause-turn
 unfolding path_open

@@ -1,0 +1,182 @@
+//! Lists of numbers and texts: any other value in them is read, and let go.
+ghost use Rattle.std.specs.Prelude.{◌≡◌, ◌∷◌, option_map};
+ghost use Rattle.json.specs.Json.{parse_map};
+ghost use Rattle.json.specs.Reads.{token_of};
+ghost use Rattle.serde_json.specs.Find as find;
+ghost use Rattle.wasi_form.specs.Atoms.{flat, flat_items, atom_data, atoms_data};
+ghost use Rattle.wasi_form.specs.IsRead.{IsRead};
+ghost use Rattle.wasi_form.specs.Shapes as shapes;
+ghost use Rattle.wasi_form.specs.Tokens.{next_value, next_items};
+
+use crate::shapes::Unread;
+use crate::tokens::{number, value_after};
+use json::{Reader, Token};
+use serde_json::Number;
+use std::alloc::Global;
+
+/// An item of a list: a number, a text, or any other value, which was let go.
+#[derive(Clone, Copy)]
+pub enum Atom<'a> {
+    Number(Number),
+    Text(&'a str),
+    Other,
+}
+
+impl<'a> Atom<'a> {
+    /// A whole number of 64 bits.
+    pub fn as_u64(self) -> Option<u64>
+        ensures { result ≡ shapes.u64_of (atom_data self.entry) }
+    {
+        match self {
+            Atom::Number(number) => number.as_u64(),
+            Atom::Text(_) => None,
+            Atom::Other => None,
+        }
+    }
+
+    /// A whole number of 64 bits with a sign.
+    pub fn as_i64(self) -> Option<i64>
+        ensures { result ≡ shapes.i64_of (atom_data self.entry) }
+    {
+        match self {
+            Atom::Number(number) => number.as_i64(),
+            Atom::Text(_) => None,
+            Atom::Other => None,
+        }
+    }
+
+    /// A whole number of 32 bits.
+    pub fn as_u32(self) -> Option<u32>
+        ensures { result ≡ shapes.u32_of (atom_data self.entry) }
+    {
+        u32::try_from(self.as_u64()?).ok()
+    }
+
+    /// A text.
+    pub fn as_str(self) -> Option<&'a str>
+        ensures { option_map (λ text. text.now) result ≡ find.as_str (atom_data self.entry) }
+    {
+        match self {
+            Atom::Number(_) => None,
+            Atom::Text(text) => Some(text),
+            Atom::Other => None,
+        }
+    }
+
+    /// Whether it is this text.
+    pub fn is_text(self, text: &str) -> bool
+        ensures { result ≡ shapes.is_text text.now (atom_data self.entry) }
+    {
+        match self {
+            Atom::Number(_) => false,
+            Atom::Text(found) => found == text,
+            Atom::Other => false,
+        }
+    }
+}
+
+/// The next value of a text.
+pub fn next_atom<'a>(
+    alloc: Global,
+    reader: &mut Reader<'a>,
+    depth: usize,
+) -> Result<Atom<'a>, Unread>
+    ensures { IsRead (λ atom. (atom_data atom, reader.new)) result (parse_map flat (next_value depth reader.old)) }
+{
+    match reader.next() {
+        Some(token) => atom_after(alloc, token, reader, depth),
+        None => Err(Unread::Shape),
+    }
+}
+
+fn atom_after<'a>(
+    alloc: Global,
+    token: Token<'a>,
+    reader: &mut Reader<'a>,
+    depth: usize,
+) -> Result<Atom<'a>, Unread>
+    ensures { IsRead (λ atom. (atom_data atom, reader.new)) result
+        (parse_map flat (next_value depth (token_of token.entry ∷ reader.old))) }
+{
+    match token {
+        Token::Number(text) => match number(text) {
+            Some(number) => Ok(Atom::Number(number)),
+            None => Err(Unread::Shape),
+        },
+        Token::String(text) => Ok(Atom::Text(text)),
+        _ => {
+            drop(value_after(alloc, token, reader, depth)?);
+            Ok(Atom::Other)
+        }
+    }
+}
+
+/// The next value of a text, where it is a text itself.
+pub fn next_text<'a>(
+    alloc: Global,
+    reader: &mut Reader<'a>,
+    depth: usize,
+) -> Result<Option<&'a str>, Unread>
+    ensures { IsRead (λ found. (option_map (λ text. text.now) found, reader.new)) result
+        (parse_map find.as_str (next_value depth reader.old)) }
+{
+    Ok(next_atom(alloc, reader, depth)?.as_str())
+}
+
+// How many items a list has at most of which a form is made.
+const MOST_ITEMS: usize = 9;
+
+// The items that are left of a list.
+fn atoms_left<'a>(
+    alloc: Global,
+    reader: &mut Reader<'a>,
+    depth: usize,
+) -> Result<Vec<Atom<'a>>, Unread>
+    ensures { IsRead (λ v. (atoms_data v.items, reader.new)) result
+        (parse_map flat_items (next_items depth reader.old)) }
+{
+    let mut found = Vec::with_capacity(alloc, MOST_ITEMS)?;
+    'items: while !reader.take_end_array() {
+        let item = next_atom(alloc, reader, depth)?;
+        found.push(item)?;
+    }
+    Ok(found)
+}
+
+/// The items of the next value of a text. `None` where that is no list.
+pub fn list_atoms<'a>(
+    alloc: Global,
+    reader: &mut Reader<'a>,
+    depth: usize,
+) -> Result<Option<Vec<Atom<'a>>>, Unread>
+    ensures { IsRead (λ found. (option_map (λ v. atoms_data v.items) found, reader.new)) result
+        (parse_map (λ d. option_map flat_items (find.as_array d)) (next_value depth reader.old)) }
+{
+    match reader.next() {
+        Some(token) => list_atoms_after(alloc, token, reader, depth),
+        None => Err(Unread::Shape),
+    }
+}
+
+fn list_atoms_after<'a>(
+    alloc: Global,
+    token: Token<'a>,
+    reader: &mut Reader<'a>,
+    depth: usize,
+) -> Result<Option<Vec<Atom<'a>>>, Unread>
+    ensures { IsRead (λ found. (option_map (λ v. atoms_data v.items) found, reader.new)) result
+        (parse_map (λ d. option_map flat_items (find.as_array d)) (next_value depth (token_of token.entry ∷ reader.old))) }
+{
+    match token {
+        Token::BeginArray => {
+            if depth == 0 {
+                return Err(Unread::Shape);
+            }
+            Ok(Some(atoms_left(alloc, reader, depth - 1)?))
+        }
+        _ => {
+            drop(value_after(alloc, token, reader, depth)?);
+            Ok(None)
+        }
+    }
+}

@@ -1,0 +1,111 @@
+//! What a directory opens, and the calls of what was opened.
+ghost use Rattle.std.specs.Prelude.{◌≡◌, true};
+ghost use Rattle.std.specs.FinSet.{contains};
+ghost use Rattle.wasi_fs.specs.Calls.{handle_of};
+
+use std::alloc::{AllocError, Global};
+use wasi_fs::{Descriptor, DescriptorFlags, Dir, Flags, FsPerms, OpenFlags, OpenMode, PathFlags};
+use wasi_host::{Handle, Host};
+use wasi_table::{done, refused, time_of, told, word};
+
+/// `ATIME MTIME`: sets the times of the directory itself.
+pub fn set_own_times<H: Host>(
+    alloc: Global,
+    host: &mut H,
+    root: Handle,
+    rest: &str,
+) -> Result<String, AllocError>
+    requires { contains (H.live host.old) root ≡ true }
+{
+    let (atime, mtime) = word(rest);
+    let dir = Dir::new(root, FsPerms::ReadWrite, OpenMode::READ);
+    let set = Descriptor::Dir(dir).set_times(host, time_of(atime), time_of(mtime));
+    done(alloc, set)
+}
+
+fn bits(word: &str) -> usize {
+    word.parse::<usize>().unwrap_or(0)
+}
+
+/// `PERMISSIONS PATH_FLAGS PATH OPEN_FLAGS FLAGS`.
+#[tactic(auto, using(wasi_host::proofs::Chain::live_rules))]
+pub fn opened<H: Host>(
+    alloc: Global,
+    host: &mut H,
+    root: Handle,
+    what: &str,
+    text: &str,
+) -> Result<String, AllocError>
+    requires { contains (H.live host.old) root ≡ true }
+{
+    let (perms, rest) = word(text);
+    let (path_flags, rest) = word(rest);
+    let (path, rest) = word(rest);
+    let (open_flags, flags) = word(rest);
+    let perms = if perms == "ReadOnly" {
+        FsPerms::ReadOnly
+    } else {
+        FsPerms::ReadWrite
+    };
+    let dir = Dir::new(root, perms, OpenMode::READ);
+    let path_flags = PathFlags::from_bits_retain(bits(path_flags));
+    let open_flags = OpenFlags::from_bits_retain(bits(open_flags));
+    let flags = DescriptorFlags::from_bits_retain(bits(flags));
+    match dir.open_at(alloc, host, path_flags, path, open_flags, flags) {
+        Ok(descriptor) => {
+            if what == "use_at" {
+                return told_use(alloc, host, &descriptor);
+            }
+            told_opened(alloc, host, &Descriptor::Dir(dir), &descriptor)
+        }
+        Err(error) => refused(alloc, error),
+    }
+}
+
+fn handle_in(descriptor: &Descriptor) -> Handle
+    ensures { result ≡ handle_of descriptor.now }
+{
+    match descriptor {
+        Descriptor::File(file) => file.file,
+        Descriptor::Dir(dir) => dir.dir,
+    }
+}
+
+fn mode_of(descriptor: &Descriptor) -> OpenMode {
+    match descriptor {
+        Descriptor::File(file) => file.open_mode,
+        Descriptor::Dir(dir) => dir.open_mode,
+    }
+}
+
+/// Its mode, what is said of it, its kind, its hash, and whether it is the node of `root`.
+fn told_opened<H: Host>(
+    alloc: Global,
+    host: &mut H,
+    root: &Descriptor,
+    opened: &Descriptor,
+) -> Result<String, AllocError>
+    requires root { contains (H.live host.old) (handle_of root.now) ≡ true }
+    requires opened { contains (H.live host.old) (handle_of opened.now) ≡ true }
+{
+    let mode = mode_of(opened);
+    let stat = opened.stat(host);
+    let kind = opened.get_type(host);
+    let hash = opened.metadata_hash(host);
+    let is_root = opened.is_same_object(host, root);
+    told(alloc, &(mode, stat, kind, hash, is_root))
+}
+
+/// Its mode, whether it can be read and written, and its size.
+fn told_use<H: Host>(alloc: Global, host: &mut H, opened: &Descriptor) -> Result<String, AllocError>
+    requires { contains (H.live host.old) (handle_of opened.now) ≡ true }
+{
+    let mode = mode_of(opened);
+    let handle = handle_in(opened);
+    let reads = host.pread(handle, &mut [], 0).is_ok();
+    let writes = host.pwrite(handle, &[], 0).is_ok();
+    match host.stat(handle) {
+        Ok(metadata) => told(alloc, &(mode, reads, writes, metadata.len())),
+        Err(code) => told(alloc, &code),
+    }
+}

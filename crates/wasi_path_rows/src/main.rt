@@ -1,0 +1,23 @@
+//! The program `wasi_path_rows`: it tries tables of calls on paths over a tree in memory, of the resolver and of
+//! directories. Its standard input is the tables, which say what their lines are.
+#![tactic(auto)]
+
+mod descriptors;
+mod dirs;
+mod paths;
+mod trees;
+
+use std::process::ExitCode;
+use trees::PathRows;
+use wasi_ends::{StdinSource, StdoutSink};
+use wasi_table::try_table;
+
+fn main(rt: HostRuntime) -> ExitCode {
+    let Ok(mut rows) = PathRows::new(rt.alloc()) else {
+        return ExitCode::FAILURE;
+    };
+    let mut source = StdinSource::new(rt.stdin());
+    let mut sink = StdoutSink::new(rt.stdout());
+    let tried = try_table(rt.alloc(), &mut rows, &mut source, &mut sink);
+    ExitCode::from(tried.exit_code())
+}

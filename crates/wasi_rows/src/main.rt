@@ -1,0 +1,79 @@
+//! The program `wasi_rows`: it runs the scripts of the rows that its standard input has, and prints each row of which
+//! the run ended otherwise than the row says, and then how many rows agree.
+//!
+//! A row is two lines, `WORD SCRIPT` and `EXIT TEXT`. The file `line.rt` says what they are.
+#![tactic(auto)]
+
+mod line;
+mod repeats;
+mod row;
+mod tally;
+
+use line::{Asked, Line};
+use std::process::ExitCode;
+use std::{io, str};
+use tally::Tally;
+use wasi_ends::{StdinSource, read_all};
+
+// A row's first line, and its number.
+#[derive(Clone, Copy)]
+struct Open<'a> {
+    number: usize,
+    asked: Asked<'a>,
+}
+
+const NO_SECOND: &str = "its line `EXIT TEXT` isn't there";
+
+const NO_FIRST: &str = "the line `WORD SCRIPT` before it isn't there";
+
+// Takes a line behind those before it, of which a row may be open: the row that is open then.
+fn next_line<'a>(
+    rt: &HostRuntime,
+    tally: &mut Tally,
+    open: Option<Open<'a>>,
+    number: usize,
+    line: Line<'a>,
+) -> io::Result<Option<Open<'a>>> {
+    match (open, line) {
+        (Some(Open { number, asked }), Line::Wanted(wanted)) => {
+            let difference = row::difference(rt.alloc(), asked, wanted)?;
+            tally.count(rt, number, difference)?;
+            Ok(None)
+        }
+        (None, Line::Wanted(_)) => {
+            tally.broken(rt, number, NO_FIRST)?;
+            Ok(None)
+        }
+        (open, line) => {
+            if let Some(Open { number, .. }) = open {
+                tally.broken(rt, number, NO_SECOND)?;
+            }
+            Ok(line.asked().map(|asked| Open { number, asked }))
+        }
+    }
+}
+
+fn run_rows(rt: &HostRuntime, text: &str) -> io::Result<Tally> {
+    let mut tally = Tally::new();
+    let mut open = None;
+    let mut number: usize = 0;
+    for line in text.lines() {
+        number = number.saturating_add(1);
+        open = next_line(rt, &mut tally, open, number, Line::of(line))?;
+    }
+    let _ = next_line(rt, &mut tally, open, number, Line::Nothing)?;
+    Ok(tally)
+}
+
+fn main(rt: HostRuntime) -> io::Result<ExitCode> {
+    let mut source = StdinSource::new(rt.stdin());
+    let Ok(bytes) = read_all(rt.alloc(), &mut source) else {
+        eprintln!(rt; "wasi_rows: standard input couldn't be read")?;
+        return Ok(ExitCode::FAILURE);
+    };
+    let Ok(text) = str::from_utf8(bytes.as_slice()) else {
+        eprintln!(rt; "wasi_rows: standard input isn't UTF-8")?;
+        return Ok(ExitCode::FAILURE);
+    };
+    run_rows(&rt, text)?.end(&rt)
+}

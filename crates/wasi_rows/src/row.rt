@@ -1,0 +1,110 @@
+//! One row: its script is run, and what comes is held against what the row says.
+use crate::line::{Asked, Wanted};
+use crate::repeats::expanded;
+use std::alloc::{AllocError, Global};
+use wasi_ends::{BytesSink, BytesSource};
+use wasi_script::run_script;
+
+// The sink takes so many bytes; the longest report has a few more than 33,554,432.
+const ROOM: usize = 40_000_000;
+
+// How many bytes are shown of what was taken.
+const SHOWN: usize = 240;
+
+// What stands in a text for anything.
+const ANYTHING: &str = " .. ";
+
+// The number of the first call, where it is to fail.
+fn first_call(alloc: Global, fails: bool) -> Result<Vec<u64>, AllocError> {
+    let mut failing = Vec::new(alloc);
+    if fails {
+        failing.push(1)?;
+    }
+    Ok(failing)
+}
+
+// The words with which the program is called.
+fn words_of(alloc: Global, word: &str) -> Result<Vec<String>, AllocError> {
+    let mut words = Vec::new(alloc);
+    if word == "none" {
+        return Ok(words);
+    }
+    let called = match word {
+        "failing_source" | "failing_sink" => "run",
+        others => others,
+    };
+    for word in called.split(',') {
+        words.push(String::from_str(alloc, word)?)?;
+    }
+    Ok(words)
+}
+
+// The exit status of a run.
+fn ended(alloc: Global, words: &Vec<String>, source: &mut BytesSource, sink: &mut BytesSink) -> u8 {
+    run_script(alloc, words, source, sink).exit_code()
+}
+
+fn source_of(alloc: Global, asked: Asked<'_>) -> Result<BytesSource, AllocError> {
+    let script = expanded(alloc, asked.script)?;
+    let failing = first_call(alloc, asked.word == "failing_source")?;
+    Ok(BytesSource::new(script.into_bytes(), failing))
+}
+
+fn sink_of(alloc: Global, word: &str) -> Result<BytesSink, AllocError> {
+    let failing = first_call(alloc, word == "failing_sink")?;
+    BytesSink::new(alloc, ROOM, failing)
+}
+
+// Runs a row's script: the exit status, and the sink with what it took.
+fn ran(alloc: Global, asked: Asked<'_>) -> Result<(u8, BytesSink), AllocError> {
+    let words = words_of(alloc, asked.word)?;
+    let mut source = source_of(alloc, asked)?;
+    let mut sink = sink_of(alloc, asked.word)?;
+    let exit = ended(alloc, &words, &mut source, &mut sink);
+    Ok((exit, sink))
+}
+
+// Whether a text was taken.
+fn is_taken(taken: &[u8], text: &str) -> bool {
+    let Some((front, end)) = text.split_once(ANYTHING) else {
+        return taken == text.as_bytes();
+    };
+    taken
+        .strip_prefix(front.as_bytes())
+        .is_some_and(|rest| rest.ends_with(end.as_bytes()))
+}
+
+// The text that is to be taken: a line, or nothing.
+fn wanted_text(alloc: Global, text: &str) -> Result<String, AllocError> {
+    let mut whole = expanded(alloc, text)?;
+    if !whole.is_empty() {
+        whole.push('\n')?;
+    }
+    Ok(whole)
+}
+
+// Whether a run ended as a row says.
+fn agrees(alloc: Global, exit: u8, taken: &[u8], wanted: Wanted<'_>) -> Result<bool, AllocError> {
+    let text = wanted_text(alloc, wanted.text)?;
+    Ok(exit == wanted.exit && is_taken(taken, text.as_str()))
+}
+
+// How a run ended, with the beginning of what was taken.
+fn told(alloc: Global, exit: u8, taken: &[u8]) -> Result<String, AllocError> {
+    let beginning = String::from_utf8_lossy(alloc, taken.get(..SHOWN).unwrap_or(taken))?;
+    let shown = beginning.as_str().trim_end();
+    format!(in alloc; "ended with {exit}, and wrote {shown}")
+}
+
+/// How the run of a row's script ended, if otherwise than the row says.
+pub fn difference(
+    alloc: Global,
+    asked: Asked<'_>,
+    wanted: Wanted<'_>,
+) -> Result<Option<String>, AllocError> {
+    let (exit, sink) = ran(alloc, asked)?;
+    if agrees(alloc, exit, sink.taken(), wanted)? {
+        return Ok(None);
+    }
+    Ok(Some(told(alloc, exit, sink.taken())?))
+}

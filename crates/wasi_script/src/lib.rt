@@ -1,0 +1,12 @@
+//! A run from bytes to bytes: a script of calls over a tree of files is read, its calls are made, and a report is
+//! written. The program `wasirun` stands on it.
+#![tactic(auto)]
+
+mod start;
+mod status;
+mod top;
+mod words;
+
+pub use status::Status;
+pub use top::run_script;
+pub use words::words_after_name;

@@ -1,0 +1,14 @@
+//! Tables as texts, for programs that try what other crates give: what a line asks is answered, and the answer is
+//! compared with what the line wants.
+//!
+//! A line is what is asked, ` = `, and what is wanted. Empty lines and lines that begin with `#` are passed over. In what
+//! is asked `\0` stands for a NUL, and `x{N}` for N letters x. What is wanted is the answer, letter by letter.
+#![tactic(auto)]
+
+mod hosts;
+mod line;
+mod table;
+
+pub use hosts::{answered, coded, done, refused, time_of, told_node, told_times};
+pub use line::{list_of, number, told, unknown, word};
+pub use table::{Answers, Tried, try_table};

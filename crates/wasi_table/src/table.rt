@@ -1,0 +1,149 @@
+//! Trying a table.
+use std::alloc::{AllocError, Global};
+use wasi_ends::{Sink, Source, read_all, write_all};
+
+/// What answers the lines of a table, one after another.
+pub trait Answers {
+    fn answer(&mut self, alloc: Global, asked: &str) -> Result<String, AllocError>;
+}
+
+/// What a table came to.
+#[derive(Clone, Copy)]
+pub enum Tried {
+    /// Each line is so.
+    Agrees,
+    /// Some lines aren't so.
+    Differs,
+    /// The table wasn't read or is no text, its outcome wasn't written, or memory was wanted.
+    Unfinished,
+}
+
+impl Tried {
+    /// The exit status of a program: 0 where each line is so, 1 where some aren't, and else 2.
+    pub fn exit_code(self) -> u8 {
+        match self {
+            Tried::Agrees => 0,
+            Tried::Differs => 1,
+            Tried::Unfinished => 2,
+        }
+    }
+}
+
+/// Tries the table that a source gives. Of each line that isn't so what came is written into the sink, with its number and
+/// the line, and then how many are so.
+pub fn try_table<A: Answers, S: Source, K: Sink>(
+    alloc: Global,
+    answers: &mut A,
+    source: &mut S,
+    sink: &mut K,
+) -> Tried {
+    let Ok(bytes) = read_all(alloc, source) else {
+        return Tried::Unfinished;
+    };
+    let table = str::from_utf8(bytes.as_slice()).unwrap_or("the table is no text");
+    let mut text = String::new(alloc);
+    let Ok(tried) = try_lines(alloc, answers, table, &mut text) else {
+        return Tried::Unfinished;
+    };
+    if write_all(sink, text.as_bytes()) {
+        tried
+    } else {
+        Tried::Unfinished
+    }
+}
+
+// What a table comes to, which the text says in its end.
+fn try_lines<A: Answers>(
+    alloc: Global,
+    answers: &mut A,
+    table: &str,
+    text: &mut String,
+) -> Result<Tried, AllocError> {
+    let mut agree = 0u64;
+    let mut differ = 0u64;
+    for (before, line) in table.lines().enumerate() {
+        if line.is_empty() || line.starts_with('#') {
+            continue;
+        }
+        if try_line(alloc, answers, before, line, text)? {
+            agree = agree.saturating_add(1);
+        } else {
+            differ = differ.saturating_add(1);
+        }
+    }
+    if differ == 0 {
+        write!(text, "{agree} lines agree\n")?;
+        return Ok(Tried::Agrees);
+    }
+    write!(text, "{agree} lines agree, and {differ} don't\n")?;
+    Ok(Tried::Differs)
+}
+
+// Whether a line is so.
+fn try_line<A: Answers>(
+    alloc: Global,
+    answers: &mut A,
+    before: usize,
+    line: &str,
+    text: &mut String,
+) -> Result<bool, AllocError> {
+    let (asked, wanted) = line.split_once(" = ").unwrap_or((line, ""));
+    let mut spelled = String::new(alloc);
+    spell_out(asked, &mut spelled)?;
+    let is_so = is_answered(alloc, answers, spelled.as_str(), wanted, text)?;
+    if !is_so {
+        let number = before.saturating_add(1);
+        write!(text, ", in line {number}: {line}\n")?;
+    }
+    Ok(is_so)
+}
+
+// Whether what is asked is answered so; where it isn't, the text says what came.
+fn is_answered<A: Answers>(
+    alloc: Global,
+    answers: &mut A,
+    asked: &str,
+    wanted: &str,
+    text: &mut String,
+) -> Result<bool, AllocError> {
+    let answer = answers.answer(alloc, asked)?;
+    if answer.as_str() == wanted {
+        return Ok(true);
+    }
+    text.push_str(answer.as_str())?;
+    Ok(false)
+}
+
+// Adds a text with so many letters in the place of each `x{N}`, and with a NUL in the place of each `\0`.
+fn spell_out(text: &str, row: &mut String) -> Result<(), AllocError> {
+    for part in text.split("x{") {
+        let (count, rest) = counted(part);
+        for _ in 0..count {
+            row.push('x')?;
+        }
+        push_text(rest, row)?;
+    }
+    Ok(())
+}
+
+// Adds a text with a NUL in the place of each `\0`.
+fn push_text(text: &str, row: &mut String) -> Result<(), AllocError> {
+    for (before, part) in text.split("\\0").enumerate() {
+        if before > 0 {
+            row.push('\0')?;
+        }
+        row.push_str(part)?;
+    }
+    Ok(())
+}
+
+// The number up to a brace, and the text behind it; of any other text, 0 and the text.
+fn counted(part: &str) -> (u16, &str) {
+    let Some((digits, rest)) = part.split_once('}') else {
+        return (0, part);
+    };
+    match digits.parse::<u16>() {
+        Ok(count) => (count, rest),
+        Err(_) => (0, part),
+    }
+}

@@ -1,0 +1,129 @@
+//! The lines of the tables, over a tree that is kept from line to line.
+use crate::calls::call;
+use crate::listed::{chain, listed, tree_of};
+use crate::opened::with_opened;
+use crate::reports::told_report;
+use std::alloc::{AllocError, Global};
+use wasi_host::Limits;
+use wasi_table::{Answers, number, told, word};
+use wasi_tree::{MemTree, NewNode, TreeError};
+
+/// What answers the lines: the tree that the last `tree` gave.
+#[derive(Drop)]
+pub struct TreeRows {
+    tree: MemTree,
+}
+
+impl TreeRows {
+    /// Begins with an empty directory.
+    pub fn new(alloc: Global) -> Result<TreeRows, TreeError> {
+        Ok(TreeRows {
+            tree: tree_of(alloc, 0, "-")?,
+        })
+    }
+}
+
+impl Answers for TreeRows {
+    fn answer(&mut self, alloc: Global, asked: &str) -> Result<String, AllocError> {
+        let (what, rest) = word(asked);
+        match what {
+            "tree" => self.begin(alloc, rest),
+            "fit" => fit(alloc, rest),
+            "chain" => chained(alloc, rest),
+            _ => ask(alloc, &mut self.tree, what, rest, asked),
+        }
+    }
+}
+
+impl TreeRows {
+    /// `LAST NODES`: takes the tree of these nodes.
+    fn begin(&mut self, alloc: Global, rest: &str) -> Result<String, AllocError> {
+        let (last, nodes) = word(rest);
+        match tree_of(alloc, last.parse::<u16>().unwrap_or(0), nodes) {
+            Ok(tree) => {
+                self.tree = tree;
+                String::from_str(alloc, "ok")
+            }
+            Err(error) => told(alloc, &error),
+        }
+    }
+}
+
+fn fit(alloc: Global, rest: &str) -> Result<String, AllocError> {
+    made_of(alloc, listed(alloc, rest)?, 3)
+}
+
+fn chained(alloc: Global, rest: &str) -> Result<String, AllocError> {
+    made_of(alloc, chain(alloc, number(rest))?, 200_000)
+}
+
+/// How many nodes a tree of these nodes has, in which no node has a number above the last one, and no file or link more
+/// than two names; or why none is made of them.
+fn made_of(alloc: Global, nodes: Vec<NewNode>, last: u32) -> Result<String, AllocError> {
+    let limits = Limits {
+        nodes: u64::from(last) + 1,
+        links: 2,
+    };
+    match MemTree::new(alloc, nodes, limits) {
+        Ok(tree) => told(alloc, &tree.count()),
+        Err(error) => told(alloc, &error),
+    }
+}
+
+/// What is asked of the tree as a whole.
+fn ask(
+    alloc: Global,
+    tree: &mut MemTree,
+    what: &str,
+    rest: &str,
+    asked: &str,
+) -> Result<String, AllocError> {
+    match what {
+        "touched" => told(alloc, &tree.touched(alloc)?),
+        "looks" => told_looks(alloc, tree),
+        "report" => told_report(alloc, tree, rest),
+        "many" => many(alloc, tree, rest),
+        _ => ask_root(alloc, tree, what, rest, asked),
+    }
+}
+
+/// What is asked by a handle of node 0.
+#[tactic(auto, using(wasi_tree::proofs::SlotLemmas::slot_rules))]
+fn ask_root(
+    alloc: Global,
+    tree: &mut MemTree,
+    what: &str,
+    rest: &str,
+    asked: &str,
+) -> Result<String, AllocError> {
+    let Ok(root) = tree.handle(0) else {
+        return Err(AllocError);
+    };
+    match what {
+        "open" => with_opened(alloc, tree, root, what, rest),
+        "copy" => with_opened(alloc, tree, root, what, rest),
+        _ => call(alloc, tree, root, asked),
+    }
+}
+
+/// The kinds of the look-ups.
+fn told_looks(alloc: Global, tree: &MemTree) -> Result<String, AllocError> {
+    let mut kinds = Vec::new(alloc);
+    for lookup in tree.lookups() {
+        kinds.push(lookup.kind)?;
+    }
+    told(alloc, &kinds)
+}
+
+/// `CALL COUNT`, of the names `d0`, `d1` .. in node 0: how many nodes there are then.
+fn many(alloc: Global, tree: &mut MemTree, rest: &str) -> Result<String, AllocError> {
+    let (what, count) = word(rest);
+    for i in 0..number(count) {
+        let name = format!(in alloc; "0 {what} d{i}")?;
+        let answer = ask_root(alloc, tree, "0", "", name.as_str())?;
+        if answer.as_str() != "ok" {
+            return Ok(answer);
+        }
+    }
+    told(alloc, &tree.count())
+}

@@ -1,0 +1,44 @@
+//! The program `wasi_values`: it tries tables of what functions of the crates give for plain values. Its standard input
+//! is the table, which says what the lines are.
+#![tactic(auto)]
+
+mod ends;
+mod flags;
+mod guest;
+mod host;
+mod nodes;
+mod paths;
+
+use std::alloc::{AllocError, Global};
+use std::process::ExitCode;
+use wasi_ends::{StdinSource, StdoutSink};
+use wasi_table::{Answers, try_table, unknown, word};
+
+/// What answers the lines.
+#[derive(Drop)]
+struct Values;
+
+impl Answers for Values {
+    fn answer(&mut self, alloc: Global, asked: &str) -> Result<String, AllocError> {
+        let (family, asked) = word(asked);
+        let (what, rest) = word(asked);
+        match family {
+            "path" => paths::answer(alloc, what, rest),
+            "name" => paths::name_answer(alloc, what, rest),
+            "host" => host::answer(alloc, what, rest),
+            "options" => host::options_answer(alloc, what, rest),
+            "node" => nodes::answer(alloc, what, rest),
+            "flags" => flags::answer(alloc, what, rest),
+            "guest" => guest::answer(alloc, what, rest),
+            "ends" => ends::answer(alloc, what, rest),
+            _ => unknown(alloc),
+        }
+    }
+}
+
+fn main(rt: HostRuntime) -> ExitCode {
+    let mut source = StdinSource::new(rt.stdin());
+    let mut sink = StdoutSink::new(rt.stdout());
+    let tried = try_table(rt.alloc(), &mut Values, &mut source, &mut sink);
+    ExitCode::from(tried.exit_code())
+}
