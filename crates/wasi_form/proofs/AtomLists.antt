@@ -1,14 +1,14 @@
 -- Lists of numbers and texts, read item by item, and the forms that see no more of them.
-use Rattle.std.proofs.Common.{◌≡◌, ℕ, zero, suc, List, [], ◌∷◌, ◌++◌, Bool, true, false, Option, Some, None, refl, sym, ap, ◌∙◌}
-use Rattle.std.specs.Prelude.{option_map, slice_get}
+use Rattle.std.proofs.Common.{◌≡◌, ℕ, List, [], ◌∷◌, ◌++◌, Bool, true, false, Option, Some, None, refl, sym, ap, ◌∙◌}
+use Rattle.std.specs.Prelude.{option_map}
 use Rattle.std.proofs.lemmas.Bool.{and_parts}
 use Rattle.serde_json.specs.Data.{Data, null, boolean, number, string, array, object, Items, no_items, item}
 use Rattle.serde_json.specs.Find as find
-use Rattle.wasi_guest.specs.declared.call.Call.{Call}
 use Rattle.wasi_form.specs.Atoms.{flat, flat_items, atom_data, atoms_data, SeesAtoms}
-use Rattle.wasi_form.specs.CallForm.{is_argument, are_arguments, arguments_of, call_named, call_in}
+use Rattle.wasi_form.specs.CallForm.{is_argument, are_arguments, arguments_of, call_named, call_with, call_in}
 use Rattle.wasi_form.specs.Lists.{◌>>=◌, only_if, always_in}
 use Rattle.wasi_form.specs.MemoryForm.{piece_bytes, piece_in, shown_in}
+use Rattle.wasi_form.specs.ServicesForm.{pair_in}
 use Rattle.wasi_form.specs.Shapes.{u64_of, i64_of, u32_of, is_text}
 use Rattle.wasi_form.specs.declared.atoms.Atom.{Atom}
 use Rattle.wasi_form.specs.declared.calls.Argument.{Argument}
@@ -35,11 +35,6 @@ pub atom_more : (list now : List Atom) (a : Atom) (d : Data) → now ≡ list ++
 atom_more list now a d pushed is ds =
     ap (λ e. atoms_before list (item e (flat_items ds))) is ∙ atoms_before-push list a (flat_items ds)
     ∙ ap (λ all. atoms_before all (flat_items ds)) (sym pushed)
-
-pub atom_got : (list : List Atom) (i : ℕ) → option_map atom_data (slice_get list i) ≡ find.get_item i (atoms_data list)
-atom_got [] i = refl
-atom_got (a ∷ list) zero = refl
-atom_got (a ∷ list) (suc i) = atom_got list i
 
 -- ---- what is made of a list
 
@@ -121,6 +116,12 @@ shown_sees (item d no_items) = refl
 shown_sees (item d (item e no_items)) = rw (u32_flat d, u32_flat e) refl
 shown_sees (item d (item e (item f ds))) = refl
 
+pub pair_sees : SeesAtoms (always_in pair_in)
+pair_sees no_items = refl
+pair_sees (item d no_items) = refl
+pair_sees (item d (item e no_items)) = rw (str_flat d, str_flat e) refl
+pair_sees (item d (item e (item f ds))) = refl
+
 argument_flat : (t : Argument) (d : Data) → is_argument t (flat d) ≡ is_argument t d
 argument_flat U32 d = rw (u32_flat d) refl
 argument_flat U64 d = rw (u64_flat d) refl
@@ -170,15 +171,15 @@ named name (Some types) ds =
     ap (λ are. only_if are >>= (λ _. Some (call_named name (flat_items ds)))) (arguments_flat types ds)
     ∙ typed name types ds (are_arguments types ds) refl
 
+with_flat : (name : List ℕ) (ds : Items) → call_with name (flat_items ds) ≡ call_with name ds
+unfolding call_with
+with_flat name ds = named name (arguments_of name) ds
+
 called : (name : Option (List ℕ)) (ds : Items)
-    → (name >>= (λ n. arguments_of n >>= (λ ts. only_if (are_arguments ts (flat_items ds)) >>= (λ _. Some (call_named n (flat_items ds))))))
-    ≡ (name >>= (λ n. arguments_of n >>= (λ ts. only_if (are_arguments ts ds) >>= (λ _. Some (call_named n ds)))))
+    → (name >>= (λ n. call_with n (flat_items ds))) ≡ (name >>= (λ n. call_with n ds))
 called None ds = refl
-called (Some name) ds = named name (arguments_of name) ds
+called (Some name) ds = with_flat name ds
 
 pub call_sees : SeesAtoms call_in
 call_sees no_items = refl
-call_sees (item d ds) = ap (λ name. call_of_name name (flat_items ds)) (str_flat d) ∙ called (find.as_str d) ds
-  where
-    call_of_name : Option (List ℕ) → Items → Option (Option Call)
-    call_of_name name es = name >>= (λ n. arguments_of n >>= (λ ts. only_if (are_arguments ts es) >>= (λ _. Some (call_named n es))))
+call_sees (item d ds) = ap (λ name. name >>= (λ n. call_with n (flat_items ds))) (str_flat d) ∙ called (find.as_str d) ds

@@ -6,6 +6,7 @@ use Rattle.std.specs.List.{list_all}
 use Rattle.std.proofs.lemmas.Bool.{and_parts, leb-true}
 use Rattle.std.proofs.lemmas.Bool.Decides.{same_from_decides}
 use Rattle.serde_json.specs.Data.{Data}
+use Rattle.wasi_guest.specs.Services.{AreWithin}
 use Rattle.wasi_host.specs.Steps.{◌>>=◌}
 use Rattle.wasi_host.specs.ValidTree.{AreLimits}
 use Rattle.wasi_tree.specs.Fit.{AreFit}
@@ -17,7 +18,7 @@ use Rattle.wasi_form.specs.declared.verdict.Refusal.{Refusal}
 use Rattle.wasi_form.specs.declared.verdict.Refusal.TheVariants.{Long, Shape, Later, Tree, Limit}
 use Rattle.wasi_form.specs.declared.script.Script.{Script}
 use Rattle.wasi_form.specs.declared.script.Draft.{Draft}
-use Rattle.wasi_form.proofs.ScriptLimits.{IsInRange, FormInRange, script_in_range}
+use Rattle.wasi_form.proofs.ScriptRanges.{IsInRange, FormInRange, script_in_range}
 use Rattle.wasi_form.specs.declared.verdict.ScriptError.{ScriptError}
 use Rattle.wasi_form.specs.declared.verdict.ScriptError.TheVariants.{Refused, Memory}
 
@@ -42,16 +43,17 @@ reads_within (Ok s) bytes fits reads = not_too_many bytes _ fits reads
 reads_within (Err (Refused refusal)) bytes fits reads = not_too_many bytes _ fits reads
 reads_within (Err Memory) bytes fits reads = reads
 
--- a plan whose calls are built, and whose limits are within their range
+-- a plan whose calls are built, and of which all is within its range
 pub record AreForms (p : Plan) : Type 0 where
   pub built : is_built p ≡ true
   pub limits : AreLimits p.limits
+  pub services : AreWithin p.services
 
 built_is : (q p : Plan) (is : Bool) → is_built q ≡ is → IsInRange q → built q ≡ Ok p → AreForms p
 built_is q p true is range e =
     let kept : built q ≡ Ok q = rw is refl in
     let same : q ≡ p = cc in
-    subst AreForms same (record { built = is; limits = range.limits })
+    subst AreForms same (record { built = is; limits = range.limits; services = range.services })
 built_is q p false is range e = let refused = rw is at e in absurd (cc)
 
 form_built : (form : Option Plan) (p : Plan) → FormInRange form → (found Later form >>= built) ≡ Ok p → AreForms p
@@ -151,6 +153,7 @@ pub record IsAccepted (p : Plan) : Type 0 where
   pub script : is_built_script p ≡ true
   pub limits : AreLimits p.limits
   pub fit : AreFit p.limits p.nodes
+  pub services : AreWithin p.services
 
 accepted_within : (q p : Plan) (within : Bool) → is_within_limits q ≡ within → AreFit q.limits q.nodes
     → AreForms q → past_forms true q ≡ Ok p → IsAccepted p
@@ -158,7 +161,12 @@ unfolding is_built_script
 accepted_within q p true within fit is e =
     let kept : past_forms true q ≡ Ok q = rw within refl in
     let same : q ≡ p = cc in
-    subst IsAccepted same (record { script = rw (is.built, within) refl; limits = is.limits; fit = fit })
+    subst IsAccepted same (record {
+      script = rw (is.built, within) refl;
+      limits = is.limits;
+      fit = fit;
+      services = is.services;
+    })
 accepted_within q p false within fit is e = let refused = rw within at e in absurd (cc)
 
 accepted_plan : (first : Result Plan Refusal) (fit : Bool) (p : Plan) → IsFitFor fit first

@@ -1,84 +1,26 @@
 -- The members of a script and of its memory, found one after another.
-use Rattle.std.proofs.Common.{◌≡◌, ℕ, ◌+◌, List, [], ◌∷◌, Bool, true, false, ◌&&◌, Ordering, Less, Equal, Greater, Option, Some, None, refl, sym, ap, subst, inl, inr, ◌∙◌, codes, map, add-one}
-use Rattle.std.specs.Prelude.{option_map, not, slice_set, is_some, if◌then◌else◌}
-use Rattle.std.specs.Ordering.{nat_cmp, match_ordering, is_eq}
-use Rattle.std.specs.Cmp.Lexicographic.{slice_cmp}
+use Rattle.std.proofs.Common.{◌≡◌, ℕ, ◌+◌, List, [], ◌∷◌, Bool, true, false, Option, Some, None, refl, inl, inr, codes, map, add-one}
+use Rattle.std.specs.Prelude.{option_map, not, slice_set, is_some}
 use Rattle.std.specs.Str.{bytes_eq}
 use Rattle.std.proofs.lemmas.Bool.{cases_Bool, and_parts}
-use Rattle.std.proofs.lemmas.Map.Text.{is_eq-slice_cmp}
-use Rattle.std.proofs.lemmas.Slice.Eq.{bytes_eq-Decides}
-use Rattle.serde_json.specs.Data.{Data, Members, member, no_members, put}
-use Rattle.serde_json.specs.Find.{get_member}
-use Rattle.serde_json.proofs.Views.{get_member-put, get_member-put_other}
+use Rattle.serde_json.specs.Data.{Data, Members, no_members, put}
 use Rattle.wasi_tree.specs.GivenTests.{are_distinct}
 use Rattle.wasi_form.specs.declared.waiting.Kind.{Kind}
-use Rattle.wasi_form.specs.Shapes.{u32_of, has_key, all_keys}
+use Rattle.wasi_form.specs.Shapes.{u64_of, u32_of, has_key}
 use Rattle.wasi_form.specs.Lists.{needed, optional, always, forms_of}
 use Rattle.wasi_form.specs.LimitsForm.{default_limits, limits_of}
+use Rattle.wasi_form.specs.ServicesForm.{service_key}
+use Rattle.wasi_form.specs.declared.services.ServiceKey.{ServiceKey}
+use Rattle.wasi_form.specs.declared.services.ServiceKey.TheVariants.{Args, Env, Stdin, Wall, WallResolution, Monotonic, MonotonicResolution, Random}
 use Rattle.wasi_form.specs.NodeForm.{script_node}
 use Rattle.wasi_form.specs.PreopenForm.{preopen_of}
 use Rattle.wasi_form.specs.MemoryForm.{no_memory, piece_of, memory_keys, MemoryFound, memory_in, memory_of, shown_of}
 use Rattle.wasi_form.specs.CallForm.{call_of}
 use Rattle.wasi_form.specs.WaitingForm.{has_kind, waiting_keys, place_in, waiting_key, kinds_in, waiting_in}
-use Rattle.wasi_form.specs.ScriptForm.{script_keys, Found, found_in}
-use Rattle.wasi_form.specs.FoundParts.{with_waiting, waiting_with, with_member, with_memory_member}
-
-same_texts : (a b : List ℕ) → bytes_eq a b ≡ true → a ≡ b
-same_texts a b is = (bytes_eq-Decides a b).0 is
-
-other_texts : (a b : List ℕ) → bytes_eq a b ≡ false → a ≡ b → ⊥
-other_texts a b other same = let is : bytes_eq a b ≡ true = (bytes_eq-Decides a b).1 same in absurd (cc)
-
--- ---- the keys of an object
-
-equal_keys : (k l : List ℕ) → slice_cmp nat_cmp k l ≡ Equal → k ≡ l
-equal_keys k l same = same_texts k l (sym (is_eq-slice_cmp k l) ∙ ap is_eq same)
-
-both_ways : (a b c : Bool) → a && (b && c) ≡ b && (a && c)
-both_ways true true c = refl
-both_ways true false c = refl
-both_ways false true c = refl
-both_ways false false c = refl
-
-twice_once : (a b : Bool) → a && b ≡ a && (a && b)
-twice_once true b = refl
-twice_once false b = refl
-
-keys_ordered : (keys : List (List ℕ)) (o : Ordering) (k l : List ℕ) (d e : Data) (ms more : Members)
-    → (o ≡ Equal → k ≡ l) → all_keys keys more ≡ has_key keys k && all_keys keys ms
-    → all_keys keys (match_ordering o (member k d (member l e ms)) (member l d ms) (member l e more))
-    ≡ has_key keys k && (has_key keys l && all_keys keys ms)
-keys_ordered keys Less k l d e ms more equal here = refl
-keys_ordered keys Equal k l d e ms more equal here = rw (equal refl) (twice_once (has_key keys l) (all_keys keys ms))
-keys_ordered keys Greater k l d e ms more equal here =
-    rw here (both_ways (has_key keys l) (has_key keys k) (all_keys keys ms))
-
--- a member that is put in adds its key
-pub all_keys-put : (keys : List (List ℕ)) (k : List ℕ) (d : Data) (ms : Members)
-    → all_keys keys (put k d ms) ≡ has_key keys k && all_keys keys ms
-all_keys-put keys k d no_members = refl
-all_keys-put keys k d (member l e ms) =
-    keys_ordered keys (slice_cmp nat_cmp k l) k l d e ms (put k d ms) (equal_keys k l) (all_keys-put keys k d ms)
-
--- ---- what stands at a key
-
-at_itself : (name k : List ℕ) (d : Data) (ms : Members) → bytes_eq k name ≡ true → get_member name (put k d ms) ≡ Some d
-at_itself name k d ms is =
-    subst (λ (key : List ℕ). get_member name (put key d ms) ≡ Some d) (sym (same_texts k name is))
-    (get_member-put name d ms)
-
-at_other : (name k : List ℕ) (d : Data) (ms : Members) → bytes_eq k name ≡ false
-    → get_member name (put k d ms) ≡ get_member name ms
-at_other name k d ms other = get_member-put_other name k d ms (λ same. other_texts k name other (sym same))
-
--- what is made of what stands at a name, after a member was put in
-pub made-put : {A : Type 0} (of : Option Data → A) (name k : List ℕ) (d : Data) (ms : Members)
-    → of (get_member name (put k d ms)) ≡ (if bytes_eq k name then of (Some d) else of (get_member name ms))
-made-put of name k d ms =
-    elim (cases_Bool (bytes_eq k name)) [
-      | inl is ↦ rw is (ap of (at_itself name k d ms is))
-      | inr other ↦ rw other (ap of (at_other name k d ms other))
-    ]
+use Rattle.wasi_form.specs.ScriptForm.{script_keys, default_fuel, Found, found_in}
+use Rattle.wasi_form.specs.FoundParts.{with_service, with_waiting, waiting_with, with_member, with_memory_member}
+use Rattle.wasi_form.proofs.Members.{same_texts, all_keys-put, at_itself, at_other, made-put, at_key}
+use Rattle.wasi_form.proofs.ServiceMembers.{services_in-put, name_of, at_service, IsNoService, no_service}
 
 -- ---- the keys that wait
 
@@ -178,49 +120,71 @@ found_in-put k d ms = λ i. record {
   memory = made-put (optional memory_of (Some no_memory)) (codes "memory") k d ms i;
   show = made-put (optional (forms_of (always shown_of)) (Some [])) (codes "show") k d ms i;
   limits = made-put (optional limits_of default_limits) (codes "limits") k d ms i;
+  fuel = made-put (optional u64_of default_fuel) (codes "fuel") k d ms i;
+  services = services_in-put k d ms (service_key k) refl i;
   waiting = waiting-put k d ms (waiting_key k) refl i;
 }
 
-pub at_key : (P : List ℕ → Type 0) (key name : List ℕ) → bytes_eq key name ≡ true → P name → P key
-at_key P key name is here = subst P (sym (same_texts key name is)) here
-
 pub with_nodes : (key : List ℕ) (d : Data) (found : Found) → bytes_eq key (codes "nodes") ≡ true
     → record found { nodes = forms_of (always script_node) d } ≡ with_member key d found
-unfolding with_member script_keys waiting_key
+unfolding with_member script_keys service_key waiting_key
 with_nodes key d found is =
     at_key (λ k. record found { nodes = forms_of (always script_node) d } ≡ with_member k d found) key (codes "nodes") is refl
 
 pub with_preopens : (key : List ℕ) (d : Data) (found : Found) → bytes_eq key (codes "preopens") ≡ true
     → record found { preopens = forms_of (always preopen_of) d } ≡ with_member key d found
-unfolding with_member script_keys waiting_key
+unfolding with_member script_keys service_key waiting_key
 with_preopens key d found is =
     at_key (λ k. record found { preopens = forms_of (always preopen_of) d } ≡ with_member k d found)
     key (codes "preopens") is refl
 
 pub with_calls : (key : List ℕ) (d : Data) (found : Found) → bytes_eq key (codes "calls") ≡ true
     → record found { calls = forms_of call_of d } ≡ with_member key d found
-unfolding with_member script_keys waiting_key
+unfolding with_member script_keys service_key waiting_key
 with_calls key d found is =
     at_key (λ k. record found { calls = forms_of call_of d } ≡ with_member k d found) key (codes "calls") is refl
 
 pub with_memory : (key : List ℕ) (d : Data) (found : Found) → bytes_eq key (codes "memory") ≡ true
     → record found { memory = memory_of d } ≡ with_member key d found
-unfolding with_member script_keys waiting_key
+unfolding with_member script_keys service_key waiting_key
 with_memory key d found is =
     at_key (λ k. record found { memory = memory_of d } ≡ with_member k d found) key (codes "memory") is refl
 
 pub with_show : (key : List ℕ) (d : Data) (found : Found) → bytes_eq key (codes "show") ≡ true
     → record found { show = forms_of (always shown_of) d } ≡ with_member key d found
-unfolding with_member script_keys waiting_key
+unfolding with_member script_keys service_key waiting_key
 with_show key d found is =
     at_key (λ k. record found { show = forms_of (always shown_of) d } ≡ with_member k d found)
     key (codes "show") is refl
 
 pub with_limits : (key : List ℕ) (d : Data) (found : Found) → bytes_eq key (codes "limits") ≡ true
     → record found { limits = limits_of d } ≡ with_member key d found
-unfolding with_member script_keys waiting_key
+unfolding with_member script_keys service_key waiting_key
 with_limits key d found is =
     at_key (λ k. record found { limits = limits_of d } ≡ with_member k d found) key (codes "limits") is refl
+
+pub with_fuel : (key : List ℕ) (d : Data) (found : Found) → bytes_eq key (codes "fuel") ≡ true
+    → record found { fuel = u64_of d } ≡ with_member key d found
+unfolding with_member script_keys service_key waiting_key
+with_fuel key d found is =
+    at_key (λ k. record found { fuel = u64_of d } ≡ with_member k d found) key (codes "fuel") is refl
+
+at_its_key : (service : ServiceKey) (d : Data) (found : Found)
+    → with_service service d found ≡ with_member (name_of service) d found
+unfolding with_member script_keys service_key waiting_key
+at_its_key Args d found = refl
+at_its_key Env d found = refl
+at_its_key Stdin d found = refl
+at_its_key Wall d found = refl
+at_its_key WallResolution d found = refl
+at_its_key Monotonic d found = refl
+at_its_key MonotonicResolution d found = refl
+at_its_key Random d found = refl
+
+pub with_services : (key : List ℕ) (service : ServiceKey) (d : Data) (found : Found) → service_key key ≡ Some service
+    → with_service service d found ≡ with_member key d found
+with_services key service d found is =
+    at_service (λ k. with_service service d found ≡ with_member k d found) key service is (at_its_key service d found)
 
 -- at no key of a part that is used
 pub record IsOther (key : List ℕ) : Type 0 where
@@ -230,6 +194,8 @@ pub record IsOther (key : List ℕ) : Type 0 where
   pub memory : bytes_eq key (codes "memory") ≡ false
   pub show : bytes_eq key (codes "show") ≡ false
   pub limits : bytes_eq key (codes "limits") ≡ false
+  pub fuel : bytes_eq key (codes "fuel") ≡ false
+  pub service : service_key key ≡ None
 
 has_waiting : (key : List ℕ) (d : Data) (ms : Members) (place : Option (ℕ × Kind)) → waiting_key key ≡ place
     → has_key (names waiting_keys) key ≡ is_some place
@@ -241,8 +207,11 @@ pub with_other : (key : List ℕ) (d : Data) (found : Found) → IsOther key
     → with_waiting (waiting_key key) d found ≡ with_member key d found
 unfolding with_member script_keys
 with_other key d found other =
+    let none : IsNoService key = no_service key other.service in
     let has = has_waiting key d no_members (waiting_key key) refl in
-    rw (other.nodes, other.preopens, other.calls, other.memory, other.show, other.limits, has) refl
+    rw (other.nodes, other.preopens, other.calls, other.memory, other.show, other.limits, other.fuel)
+    (rw (none.args, none.env, none.stdin, none.wall, none.wall_resolution, none.monotonic, none.monotonic_resolution, none.random)
+    (rw (other.service, has) refl))
 
 -- ---- the members of a memory
 

@@ -1,9 +1,10 @@
 -- Reading the items of a list, one after another.
-use Rattle.std.proofs.Common.{List, [], ◌∷◌, ◌++◌, ◌≡◌, Option, Some, None, refl, ap, map, append_assoc, append-nil}
+use Rattle.std.proofs.Common.{List, [], ◌∷◌, ◌++◌, ◌≡◌, ◌∙◌, Option, Some, None, refl, ap, map, append_assoc, append-nil}
 use Rattle.std.specs.Prelude.{option_map}
 use Rattle.std.proofs.lemmas.List.{map-append}
 use Rattle.serde_json.specs.Data.{Data, Items, no_items, item}
-use Rattle.wasi_form.specs.Lists.{items_all, none_waits, forms_in, pushed, form_pushed, same, ◌>>=◌}
+use Rattle.serde_json.specs.Find.{as_array}
+use Rattle.wasi_form.specs.Lists.{items_all, list_of, always, none_waits, forms_in, forms_of, pushed, form_pushed, same, ◌>>=◌}
 
 -- what was read so far, before what is read of the rest
 abbrev pub before : {A : Type 0} → List A → Option (List A) → Option (List A)
@@ -84,3 +85,32 @@ after-item items see of (Some done) (Some all) None d ds is read = absurd (cc)
 after-item items see of (Some done) (Some all) (Some x) d ds is read =
     let added : option_map items all ≡ pushed (option_map items done) x = cc in
     rw read (rest_built items see done all x (items_all of ds) added)
+
+-- ---- forms that never wait
+
+one_more : {A : Type 0} (x : Option A) (rest : Option (List (Option A)))
+    → (option_map Some x >>= (λ form. rest >>= (λ forms. Some (form ∷ forms))) >>= none_waits)
+    ≡ (x >>= (λ one. rest >>= none_waits >>= (λ xs. Some (one ∷ xs))))
+one_more None rest = refl
+one_more (Some x) None = refl
+one_more (Some x) (Some forms) = refl
+
+items_built : {A : Type 0} (of : Data → Option A) (ds : Items) → (items_all (always of) ds >>= none_waits) ≡ items_all of ds
+unfolding items_all
+items_built of no_items = refl
+items_built of (item d ds) =
+    one_more (of d) (items_all (always of) ds)
+    ∙ ap (λ rest. of d >>= (λ one. rest >>= (λ xs. Some (one ∷ xs)))) (items_built of ds)
+
+flattened : {A : Type 0} (forms : Option (List (Option A))) → (option_map none_waits forms >>= same) ≡ (forms >>= none_waits)
+flattened None = refl
+flattened (Some forms) = refl
+
+array_built : {A : Type 0} (of : Data → Option A) (ds : Option Items)
+    → (ds >>= forms_in (always of) >>= same) ≡ (ds >>= items_all of)
+array_built of None = refl
+array_built of (Some ds) = flattened (items_all (always of) ds) ∙ items_built of ds
+
+-- a list of such forms is there where it is of its shape
+pub list_built : {A : Type 0} (of : Data → Option A) (d : Data) → (forms_of (always of) d >>= same) ≡ list_of of d
+list_built of d = array_built of (as_array d)

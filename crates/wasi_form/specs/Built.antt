@@ -4,7 +4,7 @@ use Rattle.std.specs.List.{list_all}
 use Rattle.wasi_tree.specs.Given.{Given}
 use Rattle.wasi_tree.specs.GivenTests.{is_dir_content}
 use Rattle.wasi_guest.specs.declared.call.Call.{Call}
-use Rattle.wasi_guest.specs.declared.call.Call.TheVariants.{FdClose, FdFilestatSetTimes, FdRead, FdWrite, PathCreateDirectory, PathFilestatGet, PathFilestatSetTimes, PathLink, PathOpen, PathReadlink, PathRemoveDirectory, PathUnlinkFile, PathRename, PathSymlink}
+use Rattle.wasi_guest.specs.declared.call.Call.TheVariants.{PathOpen}
 use Rattle.wasi_form.specs.declared.script.Shown.{Shown}
 use Rattle.wasi_form.specs.Plan.{PlannedPreopen, PlannedPiece, Plan}
 
@@ -16,22 +16,10 @@ default_table = 1024
 abbrev pub most_memory : ℕ
 most_memory = 16777216
 
--- An open with flags of the descriptor waits, and so does a read, a write or a close of a standard stream.
+-- an open with flags of the descriptor waits
 abbrev pub is_built_call : Call → Bool
-is_built_call (FdClose fd) = nat_le 3 fd
-is_built_call (FdFilestatSetTimes fd atim mtim fst_flags) = true
-is_built_call (FdRead fd iovs iovs_len) = nat_le 3 fd
-is_built_call (FdWrite fd iovs iovs_len) = nat_le 3 fd
-is_built_call (PathCreateDirectory fd path path_len) = true
-is_built_call (PathFilestatGet fd flags path path_len) = true
-is_built_call (PathFilestatSetTimes fd flags path path_len atim mtim fst_flags) = true
-is_built_call (PathLink old_fd old_flags old_path old_path_len new_fd new_path new_path_len) = true
 is_built_call (PathOpen fd dirflags path path_len oflags base inheriting fdflags) = nat_eq fdflags 0
-is_built_call (PathReadlink fd path path_len buf buf_len) = true
-is_built_call (PathRemoveDirectory fd path path_len) = true
-is_built_call (PathUnlinkFile fd path path_len) = true
-is_built_call (PathRename old_fd old_path old_path_len new_fd new_path new_path_len) = true
-is_built_call (PathSymlink old_path old_path_len fd new_path new_path_len) = true
+is_built_call _ = true
 
 -- all its calls are built
 unfoldable pub is_built : Plan → Bool

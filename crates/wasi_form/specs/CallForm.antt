@@ -4,7 +4,7 @@ use Rattle.std.specs.Str.{bytes_eq}
 use Rattle.serde_json.specs.Data.{Data, Items, no_items, item}
 use Rattle.serde_json.specs.Find as find
 use Rattle.wasi_guest.specs.declared.call.Call.{Call}
-use Rattle.wasi_guest.specs.declared.call.Call.TheVariants.{FdClose, FdFilestatSetTimes, FdRead, FdWrite, PathCreateDirectory, PathFilestatGet, PathFilestatSetTimes, PathLink, PathOpen, PathReadlink, PathRemoveDirectory, PathUnlinkFile, PathRename, PathSymlink}
+use Rattle.wasi_guest.specs.declared.call.Call.TheVariants.{ArgsGet, ArgsSizesGet, EnvironGet, EnvironSizesGet, ClockResGet, ClockTimeGet, FdClose, FdFilestatSetTimes, FdRead, FdWrite, PathCreateDirectory, PathFilestatGet, PathFilestatSetTimes, PathLink, PathOpen, PathReadlink, PathRemoveDirectory, PathUnlinkFile, PathRename, PathSymlink, ProcExit, ProcRaise, RandomGet, SchedYield, SockAccept, SockRecv, SockSend, SockShutdown}
 use Rattle.wasi_form.specs.declared.calls.Argument.{Argument}
 use Rattle.wasi_form.specs.declared.calls.Argument.TheVariants.{U32, U64, I64}
 use Rattle.wasi_form.specs.Lists.{◌>>=◌, only_if}
@@ -75,11 +75,14 @@ is_argument U32 d = is_some (u32_of d)
 is_argument U64 d = is_some (u64_of d)
 is_argument I64 d = is_some (i64_of d)
 
+abbrev pub is_empty : List Argument → Bool
+is_empty [] = true
+is_empty (t ∷ ts) = false
+
 -- as many values, each a number of its type
 abbrev pub are_arguments : List Argument → Items → Bool
-are_arguments [] no_items = true
+are_arguments types no_items = is_empty types
 are_arguments [] (item d ds) = false
-are_arguments (t ∷ ts) no_items = false
 are_arguments (t ∷ ts) (item d ds) = is_argument t d && are_arguments ts ds
 
 abbrev pub u64_at : ℕ → Items → Option ℕ
@@ -88,17 +91,47 @@ u64_at i ds = find.get_item i ds >>= u64_of
 abbrev pub u32_at : ℕ → Items → Option ℕ
 u32_at i ds = find.get_item i ds >>= u32_of
 
-unfoldable pub path_open_of : Items → Option Call
-path_open_of ds = do
+unfoldable pub args_get_of : Items → Option Call
+args_get_of ds = do
+  argv ← u32_at 0 ds
+  argv_buf ← u32_at 1 ds
+  Some (ArgsGet argv argv_buf)
+
+unfoldable pub args_sizes_get_of : Items → Option Call
+args_sizes_get_of ds = Some ArgsSizesGet
+
+unfoldable pub environ_get_of : Items → Option Call
+environ_get_of ds = do
+  environ ← u32_at 0 ds
+  environ_buf ← u32_at 1 ds
+  Some (EnvironGet environ environ_buf)
+
+unfoldable pub environ_sizes_get_of : Items → Option Call
+environ_sizes_get_of ds = Some EnvironSizesGet
+
+unfoldable pub clock_res_get_of : Items → Option Call
+clock_res_get_of ds = do
+  id ← u32_at 0 ds
+  Some (ClockResGet id)
+
+unfoldable pub clock_time_get_of : Items → Option Call
+clock_time_get_of ds = do
+  id ← u32_at 0 ds
+  precision ← u64_at 1 ds
+  Some (ClockTimeGet id precision)
+
+unfoldable pub fd_close_of : Items → Option Call
+fd_close_of ds = do
   fd ← u32_at 0 ds
-  dirflags ← u32_at 1 ds
-  path ← u32_at 2 ds
-  path_len ← u32_at 3 ds
-  oflags ← u32_at 4 ds
-  base ← u64_at 5 ds
-  inheriting ← u64_at 6 ds
-  fdflags ← u32_at 7 ds
-  Some (PathOpen fd dirflags path path_len oflags base inheriting fdflags)
+  Some (FdClose fd)
+
+unfoldable pub fd_filestat_set_times_of : Items → Option Call
+fd_filestat_set_times_of ds = do
+  fd ← u32_at 0 ds
+  atim ← u64_at 1 ds
+  mtim ← u64_at 2 ds
+  fst_flags ← u32_at 3 ds
+  Some (FdFilestatSetTimes fd atim mtim fst_flags)
 
 unfoldable pub fd_read_of : Items → Option Call
 fd_read_of ds = do
@@ -113,19 +146,6 @@ fd_write_of ds = do
   iovs ← u32_at 1 ds
   iovs_len ← u32_at 2 ds
   Some (FdWrite fd iovs iovs_len)
-
-unfoldable pub fd_close_of : Items → Option Call
-fd_close_of ds = do
-  fd ← u32_at 0 ds
-  Some (FdClose fd)
-
-unfoldable pub fd_filestat_set_times_of : Items → Option Call
-fd_filestat_set_times_of ds = do
-  fd ← u32_at 0 ds
-  atim ← u64_at 1 ds
-  mtim ← u64_at 2 ds
-  fst_flags ← u32_at 3 ds
-  Some (FdFilestatSetTimes fd atim mtim fst_flags)
 
 unfoldable pub path_create_directory_of : Items → Option Call
 path_create_directory_of ds = do
@@ -164,6 +184,18 @@ path_link_of ds = do
   new_path ← u32_at 5 ds
   new_path_len ← u32_at 6 ds
   Some (PathLink old_fd old_flags old_path old_path_len new_fd new_path new_path_len)
+
+unfoldable pub path_open_of : Items → Option Call
+path_open_of ds = do
+  fd ← u32_at 0 ds
+  dirflags ← u32_at 1 ds
+  path ← u32_at 2 ds
+  path_len ← u32_at 3 ds
+  oflags ← u32_at 4 ds
+  base ← u64_at 5 ds
+  inheriting ← u64_at 6 ds
+  fdflags ← u32_at 7 ds
+  Some (PathOpen fd dirflags path path_len oflags base inheriting fdflags)
 
 unfoldable pub path_readlink_of : Items → Option Call
 path_readlink_of ds = do
@@ -209,10 +241,63 @@ path_symlink_of ds = do
   new_path_len ← u32_at 4 ds
   Some (PathSymlink old_path old_path_len fd new_path new_path_len)
 
+unfoldable pub proc_exit_of : Items → Option Call
+proc_exit_of ds = do
+  status ← u32_at 0 ds
+  Some (ProcExit status)
+
+unfoldable pub proc_raise_of : Items → Option Call
+proc_raise_of ds = do
+  signal ← u32_at 0 ds
+  Some (ProcRaise signal)
+
+unfoldable pub random_get_of : Items → Option Call
+random_get_of ds = do
+  buf ← u32_at 0 ds
+  buf_len ← u32_at 1 ds
+  Some (RandomGet buf buf_len)
+
+unfoldable pub sched_yield_of : Items → Option Call
+sched_yield_of ds = Some SchedYield
+
+unfoldable pub sock_accept_of : Items → Option Call
+sock_accept_of ds = do
+  fd ← u32_at 0 ds
+  flags ← u32_at 1 ds
+  Some (SockAccept fd flags)
+
+unfoldable pub sock_recv_of : Items → Option Call
+sock_recv_of ds = do
+  fd ← u32_at 0 ds
+  iovs ← u32_at 1 ds
+  iovs_len ← u32_at 2 ds
+  ri_flags ← u32_at 3 ds
+  Some (SockRecv fd iovs iovs_len ri_flags)
+
+unfoldable pub sock_send_of : Items → Option Call
+sock_send_of ds = do
+  fd ← u32_at 0 ds
+  iovs ← u32_at 1 ds
+  iovs_len ← u32_at 2 ds
+  si_flags ← u32_at 3 ds
+  Some (SockSend fd iovs iovs_len si_flags)
+
+unfoldable pub sock_shutdown_of : Items → Option Call
+sock_shutdown_of ds = do
+  fd ← u32_at 0 ds
+  how ← u32_at 1 ds
+  Some (SockShutdown fd how)
+
 -- the calls that are built, each with what its arguments make of it
-abbrev pub built_rows : List (List ℕ × (Items → Option Call))
+unfoldable pub built_rows : List (List ℕ × (Items → Option Call))
 built_rows =
-    (codes "fd_close", fd_close_of)
+    (codes "args_get", args_get_of)
+    ∷ (codes "args_sizes_get", args_sizes_get_of)
+    ∷ (codes "environ_get", environ_get_of)
+    ∷ (codes "environ_sizes_get", environ_sizes_get_of)
+    ∷ (codes "clock_res_get", clock_res_get_of)
+    ∷ (codes "clock_time_get", clock_time_get_of)
+    ∷ (codes "fd_close", fd_close_of)
     ∷ (codes "fd_filestat_set_times", fd_filestat_set_times_of)
     ∷ (codes "fd_read", fd_read_of)
     ∷ (codes "fd_write", fd_write_of)
@@ -226,20 +311,33 @@ built_rows =
     ∷ (codes "path_unlink_file", path_unlink_file_of)
     ∷ (codes "path_rename", path_rename_of)
     ∷ (codes "path_symlink", path_symlink_of)
+    ∷ (codes "proc_exit", proc_exit_of)
+    ∷ (codes "proc_raise", proc_raise_of)
+    ∷ (codes "random_get", random_get_of)
+    ∷ (codes "sched_yield", sched_yield_of)
+    ∷ (codes "sock_accept", sock_accept_of)
+    ∷ (codes "sock_recv", sock_recv_of)
+    ∷ (codes "sock_send", sock_send_of)
+    ∷ (codes "sock_shutdown", sock_shutdown_of)
     ∷ []
 
 -- the call of a name with these arguments; all other names wait
 abbrev pub call_named : List ℕ → Items → Option Call
 call_named name ds = at_name built_rows name >>= (λ of. of ds)
 
+-- the call of a name with these arguments, which are of its types: `Some None` where it waits
+unfoldable pub call_with : List ℕ → Items → Option (Option Call)
+call_with name ds = do
+  types ← arguments_of name
+  _ ← only_if (are_arguments types ds)
+  Some (call_named name ds)
+
 -- `[NAME, ARGUMENT ..]`
 abbrev pub call_in : Items → Option (Option Call)
 call_in no_items = None
 call_in (item d ds) = do
   name ← find.as_str d
-  arguments ← arguments_of name
-  _ ← only_if (are_arguments arguments ds)
-  Some (call_named name ds)
+  call_with name ds
 
 abbrev pub call_of : Data → Option (Option Call)
 call_of d = find.as_array d >>= call_in

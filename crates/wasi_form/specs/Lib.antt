@@ -8,6 +8,7 @@ pub mod PreopenForm
 pub mod MemoryForm
 pub mod LimitsForm
 pub mod CallForm
+pub mod ServicesForm
 pub mod WaitingForm
 pub mod ScriptForm
 pub mod Built

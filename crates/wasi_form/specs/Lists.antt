@@ -34,15 +34,15 @@ items_all of (item d ds) = do
   xs ← items_all of ds
   Some (x ∷ xs)
 
+-- a list of items of the shape
+abbrev pub list_of : {A : Type 0} → (Data → Option A) → Data → Option (List A)
+list_of of d = find.as_array d >>= items_all of
+
 -- A form may wait until it is built. Where it does, a value of its shape is read as `Some None`.
 
 -- a form that never waits
 abbrev pub always : {A : Type 0} → (Data → Option A) → Data → Option (Option A)
 always of d = option_map Some (of d)
-
--- a form that always waits
-abbrev pub waits : {A : Type 0} → (Data → Option A) → Data → Option (Option A)
-waits of d = option_map (λ _. None) (of d)
 
 -- a form of the items of a list that never waits
 abbrev pub always_in : {A : Type 0} → (Items → Option A) → Items → Option (Option A)

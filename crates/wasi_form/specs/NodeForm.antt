@@ -5,7 +5,6 @@ use Rattle.std.proofs.lemmas.Bool.{ltb-true}
 use Rattle.serde_json.specs.Data.{Data, Members, no_members, member}
 use Rattle.serde_json.specs.Find as find
 use Rattle.wasi_host.specs.Time.{zero_time}
-use Rattle.wasi_host.specs.declared.TheConstants.{NANOSECONDS}
 use Rattle.wasi_host.specs.declared.bits.Bits.{Bits}
 use Rattle.wasi_host.specs.declared.system_time.SystemTime.{SystemTime}
 use Rattle.wasi_tree.specs.Given.{Given, GivenContent, file, directory, link, new_given}
@@ -56,14 +55,14 @@ abbrev pub bits_of : Data → Option Bits
 bits_of d = find.as_str d >>= bits_in
 
 -- the moment of so many seconds and nanoseconds, by the test that the nanoseconds make no second
-abbrev pub moment_by : ℤ → (nanoseconds : ℕ) → (test : Bool) → nat_lt nanoseconds NANOSECONDS ≡ test → Option SystemTime
+abbrev pub moment_by : ℤ → (nanoseconds : ℕ) → (test : Bool) → nat_lt nanoseconds 1000000000 ≡ test → Option SystemTime
 moment_by seconds nanoseconds true below =
-    Some (record { seconds = seconds; nanoseconds = nanoseconds; is_time = ltb-true nanoseconds NANOSECONDS below })
+    Some (record { seconds = seconds; nanoseconds = nanoseconds; is_time = ltb-true nanoseconds 1000000000 below })
 moment_by seconds nanoseconds false below = None
 
 -- none where the nanoseconds make a second
 unfoldable pub moment_at : ℤ → ℕ → Option SystemTime
-moment_at seconds nanoseconds = moment_by seconds nanoseconds (nat_lt nanoseconds NANOSECONDS) refl
+moment_at seconds nanoseconds = moment_by seconds nanoseconds (nat_lt nanoseconds 1000000000) refl
 
 -- `[SECONDS, NANOSECONDS]`, the seconds with a sign
 abbrev pub time_of : Data → Option SystemTime

@@ -4,6 +4,7 @@ use Rattle.std.specs.String.{string_bytes}
 use Rattle.wasi_host.specs.declared.limits.Limits.{Limits}
 use Rattle.wasi_tree.specs.Given.{Given, given}
 use Rattle.wasi_fs.specs.declared.perms.FsPerms.{FsPerms}
+use Rattle.wasi_guest.specs.Services.{Handed, handed}
 use Rattle.wasi_guest.specs.declared.call.Call.{Call}
 use Rattle.wasi_form.specs.declared.script.Script.{Script}
 use Rattle.wasi_form.specs.declared.script.Draft.{Draft}
@@ -37,6 +38,8 @@ pub record Plan : Type 0 where
   pub pieces : List PlannedPiece
   pub show : List Shown
   pub calls : List Call
+  pub fuel : ℕ
+  pub services : Handed
 
 abbrev pub planned_preopen : ScriptPreopen → PlannedPreopen
 planned_preopen preopen = record { node = preopen.node; name = string_bytes preopen.name; perms = preopen.perms }
@@ -57,6 +60,8 @@ plan s = record {
   pieces = map planned_piece s.pieces.items;
   show = s.show.items;
   calls = s.calls.items;
+  fuel = s.fuel;
+  services = handed s.services;
 }
 
 -- the same, before its nodes were tested
@@ -69,4 +74,6 @@ drafted s = record {
   pieces = map planned_piece s.pieces.items;
   show = s.show.items;
   calls = s.calls.items;
+  fuel = s.fuel;
+  services = handed s.services;
 }

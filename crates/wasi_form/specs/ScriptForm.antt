@@ -1,27 +1,33 @@
 -- The form of a whole script: an object with a key for each part, and no others.
-use Rattle.std.specs.Prelude.{ℕ, List, [], ◌∷◌, map, Bool, true, ◌&&◌, codes, if◌then◌else◌, Option, Some, None, is_some, unwrap_or}
+use Rattle.std.specs.Prelude.{ℕ, List, [], ◌∷◌, ◌++◌, map, Bool, true, ◌&&◌, codes, if◌then◌else◌, Option, Some, None, is_some, unwrap_or}
 use Rattle.std.specs.List.{list_any, list_all}
 use Rattle.serde_json.specs.Data.{Data, Members}
 use Rattle.serde_json.specs.Find as find
 use Rattle.serde_json.specs.Find.{get_member}
+use Rattle.wasi_guest.specs.Services.{Handed}
 use Rattle.wasi_guest.specs.declared.call.Call.{Call}
 use Rattle.wasi_host.specs.declared.limits.Limits.{Limits}
 use Rattle.wasi_tree.specs.Given.{Given}
 use Rattle.wasi_form.specs.declared.script.Shown.{Shown}
 use Rattle.wasi_form.specs.Lists.{◌>>=◌, only_if, needed, optional, always, forms_of}
-use Rattle.wasi_form.specs.Shapes.{all_keys}
+use Rattle.wasi_form.specs.Shapes.{u64_of, all_keys}
 use Rattle.wasi_form.specs.Plan.{PlannedPreopen, PlannedMemory, Plan}
 use Rattle.wasi_form.specs.NodeForm.{script_node}
 use Rattle.wasi_form.specs.PreopenForm.{preopen_of}
 use Rattle.wasi_form.specs.LimitsForm.{default_limits, limits_of}
 use Rattle.wasi_form.specs.MemoryForm.{no_memory, memory_of, shown_of}
 use Rattle.wasi_form.specs.CallForm.{call_of}
+use Rattle.wasi_form.specs.ServicesForm.{service_keys, ServicesFound, services_in, services_found}
 use Rattle.wasi_form.specs.WaitingForm.{waiting_keys, waiting_in}
 
 unfoldable pub script_keys : List (List ℕ)
 script_keys =
-    codes "nodes" ∷ codes "preopens" ∷ codes "calls" ∷ codes "memory" ∷ codes "show" ∷ codes "limits"
-    ∷ map (λ row. row.0) waiting_keys
+    codes "nodes" ∷ codes "preopens" ∷ codes "calls" ∷ codes "memory" ∷ codes "show" ∷ codes "limits" ∷ codes "fuel"
+    ∷ (map (λ row. row.0) service_keys ++ map (λ row. row.0) waiting_keys)
+
+-- how much fuel each call has in a script that doesn't say it
+abbrev pub default_fuel : ℕ
+default_fuel = 134217728
 
 -- Whether all keys are those of a script, and what stands at them. A part is `None` where it is of another shape, or is
 -- missing and has to be there, and `Some None` where a form in it waits. At a key that waits: nothing, or whether what
@@ -34,6 +40,8 @@ pub record Found : Type 0 where
   pub memory : Option (Option PlannedMemory)
   pub show : Option (Option (List Shown))
   pub limits : Option Limits
+  pub fuel : Option ℕ
+  pub services : ServicesFound
   pub waiting : List (Option Bool)
 
 -- of all members
@@ -46,19 +54,31 @@ found_in ms = record {
   memory = optional memory_of (Some no_memory) (get_member (codes "memory") ms);
   show = optional (forms_of (always shown_of)) (Some []) (get_member (codes "show") ms);
   limits = optional limits_of default_limits (get_member (codes "limits") ms);
+  fuel = optional u64_of default_fuel (get_member (codes "fuel") ms);
+  services = services_in ms;
   waiting = waiting_in ms;
 }
 
 -- the plan of these parts, where none of them waits
-abbrev pub planned : Limits → Option (List Given) → Option (List PlannedPreopen) → Option (List Call) → Option PlannedMemory
-    → Option (List Shown) → Option Plan
-planned limits nodes preopens calls memory show = do
+abbrev pub planned : Limits → ℕ → Handed → Option (List Given) → Option (List PlannedPreopen) → Option (List Call)
+    → Option PlannedMemory → Option (List Shown) → Option Plan
+planned limits fuel services nodes preopens calls memory show = do
   ns ← nodes
   ps ← preopens
   cs ← calls
   m ← memory
   ss ← show
-  Some (record { nodes = ns; limits = limits; preopens = ps; size = m.size; pieces = m.pieces; show = ss; calls = cs })
+  Some (record {
+    nodes = ns;
+    limits = limits;
+    preopens = ps;
+    size = m.size;
+    pieces = m.pieces;
+    show = ss;
+    calls = cs;
+    fuel = fuel;
+    services = services;
+  })
 
 -- the plan of what was found, where it is of the shape of a script; `Some None` where a form in it waits
 unfoldable pub script_found : Found → Option (Option Plan)
@@ -70,7 +90,9 @@ script_found found = do
   memory ← found.memory
   show ← found.show
   limits ← found.limits
-  Some (if list_any is_some found.waiting then None else planned limits nodes preopens calls memory show)
+  fuel ← found.fuel
+  services ← services_found found.services
+  Some (if list_any is_some found.waiting then None else planned limits fuel services nodes preopens calls memory show)
 
 abbrev pub script_of : Data → Option (Option Plan)
 script_of d = find.as_object d >>= (λ ms. script_found (found_in ms))

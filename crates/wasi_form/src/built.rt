@@ -96,20 +96,8 @@ fn is_built_call(call: Call) -> bool
     ensures { result ≡ specs.is_built_call call }
 {
     match call {
-        Call::FdClose { fd } => fd >= 3,
-        Call::FdRead { fd, .. } => fd >= 3,
-        Call::FdWrite { fd, .. } => fd >= 3,
         Call::PathOpen { fdflags, .. } => fdflags == 0,
-        Call::FdFilestatSetTimes { .. }
-        | Call::PathCreateDirectory { .. }
-        | Call::PathFilestatGet { .. }
-        | Call::PathFilestatSetTimes { .. }
-        | Call::PathLink { .. }
-        | Call::PathReadlink { .. }
-        | Call::PathRemoveDirectory { .. }
-        | Call::PathUnlinkFile { .. }
-        | Call::PathRename { .. }
-        | Call::PathSymlink { .. } => true,
+        _ => true,
     }
 }
 

@@ -1,6 +1,5 @@
 //! The calls of a script.
-ghost use Rattle.std.specs.Prelude.{◌≡◌, option_map, map};
-ghost use Rattle.serde_json.specs.Find as find;
+ghost use Rattle.std.specs.Prelude.{◌≡◌, codes, Some, None, option_map, map};
 ghost use Rattle.wasi_form.specs.Atoms.{atom_data, atoms_data};
 ghost use Rattle.wasi_form.specs.CallForm as specs;
 ghost use Rattle.wasi_form.specs.IsRead.{IsRead};
@@ -9,7 +8,7 @@ ghost use Rattle.wasi_form.specs.Lists.{same};
 use crate::atoms::Atom;
 use crate::calls::Argument::{I64, U32, U64};
 use crate::lists::{Item, Listed, next_listed};
-use crate::shapes::{Unread, require};
+use crate::shapes::Unread;
 use json::Reader;
 use std::alloc::Global;
 use wasi_guest::Call;
@@ -22,17 +21,10 @@ pub enum Argument {
     I64,
 }
 
-// The calls of `wasi_snapshot_preview1`, each with the types of its arguments.
-const CALLS: [(&str, &[Argument]); 46] = [
-    ("args_get", &[U32, U32]),
-    ("args_sizes_get", &[]),
-    ("environ_get", &[U32, U32]),
-    ("environ_sizes_get", &[]),
-    ("clock_res_get", &[U32]),
-    ("clock_time_get", &[U32, U64]),
+// The calls that wait until they are built, each with the types of its arguments.
+const WAITING: [(&str, &[Argument]); 18] = [
     ("fd_advise", &[U32, U64, U64, U32]),
     ("fd_allocate", &[U32, U64, U64]),
-    ("fd_close", &[U32]),
     ("fd_datasync", &[U32]),
     ("fd_sync", &[U32]),
     ("fd_fdstat_get", &[U32]),
@@ -40,39 +32,15 @@ const CALLS: [(&str, &[Argument]); 46] = [
     ("fd_fdstat_set_rights", &[U32, U64, U64]),
     ("fd_filestat_get", &[U32]),
     ("fd_filestat_set_size", &[U32, U64]),
-    ("fd_filestat_set_times", &[U32, U64, U64, U32]),
     ("fd_pread", &[U32, U32, U32, U64]),
     ("fd_prestat_get", &[U32]),
     ("fd_prestat_dir_name", &[U32, U32, U32]),
     ("fd_pwrite", &[U32, U32, U32, U64]),
-    ("fd_read", &[U32, U32, U32]),
     ("fd_readdir", &[U32, U32, U32, U64]),
     ("fd_renumber", &[U32, U32]),
     ("fd_seek", &[U32, I64, U32]),
     ("fd_tell", &[U32]),
-    ("fd_write", &[U32, U32, U32]),
-    ("path_create_directory", &[U32, U32, U32]),
-    ("path_filestat_get", &[U32, U32, U32, U32]),
-    (
-        "path_filestat_set_times",
-        &[U32, U32, U32, U32, U64, U64, U32],
-    ),
-    ("path_link", &[U32, U32, U32, U32, U32, U32, U32]),
-    ("path_open", &[U32, U32, U32, U32, U32, U64, U64, U32]),
-    ("path_readlink", &[U32, U32, U32, U32, U32]),
-    ("path_remove_directory", &[U32, U32, U32]),
-    ("path_unlink_file", &[U32, U32, U32]),
-    ("path_rename", &[U32, U32, U32, U32, U32, U32]),
-    ("path_symlink", &[U32, U32, U32, U32, U32]),
     ("poll_oneoff", &[U32, U32, U32]),
-    ("proc_exit", &[U32]),
-    ("proc_raise", &[U32]),
-    ("random_get", &[U32, U32]),
-    ("sched_yield", &[]),
-    ("sock_accept", &[U32, U32]),
-    ("sock_recv", &[U32, U32, U32, U32]),
-    ("sock_send", &[U32, U32, U32, U32]),
-    ("sock_shutdown", &[U32, U32]),
 ];
 
 fn at_name(rows: &[(&'static str, &'static [Argument])], name: &str) -> Option<&'static [Argument]>
@@ -85,14 +53,6 @@ fn at_name(rows: &[(&'static str, &'static [Argument])], name: &str) -> Option<&
         }
     }
     None
-}
-
-// The types of the arguments of the call of a name.
-#[tactic(auto, unfolding(crate::specs::CallForm::arguments_of))]
-fn arguments_of(name: &str) -> Option<&'static [Argument]>
-    ensures { option_map (λ types. types.now) result ≡ specs.arguments_of name.now }
-{
-    at_name(&CALLS, name)
 }
 
 impl Argument {
@@ -123,219 +83,464 @@ fn are_arguments(mut types: &[Argument], mut values: &[Atom<'_>]) -> bool
     values.is_empty()
 }
 
-fn atom_at<'a>(atoms: &[Atom<'a>], i: usize) -> Option<Atom<'a>>
-    ensures { option_map atom_data result ≡ find.get_item i (atoms_data atoms.now) }
+#[tactic(auto, unfolding(crate::specs::CallForm::call_with, crate::specs::CallForm::arguments_of, crate::specs::CallForm::built_rows, crate::specs::CallForm::args_get_of), using(crate::proofs::Arguments::too_few, crate::proofs::Arguments::too_many))]
+fn args_get(arguments: &[Atom<'_>]) -> Option<Call>
+    ensures { option_map Some result ≡ specs.call_with (codes "args_get") (atoms_data arguments.now) }
 {
-    atoms.get(i).copied()
-}
-
-fn u64_at(atoms: &[Atom<'_>], i: usize) -> Option<u64>
-    ensures { result ≡ specs.u64_at i (atoms_data atoms.now) }
-{
-    atom_at(atoms, i)?.as_u64()
-}
-
-fn u32_at(atoms: &[Atom<'_>], i: usize) -> Option<u32>
-    ensures { result ≡ specs.u32_at i (atoms_data atoms.now) }
-{
-    atom_at(atoms, i)?.as_u32()
-}
-
-#[tactic(auto, unfolding(crate::specs::CallForm::path_open_of))]
-fn path_open(arguments: &[Atom<'_>]) -> Option<Call>
-    ensures { result ≡ specs.path_open_of (atoms_data arguments.now) }
-{
-    Some(Call::PathOpen {
-        fd: u32_at(arguments, 0)?,
-        dirflags: u32_at(arguments, 1)?,
-        path: u32_at(arguments, 2)?,
-        path_len: u32_at(arguments, 3)?,
-        oflags: u32_at(arguments, 4)?,
-        base: u64_at(arguments, 5)?,
-        inheriting: u64_at(arguments, 6)?,
-        fdflags: u32_at(arguments, 7)?,
+    let [argv, argv_buf] = arguments else {
+        return None;
+    };
+    Some(Call::ArgsGet {
+        argv: argv.as_u32()?,
+        argv_buf: argv_buf.as_u32()?,
     })
 }
 
-#[tactic(auto, unfolding(crate::specs::CallForm::fd_read_of))]
-fn fd_read(arguments: &[Atom<'_>]) -> Option<Call>
-    ensures { result ≡ specs.fd_read_of (atoms_data arguments.now) }
+#[tactic(auto, unfolding(crate::specs::CallForm::call_with, crate::specs::CallForm::arguments_of, crate::specs::CallForm::built_rows, crate::specs::CallForm::args_sizes_get_of), using(crate::proofs::Arguments::no_types))]
+fn args_sizes_get(arguments: &[Atom<'_>]) -> Option<Call>
+    ensures { option_map Some result ≡ specs.call_with (codes "args_sizes_get") (atoms_data arguments.now) }
 {
-    Some(Call::FdRead {
-        fd: u32_at(arguments, 0)?,
-        iovs: u32_at(arguments, 1)?,
-        iovs_len: u32_at(arguments, 2)?,
+    arguments.is_empty().then_some(Call::ArgsSizesGet)
+}
+
+#[tactic(auto, unfolding(crate::specs::CallForm::call_with, crate::specs::CallForm::arguments_of, crate::specs::CallForm::built_rows, crate::specs::CallForm::environ_get_of), using(crate::proofs::Arguments::too_few, crate::proofs::Arguments::too_many))]
+fn environ_get(arguments: &[Atom<'_>]) -> Option<Call>
+    ensures { option_map Some result ≡ specs.call_with (codes "environ_get") (atoms_data arguments.now) }
+{
+    let [environ, environ_buf] = arguments else {
+        return None;
+    };
+    Some(Call::EnvironGet {
+        environ: environ.as_u32()?,
+        environ_buf: environ_buf.as_u32()?,
     })
 }
 
-#[tactic(auto, unfolding(crate::specs::CallForm::fd_write_of))]
-fn fd_write(arguments: &[Atom<'_>]) -> Option<Call>
-    ensures { result ≡ specs.fd_write_of (atoms_data arguments.now) }
+#[tactic(auto, unfolding(crate::specs::CallForm::call_with, crate::specs::CallForm::arguments_of, crate::specs::CallForm::built_rows, crate::specs::CallForm::environ_sizes_get_of), using(crate::proofs::Arguments::no_types))]
+fn environ_sizes_get(arguments: &[Atom<'_>]) -> Option<Call>
+    ensures { option_map Some result ≡ specs.call_with (codes "environ_sizes_get") (atoms_data arguments.now) }
 {
-    Some(Call::FdWrite {
-        fd: u32_at(arguments, 0)?,
-        iovs: u32_at(arguments, 1)?,
-        iovs_len: u32_at(arguments, 2)?,
+    arguments.is_empty().then_some(Call::EnvironSizesGet)
+}
+
+#[tactic(auto, unfolding(crate::specs::CallForm::call_with, crate::specs::CallForm::arguments_of, crate::specs::CallForm::built_rows, crate::specs::CallForm::clock_res_get_of), using(crate::proofs::Arguments::too_few, crate::proofs::Arguments::too_many))]
+fn clock_res_get(arguments: &[Atom<'_>]) -> Option<Call>
+    ensures { option_map Some result ≡ specs.call_with (codes "clock_res_get") (atoms_data arguments.now) }
+{
+    let [id] = arguments else {
+        return None;
+    };
+    Some(Call::ClockResGet { id: id.as_u32()? })
+}
+
+#[tactic(auto, unfolding(crate::specs::CallForm::call_with, crate::specs::CallForm::arguments_of, crate::specs::CallForm::built_rows, crate::specs::CallForm::clock_time_get_of), using(crate::proofs::Arguments::too_few, crate::proofs::Arguments::too_many))]
+fn clock_time_get(arguments: &[Atom<'_>]) -> Option<Call>
+    ensures { option_map Some result ≡ specs.call_with (codes "clock_time_get") (atoms_data arguments.now) }
+{
+    let [id, precision] = arguments else {
+        return None;
+    };
+    Some(Call::ClockTimeGet {
+        id: id.as_u32()?,
+        precision: precision.as_u64()?,
     })
 }
 
-#[tactic(auto, unfolding(crate::specs::CallForm::fd_close_of))]
+#[tactic(auto, unfolding(crate::specs::CallForm::call_with, crate::specs::CallForm::arguments_of, crate::specs::CallForm::built_rows, crate::specs::CallForm::fd_close_of), using(crate::proofs::Arguments::too_few, crate::proofs::Arguments::too_many))]
 fn fd_close(arguments: &[Atom<'_>]) -> Option<Call>
-    ensures { result ≡ specs.fd_close_of (atoms_data arguments.now) }
+    ensures { option_map Some result ≡ specs.call_with (codes "fd_close") (atoms_data arguments.now) }
 {
-    Some(Call::FdClose {
-        fd: u32_at(arguments, 0)?,
-    })
+    let [fd] = arguments else {
+        return None;
+    };
+    Some(Call::FdClose { fd: fd.as_u32()? })
 }
 
-#[tactic(auto, unfolding(crate::specs::CallForm::fd_filestat_set_times_of))]
+#[tactic(auto, unfolding(crate::specs::CallForm::call_with, crate::specs::CallForm::arguments_of, crate::specs::CallForm::built_rows, crate::specs::CallForm::fd_filestat_set_times_of), using(crate::proofs::Arguments::too_few, crate::proofs::Arguments::too_many))]
 fn fd_filestat_set_times(arguments: &[Atom<'_>]) -> Option<Call>
-    ensures { result ≡ specs.fd_filestat_set_times_of (atoms_data arguments.now) }
+    ensures { option_map Some result ≡ specs.call_with (codes "fd_filestat_set_times") (atoms_data arguments.now) }
 {
+    let [fd, atim, mtim, fst_flags] = arguments else {
+        return None;
+    };
     Some(Call::FdFilestatSetTimes {
-        fd: u32_at(arguments, 0)?,
-        atim: u64_at(arguments, 1)?,
-        mtim: u64_at(arguments, 2)?,
-        fst_flags: u32_at(arguments, 3)?,
+        fd: fd.as_u32()?,
+        atim: atim.as_u64()?,
+        mtim: mtim.as_u64()?,
+        fst_flags: fst_flags.as_u32()?,
     })
 }
 
-#[tactic(auto, unfolding(crate::specs::CallForm::path_create_directory_of))]
+#[tactic(auto, unfolding(crate::specs::CallForm::call_with, crate::specs::CallForm::arguments_of, crate::specs::CallForm::built_rows, crate::specs::CallForm::fd_read_of), using(crate::proofs::Arguments::too_few, crate::proofs::Arguments::too_many))]
+fn fd_read(arguments: &[Atom<'_>]) -> Option<Call>
+    ensures { option_map Some result ≡ specs.call_with (codes "fd_read") (atoms_data arguments.now) }
+{
+    let [fd, iovs, iovs_len] = arguments else {
+        return None;
+    };
+    Some(Call::FdRead {
+        fd: fd.as_u32()?,
+        iovs: iovs.as_u32()?,
+        iovs_len: iovs_len.as_u32()?,
+    })
+}
+
+#[tactic(auto, unfolding(crate::specs::CallForm::call_with, crate::specs::CallForm::arguments_of, crate::specs::CallForm::built_rows, crate::specs::CallForm::fd_write_of), using(crate::proofs::Arguments::too_few, crate::proofs::Arguments::too_many))]
+fn fd_write(arguments: &[Atom<'_>]) -> Option<Call>
+    ensures { option_map Some result ≡ specs.call_with (codes "fd_write") (atoms_data arguments.now) }
+{
+    let [fd, iovs, iovs_len] = arguments else {
+        return None;
+    };
+    Some(Call::FdWrite {
+        fd: fd.as_u32()?,
+        iovs: iovs.as_u32()?,
+        iovs_len: iovs_len.as_u32()?,
+    })
+}
+
+#[tactic(auto, unfolding(crate::specs::CallForm::call_with, crate::specs::CallForm::arguments_of, crate::specs::CallForm::built_rows, crate::specs::CallForm::path_create_directory_of), using(crate::proofs::Arguments::too_few, crate::proofs::Arguments::too_many))]
 fn path_create_directory(arguments: &[Atom<'_>]) -> Option<Call>
-    ensures { result ≡ specs.path_create_directory_of (atoms_data arguments.now) }
+    ensures { option_map Some result ≡ specs.call_with (codes "path_create_directory") (atoms_data arguments.now) }
 {
+    let [fd, path, path_len] = arguments else {
+        return None;
+    };
     Some(Call::PathCreateDirectory {
-        fd: u32_at(arguments, 0)?,
-        path: u32_at(arguments, 1)?,
-        path_len: u32_at(arguments, 2)?,
+        fd: fd.as_u32()?,
+        path: path.as_u32()?,
+        path_len: path_len.as_u32()?,
     })
 }
 
-#[tactic(auto, unfolding(crate::specs::CallForm::path_filestat_get_of))]
+#[tactic(auto, unfolding(crate::specs::CallForm::call_with, crate::specs::CallForm::arguments_of, crate::specs::CallForm::built_rows, crate::specs::CallForm::path_filestat_get_of), using(crate::proofs::Arguments::too_few, crate::proofs::Arguments::too_many))]
 fn path_filestat_get(arguments: &[Atom<'_>]) -> Option<Call>
-    ensures { result ≡ specs.path_filestat_get_of (atoms_data arguments.now) }
+    ensures { option_map Some result ≡ specs.call_with (codes "path_filestat_get") (atoms_data arguments.now) }
 {
+    let [fd, flags, path, path_len] = arguments else {
+        return None;
+    };
     Some(Call::PathFilestatGet {
-        fd: u32_at(arguments, 0)?,
-        flags: u32_at(arguments, 1)?,
-        path: u32_at(arguments, 2)?,
-        path_len: u32_at(arguments, 3)?,
+        fd: fd.as_u32()?,
+        flags: flags.as_u32()?,
+        path: path.as_u32()?,
+        path_len: path_len.as_u32()?,
     })
 }
 
-#[tactic(auto, unfolding(crate::specs::CallForm::path_filestat_set_times_of))]
+#[tactic(auto, unfolding(crate::specs::CallForm::call_with, crate::specs::CallForm::arguments_of, crate::specs::CallForm::built_rows, crate::specs::CallForm::path_filestat_set_times_of), using(crate::proofs::Arguments::too_few, crate::proofs::Arguments::too_many))]
 fn path_filestat_set_times(arguments: &[Atom<'_>]) -> Option<Call>
-    ensures { result ≡ specs.path_filestat_set_times_of (atoms_data arguments.now) }
+    ensures { option_map Some result ≡ specs.call_with (codes "path_filestat_set_times") (atoms_data arguments.now) }
 {
+    let [fd, flags, path, path_len, atim, mtim, fst_flags] = arguments else {
+        return None;
+    };
     Some(Call::PathFilestatSetTimes {
-        fd: u32_at(arguments, 0)?,
-        flags: u32_at(arguments, 1)?,
-        path: u32_at(arguments, 2)?,
-        path_len: u32_at(arguments, 3)?,
-        atim: u64_at(arguments, 4)?,
-        mtim: u64_at(arguments, 5)?,
-        fst_flags: u32_at(arguments, 6)?,
+        fd: fd.as_u32()?,
+        flags: flags.as_u32()?,
+        path: path.as_u32()?,
+        path_len: path_len.as_u32()?,
+        atim: atim.as_u64()?,
+        mtim: mtim.as_u64()?,
+        fst_flags: fst_flags.as_u32()?,
     })
 }
 
-#[tactic(auto, unfolding(crate::specs::CallForm::path_link_of))]
+#[tactic(auto, unfolding(crate::specs::CallForm::call_with, crate::specs::CallForm::arguments_of, crate::specs::CallForm::built_rows, crate::specs::CallForm::path_link_of), using(crate::proofs::Arguments::too_few, crate::proofs::Arguments::too_many))]
 fn path_link(arguments: &[Atom<'_>]) -> Option<Call>
-    ensures { result ≡ specs.path_link_of (atoms_data arguments.now) }
+    ensures { option_map Some result ≡ specs.call_with (codes "path_link") (atoms_data arguments.now) }
 {
+    let [
+        old_fd,
+        old_flags,
+        old_path,
+        old_path_len,
+        new_fd,
+        new_path,
+        new_path_len,
+    ] = arguments
+    else {
+        return None;
+    };
     Some(Call::PathLink {
-        old_fd: u32_at(arguments, 0)?,
-        old_flags: u32_at(arguments, 1)?,
-        old_path: u32_at(arguments, 2)?,
-        old_path_len: u32_at(arguments, 3)?,
-        new_fd: u32_at(arguments, 4)?,
-        new_path: u32_at(arguments, 5)?,
-        new_path_len: u32_at(arguments, 6)?,
+        old_fd: old_fd.as_u32()?,
+        old_flags: old_flags.as_u32()?,
+        old_path: old_path.as_u32()?,
+        old_path_len: old_path_len.as_u32()?,
+        new_fd: new_fd.as_u32()?,
+        new_path: new_path.as_u32()?,
+        new_path_len: new_path_len.as_u32()?,
     })
 }
 
-#[tactic(auto, unfolding(crate::specs::CallForm::path_readlink_of))]
+#[tactic(auto, unfolding(crate::specs::CallForm::call_with, crate::specs::CallForm::arguments_of, crate::specs::CallForm::built_rows, crate::specs::CallForm::path_open_of), using(crate::proofs::Arguments::too_few, crate::proofs::Arguments::too_many))]
+fn path_open(arguments: &[Atom<'_>]) -> Option<Call>
+    ensures { option_map Some result ≡ specs.call_with (codes "path_open") (atoms_data arguments.now) }
+{
+    let [
+        fd,
+        dirflags,
+        path,
+        path_len,
+        oflags,
+        base,
+        inheriting,
+        fdflags,
+    ] = arguments
+    else {
+        return None;
+    };
+    Some(Call::PathOpen {
+        fd: fd.as_u32()?,
+        dirflags: dirflags.as_u32()?,
+        path: path.as_u32()?,
+        path_len: path_len.as_u32()?,
+        oflags: oflags.as_u32()?,
+        base: base.as_u64()?,
+        inheriting: inheriting.as_u64()?,
+        fdflags: fdflags.as_u32()?,
+    })
+}
+
+#[tactic(auto, unfolding(crate::specs::CallForm::call_with, crate::specs::CallForm::arguments_of, crate::specs::CallForm::built_rows, crate::specs::CallForm::path_readlink_of), using(crate::proofs::Arguments::too_few, crate::proofs::Arguments::too_many))]
 fn path_readlink(arguments: &[Atom<'_>]) -> Option<Call>
-    ensures { result ≡ specs.path_readlink_of (atoms_data arguments.now) }
+    ensures { option_map Some result ≡ specs.call_with (codes "path_readlink") (atoms_data arguments.now) }
 {
+    let [fd, path, path_len, buf, buf_len] = arguments else {
+        return None;
+    };
     Some(Call::PathReadlink {
-        fd: u32_at(arguments, 0)?,
-        path: u32_at(arguments, 1)?,
-        path_len: u32_at(arguments, 2)?,
-        buf: u32_at(arguments, 3)?,
-        buf_len: u32_at(arguments, 4)?,
+        fd: fd.as_u32()?,
+        path: path.as_u32()?,
+        path_len: path_len.as_u32()?,
+        buf: buf.as_u32()?,
+        buf_len: buf_len.as_u32()?,
     })
 }
 
-#[tactic(auto, unfolding(crate::specs::CallForm::path_remove_directory_of))]
+#[tactic(auto, unfolding(crate::specs::CallForm::call_with, crate::specs::CallForm::arguments_of, crate::specs::CallForm::built_rows, crate::specs::CallForm::path_remove_directory_of), using(crate::proofs::Arguments::too_few, crate::proofs::Arguments::too_many))]
 fn path_remove_directory(arguments: &[Atom<'_>]) -> Option<Call>
-    ensures { result ≡ specs.path_remove_directory_of (atoms_data arguments.now) }
+    ensures { option_map Some result ≡ specs.call_with (codes "path_remove_directory") (atoms_data arguments.now) }
 {
+    let [fd, path, path_len] = arguments else {
+        return None;
+    };
     Some(Call::PathRemoveDirectory {
-        fd: u32_at(arguments, 0)?,
-        path: u32_at(arguments, 1)?,
-        path_len: u32_at(arguments, 2)?,
+        fd: fd.as_u32()?,
+        path: path.as_u32()?,
+        path_len: path_len.as_u32()?,
     })
 }
 
-#[tactic(auto, unfolding(crate::specs::CallForm::path_unlink_file_of))]
+#[tactic(auto, unfolding(crate::specs::CallForm::call_with, crate::specs::CallForm::arguments_of, crate::specs::CallForm::built_rows, crate::specs::CallForm::path_unlink_file_of), using(crate::proofs::Arguments::too_few, crate::proofs::Arguments::too_many))]
 fn path_unlink_file(arguments: &[Atom<'_>]) -> Option<Call>
-    ensures { result ≡ specs.path_unlink_file_of (atoms_data arguments.now) }
+    ensures { option_map Some result ≡ specs.call_with (codes "path_unlink_file") (atoms_data arguments.now) }
 {
+    let [fd, path, path_len] = arguments else {
+        return None;
+    };
     Some(Call::PathUnlinkFile {
-        fd: u32_at(arguments, 0)?,
-        path: u32_at(arguments, 1)?,
-        path_len: u32_at(arguments, 2)?,
+        fd: fd.as_u32()?,
+        path: path.as_u32()?,
+        path_len: path_len.as_u32()?,
     })
 }
 
-#[tactic(auto, unfolding(crate::specs::CallForm::path_rename_of))]
+#[tactic(auto, unfolding(crate::specs::CallForm::call_with, crate::specs::CallForm::arguments_of, crate::specs::CallForm::built_rows, crate::specs::CallForm::path_rename_of), using(crate::proofs::Arguments::too_few, crate::proofs::Arguments::too_many))]
 fn path_rename(arguments: &[Atom<'_>]) -> Option<Call>
-    ensures { result ≡ specs.path_rename_of (atoms_data arguments.now) }
+    ensures { option_map Some result ≡ specs.call_with (codes "path_rename") (atoms_data arguments.now) }
 {
+    let [
+        old_fd,
+        old_path,
+        old_path_len,
+        new_fd,
+        new_path,
+        new_path_len,
+    ] = arguments
+    else {
+        return None;
+    };
     Some(Call::PathRename {
-        old_fd: u32_at(arguments, 0)?,
-        old_path: u32_at(arguments, 1)?,
-        old_path_len: u32_at(arguments, 2)?,
-        new_fd: u32_at(arguments, 3)?,
-        new_path: u32_at(arguments, 4)?,
-        new_path_len: u32_at(arguments, 5)?,
+        old_fd: old_fd.as_u32()?,
+        old_path: old_path.as_u32()?,
+        old_path_len: old_path_len.as_u32()?,
+        new_fd: new_fd.as_u32()?,
+        new_path: new_path.as_u32()?,
+        new_path_len: new_path_len.as_u32()?,
     })
 }
 
-#[tactic(auto, unfolding(crate::specs::CallForm::path_symlink_of))]
+#[tactic(auto, unfolding(crate::specs::CallForm::call_with, crate::specs::CallForm::arguments_of, crate::specs::CallForm::built_rows, crate::specs::CallForm::path_symlink_of), using(crate::proofs::Arguments::too_few, crate::proofs::Arguments::too_many))]
 fn path_symlink(arguments: &[Atom<'_>]) -> Option<Call>
-    ensures { result ≡ specs.path_symlink_of (atoms_data arguments.now) }
+    ensures { option_map Some result ≡ specs.call_with (codes "path_symlink") (atoms_data arguments.now) }
 {
+    let [old_path, old_path_len, fd, new_path, new_path_len] = arguments else {
+        return None;
+    };
     Some(Call::PathSymlink {
-        old_path: u32_at(arguments, 0)?,
-        old_path_len: u32_at(arguments, 1)?,
-        fd: u32_at(arguments, 2)?,
-        new_path: u32_at(arguments, 3)?,
-        new_path_len: u32_at(arguments, 4)?,
+        old_path: old_path.as_u32()?,
+        old_path_len: old_path_len.as_u32()?,
+        fd: fd.as_u32()?,
+        new_path: new_path.as_u32()?,
+        new_path_len: new_path_len.as_u32()?,
     })
 }
 
-// The call of a name, `None` where it waits.
-fn call_named(name: &str, arguments: &[Atom<'_>]) -> Option<Call>
-    ensures { result ≡ specs.call_named name.now (atoms_data arguments.now) }
+#[tactic(auto, unfolding(crate::specs::CallForm::call_with, crate::specs::CallForm::arguments_of, crate::specs::CallForm::built_rows, crate::specs::CallForm::proc_exit_of), using(crate::proofs::Arguments::too_few, crate::proofs::Arguments::too_many))]
+fn proc_exit(arguments: &[Atom<'_>]) -> Option<Call>
+    ensures { option_map Some result ≡ specs.call_with (codes "proc_exit") (atoms_data arguments.now) }
+{
+    let [status] = arguments else {
+        return None;
+    };
+    Some(Call::ProcExit {
+        status: status.as_u32()?,
+    })
+}
+
+#[tactic(auto, unfolding(crate::specs::CallForm::call_with, crate::specs::CallForm::arguments_of, crate::specs::CallForm::built_rows, crate::specs::CallForm::proc_raise_of), using(crate::proofs::Arguments::too_few, crate::proofs::Arguments::too_many))]
+fn proc_raise(arguments: &[Atom<'_>]) -> Option<Call>
+    ensures { option_map Some result ≡ specs.call_with (codes "proc_raise") (atoms_data arguments.now) }
+{
+    let [signal] = arguments else {
+        return None;
+    };
+    Some(Call::ProcRaise {
+        signal: signal.as_u32()?,
+    })
+}
+
+#[tactic(auto, unfolding(crate::specs::CallForm::call_with, crate::specs::CallForm::arguments_of, crate::specs::CallForm::built_rows, crate::specs::CallForm::random_get_of), using(crate::proofs::Arguments::too_few, crate::proofs::Arguments::too_many))]
+fn random_get(arguments: &[Atom<'_>]) -> Option<Call>
+    ensures { option_map Some result ≡ specs.call_with (codes "random_get") (atoms_data arguments.now) }
+{
+    let [buf, buf_len] = arguments else {
+        return None;
+    };
+    Some(Call::RandomGet {
+        buf: buf.as_u32()?,
+        buf_len: buf_len.as_u32()?,
+    })
+}
+
+#[tactic(auto, unfolding(crate::specs::CallForm::call_with, crate::specs::CallForm::arguments_of, crate::specs::CallForm::built_rows, crate::specs::CallForm::sched_yield_of), using(crate::proofs::Arguments::no_types))]
+fn sched_yield(arguments: &[Atom<'_>]) -> Option<Call>
+    ensures { option_map Some result ≡ specs.call_with (codes "sched_yield") (atoms_data arguments.now) }
+{
+    arguments.is_empty().then_some(Call::SchedYield)
+}
+
+#[tactic(auto, unfolding(crate::specs::CallForm::call_with, crate::specs::CallForm::arguments_of, crate::specs::CallForm::built_rows, crate::specs::CallForm::sock_accept_of), using(crate::proofs::Arguments::too_few, crate::proofs::Arguments::too_many))]
+fn sock_accept(arguments: &[Atom<'_>]) -> Option<Call>
+    ensures { option_map Some result ≡ specs.call_with (codes "sock_accept") (atoms_data arguments.now) }
+{
+    let [fd, flags] = arguments else {
+        return None;
+    };
+    Some(Call::SockAccept {
+        fd: fd.as_u32()?,
+        flags: flags.as_u32()?,
+    })
+}
+
+#[tactic(auto, unfolding(crate::specs::CallForm::call_with, crate::specs::CallForm::arguments_of, crate::specs::CallForm::built_rows, crate::specs::CallForm::sock_recv_of), using(crate::proofs::Arguments::too_few, crate::proofs::Arguments::too_many))]
+fn sock_recv(arguments: &[Atom<'_>]) -> Option<Call>
+    ensures { option_map Some result ≡ specs.call_with (codes "sock_recv") (atoms_data arguments.now) }
+{
+    let [fd, iovs, iovs_len, ri_flags] = arguments else {
+        return None;
+    };
+    Some(Call::SockRecv {
+        fd: fd.as_u32()?,
+        iovs: iovs.as_u32()?,
+        iovs_len: iovs_len.as_u32()?,
+        ri_flags: ri_flags.as_u32()?,
+    })
+}
+
+#[tactic(auto, unfolding(crate::specs::CallForm::call_with, crate::specs::CallForm::arguments_of, crate::specs::CallForm::built_rows, crate::specs::CallForm::sock_send_of), using(crate::proofs::Arguments::too_few, crate::proofs::Arguments::too_many))]
+fn sock_send(arguments: &[Atom<'_>]) -> Option<Call>
+    ensures { option_map Some result ≡ specs.call_with (codes "sock_send") (atoms_data arguments.now) }
+{
+    let [fd, iovs, iovs_len, si_flags] = arguments else {
+        return None;
+    };
+    Some(Call::SockSend {
+        fd: fd.as_u32()?,
+        iovs: iovs.as_u32()?,
+        iovs_len: iovs_len.as_u32()?,
+        si_flags: si_flags.as_u32()?,
+    })
+}
+
+#[tactic(auto, unfolding(crate::specs::CallForm::call_with, crate::specs::CallForm::arguments_of, crate::specs::CallForm::built_rows, crate::specs::CallForm::sock_shutdown_of), using(crate::proofs::Arguments::too_few, crate::proofs::Arguments::too_many))]
+fn sock_shutdown(arguments: &[Atom<'_>]) -> Option<Call>
+    ensures { option_map Some result ≡ specs.call_with (codes "sock_shutdown") (atoms_data arguments.now) }
+{
+    let [fd, how] = arguments else {
+        return None;
+    };
+    Some(Call::SockShutdown {
+        fd: fd.as_u32()?,
+        how: how.as_u32()?,
+    })
+}
+
+// The call of a name with these arguments, `Some(None)` where it waits. `None` where there is no call of this name, or
+// its arguments are of other types.
+#[tactic(auto, unfolding(crate::specs::CallForm::built_rows))]
+fn call_with(name: &str, arguments: &[Atom<'_>]) -> Option<Option<Call>>
+    ensures { result ≡ specs.call_with name.now (atoms_data arguments.now) }
 {
     match name {
-        "fd_close" => fd_close(arguments),
-        "fd_filestat_set_times" => fd_filestat_set_times(arguments),
-        "fd_read" => fd_read(arguments),
-        "fd_write" => fd_write(arguments),
-        "path_create_directory" => path_create_directory(arguments),
-        "path_filestat_get" => path_filestat_get(arguments),
-        "path_filestat_set_times" => path_filestat_set_times(arguments),
-        "path_link" => path_link(arguments),
-        "path_open" => path_open(arguments),
-        "path_readlink" => path_readlink(arguments),
-        "path_remove_directory" => path_remove_directory(arguments),
-        "path_unlink_file" => path_unlink_file(arguments),
-        "path_rename" => path_rename(arguments),
-        "path_symlink" => path_symlink(arguments),
-        _ => None,
+        "args_get" => built(args_get(arguments)),
+        "args_sizes_get" => built(args_sizes_get(arguments)),
+        "environ_get" => built(environ_get(arguments)),
+        "environ_sizes_get" => built(environ_sizes_get(arguments)),
+        "clock_res_get" => built(clock_res_get(arguments)),
+        "clock_time_get" => built(clock_time_get(arguments)),
+        "fd_close" => built(fd_close(arguments)),
+        "fd_filestat_set_times" => built(fd_filestat_set_times(arguments)),
+        "fd_read" => built(fd_read(arguments)),
+        "fd_write" => built(fd_write(arguments)),
+        "path_create_directory" => built(path_create_directory(arguments)),
+        "path_filestat_get" => built(path_filestat_get(arguments)),
+        "path_filestat_set_times" => built(path_filestat_set_times(arguments)),
+        "path_link" => built(path_link(arguments)),
+        "path_open" => built(path_open(arguments)),
+        "path_readlink" => built(path_readlink(arguments)),
+        "path_remove_directory" => built(path_remove_directory(arguments)),
+        "path_unlink_file" => built(path_unlink_file(arguments)),
+        "path_rename" => built(path_rename(arguments)),
+        "path_symlink" => built(path_symlink(arguments)),
+        "proc_exit" => built(proc_exit(arguments)),
+        "proc_raise" => built(proc_raise(arguments)),
+        "random_get" => built(random_get(arguments)),
+        "sched_yield" => built(sched_yield(arguments)),
+        "sock_accept" => built(sock_accept(arguments)),
+        "sock_recv" => built(sock_recv(arguments)),
+        "sock_send" => built(sock_send(arguments)),
+        "sock_shutdown" => built(sock_shutdown(arguments)),
+        _ => waiting(name, arguments),
     }
+}
+
+fn built(call: Option<Call>) -> Option<Option<Call>>
+    ensures { result ≡ option_map Some call }
+{
+    match call {
+        Some(call) => Some(Some(call)),
+        None => None,
+    }
+}
+
+fn waiting(name: &str, arguments: &[Atom<'_>]) -> Option<Option<Call>>
+    requires { specs.at_name specs.built_rows name.now ≡ None }
+    ensures { result ≡ specs.call_with name.now (atoms_data arguments.now) }
+{
+    let types = at_name(&WAITING, name)?;
+    are_arguments(types, arguments).then_some(None)
 }
 
 impl Listed for Call {
@@ -354,11 +559,7 @@ impl Listed for Call {
         let Some(name) = name.as_str() else {
             return Err(Unread::Shape);
         };
-        let Some(types) = arguments_of(name) else {
-            return Err(Unread::Shape);
-        };
-        require(are_arguments(types, arguments))?;
-        Ok(call_named(name, arguments))
+        call_with(name, arguments).ok_or(Unread::Shape)
     }
 }
 

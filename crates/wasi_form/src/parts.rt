@@ -1,10 +1,11 @@
 //! The parts of a script, read one after another.
 ghost use Rattle.std.specs.Prelude.{◌≡◌, option_map, map};
 ghost use Rattle.json.specs.Json.{parse_map};
+ghost use Rattle.wasi_guest.specs.Services.{handed};
 ghost use Rattle.wasi_tree.specs.Given.{given};
 ghost use Rattle.wasi_form.specs.IsRead.{IsRead};
 ghost use Rattle.wasi_form.specs.Lists.{same};
-ghost use Rattle.wasi_form.specs.FoundParts.{found_of, with_waiting};
+ghost use Rattle.wasi_form.specs.FoundParts.{found_of, with_service, with_waiting};
 ghost use Rattle.wasi_form.specs.Plan.{drafted, planned_preopen, planned_memory};
 ghost use Rattle.wasi_form.specs.ScriptForm.{planned, script_found, script_of};
 ghost use Rattle.wasi_form.specs.Tokens.{most_nesting, next_value};
@@ -15,17 +16,21 @@ use crate::lists::{Forms, list, next_shaped};
 use crate::memory::{ScriptMemory, memory, no_memory};
 use crate::objects::{Fields, object};
 use crate::script::{Draft, ScriptPreopen, Shown};
+use crate::services::{ServiceKey, ServiceParts};
 use crate::shapes::Unread;
 use crate::tokens::value;
 use crate::waiting::{Waiting, is_of_kind, waiting_key};
 use json::Reader;
 use std::alloc::Global;
-use wasi_guest::Call;
+use wasi_guest::{Call, Services};
 use wasi_host::Limits;
 use wasi_tree::NewNode;
 
 // How deep lists and objects nest in a script.
 const DEPTH: usize = 127;
+
+// How much fuel each call has in a script that doesn't say it.
+const DEFAULT_FUEL: u64 = 134_217_728;
 
 // Whether all keys are those of a script, and what stands at them, or counts where nothing does.
 #[derive(Drop)]
@@ -37,6 +42,8 @@ struct Parts {
     memory: Option<Option<ScriptMemory>>,
     show: Forms<Shown>,
     limits: Option<Limits>,
+    fuel: Option<u64>,
+    services: ServiceParts,
     waiting: Waiting,
 }
 
@@ -61,6 +68,8 @@ impl Fields for Parts {
             memory: Some(Some(no_memory(alloc))),
             show: Some(Some(Vec::new(alloc))),
             limits: Some(DEFAULT_LIMITS),
+            fuel: Some(DEFAULT_FUEL),
+            services: ServiceParts::none(alloc),
             waiting: Waiting::none(),
         }
     }
@@ -90,6 +99,11 @@ impl Fields for Parts {
         } else if key == "limits" {
             let limits = next_shaped(alloc, reader, depth)?;
             Ok(Parts { limits, ..self })
+        } else if key == "fuel" {
+            let fuel = next_shaped(alloc, reader, depth)?;
+            Ok(Parts { fuel, ..self })
+        } else if let Some(service) = ServiceKey::of(key) {
+            self.with_service(alloc, service, reader, depth)
         } else {
             self.with_waiting(alloc, key, reader, depth)
         }
@@ -97,6 +111,21 @@ impl Fields for Parts {
 }
 
 impl Parts {
+    // With the member of a key of the services.
+    fn with_service(
+        self,
+        alloc: Global,
+        service: ServiceKey,
+        reader: &mut Reader<'_>,
+        depth: usize,
+    ) -> Result<Parts, Unread>
+        ensures { IsRead (λ parts. (found_of parts, reader.new)) result
+            (parse_map (λ d. with_service service d (found_of self)) (next_value depth reader.old)) }
+    {
+        let services = self.services.with_member(alloc, service, reader, depth)?;
+        Ok(Parts { services, ..self })
+    }
+
     // With the member of another key.
     fn with_waiting(
         self,
@@ -135,6 +164,8 @@ impl Parts {
             memory,
             show,
             limits,
+            fuel,
+            services,
             waiting,
         } = self;
         if !(known && waiting.are_of_their_kinds()) {
@@ -146,10 +177,12 @@ impl Parts {
         let memory = memory?;
         let show = show?;
         let limits = limits?;
+        let fuel = fuel?;
+        let services = services.services()?;
         if waiting.is_any_there() {
             return Some(None);
         }
-        Some(built(limits, nodes, preopens, calls, memory, show))
+        Some(built(limits, fuel, services, nodes, preopens, calls, memory, show))
     }
 }
 
@@ -157,15 +190,18 @@ impl Parts {
 #[tactic(auto, using(crate::proofs::Items::map_same))]
 fn built(
     limits: Limits,
+    fuel: u64,
+    services: Services,
     nodes: Option<Vec<NewNode>>,
     preopens: Option<Vec<ScriptPreopen>>,
     calls: Option<Vec<Call>>,
     memory: Option<ScriptMemory>,
     show: Option<Vec<Shown>>,
 ) -> Option<Draft>
-    ensures { option_map drafted result ≡ planned limits (option_map (λ v. map given v.items) nodes)
-        (option_map (λ v. map planned_preopen v.items) preopens) (option_map (λ v. map same v.items) calls)
-        (option_map planned_memory memory) (option_map (λ v. map same v.items) show) }
+    ensures { option_map drafted result ≡ planned limits fuel (handed services)
+        (option_map (λ v. map given v.items) nodes) (option_map (λ v. map planned_preopen v.items) preopens)
+        (option_map (λ v. map same v.items) calls) (option_map planned_memory memory)
+        (option_map (λ v. map same v.items) show) }
 {
     let nodes = nodes?;
     let preopens = preopens?;
@@ -180,6 +216,8 @@ fn built(
         pieces,
         show,
         calls,
+        fuel,
+        services,
     })
 }
 

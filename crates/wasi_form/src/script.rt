@@ -1,7 +1,7 @@
 //! A script: a tree of files, what the guest is given of it, its memory, and its calls.
 
 use wasi_fs::FsPerms;
-use wasi_guest::Call;
+use wasi_guest::{Call, Services};
 use wasi_host::Limits;
 use wasi_tree::{FitNodes, NewNode};
 
@@ -29,7 +29,8 @@ pub struct Shown {
 }
 
 /// The nodes of a tree of files and how large it may grow, the directories that the guest is given, the size of its
-/// memory in bytes, the pieces that are written there before the run, the ranges that are shown after it, and the calls.
+/// memory in bytes, the pieces that are written there before the run, the ranges that are shown after it, the calls, how
+/// much fuel each of them has, and what the guest is handed in beside the directories.
 #[derive(Drop)]
 pub struct Script {
     pub nodes: FitNodes,
@@ -38,6 +39,8 @@ pub struct Script {
     pub pieces: Vec<Piece>,
     pub show: Vec<Shown>,
     pub calls: Vec<Call>,
+    pub fuel: u64,
+    pub services: Services,
 }
 
 /// A script whose nodes weren't tested yet.
@@ -50,4 +53,6 @@ pub struct Draft {
     pub pieces: Vec<Piece>,
     pub show: Vec<Shown>,
     pub calls: Vec<Call>,
+    pub fuel: u64,
+    pub services: Services,
 }

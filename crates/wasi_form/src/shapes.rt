@@ -239,13 +239,3 @@ pub fn hex_of_text(alloc: Global, text: &str) -> Result<Option<Vec<u8>>, AllocEr
         Err(_) => Ok(None),
     }
 }
-
-/// The bytes of a value that is a hex text.
-pub fn hex_bytes(alloc: Global, value: &Value) -> Result<Vec<u8>, Unread>
-    ensures { IsRead (λ v. v.items) result (shapes.hex_of (view value.now)) }
-{
-    let Some(text) = value.as_str() else {
-        return Err(Unread::Shape);
-    };
-    hex_of_text(alloc, text)?.ok_or(Unread::Shape)
-}

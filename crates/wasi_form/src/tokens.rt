@@ -1,7 +1,7 @@
 //! Values of JSON, read token by token.
-ghost use Rattle.std.specs.Prelude.{◌≡◌, ◌∷◌, ◌<◌, ◌==◌, IsTrue, length, slice_index, option_map, true, false};
+ghost use Rattle.std.specs.Prelude.{◌≡◌, ◌∷◌, ◌<◌, ◌==◌, IsTrue, IfSome, Some, length, slice_index, option_map, true, false};
 ghost use Rattle.json.specs.Reads.{token_of};
-ghost use Rattle.serde_json.specs.Data.{no_members};
+ghost use Rattle.serde_json.specs.Data.{unsigned, no_members};
 ghost use Rattle.serde_json.specs.Read.{number_of, number_from, float_of};
 ghost use Rattle.serde_json.specs.View.{view, number_view, items_view, members_view};
 ghost use Rattle.wasi_form.specs.IsRead.{IsRead};
@@ -94,6 +94,33 @@ pub fn number(text: &str) -> Option<Number>
     ensures { option_map number_view result ≡ number_of text.now }
 {
     let bytes = text.as_bytes();
+    match digits_alone(bytes) {
+        Some(n) => Some(Number::from(n)),
+        None => numeral(bytes),
+    }
+}
+
+// The number that a text of digits alone writes, as most texts of numbers are: the others are for `numeral`.
+fn digits_alone(bytes: &[u8]) -> Option<u64>
+    ensures { IfSome result (λ n. number_of bytes.now ≡ Some (unsigned n)) }
+{
+    if bytes.is_empty() {
+        return None;
+    }
+    let mut n: u64 = 0;
+    for digit in bytes {
+        if !digit.is_ascii_digit() {
+            return None;
+        }
+        n = n.checked_mul(10)?.checked_add(u64::from(*digit - b'0'))?;
+    }
+    Some(n)
+}
+
+// The number of a text with a sign, a point or an exponent, or of many digits.
+fn numeral(bytes: &[u8]) -> Option<Number>
+    ensures { option_map number_view result ≡ number_of bytes.now }
+{
     if has_minus(bytes) {
         below_zero(&Numeral::scan(&bytes[1..]))
     } else {

@@ -1,6 +1,7 @@
 //! Which bytes are scripts.
-ghost use Rattle.std.specs.Prelude.{◌≡◌, ℕ, List, Result, option_map};
+ghost use Rattle.std.specs.Prelude.{◌≡◌, ℕ, List, Result, option_map, IfOk};
 ghost use Rattle.serde_json.specs.Read.{read as read_text};
+ghost use Rattle.wasi_guest.specs.Services.{handed, AreWithin};
 ghost use Rattle.wasi_form.specs.IsRead.{IsRead};
 ghost use Rattle.wasi_form.specs.Plan.{Plan, drafted};
 ghost use Rattle.wasi_form.specs.ScriptForm.{script_of};
@@ -56,7 +57,8 @@ impl From<AllocError> for ScriptError {
 }
 
 /// The script that bytes are: the text of a JSON object with the keys `nodes`, `preopens` and `calls`, and with `memory`,
-/// `show` and `limits` where they are wanted. Numbers are whole, of 64 or 32 bits. Of equal keys the last counts.
+/// `show`, `limits`, `fuel`, `args`, `env`, `stdin`, `wall`, `wall_res`, `mono`, `mono_res` and `random` where they are
+/// wanted. Numbers are whole, of 64 or 32 bits. Of equal keys the last counts.
 ///
 /// A node is `{"dir": {NAME: NODE ..}}`, `{"file": HEX}` or `{"link": TEXT}`, with `"bits"` beside it, as `"r--"`, and
 /// `"times"`, `[ACCESSED, MODIFIED, CREATED]`, where they aren't those of a new node. A time is `[SECONDS, NANOSECONDS]`
@@ -65,14 +67,19 @@ impl From<AllocError> for ScriptError {
 /// `[OFFSET, "hex", HEX]` or `[OFFSET, "text", TEXT]`, a shown range `[PTR, LEN]`, and a call a list of its name and its
 /// arguments. The limits of the tree are `{"nodes": NODES, "links": LINKS}`, each 1 to 2^32.
 ///
-/// Forms that aren't built yet are refused as `Later`, where all else is of the shape of a script: the keys `fuel`,
-/// `table`, `faults`, `stdin`, `random`, `args`, `env`, `wall`, `wall_res`, `mono` and `mono_res`; calls that
-/// `wasi_guest::Call` doesn't have; `fd_read`, `fd_write` and `fd_close` of a descriptor below 3; and `path_open` with
-/// flags of the descriptor.
+/// The fuel is that of each call, 134,217,728 where it isn't said. The arguments are a list of texts, the environment a
+/// list of `[KEY, VALUE]`, two texts, the standard input and the bytes for random each a text in hex. What the wall clock
+/// stands at is `[SECONDS, NANOSECONDS]`, the seconds 0 to 2^63 - 1, the nanoseconds below 1,000,000,000, and so is its
+/// resolution; of the monotonic clock each is a number of nanoseconds. Where they aren't said, the clocks stand at 0, and
+/// their resolutions are a nanosecond; of the rest there is nothing.
+///
+/// Forms that aren't built yet are refused as `Later`, where all else is of the shape of a script: the keys `table` and
+/// `faults`; calls that `wasi_guest::Call` doesn't have; and `path_open` with flags of the descriptor.
 ///
 /// More than 16,777,216 bytes are refused unread.
 pub fn read_script(alloc: Global, bytes: &[u8]) -> Result<Script, ScriptError>
     ensures verdict { Reads result (IsVerdict bytes.now) }
+    ensures services { IfOk result (λ script. AreWithin (handed script.services)) }
 {
     let draft = built_draft(alloc, bytes)?;
     let script = tested(alloc, draft)?;
@@ -94,6 +101,8 @@ fn tested(alloc: Global, draft: Draft) -> Result<Script, ScriptError>
         pieces,
         show,
         calls,
+        fuel,
+        services,
     } = draft;
     let nodes = match FitNodes::new(alloc, nodes, limits) {
         Ok(nodes) => nodes,
@@ -107,6 +116,8 @@ fn tested(alloc: Global, draft: Draft) -> Result<Script, ScriptError>
         pieces,
         show,
         calls,
+        fuel,
+        services,
     })
 }
 

@@ -10,41 +10,23 @@ ghost use Rattle.wasi_form.specs.Tokens.{next_value};
 ghost use Rattle.wasi_form.specs.WaitingForm as specs;
 
 use crate::lists::{Forms, Item, list, next_shaped};
-use crate::shapes::{Shaped, Unread, hex_bytes, is_text, require, two};
+use crate::shapes::{Shaped, Unread, is_text, require, two};
 use json::Reader;
 use serde_json::Value;
 use std::alloc::Global;
-use wasi_host::NANOSECONDS;
 
 /// What stands at a key that waits.
 #[derive(Clone, Copy, Debug, PartialEq, Eq)]
 pub enum Kind {
-    U64,
     U32,
     Faults,
-    Hex,
-    Texts,
-    Pairs,
-    Moment,
 }
 
 // How many keys wait.
-const COUNT: usize = 11;
+const COUNT: usize = 2;
 
 // The keys that wait, each with the kind of its value.
-const WAITING: [(&str, Kind); COUNT] = [
-    ("fuel", Kind::U64),
-    ("table", Kind::U32),
-    ("faults", Kind::Faults),
-    ("stdin", Kind::Hex),
-    ("random", Kind::Hex),
-    ("args", Kind::Texts),
-    ("env", Kind::Pairs),
-    ("wall", Kind::Moment),
-    ("wall_res", Kind::Moment),
-    ("mono", Kind::U64),
-    ("mono_res", Kind::U64),
-];
+const WAITING: [(&str, Kind); COUNT] = [("table", Kind::U32), ("faults", Kind::Faults)];
 
 /// At each key that waits: whether what stands there is of its kind, where something does.
 #[derive(Clone, Copy)]
@@ -168,123 +150,10 @@ fn rise(faults: &[Fault]) -> bool
     true
 }
 
-/// An argument, which waits.
-impl Item for String {
-    ghost use Rattle.std.specs.Prelude.{ℕ, List, string_bytes};
-
-    ghost Seen = { List ℕ };
-
-    ghost see = { string_bytes };
-
-    ghost of = { specs.text_of };
-
-    fn next(
-        alloc: Global,
-        reader: &mut Reader<'_>,
-        depth: usize,
-    ) -> Result<Option<Option<String>>, Unread> {
-        let found: Option<String> = next_shaped(alloc, reader, depth)?;
-        Ok(found.map(|_| None))
-    }
-}
-
-/// A key and a value, two texts.
-impl Shaped for (String, String) {
-    ghost use Rattle.std.specs.Prelude.{ℕ, List, string_bytes};
-
-    ghost Seen = { List ℕ × List ℕ };
-
-    ghost see = { λ pair. (string_bytes pair.0, string_bytes pair.1) };
-
-    ghost of = { specs.pair_in };
-
-    fn read(alloc: Global, value: &Value) -> Result<(String, String), Unread> {
-        let Some((key, text)) = two(value) else {
-            return Err(Unread::Shape);
-        };
-        Ok((
-            <String as Shaped>::read(alloc, key)?,
-            <String as Shaped>::read(alloc, text)?,
-        ))
-    }
-}
-
-/// Such a pair, which waits.
-impl Item for (String, String) {
-    ghost use Rattle.std.specs.Prelude.{ℕ, List, string_bytes};
-
-    ghost Seen = { List ℕ × List ℕ };
-
-    ghost see = { λ pair. (string_bytes pair.0, string_bytes pair.1) };
-
-    ghost of = { specs.pair_of };
-
-    fn next(
-        alloc: Global,
-        reader: &mut Reader<'_>,
-        depth: usize,
-    ) -> Result<Option<Option<(String, String)>>, Unread> {
-        let found: Option<(String, String)> = next_shaped(alloc, reader, depth)?;
-        Ok(found.map(|_| None))
-    }
-}
-
-// A moment of a clock.
-#[derive(Drop)]
-struct Moment;
-
-impl Shaped for Moment {
-    ghost Seen = { Unit {0} };
-
-    ghost see = { λ moment. tt };
-
-    ghost of = { specs.moment_of };
-
-    fn read(_alloc: Global, value: &Value) -> Result<Moment, Unread> {
-        let Some((seconds, nanoseconds)) = two(value) else {
-            return Err(Unread::Shape);
-        };
-        let Some(seconds) = seconds.as_u64() else {
-            return Err(Unread::Shape);
-        };
-        let Some(nanoseconds) = nanoseconds.as_u64() else {
-            return Err(Unread::Shape);
-        };
-        require(seconds < 1 << 63 && nanoseconds < NANOSECONDS as u64)?;
-        Ok(Moment)
-    }
-}
-
-// Bytes in hex.
-#[derive(Drop)]
-struct Hex(Vec<u8>);
-
-impl Shaped for Hex {
-    ghost use Rattle.std.specs.Prelude.{ℕ, List};
-
-    ghost Seen = { List ℕ };
-
-    ghost see = { λ hex. hex.0.items };
-
-    ghost of = { shapes.hex_of };
-
-    fn read(alloc: Global, value: &Value) -> Result<Hex, Unread> {
-        Ok(Hex(hex_bytes(alloc, value)?))
-    }
-}
-
-fn is_item<T: Shaped>(alloc: Global, reader: &mut Reader<'_>, depth: usize) -> Result<bool, Unread>
-    ensures { IsRead (λ is. (is, reader.new)) result (parse_map (λ d. is_some (T.of d)) (next_value depth reader.old)) }
+fn is_u32(alloc: Global, reader: &mut Reader<'_>, depth: usize) -> Result<bool, Unread>
+    ensures { IsRead (λ is. (is, reader.new)) result (parse_map (λ d. is_some (shapes.u32_of d)) (next_value depth reader.old)) }
 {
-    let found: Option<T> = next_shaped(alloc, reader, depth)?;
-    Ok(found.is_some())
-}
-
-fn is_list<T: Item>(alloc: Global, reader: &mut Reader<'_>, depth: usize) -> Result<bool, Unread>
-    ensures { IsRead (λ is. (is, reader.new)) result
-        (parse_map (λ d. is_some (forms_of T.of d)) (next_value depth reader.old)) }
-{
-    let found: Forms<T> = list(alloc, reader, depth)?;
+    let found: Option<u32> = next_shaped(alloc, reader, depth)?;
     Ok(found.is_some())
 }
 
@@ -306,12 +175,7 @@ pub fn is_of_kind(
     ensures { IsRead (λ is. (is, reader.new)) result (parse_map (specs.has_kind kind) (next_value depth reader.old)) }
 {
     match kind {
-        Kind::U64 => is_item::<u64>(alloc, reader, depth),
-        Kind::U32 => is_item::<u32>(alloc, reader, depth),
+        Kind::U32 => is_u32(alloc, reader, depth),
         Kind::Faults => are_faults(alloc, reader, depth),
-        Kind::Hex => is_item::<Hex>(alloc, reader, depth),
-        Kind::Texts => is_list::<String>(alloc, reader, depth),
-        Kind::Pairs => is_list::<(String, String)>(alloc, reader, depth),
-        Kind::Moment => is_item::<Moment>(alloc, reader, depth),
     }
 }

@@ -1,10 +1,11 @@
 -- Which buffer a list of records names.
-use Rattle.std.proofs.Common.{ℕ, List, [], ◌∷◌, ◌++◌, ◌+◌, ◌*◌, ◌<◌, ◌≡◌, ◌∙◌, Bool, true, false, Option, Some, None, map, take, drop, refl, arith}
+use Rattle.std.proofs.Common.{ℕ, List, [], ◌∷◌, ◌++◌, ◌+◌, ◌*◌, ◌<◌, ◌≡◌, ◌∙◌, Bool, true, false, Some, None, Ok, map, take, drop, refl, arith}
 use Rattle.std.specs.List.{find, range_with_len}
 use Rattle.std.proofs.lemmas.List.{take-append-drop}
 use Rattle.std.proofs.lemmas.List.FromFn.{take-map-range_with_len, map-range_with_len_more}
 use Rattle.std.proofs.lemmas.List.Folds.{find-append}
-use Rattle.wasi_guest.specs.Iovec.{iovec_of, records, is_taken, first_buffer}
+use Rattle.wasi_guest.specs.Records.{Found}
+use Rattle.wasi_guest.specs.Iovec.{iovec_in, records, is_taken, first_buffer}
 use Rattle.wasi_guest.specs.declared.iovec.Iovec.{Iovec}
 
 -- none passes up to one index more
@@ -24,21 +25,21 @@ find_first {X} p f i n below none passes =
     rw (← whole, front, find-append, find-append, none, passes) refl
 
 -- one record more that is passed over
-pub passed_more : (memory : List ℕ) (iovs i : ℕ) (item : Option Iovec) → find is_taken (records memory iovs i) ≡ None
-    → item ≡ iovec_of memory (iovs + 8 * i) → is_taken item ≡ false → find is_taken (records memory iovs (i + 1)) ≡ None
+pub passed_more : (memory : List ℕ) (iovs i : ℕ) (item : Found Iovec) → find is_taken (records memory iovs i) ≡ None
+    → item ≡ iovec_in memory (iovs + 8 * i) → is_taken item ≡ false → find is_taken (records memory iovs (i + 1)) ≡ None
 passed_more memory iovs i item none is empty =
-    find_none_more is_taken (λ k. iovec_of memory (iovs + 8 * k)) i none (rw is at empty)
+    find_none_more is_taken (λ k. iovec_in memory (iovs + 8 * k)) i none (rw is at empty)
 
 -- the first record that isn't passed over
-pub taken : (memory : List ℕ) (iovs n i : ℕ) (item : Option Iovec) → i < n
-    → find is_taken (records memory iovs i) ≡ None → item ≡ iovec_of memory (iovs + 8 * i) → is_taken item ≡ true → item ≡ first_buffer memory iovs n
+pub taken : (memory : List ℕ) (iovs n i : ℕ) (item : Found Iovec) → i < n
+    → find is_taken (records memory iovs i) ≡ None → item ≡ iovec_in memory (iovs + 8 * i) → is_taken item ≡ true → item ≡ first_buffer memory iovs n
 unfolding first_buffer
 taken memory iovs n i item below none is here =
-    rw (find_first is_taken (λ k. iovec_of memory (iovs + 8 * k)) i n below none (rw is at here)) is
+    rw (find_first is_taken (λ k. iovec_in memory (iovs + 8 * k)) i n below none (rw is at here)) is
 
 -- all are passed over
 pub all_passed : (memory : List ℕ) (iovs n : ℕ) → find is_taken (records memory iovs n) ≡ None
-    → Some (record { buf = 0; buf_len = 0 }) ≡ first_buffer memory iovs n
+    → Ok (record { buf = 0; buf_len = 0 }) ≡ first_buffer memory iovs n
 unfolding first_buffer
 all_passed memory iovs n none = rw none refl
 

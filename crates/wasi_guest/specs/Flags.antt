@@ -78,6 +78,44 @@ mtim_now = 2 ^ 3
 abbrev pub known_fstflags : ℕ
 known_fstflags = atim + atim_now + mtim + mtim_now
 
+-- ---- subclockflags
+
+abbrev pub subscription_clock_abstime : ℕ
+subscription_clock_abstime = 2 ^ 0
+
+abbrev pub known_subclockflags : ℕ
+known_subclockflags = subscription_clock_abstime
+
+-- ---- eventrwflags
+
+abbrev pub fd_readwrite_hangup : ℕ
+fd_readwrite_hangup = 2 ^ 0
+
+abbrev pub known_eventrwflags : ℕ
+known_eventrwflags = fd_readwrite_hangup
+
+-- ---- riflags
+
+abbrev pub recv_peek : ℕ
+recv_peek = 2 ^ 0
+
+abbrev pub recv_waitall : ℕ
+recv_waitall = 2 ^ 1
+
+abbrev pub known_riflags : ℕ
+known_riflags = recv_peek + recv_waitall
+
+-- ---- sdflags
+
+abbrev pub rd : ℕ
+rd = 2 ^ 0
+
+abbrev pub wr : ℕ
+wr = 2 ^ 1
+
+abbrev pub known_sdflags : ℕ
+known_sdflags = rd + wr
+
 -- ---- rights
 
 abbrev pub fd_datasync : ℕ

@@ -2,7 +2,13 @@ pub mod Flags
 pub mod FlagSets
 pub mod Range
 pub mod Lending
+pub mod Records
 pub mod Iovec
+pub mod Subscription
+pub mod Event
+pub mod Dirent
 pub mod Room
-pub mod ErrnoName
+pub mod Errnos
+pub mod Enums
 pub mod FiletypeNumber
+pub mod Services

@@ -8,6 +8,8 @@ use crate::filestat::Filestat;
 pub enum TrapKind {
     /// A range leaves the guest's memory, or a record in it isn't aligned.
     Pointer,
+    /// The guest ended with a status of 126 or more.
+    ExitStatus,
 }
 
 /// What a call answers beside its success.
@@ -16,6 +18,7 @@ pub enum Value {
     /// Nothing but its success.
     Unit,
     Number(u64),
+    Pair(u32, u32),
     /// What is told of a node.
     Filestat(Filestat),
 }
@@ -26,4 +29,6 @@ pub enum Answer {
     Ok(Value),
     Errno(Errno),
     Trap(TrapKind),
+    /// The guest ended with this status.
+    Exit(u32),
 }

@@ -5,6 +5,23 @@
 /// memory.
 #[derive(Clone, Copy)]
 pub enum Call {
+    ArgsGet {
+        argv: u32,
+        argv_buf: u32,
+    },
+    ArgsSizesGet,
+    EnvironGet {
+        environ: u32,
+        environ_buf: u32,
+    },
+    EnvironSizesGet,
+    ClockResGet {
+        id: u32,
+    },
+    ClockTimeGet {
+        id: u32,
+        precision: u64,
+    },
     FdClose {
         fd: u32,
     },
@@ -95,5 +112,36 @@ pub enum Call {
         fd: u32,
         new_path: u32,
         new_path_len: u32,
+    },
+    ProcExit {
+        status: u32,
+    },
+    ProcRaise {
+        signal: u32,
+    },
+    RandomGet {
+        buf: u32,
+        buf_len: u32,
+    },
+    SchedYield,
+    SockAccept {
+        fd: u32,
+        flags: u32,
+    },
+    SockRecv {
+        fd: u32,
+        iovs: u32,
+        iovs_len: u32,
+        ri_flags: u32,
+    },
+    SockSend {
+        fd: u32,
+        iovs: u32,
+        iovs_len: u32,
+        si_flags: u32,
+    },
+    SockShutdown {
+        fd: u32,
+        how: u32,
     },
 }

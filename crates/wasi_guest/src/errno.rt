@@ -1,14 +1,18 @@
 //! Error numbers.
 ghost use Rattle.std.specs.Prelude.{◌≡◌};
-ghost use Rattle.wasi_guest.specs.ErrnoName.{errno_name};
+ghost use Rattle.wasi_guest.specs.Errnos.{errno_name, errno_number};
 
-/// Preview1's error numbers to which the codes of a host lead, by their names there.
+/// Preview1's error numbers to which a code of a file system leads, and that of a call on what is no socket, by their
+/// names there.
 #[derive(Clone, Copy, Debug, PartialEq, Eq)]
 pub enum Errno {
     Acces,
+    Again,
     Already,
     Badf,
     Busy,
+    Deadlk,
+    Dquot,
     Exist,
     Fbig,
     Ilseq,
@@ -19,17 +23,27 @@ pub enum Errno {
     Isdir,
     Loop,
     Mlink,
+    Msgsize,
     Nametoolong,
+    Nodev,
     Noent,
+    Nolck,
     Nomem,
     Nospc,
     Notdir,
     Notempty,
+    Notrecoverable,
+    Notsock,
     Notsup,
+    Notty,
+    Nxio,
     Overflow,
     Perm,
     Pipe,
+    Rofs,
     Spipe,
+    Txtbsy,
+    Xdev,
 }
 
 impl Errno {
@@ -39,9 +53,12 @@ impl Errno {
     {
         match self {
             Errno::Acces => "acces",
+            Errno::Again => "again",
             Errno::Already => "already",
             Errno::Badf => "badf",
             Errno::Busy => "busy",
+            Errno::Deadlk => "deadlk",
+            Errno::Dquot => "dquot",
             Errno::Exist => "exist",
             Errno::Fbig => "fbig",
             Errno::Ilseq => "ilseq",
@@ -52,17 +69,73 @@ impl Errno {
             Errno::Isdir => "isdir",
             Errno::Loop => "loop",
             Errno::Mlink => "mlink",
+            Errno::Msgsize => "msgsize",
             Errno::Nametoolong => "nametoolong",
+            Errno::Nodev => "nodev",
             Errno::Noent => "noent",
+            Errno::Nolck => "nolck",
             Errno::Nomem => "nomem",
             Errno::Nospc => "nospc",
             Errno::Notdir => "notdir",
             Errno::Notempty => "notempty",
+            Errno::Notrecoverable => "notrecoverable",
+            Errno::Notsock => "notsock",
             Errno::Notsup => "notsup",
+            Errno::Notty => "notty",
+            Errno::Nxio => "nxio",
             Errno::Overflow => "overflow",
             Errno::Perm => "perm",
             Errno::Pipe => "pipe",
+            Errno::Rofs => "rofs",
             Errno::Spipe => "spipe",
+            Errno::Txtbsy => "txtbsy",
+            Errno::Xdev => "xdev",
+        }
+    }
+
+    /// Preview1's number.
+    pub fn number(&self) -> u16
+        ensures number { result ≡ errno_number self.now }
+    {
+        match self {
+            Errno::Acces => 2,
+            Errno::Again => 6,
+            Errno::Already => 7,
+            Errno::Badf => 8,
+            Errno::Busy => 10,
+            Errno::Deadlk => 16,
+            Errno::Dquot => 19,
+            Errno::Exist => 20,
+            Errno::Fbig => 22,
+            Errno::Ilseq => 25,
+            Errno::Inprogress => 26,
+            Errno::Intr => 27,
+            Errno::Inval => 28,
+            Errno::Io => 29,
+            Errno::Isdir => 31,
+            Errno::Loop => 32,
+            Errno::Mlink => 34,
+            Errno::Msgsize => 35,
+            Errno::Nametoolong => 37,
+            Errno::Nodev => 43,
+            Errno::Noent => 44,
+            Errno::Nolck => 46,
+            Errno::Nomem => 48,
+            Errno::Nospc => 51,
+            Errno::Notdir => 54,
+            Errno::Notempty => 55,
+            Errno::Notrecoverable => 56,
+            Errno::Notsock => 57,
+            Errno::Notsup => 58,
+            Errno::Notty => 59,
+            Errno::Nxio => 60,
+            Errno::Overflow => 61,
+            Errno::Perm => 63,
+            Errno::Pipe => 64,
+            Errno::Rofs => 69,
+            Errno::Spipe => 70,
+            Errno::Txtbsy => 74,
+            Errno::Xdev => 75,
         }
     }
 }

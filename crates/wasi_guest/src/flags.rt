@@ -1,8 +1,8 @@
 //! The flag sets of preview1. In a set each flag is one bit.
 ghost use Rattle.std.specs.Prelude.{◌≡◌, ⊤, [], ◌∷◌, codes, option_map};
-ghost use Rattle.wasi_guest.specs.Flags.{flags_in, known_lookupflags, known_oflags, known_fdflags, known_fstflags, known_rights};
+ghost use Rattle.wasi_guest.specs.Flags.{flags_in, known_lookupflags, known_oflags, known_fdflags, known_fstflags, known_subclockflags, known_eventrwflags, known_riflags, known_sdflags, known_rights};
 ghost use Rattle.wasi_guest.specs.Flags as flag;
-ghost use Rattle.wasi_guest.specs.FlagSets.{lookupflag_bits, oflag_bits, fdflag_bits, fstflag_bits, right_bits};
+ghost use Rattle.wasi_guest.specs.FlagSets.{lookupflag_bits, oflag_bits, fdflag_bits, fstflag_bits, subclockflag_bits, eventrwflag_bits, riflag_bits, sdflag_bits, right_bits};
 
 use bitflags::{Flag, Flags, bitflag_items};
 
@@ -209,6 +209,190 @@ impl FstFlags {
         ensures set { option_map fstflag_bits result ≡ flags_in known_fstflags bits }
     {
         <FstFlags as Flags>::from_bits(bits)
+    }
+}
+
+/// How the timeout of a clock is meant: preview1's `subclockflags`. Contracts see the number of its bits as
+/// `subclockflag_bits`.
+#[derive(Clone, Copy, Debug, PartialEq, Eq)]
+pub struct SubclockFlags(u16);
+
+bitflag_items! {
+    impl SubclockFlags: u16 {
+        /// It is a moment of the clock, and not a time from now on.
+        const SUBSCRIPTION_CLOCK_ABSTIME = 1 << 0;
+    }
+}
+
+impl Flags for SubclockFlags {
+    type Bits = u16;
+
+    ghost exact = { ⊤ };
+
+    ghost table = { (codes "SUBSCRIPTION_CLOCK_ABSTIME", flag.subscription_clock_abstime) ∷ [] };
+
+    ghost set_of = { subclockflag_bits };
+
+    fn flags<'a>() -> &'a [Flag<SubclockFlags>] {
+        SubclockFlags::FLAGS
+    }
+
+    fn bits(&self) -> u16 {
+        self.0
+    }
+
+    fn from_bits_retain(bits: u16) -> SubclockFlags {
+        SubclockFlags(bits)
+    }
+}
+
+impl SubclockFlags {
+    /// The set of these bits, `None` exactly where one of them is no flag.
+    #[tactic(auto, using(crate::proofs::FlagSets::set_of_known), unfolding(bitflags::specs::Sets::known_from))]
+    pub fn from_bits(bits: u16) -> Option<SubclockFlags>
+        ensures set { option_map subclockflag_bits result ≡ flags_in known_subclockflags bits }
+    {
+        <SubclockFlags as Flags>::from_bits(bits)
+    }
+}
+
+/// What is told of a read or write that is waited for: preview1's `eventrwflags`. Contracts see the number of its bits as
+/// `eventrwflag_bits`.
+#[derive(Clone, Copy, Debug, PartialEq, Eq)]
+pub struct EventRwFlags(u16);
+
+bitflag_items! {
+    impl EventRwFlags: u16 {
+        /// The other end is closed, or a file is at its end.
+        const FD_READWRITE_HANGUP = 1 << 0;
+    }
+}
+
+impl Flags for EventRwFlags {
+    type Bits = u16;
+
+    ghost exact = { ⊤ };
+
+    ghost table = { (codes "FD_READWRITE_HANGUP", flag.fd_readwrite_hangup) ∷ [] };
+
+    ghost set_of = { eventrwflag_bits };
+
+    fn flags<'a>() -> &'a [Flag<EventRwFlags>] {
+        EventRwFlags::FLAGS
+    }
+
+    fn bits(&self) -> u16 {
+        self.0
+    }
+
+    fn from_bits_retain(bits: u16) -> EventRwFlags {
+        EventRwFlags(bits)
+    }
+}
+
+impl EventRwFlags {
+    /// The set of these bits, `None` exactly where one of them is no flag.
+    #[tactic(auto, using(crate::proofs::FlagSets::set_of_known), unfolding(bitflags::specs::Sets::known_from))]
+    pub fn from_bits(bits: u16) -> Option<EventRwFlags>
+        ensures set { option_map eventrwflag_bits result ≡ flags_in known_eventrwflags bits }
+    {
+        <EventRwFlags as Flags>::from_bits(bits)
+    }
+}
+
+/// How a socket is read: preview1's `riflags`. Contracts see the number of its bits as
+/// `riflag_bits`.
+#[derive(Clone, Copy, Debug, PartialEq, Eq)]
+pub struct RiFlags(u32);
+
+bitflag_items! {
+    impl RiFlags: u32 {
+        /// What is read stays.
+        const RECV_PEEK = 1 << 0;
+        /// All that is asked for is waited for.
+        const RECV_WAITALL = 1 << 1;
+    }
+}
+
+impl Flags for RiFlags {
+    type Bits = u32;
+
+    ghost exact = { ⊤ };
+
+    ghost table = { (codes "RECV_PEEK", flag.recv_peek) ∷
+        (codes "RECV_WAITALL", flag.recv_waitall) ∷
+        [] };
+
+    ghost set_of = { riflag_bits };
+
+    fn flags<'a>() -> &'a [Flag<RiFlags>] {
+        RiFlags::FLAGS
+    }
+
+    fn bits(&self) -> u32 {
+        self.0
+    }
+
+    fn from_bits_retain(bits: u32) -> RiFlags {
+        RiFlags(bits)
+    }
+}
+
+impl RiFlags {
+    /// The set of these bits, `None` exactly where one of them is no flag.
+    #[tactic(auto, using(crate::proofs::FlagSets::set_of_known), unfolding(bitflags::specs::Sets::known_from))]
+    pub fn from_bits(bits: u32) -> Option<RiFlags>
+        ensures set { option_map riflag_bits result ≡ flags_in known_riflags bits }
+    {
+        <RiFlags as Flags>::from_bits(bits)
+    }
+}
+
+/// Which ends of a socket are closed: preview1's `sdflags`. Contracts see the number of its bits as
+/// `sdflag_bits`.
+#[derive(Clone, Copy, Debug, PartialEq, Eq)]
+pub struct SdFlags(u32);
+
+bitflag_items! {
+    impl SdFlags: u32 {
+        /// The one that is read.
+        const RD = 1 << 0;
+        /// The one that is written.
+        const WR = 1 << 1;
+    }
+}
+
+impl Flags for SdFlags {
+    type Bits = u32;
+
+    ghost exact = { ⊤ };
+
+    ghost table = { (codes "RD", flag.rd) ∷
+        (codes "WR", flag.wr) ∷
+        [] };
+
+    ghost set_of = { sdflag_bits };
+
+    fn flags<'a>() -> &'a [Flag<SdFlags>] {
+        SdFlags::FLAGS
+    }
+
+    fn bits(&self) -> u32 {
+        self.0
+    }
+
+    fn from_bits_retain(bits: u32) -> SdFlags {
+        SdFlags(bits)
+    }
+}
+
+impl SdFlags {
+    /// The set of these bits, `None` exactly where one of them is no flag.
+    #[tactic(auto, using(crate::proofs::FlagSets::set_of_known), unfolding(bitflags::specs::Sets::known_from))]
+    pub fn from_bits(bits: u32) -> Option<SdFlags>
+        ensures set { option_map sdflag_bits result ≡ flags_in known_sdflags bits }
+    {
+        <SdFlags as Flags>::from_bits(bits)
     }
 }
 

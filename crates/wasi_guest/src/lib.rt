@@ -4,20 +4,38 @@
 mod answer;
 mod answers;
 mod call;
+mod dirent;
+mod enums;
 mod errno;
+mod event;
+mod fdstat;
 mod filestat;
 mod filetype;
 mod flags;
+mod guest_error;
 mod iovec;
 mod memory;
+mod prestat;
+mod services;
+mod subscription;
 
 pub use answer::{Answer, TrapKind, Value};
 pub use answers::Answers;
 pub use bitflags::Flags;
 pub use call::Call;
+pub use dirent::Dirent;
+pub use enums::{Advice, Clockid, Eventtype, Whence, is_signal};
 pub use errno::Errno;
+pub use event::Event;
+pub use fdstat::Fdstat;
 pub use filestat::Filestat;
 pub use filetype::Filetype;
-pub use flags::{FdFlags, FstFlags, LookupFlags, OFlags, Rights};
+pub use flags::{
+    EventRwFlags, FdFlags, FstFlags, LookupFlags, OFlags, RiFlags, Rights, SdFlags, SubclockFlags,
+};
+pub use guest_error::GuestError;
 pub use iovec::Iovec;
 pub use memory::GuestMemory;
+pub use prestat::PrestatDir;
+pub use services::{EnvPair, Services, WallDatetime};
+pub use subscription::{Subscription, SubscriptionKind};

@@ -6,12 +6,14 @@ use Rattle.wasi_host.specs.declared.errors.ErrorCode.{ErrorCode}
 use Rattle.wasi_p1.specs.Guest.{Guest, State}
 use Rattle.wasi_p1.specs.Request.{Request, Reply, reply_of, after, starts_at}
 use Rattle.wasi_host.specs.Steps.{◌>>=◌}
-use Rattle.wasi_p1.specs.Row.{Row, give, Program, done, asking, run_on, beside, from_host}
-use Rattle.wasi_p1.specs.Rows.{row, turn, with_tree}
+pub use Rattle.wasi_p1.specs.Row.{ended}
+use Rattle.wasi_p1.specs.Row.{Row, give, Program, done, asking, beside, from_host, with_tree}
+use Rattle.wasi_p1.specs.Rows.{row, turn}
 use Rattle.wasi_p1.proofs.Near.{given_by, KeepsPlaces, StaysNear, IsNear, AsksNear}
 use Rattle.wasi_p1.specs.StatesAgree.{Alike, AnswerAlike}
 use Rattle.wasi_p1.specs.Stems.{opened_through}
 use Rattle.wasi_guest.specs.declared.call.Call.{Call}
+use Rattle.wasi_p1.specs.Front.{FueledCall}
 use Rattle.wasi_guest.specs.declared.answer.Value.{Value}
 use Rattle.wasi_host.proofs.Agreeing.{same_agree, still_closed}
 use Rattle.wasi_p1.proofs.Changing.{named_has}
@@ -26,10 +28,6 @@ over t m = beside t m >>= (λ p. give (with_tree p))
 abbrev pub replied : Tree → (r : Request) → (Reply r → Row (Value × Guest)) → Result (Reply r) ErrorCode
     → Row (Value × State)
 replied t r next a = over (after t r) (from_host a >>= next)
-
--- a row over a tree
-abbrev pub ended : Tree → Row (Program (Value × Guest)) → Row (Value × State)
-ended t m = m >>= run_on t >>= (λ p. give (with_tree p))
 
 module _ {Seen : ℕ → Type 0} {s s' : State} (alike : Alike Seen s s') where
   done_alike : (through : Option ℕ) (p : Value × Guest) → StaysNear s.guest through [] p
@@ -83,6 +81,6 @@ module _ {Seen : ℕ → Type 0} {s s' : State} (alike : Alike Seen s s') where
   row_alike call (Err e) never = refl
 
   -- two states that are alike answer a call alike, and are alike after it
-  pub turn_alike : (call : Call) → AnswerAlike Seen s (turn s call) (turn s' call)
+  pub turn_alike : (call : FueledCall) → AnswerAlike Seen s (turn s call) (turn s' call)
   turn_alike call = subst (λ (g : Guest). AnswerAlike Seen s (turn s call) (ended s'.tree (row g call))) alike.guest
-      (row_alike call (row s.guest call) (row_near s.guest call))
+      (row_alike call.call (row s.guest call) (row_near s.guest call))

@@ -22,9 +22,9 @@ use Rattle.wasi_p1.specs.Errnos.{errno_of, error_of}
 use Rattle.wasi_p1.specs.Guest.{Guest, places_of, guest_of, guest_by}
 use Rattle.wasi_p1.specs.Owners.{handles, Owned, SlotsOfCall}
 use Rattle.wasi_p1.specs.Request.{Request, Reply, MayReply, Path}
-use Rattle.wasi_p1.specs.Row.{Row, give, asking}
-use Rattle.wasi_host.specs.Steps.{◌>>=◌}
-use Rattle.wasi_p1.specs.Rows.{row}
+use Rattle.wasi_p1.specs.Row.{Row, give, made_by}
+use Rattle.wasi_p1.specs.Front.{ask}
+use Rattle.wasi_p1.specs.Rows.{front}
 use Rattle.wasi_p1.specs.Slots.{View}
 use Rattle.wasi_p1.specs.declared.error.P1Error.{P1Error}
 use Rattle.wasi_p1.specs.declared.error.P1Error.TheVariants.{Errno, Memory}
@@ -32,7 +32,7 @@ use Rattle.wasi_p1.proofs.RowFronts.{tail, changes, with_nothing}
 use Rattle.wasi_p1.proofs.Placing.{places_stay}
 use Rattle.wasi_p1.proofs.Staying.{all_stay}
 use Rattle.wasi_p1.proofs.Resolving.{resolved_ok, resolved_err}
-use Rattle.wasi_p1.proofs.Taking.{refused, wanted, does_err, does_ok, makes_err, makes_ok, Did}
+use Rattle.wasi_p1.proofs.Taking.{left_same, refused_at, wanted, does_err, does_ok, makes_err, makes_ok, Did}
 
 -- what a directory doesn't permit is refused by the error number of its code
 pub refused_by : (A B : Type 0) {H : Type 0} (own : Option ErrorCode) (e : HostError) (old new : H)
@@ -50,71 +50,77 @@ abbrev pub KeepsHeld : Handles → World → World → Type 0
 KeepsHeld live w v = (h : ℕ) → contains live h ≡ true → v.held h ≡ w.held h
 
 same_view : {H : Type 0} {old new : View H} {before after : List ℕ} → new.host ≡ old.host → Kept old new before after
-    → new ≡ old
-same_view host kept =
-    λ i. record { host = host i; slots = kept.slots i; stdout = kept.stdout i; stderr = kept.stderr i }
+    → new ≡ record old { fuel = new.fuel }
+same_view {old = old} {new = new} host kept =
+    λ i. record (record old { fuel = new.fuel }) { host = host i; slots = kept.slots i; holdings = kept.holdings i }
 
 module _ {H : Type 0} {told : Bool} {world : H → World} {faults : H → ℕ} {lookups : H → List Lookup}
     {old new : View H} {before after : List ℕ} {call : Call} where
   -- nothing was asked
   not_permitted : (e : P1Error) (code : ErrorCode)
-      → Err (Errno (errno_of code)) ≡ row (guest_of world old before) call
+      → (Err (Errno (errno_of code)), new.fuel) ≡ front (guest_of world old before) call old.fuel
       → Refused {A = Value} (Some code) (Err e) old.host new.host → (e ≡ Memory → IsTrue (may_want call))
       → Kept old new before after
       → FollowsRow told world faults lookups old new before after call (Err e)
-  not_permitted e code front (why, host) may kept =
+  not_permitted e code at (why, host) may kept =
       subst (λ v. FollowsRow told world faults lookups old v before after call (Err e)) (sym (same_view host kept))
-      (subst (λ m. FollowsRow told world faults lookups old old before m call (Err e)) (sym kept.memory) (elim why [
+      (subst (λ m. FollowsRow told world faults lookups old then before m call (Err e)) (sym kept.memory) (elim why [
         | inl is ↦
-            subst (λ r. FollowsRow told world faults lookups old old before before call r) (sym is) (refused refl front)
-        | inr is ↦ subst (λ r. FollowsRow told world faults lookups old old before before call r) (sym is) (wanted (may (cc)))
+            subst (λ r. FollowsRow told world faults lookups old then before before call r) (sym is) (refused_at refl at)
+        | inr is ↦ subst (λ r. FollowsRow told world faults lookups old then before before call r) (sym is)
+            (wanted (may (cc)) (left_same at))
       ]))
+    where
+      then : View H
+      then = record old { fuel = new.fuel }
 
   module _ {r : Request} {A : Type 0} {own : Option ErrorCode} (next : Reply r → Row A)
       (shown : Guest → A → Value × Guest)
-      (front : tail own r next shown (guest_of world old before) ≡ row (guest_of world old before) call) where
-    pub permitted_err : {e : P1Error} → Refused {A = A} own (Err e) old.host new.host
-        → (own ≡ None → IsReplied r next (Err e)) → (e ≡ Memory → IsTrue (may_want call)) → Kept old new before after
-        → (IsTrue told → own ≡ None
-        → places_of (world new.host).held new.slots ≡ places_of (world old.host).held old.slots)
-        → (IsTrue told → own ≡ None → Did world faults old new r next (Err e))
-        → FollowsRow told world faults lookups old new before after call (Err e)
-    permitted_err {e} refuses replied may kept places does = by own refl
-      where
-        by : (o : Option ErrorCode) → own ≡ o → FollowsRow told world faults lookups old new before after call (Err e)
-        by None none = does_err next shown (subst (λ o. tail o r next shown (guest_of world old before)
-            ≡ row (guest_of world old before) call) none front) (replied none) may kept (λ told. places told none)
-            (λ told. does told none)
-        by (Some code) some = not_permitted e code (subst (λ o. tail o r next shown (guest_of world old before)
-            ≡ row (guest_of world old before) call) some front) (again (subst (λ o. Refused {A = A} o (Err e) old.host
-            new.host) some refuses)) may kept
-          where
-            again : Refused {A = A} (Some code) (Err e) old.host new.host
-                → Refused {A = Value} (Some code) (Err e) old.host new.host
-            again (inl is, host) = (inl (let same : e ≡ Errno (errno_of code) = cc in ap Err same), host)
-            again (inr is, host) = (inr (let same : e ≡ Memory = cc in ap Err same), host)
+      (at : tail own r next shown (guest_of world old before) new.fuel ≡ front (guest_of world old before) call old.fuel)
+    where
+      pub permitted_err : {e : P1Error} → Refused {A = A} own (Err e) old.host new.host
+          → (own ≡ None → IsReplied r next (Err e)) → (e ≡ Memory → IsTrue (may_want call)) → Kept old new before after
+          → (IsTrue told → own ≡ None
+          → places_of (world new.host).held new.slots ≡ places_of (world old.host).held old.slots)
+          → (IsTrue told → own ≡ None → Did world faults old new r next (Err e))
+          → FollowsRow told world faults lookups old new before after call (Err e)
+      permitted_err {e} refuses replied may kept places does = by own refl
+        where
+          by : (o : Option ErrorCode) → own ≡ o → FollowsRow told world faults lookups old new before after call (Err e)
+          by None none = does_err next shown (subst (λ o. tail o r next shown (guest_of world old before) new.fuel
+              ≡ front (guest_of world old before) call old.fuel) none at) (replied none) may kept (λ told. places told none)
+              (λ told. does told none)
+          by (Some code) some = not_permitted e code (subst (λ o. tail o r next shown (guest_of world old before) new.fuel
+              ≡ front (guest_of world old before) call old.fuel) some at) (again (subst (λ o. Refused {A = A} o (Err e) old.host
+              new.host) some refuses)) may kept
+            where
+              again : Refused {A = A} (Some code) (Err e) old.host new.host
+                  → Refused {A = Value} (Some code) (Err e) old.host new.host
+              again (inl is, host) = (inl (let same : e ≡ Errno (errno_of code) = cc in ap Err same), host)
+              again (inr is, host) = (inr (let same : e ≡ Memory = cc in ap Err same), host)
 
-    pub permitted_ok : {y : Value} {x x' : A} → Refused own (Ok x) old.host new.host → length after ≡ length before
-        → SlotsOfCall old.slots new.slots before call
-        → (own ≡ None → Follows r next (Ok x))
-        → shown (guest_of world old before) x ≡ (y, guest_by (world old.host).held new after)
-        → (IsTrue told → own ≡ None → Did world faults old new r next (Ok x')
-        × (shown (guest_of world old before) x' ≡ (y, guest_of world new after)))
-        → FollowsRow told world faults lookups old new before after call (Ok y)
-    permitted_ok {y} {x} {x'} refuses size slots follows at does = by own refl
-      where
-        by : (o : Option ErrorCode) → own ≡ o → FollowsRow told world faults lookups old new before after call (Ok y)
-        by None none = does_ok next shown (subst (λ o. tail o r next shown (guest_of world old before)
-            ≡ row (guest_of world old before) call) none front) size slots (follows none) at (λ told. does told none)
-        by (Some code) some = absurd (elim (subst (λ o. Refused o (Ok x) old.host new.host) some refuses).0 [
-          | inl is ↦ (cc)
-          | inr is ↦ (cc)
-        ])
+      pub permitted_ok : {y : Value} {x x' : A} → Refused own (Ok x) old.host new.host → length after ≡ length before
+          → SlotsOfCall old.slots new.slots before call
+          → (own ≡ None → Follows r next (Ok x))
+          → shown (guest_of world old before) x ≡ (y, guest_by (world old.host).held new after)
+          → (IsTrue told → own ≡ None → Did world faults old new r next (Ok x')
+          × (shown (guest_of world old before) x' ≡ (y, guest_of world new after)))
+          → FollowsRow told world faults lookups old new before after call (Ok y)
+      permitted_ok {y} {x} {x'} refuses size slots follows shows does = by own refl
+        where
+          by : (o : Option ErrorCode) → own ≡ o → FollowsRow told world faults lookups old new before after call (Ok y)
+          by None none = does_ok next shown (subst (λ o. tail o r next shown (guest_of world old before) new.fuel
+              ≡ front (guest_of world old before) call old.fuel) none at) size slots (follows none) shows
+              (λ told. does told none)
+          by (Some code) some = absurd (elim (subst (λ o. Refused o (Ok x) old.host new.host) some refuses).0 [
+            | inl is ↦ (cc)
+            | inr is ↦ (cc)
+          ])
 
   -- ---- what is done, and answered by nothing
 
   module _ {live : Handles} {own : Option ErrorCode} {r : Request}
-      (front : changes own r (guest_of world old before) ≡ row (guest_of world old before) call)
+      (at : changes own r (guest_of world old before) new.fuel ≡ front (guest_of world old before) call old.fuel)
       (owned : Owned live (handles old.slots)) (kept : Kept old new before after) where
     pub changed_err : (e : HostError) {result : Result Value P1Error}
         → Refuses {A = Unit {0}} own (Err e) old.host new.host
@@ -126,7 +132,7 @@ module _ {H : Type 0} {told : Bool} {world : H → World} {faults : H → ℕ} {
         → FollowsRow told world faults lookups old new before after call result
     changed_err e {result} refuses may keeps asked is =
         let error = err_from_is_err_and result is in
-        rw (error.1, error.2) (permitted_err (λ _. give tt) with_nothing front
+        rw (error.1, error.2) (permitted_err (λ _. give tt) with_nothing at
         (refused_by (Unit {0}) (Unit {0}) own e old.host new.host refuses)
         (λ none. inl (e, refl)) may kept
         (λ told none. ap (places_of (world new.host).held) kept.slots
@@ -138,7 +144,7 @@ module _ {H : Type 0} {told : Bool} {world : H → World} {faults : H → ℕ} {
         → (IsTrue told → own ≡ None
         → Asked (Rose (faults old.host) (faults new.host)) (world old.host) (world new.host) r (Ok reply))
         → FollowsRow told world faults lookups old new before after call (Ok Nothing)
-    changed_ok reply may refuses keeps asked = permitted_ok (λ _. give tt) with_nothing front {x = tt} {x' = tt}
+    changed_ok reply may refuses keeps asked = permitted_ok (λ _. give tt) with_nothing at {x = tt} {x' = tt}
         (by own refuses)
         (ap length kept.memory) (all_stay kept.slots) (λ none. (reply, may, refl)) (again (world old.host).held refl)
         (λ told none. (
@@ -158,14 +164,13 @@ module _ {H : Type 0} {told : Bool} {world : H → World} {faults : H → ℕ} {
           record {
             places = (sym same ∙ ap (places_of stands) (sym kept.slots)) i;
             memory = sym kept.memory i;
-            stdout = sym kept.stdout i;
-            stderr = sym kept.stderr i;
+            holdings = sym kept.holdings i;
           },
         )
 
   -- below a directory
   module _ {live : Handles} {own : Option ErrorCode} (p : PathRequest) {shown : Unit {0} → PathReply p}
-      (front : changes own (Path p) (guest_of world old before) ≡ row (guest_of world old before) call)
+      (at : changes own (Path p) (guest_of world old before) new.fuel ≡ front (guest_of world old before) call old.fuel)
       (owned : Owned live (handles old.slots)) (kept : Kept old new before after) where
     pub done_err : (e : HostError) {result : Result Value P1Error}
         → HasCause {A = Unit {0}} (faults old.host) (faults new.host) (Err e)
@@ -175,7 +180,7 @@ module _ {H : Type 0} {told : Bool} {world : H → World} {faults : H → ℕ} {
         → IsErrAnd result (λ f. f ≡ error_of e)
         → FollowsRow told world faults lookups old new before after call result
     done_err e cause refuses may resolves is =
-        changed_err front owned kept e refuses (λ _. may) (λ told none. (resolves told none).keeps)
+        changed_err at owned kept e refuses (λ _. may) (λ told none. (resolves told none).keeps)
         (λ told none. resolved_err e (λ is. cause.io (ap Err is)) (resolves told none)) is
 
     pub done_ok : MayReply (Path p) (shown tt) → Refuses {A = Unit {0}} own (Ok tt) old.host new.host
@@ -183,22 +188,22 @@ module _ {H : Type 0} {told : Bool} {world : H → World} {faults : H → ℕ} {
         (meant_by (world old.host).tree p) shown (Ok tt))
         → FollowsRow told world faults lookups old new before after call (Ok Nothing)
     done_ok may refuses resolves =
-        changed_ok front owned kept (shown tt) may refuses (λ told none. (resolves told none).keeps)
+        changed_ok at owned kept (shown tt) may refuses (λ told none. (resolves told none).keeps)
         (λ told none. resolved_ok (resolves told none))
 
   -- ---- what is found at a path, where nothing has to be permitted
 
   module _ {B : Type 0} {live : Handles} {p : PathRequest} {A : Type 0} {shown : B → PathReply p}
       (next : PathReply p → Row A) (told_by : Guest → A → Value × Guest)
-      (front : Ok (asking (Path p) (λ reply. next reply >>= (λ x. give (told_by (guest_of world old before) x))))
-      ≡ row (guest_of world old before) call)
+      (at : ask (Path p) (made_by (Path p) next (told_by (guest_of world old before))) new.fuel
+      ≡ front (guest_of world old before) call old.fuel)
       (owned : Owned live (handles old.slots)) where
     pub found_err : (e : HostError) → HasCause {A = B} (faults old.host) (faults new.host) (Err e)
         → IsTrue (may_want call) → Kept old new before after
         → (IsTrue told → Resolved live (world old.host) (world new.host) (meant_by (world old.host).tree p) shown (Err e))
         → FollowsRow told world faults lookups old new before after call (Err (error_of e))
     found_err e cause may kept resolves =
-        makes_err next told_by front owned (inl (e, refl)) (λ _. may) kept (λ told. record {
+        makes_err next told_by at owned (inl (e, refl)) (λ _. may) kept (λ told. record {
           keeps = (resolves told).keeps;
           does = inl (resolved_err e (λ is. cause.io (ap Err is)) (resolves told));
         })
@@ -210,7 +215,7 @@ module _ {H : Type 0} {told : Bool} {world : H → World} {faults : H → ℕ} {
       pub found_refused : {e : P1Error} → next (shown b) ≡ Err e → IsTrue (may_want call) → Kept old new before after
           → FollowsRow told world faults lookups old new before after call (Err e)
       found_refused is wants kept =
-          makes_err next told_by front owned (inr (shown b, may, is)) (λ _. wants) kept (λ told. record {
+          makes_err next told_by at owned (inr (shown b, may, is)) (λ _. wants) kept (λ told. record {
             keeps = (resolves told).keeps;
             does = inr (shown b, resolved_ok (resolves told), is);
           })
@@ -220,7 +225,7 @@ module _ {H : Type 0} {told : Bool} {world : H → World} {faults : H → ℕ} {
           → new.slots ≡ old.slots
           → FollowsRow told world faults lookups old new before after call (Ok y)
       found_ok is size shows same =
-          makes_ok next told_by front owned size (shown b, may, is) shows same (λ told. record {
+          makes_ok next told_by at owned size (shown b, may, is) shows same (λ told. record {
             keeps = (resolves told).keeps;
             does = (shown b, resolved_ok (resolves told), is);
           })

@@ -18,8 +18,10 @@ use Rattle.wasi_p1.specs.Owners.{descriptors_named}
 use Rattle.wasi_p1.specs.Numbering.{last_where, free_number, put_at, with_new}
 use Rattle.wasi_resolve.specs.PathRequest.{Opened}
 use Rattle.wasi_p1.specs.Row.{Row, give}
-use Rattle.wasi_p1.specs.Rows.{OpenNode, directory_in, start_in, file_in, open_node_in, new_place}
+use Rattle.wasi_p1.specs.Parts.{OpenNode, directory_in, start_in, from, source_in, into, sink_in, open_node_in, new_place}
+use Rattle.wasi_p1.specs.declared.context.Stream.TheVariants as streams
 use Rattle.wasi_p1.specs.Stems.{HasPerms}
+use Rattle.wasi_p1.specs.Validity.{HasBytes}
 use Rattle.wasi_p1.proofs.Near.{Has, IsNamed, KeepsPlaces, StaysNear, AreBytes, KeepsBytes}
 use Rattle.wasi_p1.proofs.Bytes.{put_bytes}
 use Rattle.wasi_p1.proofs.Numbers.{last_passes}
@@ -103,14 +105,9 @@ directory_named (Some (stream s)) n is has = absurd (cc)
 directory_named (Some closed) n is has = absurd (cc)
 directory_named None n is has = absurd (cc)
 
-file_named : {f : OpenFile} (p : Option Place) (n : ℕ) → file_in p ≡ Ok f → Contains (f.node ∷ []) n
+file_named : {f : OpenFile} (p : Option Place) (n : ℕ) → p ≡ Some (file f) → Contains (f.node ∷ []) n
     → Contains (node_in p) n
-file_named {f} (Some (file x)) n is has =
-    let same : f ≡ x = (cc) in subst (λ (y : OpenFile). Contains (y.node ∷ []) n) same has
-file_named (Some (directory x)) n is has = absurd (cc)
-file_named (Some (stream s)) n is has = absurd (cc)
-file_named (Some closed) n is has = absurd (cc)
-file_named None n is has = absurd (cc)
+file_named p n is has = subst (λ q. Contains (node_in q) n) (sym is) has
 
 pub named_directory : {d : OpenDirectory} {call : Call} (g : Guest) (fd n : ℕ) → Contains (descriptors_named g.memory call) fd
     → directory_in (slice_get g.places fd) ≡ Ok d → Contains (d.node ∷ []) n → IsNamed g call n
@@ -118,7 +115,7 @@ named_directory g fd n named is has =
     record { fd = fd; named = named; node = directory_named (slice_get g.places fd) n is has }
 
 pub named_file : {f : OpenFile} {call : Call} (g : Guest) (fd n : ℕ) → Contains (descriptors_named g.memory call) fd
-    → file_in (slice_get g.places fd) ≡ Ok f → Contains (f.node ∷ []) n → IsNamed g call n
+    → slice_get g.places fd ≡ Some (file f) → Contains (f.node ∷ []) n → IsNamed g call n
 named_file g fd n named is has =
     record { fd = fd; named = named; node = file_named (slice_get g.places fd) n is has }
 
@@ -145,6 +142,25 @@ start_is (Some (stream s)) is = absurd (cc)
 start_is (Some closed) is = absurd (cc)
 start_is None is = absurd (cc)
 
+-- what is read from, or written into, a file is a file
+pub source_is : {f : OpenFile} (p : Option Place) → source_in p ≡ Ok (from f) → p ≡ Some (file f)
+source_is {f} (Some (file x)) is = let same : x ≡ f = (cc) in ap (λ y. Some (file y)) same
+source_is (Some (directory d)) is = absurd (cc)
+source_is (Some (stream streams.Input)) is = absurd (cc)
+source_is (Some (stream streams.Output)) is = absurd (cc)
+source_is (Some (stream streams.Error)) is = absurd (cc)
+source_is (Some closed) is = absurd (cc)
+source_is None is = absurd (cc)
+
+pub sink_is : {f : OpenFile} (p : Option Place) → sink_in p ≡ Ok (into f) → p ≡ Some (file f)
+sink_is {f} (Some (file x)) is = let same : x ≡ f = (cc) in ap (λ y. Some (file y)) same
+sink_is (Some (directory d)) is = absurd (cc)
+sink_is (Some (stream streams.Input)) is = absurd (cc)
+sink_is (Some (stream streams.Output)) is = absurd (cc)
+sink_is (Some (stream streams.Error)) is = absurd (cc)
+sink_is (Some closed) is = absurd (cc)
+sink_is None is = absurd (cc)
+
 -- ---- their permissions
 
 pub directory_perms : {d : OpenDirectory} (p : Option Place) → directory_in p ≡ Ok d → perms_in p ≡ Some d.perms
@@ -160,13 +176,6 @@ node_perms {o} (Some (file f)) is = let same : f.perms ≡ o.perms = (cc) in ap 
 node_perms (Some (stream s)) is = absurd (cc)
 node_perms (Some closed) is = absurd (cc)
 node_perms None is = absurd (cc)
-
-pub file_perms : {f : OpenFile} (p : Option Place) → file_in p ≡ Ok f → perms_in p ≡ Some f.perms
-file_perms {f} (Some (file x)) is = let same : x ≡ f = (cc) in ap (λ (y : OpenFile). Some y.perms) same
-file_perms (Some (directory d)) is = absurd (cc)
-file_perms (Some (stream s)) is = absurd (cc)
-file_perms (Some closed) is = absurd (cc)
-file_perms None is = absurd (cc)
 
 -- one in the place of another
 pub set_cases : {A : Type 0} (xs : List A) (i n : ℕ) (y : A)
@@ -272,7 +281,7 @@ new_place_perms perms mode found = by found.is_dir
 
 -- a file's descriptor is put back
 pub put_back : {f : OpenFile} {x : Value} {memory : List ℕ} (g : Guest) (fd position : ℕ) (given : List ℕ)
-    → file_in (slice_get g.places fd) ≡ Ok f
+    → slice_get g.places fd ≡ Some (file f)
     → StaysNear g None given
     (x, record g { memory = memory; places = slice_set g.places fd (file (record f { position = position })) })
 put_back {f} g fd position given is = record {
@@ -282,7 +291,7 @@ put_back {f} g fd position given is = record {
   ];
   perms = λ n perms has. elim (set_perms g.places fd n (file (record f { position = position })) has) [
     | inl was ↦ was
-    | inr (at, own) ↦ ap (λ k. perms_in (slice_get g.places k)) at ∙ file_perms (slice_get g.places fd) is ∙ own
+    | inr (at, own) ↦ ap (λ k. perms_in (slice_get g.places k)) at ∙ ap perms_in is ∙ own
   ];
 }
 
@@ -334,9 +343,9 @@ pub written_ends : {P : Type 0} (g : Guest) (buf : ℕ) (bytes : List ℕ) (m : 
 written_ends g buf bytes (Ok part) is = tt
 written_ends g buf bytes (Err e) is = is
 
-pub written_bytes : (g : Guest) (buf : ℕ) (bytes : List ℕ) (m : Row (List ℕ)) → AreBytes g.memory → AreBytes bytes
+pub written_bytes : (g : Guest) (buf : ℕ) (bytes : List ℕ) (m : Row (List ℕ)) → HasBytes g → AreBytes bytes
     → KeepsBytes (writes g buf bytes m)
-written_bytes g buf bytes (Ok part) are more = put_bytes g.memory bytes buf are more
+written_bytes g buf bytes (Ok part) are more = (put_bytes g.memory bytes buf are.0 more, are.1)
 written_bytes g buf bytes (Err e) are more = tt
 
 -- a record as an answer
@@ -355,6 +364,6 @@ pub stated_ends : {P : Type 0} (g : Guest) (m : Row Filestat) → P → OnErr (t
 stated_ends g (Ok stat) is = tt
 stated_ends g (Err e) is = is
 
-pub stated_bytes : (g : Guest) (m : Row Filestat) → AreBytes g.memory → KeepsBytes (tells g m)
+pub stated_bytes : (g : Guest) (m : Row Filestat) → HasBytes g → KeepsBytes (tells g m)
 stated_bytes g (Ok stat) are = are
 stated_bytes g (Err e) are = tt

@@ -7,14 +7,15 @@ use Rattle.wasi_host.specs.Meaning.{World}
 use Rattle.wasi_p1.specs.Guest.{Guest, State}
 use Rattle.wasi_p1.specs.Request.{reply_of, after}
 use Rattle.wasi_host.specs.Steps.{◌>>=◌}
-use Rattle.wasi_p1.specs.Row.{Row, Program, done, asking, from_host, starts}
-use Rattle.wasi_p1.specs.Rows.{row, turn, with_tree}
+use Rattle.wasi_p1.specs.Row.{with_tree, Row, Program, done, asking, from_host, starts}
+use Rattle.wasi_p1.specs.Rows.{row, turn}
 use Rattle.wasi_p1.proofs.Near.{Has, IsNear}
 use Rattle.wasi_p1.specs.Turn.{IsTurn, StepTaken, ReachesHost}
 use Rattle.wasi_p1.specs.StatesAgree.{Alike, AnswerAlike}
 use Rattle.wasi_p1.specs.CallTurn.{Turns, in_world}
 use Rattle.wasi_p1.specs.Reach.{Inside, InReach, Confined}
 use Rattle.wasi_guest.specs.declared.call.Call.{Call}
+use Rattle.wasi_p1.specs.Front.{FueledCall}
 use Rattle.wasi_p1.specs.declared.error.P1Error.{P1Error}
 use Rattle.wasi_guest.specs.declared.answer.Value.{Value}
 use Rattle.wasi_p1.proofs.Changing.{named_has}
@@ -67,7 +68,7 @@ module _ {Seen : ℕ → Type 0} {s : State} (holds : Holds Seen s) where
       })
   keeps_alike (Err e) p alike is = absurd (cc)
 
-  row_keeps : (call : Call) (p : Value × State) → turn s call ≡ Ok p → Keeping Seen s p.1
+  row_keeps : (call : FueledCall) (p : Value × State) → turn s call ≡ Ok p → Keeping Seen s p.1
   row_keeps call p is =
       let same : Alike Seen s s = record {
         guest = refl;
@@ -80,7 +81,7 @@ module _ {Seen : ℕ → Type 0} {s : State} (holds : Holds Seen s) where
         grows = row_grows s.tree (row s.guest call) p is;
       }
 
-  step_keeps : (s' : State) (call : Call) (m : Row (Value × State)) → turn s call ≡ m → StepTaken s s' m
+  step_keeps : (s' : State) (call : FueledCall) (m : Row (Value × State)) → turn s call ≡ m → StepTaken s s' m
       → Keeping Seen s s'
   step_keeps s' call (Ok p) is step =
       let keeps = row_keeps call p is in
@@ -90,7 +91,7 @@ module _ {Seen : ℕ → Type 0} {s : State} (holds : Holds Seen s) where
       })
   step_keeps s' call (Err e) is step = absurd step
 
-  turn_keeps : (rose : Type 0) (s' : State) (call : Call) (r : Result Value P1Error)
+  turn_keeps : (rose : Type 0) (s' : State) (call : FueledCall) (r : Result Value P1Error)
       → IsTurn rose (ReachesHost s call) s s' r (turn s call) → Keeping Seen s s'
   turn_keeps rose s' call (Ok x) is = row_keeps call (x, s') is
   turn_keeps rose s' call (Err e) (inl refuses) = stays s' refuses.stays
@@ -108,7 +109,7 @@ starts_near g call (Ok (done p)) near n has = absurd (omega (arith, has.1))
 starts_near g call (Ok (asking r next)) near n has = named_has (near.starts n has)
 starts_near g call (Err e) near n has = absurd (omega (arith, has.1))
 
-pub turn_confines : {rose : Type 0} {start : State} {w v : World} {g g' : Guest} {call : Call}
+pub turn_confines : {rose : Type 0} {start : State} {w v : World} {g g' : Guest} {call : FueledCall}
     {r : Result Value P1Error}
     → Turns rose w v g g' call r → Confined start (in_world w g) w.touched → Confined start (in_world v g') v.touched
 turn_confines {rose} {start} {w} {v} {g} {g'} {call} {r} takes is = record {
@@ -120,7 +121,7 @@ turn_confines {rose} {start} {w} {v} {g} {g'} {call} {r} takes is = record {
     | inl was ↦ inl (is.touched_in n was)
     | inr (inl near) ↦ inl
         (reach_closed holds.closed
-        (λ m from. holds.places m (starts_near g call (row g call) (row_near g call) m from)) n near)
+        (λ m from. holds.places m (starts_near g call.call (row g call) (row_near g call) m from)) n near)
     | inr (inr made) ↦ inr made
   ]);
 }

@@ -36,3 +36,5 @@ mod Stemming
 mod Validity
 mod RunsAlike
 mod Confining
+pub mod Texts
+mod Cycling

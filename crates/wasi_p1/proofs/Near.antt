@@ -2,10 +2,11 @@
 -- but from the reply, and no permissions but from the descriptor that it stems from; it makes no step where a
 -- descriptor that its call names is under read-only permissions; it isn't refused after a step, nor before it asks
 -- because memory was wanted; and it leaves bytes in memory.
-use Rattle.std.specs.Prelude.{ℕ, ◌≡◌, ◌⊎◌, List, [], slice_get, Contains, IsTrue, IsUtf8, Option, Ok, Err, OnErr}
+use Rattle.std.specs.Prelude.{ℕ, ◌≡◌, ◌⊎◌, List, [], slice_get, Contains, IsUtf8, Option, Ok, Err, OnErr}
 use Rattle.wasi_fs.specs.declared.perms.FsPerms.{FsPerms}
 use Rattle.wasi_host.specs.Tree.{Tree}
-use Rattle.wasi_host.specs.ValidTree.{are_bytes}
+pub use Rattle.wasi_p1.specs.Validity.{AreBytes}
+use Rattle.wasi_p1.specs.Validity.{HasBytes}
 use Rattle.wasi_guest.specs.declared.answer.Answer.TheVariants as answers
 use Rattle.wasi_guest.specs.declared.answer.Value.{Value}
 use Rattle.wasi_guest.specs.declared.call.Call.{Call}
@@ -29,9 +30,6 @@ given_by (Path p) found = path_gives p found
 given_by (Read f offset n) bytes = []
 given_by (Write f offset piece) count = []
 given_by (SetTimes n atime mtime) answer = []
-
-abbrev pub AreBytes : List ℕ → Type 0
-AreBytes bytes = IsTrue (are_bytes bytes)
 
 -- what the types of the calls that make it give of every request: a path is a text, as is that of a link, and what is
 -- written are bytes
@@ -85,9 +83,9 @@ abbrev pub KeepsPlaces : Guest → Option ℕ → List ℕ → Row (Value × Gue
 KeepsPlaces g through given (Ok p) = StaysNear g through given p
 KeepsPlaces g through given (Err e) = Unit {0}
 
--- the memory after it are bytes
+-- the memory after it are bytes, and what is handed in
 abbrev pub KeepsBytes : Row (Value × Guest) → Type 0
-KeepsBytes (Ok p) = AreBytes p.1.memory
+KeepsBytes (Ok p) = HasBytes p.1
 KeepsBytes (Err e) = Unit {0}
 
 -- ---- of a row
@@ -103,12 +101,12 @@ pub record AsksNear (g : Guest) (call : Call) (r : Request) (next : Reply r → 
   pub places : (reply : Reply r) → KeepsPlaces g (opened_through call) (given_by r reply) (next reply)
   pub ends : (t : Tree) (reply : Reply r) → reply_of t r ≡ Ok reply → OnErr (next reply) (after t r ≡ t)
   pub permits : NamesReadOnly g call → (t : Tree) (reply : Reply r) → reply_of t r ≡ Ok reply → after t r ≡ t
-  pub asked : AreBytes g.memory → MayBeAsked r
-  pub bytes : AreBytes g.memory → (reply : Reply r) → GivesBytes r reply → KeepsBytes (next reply)
+  pub asked : HasBytes g → MayBeAsked r
+  pub bytes : HasBytes g → (reply : Reply r) → GivesBytes r reply → KeepsBytes (next reply)
 
 pub record AnswersNear (g : Guest) (call : Call) (p : Value × Guest) : Type 0 where
   pub places : StaysNear g (opened_through call) [] p
-  pub bytes : AreBytes g.memory → AreBytes p.1.memory
+  pub bytes : HasBytes g → HasBytes p.1
 
 abbrev pub IsNear : Guest → Call → Row (Program (Value × Guest)) → Type 0
 IsNear g call (Ok (done p)) = AnswersNear g call p

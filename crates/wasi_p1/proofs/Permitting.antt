@@ -7,6 +7,7 @@ use Rattle.wasi_host.specs.Meaning.{World}
 use Rattle.wasi_host.specs.Tree.{Tree}
 use Rattle.wasi_host.proofs.Leaving.{Contains-here}
 use Rattle.wasi_guest.specs.declared.call.Call.{Call}
+use Rattle.wasi_p1.specs.Front.{FueledCall}
 use Rattle.wasi_guest.specs.declared.answer.Value.{Value}
 use Rattle.wasi_resolve.specs.PathRequest.{PathRequest, OpenPath, LookPath, AtPlace, TimesPath, AtTwo, path_starts}
 use Rattle.wasi_p1.specs.CallTurn.{Turns, NamesReadOnly, in_world}
@@ -41,14 +42,14 @@ answer_keeps g call t (Ok (asking r next)) p names near is =
     let did = replied_by t r next is in did.tree ∙ near.permits names t did.reply did.is
 answer_keeps g call t (Err e) p names near is = absurd (cc)
 
-turn_keeps : (s : State) (call : Call) (p : Value × State) → NamesReadOnly s.guest call → turn s call ≡ Ok p
-    → p.1.tree ≡ s.tree
+turn_keeps : (s : State) (call : FueledCall) (p : Value × State) → NamesReadOnly s.guest call.call
+    → turn s call ≡ Ok p → p.1.tree ≡ s.tree
 turn_keeps s call p names is =
-    answer_keeps s.guest call s.tree (row s.guest call) p names (row_near s.guest call) is
+    answer_keeps s.guest call.call s.tree (row s.guest call) p names (row_near s.guest call) is
 
 -- whatever it answers, it leaves the tree
-pub turn_permits : {rose : Type 0} {w v : World} {g g' : Guest} {call : Call} {r : Result Value P1Error}
-    → Turns rose w v g g' call r → NamesReadOnly g call → v.tree ≡ w.tree
+pub turn_permits : {rose : Type 0} {w v : World} {g g' : Guest} {call : FueledCall} {r : Result Value P1Error}
+    → Turns rose w v g g' call r → NamesReadOnly g call.call → v.tree ≡ w.tree
 turn_permits {rose} {w} {v} {g} {g'} {call} {r} takes names =
     leaves {s = in_world w g} {s' = in_world v g'} (turn (in_world w g) call)
     (λ p is. turn_keeps (in_world w g) call p names is) (turn_moves rose _ r takes.turn)
@@ -97,14 +98,14 @@ answer_leaves g call t (Err e) p only near is = absurd (cc)
 
 turned_leaves : (t : Turned) → Played t ⊎ Faulted t → IsReadOnlyGuest t.before.guest → t.after.tree ≡ t.before.tree
 turned_leaves t took only = leaves (turn t.before t.call) (λ p is.
-    answer_leaves t.before.guest t.call t.before.tree (row t.before.guest t.call) p only
+    answer_leaves t.before.guest t.call.call t.before.tree (row t.before.guest t.call) p only
     (row_near t.before.guest t.call) is) (turned_moves t took)
 
 -- and all of them stem from such
 turned_only : (t : Turned) → Played t ⊎ Faulted t → IsReadOnlyGuest t.before.guest → IsReadOnlyGuest t.after.guest
 turned_only t took only n perms has = only _ perms (turn_stems t took n perms has)
 
-pub run_leaves : (calls : List Call) (turns : List Turned) (k : ℕ) (old new : State) → Run k old calls turns new
+pub run_leaves : (calls : List FueledCall) (turns : List Turned) (k : ℕ) (old new : State) → Run k old calls turns new
     → IsReadOnlyGuest old.guest → new.tree ≡ old.tree
 run_leaves [] [] k old new run only = ap (λ (s : State). s.tree) run
 run_leaves [] (t ∷ turns) k old new run only = absurd run

@@ -2,7 +2,7 @@
 use Rattle.std.proofs.Common.{◌<◌, ◌≡◌, true, false, List, [], ◌∷◌, ◌++◌, length, refl, arith}
 use Rattle.wasi_p1.specs.Run.{AnswersEach, ends}
 use Rattle.wasi_guest.specs.declared.answer.Answer.{Answer}
-use Rattle.wasi_guest.specs.declared.call.Call.{Call}
+use Rattle.wasi_p1.specs.Front.{FueledCall}
 
 -- none of the answers ends the run
 abbrev pub GoesOn : List Answer → Type 0
@@ -14,7 +14,7 @@ goes_on-push [] a goes is = (is, tt)
 goes_on-push (b ∷ answers) a goes is = (goes.0, goes_on-push answers a goes.1 is)
 
 -- the calls end with no answer that ends the run
-pub each_answered : (calls : List Call) (answers : List Answer) → length answers ≡ length calls → GoesOn answers
+pub each_answered : (calls : List FueledCall) (answers : List Answer) → length answers ≡ length calls → GoesOn answers
     → AnswersEach calls answers
 each_answered [] [] all goes = tt
 each_answered [] (a ∷ answers) all goes = absurd (omega arith)
@@ -22,7 +22,7 @@ each_answered (call ∷ calls) [] all goes = absurd (omega arith)
 each_answered (call ∷ calls) (a ∷ answers) all goes = rw goes.0 (each_answered calls answers (omega arith) goes.1)
 
 -- an answer ends the run
-pub last_answered : (calls : List Call) (answers : List Answer) (a : Answer) → length answers < length calls
+pub last_answered : (calls : List FueledCall) (answers : List Answer) (a : Answer) → length answers < length calls
     → GoesOn answers
     → ends a ≡ true → AnswersEach calls (answers ++ a ∷ [])
 last_answered [] answers a fewer goes stops = absurd (omega arith)

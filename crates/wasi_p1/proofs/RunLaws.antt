@@ -6,22 +6,22 @@ use Rattle.wasi_p1.specs.Row.{Row}
 use Rattle.wasi_p1.specs.Rows.{turn}
 use Rattle.wasi_p1.specs.Run.{Turned, Run, Gives, ends}
 use Rattle.wasi_guest.specs.declared.answer.Answer.{Answer}
-use Rattle.wasi_guest.specs.declared.call.Call.{Call}
+use Rattle.wasi_p1.specs.Front.{FueledCall}
 use Rattle.wasi_guest.specs.declared.answer.Value.{Value}
 
 -- what comes after a turn: nothing where its answer ends the run
-abbrev pub Rest : List Call → Turned → List Turned → State → Bool → Type 0
+abbrev pub Rest : List FueledCall → Turned → List Turned → State → Bool → Type 0
 Rest calls t turns new b = MatchBool b ((turns ≡ []) × (new ≡ t.after)) (Run 0 t.after calls turns new)
 
 -- a run begins with the turn of its first call's row
-pub record FirstTurn (old : State) (call : Call) (calls : List Call) (t : Turned) (turns : List Turned)
+pub record FirstTurn (old : State) (call : FueledCall) (calls : List FueledCall) (t : Turned) (turns : List Turned)
     (new : State) : Type 0 where
   pub before : t.before ≡ old
   pub call_is : t.call ≡ call
   pub gives : Gives (turn old call) old t.answer t.after
   pub rest : Rest calls t turns new (ends t.answer)
 
-pub first_turn : (old : State) (call : Call) (calls : List Call) (t : Turned) (turns : List Turned) (new : State)
+pub first_turn : (old : State) (call : FueledCall) (calls : List FueledCall) (t : Turned) (turns : List Turned) (new : State)
     → Run 0 old (call ∷ calls) (t ∷ turns) new → FirstTurn old call calls t turns new
 first_turn old call calls t turns new (j, before, is, inl (played, same), rest) = record {
   before = before;
@@ -43,18 +43,18 @@ given_same (Ok p) old (is, after) (is', after') = (is ∙ sym is', after ∙ sym
 given_same (Err e) old (is, after) (is', after') = (some_same is is', after ∙ sym after')
 
 -- these calls have one run from a state
-abbrev pub OneRun : State → List Call → Type 0
+abbrev pub OneRun : State → List FueledCall → Type 0
 OneRun old calls =
     (turns turns' : List Turned) (new new' : State) → Run 0 old calls turns new → Run 0 old calls turns' new'
     → (turns ≡ turns') × (new ≡ new')
 
-rest_same : (calls : List Call) (t : Turned) {turns turns' : List Turned} {new new' : State} (b : Bool)
+rest_same : (calls : List FueledCall) (t : Turned) {turns turns' : List Turned} {new new' : State} (b : Bool)
     → OneRun t.after calls
     → Rest calls t turns new b → Rest calls t turns' new' b → (turns ≡ turns') × (new ≡ new')
 rest_same calls t true one (done, last) (done', last') = (done ∙ sym done', last ∙ sym last')
 rest_same calls t {turns} {turns'} {new} {new'} false one runs runs' = one turns turns' new new' runs runs'
 
-first_same : {old : State} {call : Call} {calls : List Call} {t t' : Turned} {turns turns' : List Turned}
+first_same : {old : State} {call : FueledCall} {calls : List FueledCall} {t t' : Turned} {turns turns' : List Turned}
     {new new' : State}
     → OneRun t.after calls → FirstTurn old call calls t turns new → FirstTurn old call calls t' turns' new'
     → (t ∷ turns ≡ t' ∷ turns') × (new ≡ new')
@@ -70,7 +70,7 @@ first_same {old} {call} {calls} {t} {t'} {turns} {turns'} {new} {new'} one first
     let rest = rest_same calls t (ends t.answer) one first.rest rest' in
     (λ i. same i ∷ rest.0 i, rest.1)
 
-pub one_run : (calls : List Call) (old : State) → OneRun old calls
+pub one_run : (calls : List FueledCall) (old : State) → OneRun old calls
 one_run [] old [] [] new new' run run' = (refl, run ∙ sym run')
 one_run [] old [] (t' ∷ turns') new new' run run' = absurd run'
 one_run [] old (t ∷ turns) turns' new new' run run' = absurd run

@@ -1,5 +1,5 @@
 -- Runs, one turn after another.
-use Rattle.std.proofs.Common.{ℕ, ◌+◌, ◌<◌, ◌≤◌, ◌≡◌, ◌⊎◌, inl, inr, Bool, true, false, List, [], ◌∷◌, ◌++◌, length, take, drop, refl, ap, sym, ◌∙◌, subst, arith, Some, None, Result, Ok, Err, append_assoc, append-nil, add_assoc, zero-add, add-zero, get_or}
+use Rattle.std.proofs.Common.{map, ℕ, ◌+◌, ◌<◌, ◌≤◌, ◌≡◌, ◌⊎◌, inl, inr, Bool, true, false, List, [], ◌∷◌, ◌++◌, length, take, drop, refl, ap, sym, ◌∙◌, subst, arith, Some, None, Result, Ok, Err, append_assoc, append-nil, add_assoc, zero-add, add-zero, get_or}
 use Rattle.std.specs.Prelude.{All, is_ok, if◌then◌else◌}
 use Rattle.std.specs.FinSet.{contains}
 use Rattle.std.proofs.lemmas.List.{map-append, take-append-drop, take_more}
@@ -14,11 +14,13 @@ use Rattle.wasi_p1.specs.Run.{Turned, Run, Spends, Played, Faulted, Gives, Allow
 use Rattle.wasi_guest.specs.declared.answer.Answer.{Answer}
 use Rattle.wasi_guest.specs.declared.answer.Answer.TheVariants as answers
 use Rattle.wasi_guest.specs.declared.call.Call.{Call}
+use Rattle.wasi_p1.specs.Front.{FueledCall, with_fuel}
+use Rattle.std.proofs.lemmas.List.{get_or-map, length-map}
 use Rattle.wasi_guest.specs.declared.errno.Errno.{Errno as ErrorNumber}
 use Rattle.wasi_guest.specs.declared.errno.Errno.TheVariants.{Io}
 use Rattle.wasi_p1.specs.Owners.{one_if}
 use Rattle.wasi_p1.specs.declared.error.P1Error.{P1Error}
-use Rattle.wasi_p1.specs.declared.error.P1Error.TheVariants.{Errno, Trap, Memory}
+use Rattle.wasi_p1.specs.declared.error.P1Error.TheVariants.{Errno, Trap, Exit, Memory}
 use Rattle.wasi_guest.specs.declared.answer.Value.{Value}
 
 -- ---- how many answers are `io`
@@ -53,6 +55,8 @@ module _ (before : ℕ) {now after : ℕ} (k : ℕ) where
       let at : answers.Ok x ≡ a = (cc) in later_as (k + io_in a) (omega (arith, ap io_in at)) causes.later allows
   io_more (Err (Trap kind)) {a} is causes allows =
       let at : answers.Trap kind ≡ a = (cc) in later_as (k + io_in a) (omega (arith, ap io_in at)) causes.later allows
+  io_more (Err (Exit status)) {a} is causes allows =
+      let at : answers.Exit status ≡ a = (cc) in later_as (k + io_in a) (omega (arith, ap io_in at)) causes.later allows
   io_more (Err Memory) is causes allows = absurd (cc)
   io_more (Err (Errno e)) {a} is causes allows = by (is_io e) refl
     where
@@ -73,7 +77,7 @@ io_counted before xs {now} {after} {result} {a} is causes allows =
 
 -- ---- a turn that was taken is one of a run: by its row, or faulted
 
-abbrev pub turned : State → Call → Answer → State → Turned
+abbrev pub turned : State → FueledCall → Answer → State → Turned
 turned s call answer s' = record { before = s; call = call; answer = answer; after = s' }
 
 abbrev pub TurnOf : Type 0 → Turned → Type 0
@@ -82,7 +86,7 @@ TurnOf rose t = Played t ⊎ (Faulted t × rose)
 answer_same : {a b : Answer} → Some a ≡ Some b → b ≡ a
 answer_same e = cc
 
-turn_of : {rose : Type 0} {s s' : State} {a : Answer} (call : Call) (r : Result Value P1Error) → answer_of r ≡ Some a
+turn_of : {rose : Type 0} {s s' : State} {a : Answer} (call : FueledCall) (r : Result Value P1Error) → answer_of r ≡ Some a
     → IsTurn rose (ReachesHost s call) s s' r (turn s call) → TurnOf rose (turned s call a s')
 turn_of {s = s} {s' = s'} {a = a} call (Ok x) is row =
     inl (subst (λ m. Gives m s a s') (sym row) (answer_same is, refl))
@@ -116,12 +120,12 @@ takes_of {before} {now} {after} {faults} le allowed (inr (faulted, rose)) = reco
 
 -- ---- what runs on from here runs on from the start
 
-pub record SoFar (before now : ℕ) (old : State) (calls : List Call) (answered : List Answer) (new : State)
+pub record SoFar (before now : ℕ) (old : State) (calls : List FueledCall) (answered : List Answer) (new : State)
     (touched : Nodes) : Type 0 where
   pub turns : List Turned
   pub faults : ℕ
   pub allowed : Allows before now faults
-  pub on : (j : ℕ) (more : List Call) (rest : List Turned) (last : State) → Run j new more rest last
+  pub on : (j : ℕ) (more : List FueledCall) (rest : List Turned) (last : State) → Run j new more rest last
       → Run (faults + j) old (calls ++ more) (turns ++ rest) last
   pub answers_are : answered ≡ answers_of turns
   pub ends_touched : All (λ n. contains touched n ≡ true) (named turns)
@@ -150,11 +154,12 @@ success_same : (r : Result Value P1Error) {a : Answer} → answer_of r ≡ Some 
 success_same (Ok x) {a} is = let same : a ≡ answers.Ok x = (cc) in ap is_success same
 success_same (Err (Errno e)) {a} is = let same : a ≡ answers.Errno e = (cc) in ap is_success same
 success_same (Err (Trap kind)) {a} is = let same : a ≡ answers.Trap kind = (cc) in ap is_success same
+success_same (Err (Exit status)) {a} is = let same : a ≡ answers.Exit status = (cc) in ap is_success same
 success_same (Err Memory) is = absurd (cc)
 
 -- one call more
-module _ {before now after : ℕ} {start : State} {w v : World} {g g' : Guest} {calls : List Call}
-    {answered : List Answer} {call : Call}
+module _ {before now after : ℕ} {start : State} {w v : World} {g g' : Guest} {calls : List FueledCall}
+    {answered : List Answer} {call : FueledCall}
     {r : Result Value P1Error} {answer : Answer} (is : answer_of r ≡ Some answer) (cause : Causes now after r)
     (takes : Turns (Rose now after) w v g g' call r)
     (so : SoFar before now start calls answered (in_world w g) w.touched) where
@@ -195,7 +200,7 @@ module _ {before now after : ℕ} {start : State} {w v : World} {g g' : Guest} {
   }
 
   -- an answer ends the run
-  pub ended : (more : List Call) → ends answer ≡ true
+  pub ended : (more : List FueledCall) → ends answer ≡ true
       → DidRun before after start (calls ++ call ∷ more) (answered ++ answer ∷ []) (in_world v g') v.touched
   ended more stops = record {
     turns = so.turns ++ t ∷ [];
@@ -207,7 +212,7 @@ module _ {before now after : ℕ} {start : State} {w v : World} {g g' : Guest} {
   }
 
 -- the calls end with no answer that ends the run
-pub all_done : {before now : ℕ} {old new : State} {calls : List Call} {answered : List Answer} {touched : Nodes}
+pub all_done : {before now : ℕ} {old new : State} {calls : List FueledCall} {answered : List Answer} {touched : Nodes}
     → SoFar before now old calls answered new touched → DidRun before now old calls answered new touched
 all_done {new = new} so = record {
   turns = so.turns;
@@ -221,11 +226,12 @@ all_done {new = new} so = record {
 -- ---- want of memory
 
 -- it leaves the state
-wanted_same : {rose : Type 0} {w v : World} {g g' : Guest} {call : Call} {r : Result Value P1Error} → answer_of r ≡ None
+wanted_same : {rose : Type 0} {w v : World} {g g' : Guest} {call : FueledCall} {r : Result Value P1Error} → answer_of r ≡ None
     → Turns rose w v g g' call r → in_world v g' ≡ in_world w g
 wanted_same {r = Ok x} is takes = absurd (cc)
 wanted_same {r = Err (Errno e)} is takes = absurd (cc)
 wanted_same {r = Err (Trap kind)} is takes = absurd (cc)
+wanted_same {r = Err (Exit status)} is takes = absurd (cc)
 wanted_same {r = Err Memory} is takes = elim takes.turn [
   | inl refuses ↦ refuses.stays
   | inr (inl wants) ↦ wants.stays
@@ -233,9 +239,9 @@ wanted_same {r = Err Memory} is takes = elim takes.turn [
 ]
 
 -- a call for which it was wanted adds nothing
-pub stood : {before now after : ℕ} {start : State} {w v : World} {g g' : Guest} {calls : List Call} {n : ℕ}
+pub stood : {before now after : ℕ} {start : State} {w v : World} {g g' : Guest} {calls : List FueledCall} {n : ℕ}
     {answered : List Answer}
-    {call : Call} {r : Result Value P1Error} → answer_of r ≡ None → Causes now after r
+    {call : FueledCall} {r : Result Value P1Error} → answer_of r ≡ None → Causes now after r
     → Turns (Rose now after) w v g g' call r
     → length answered ≡ n → SoFar before now start (take n calls) answered (in_world w g) w.touched
     → StoodAt before after start calls n (in_world v g') v.touched
@@ -255,18 +261,27 @@ stood {before = before} {w = w} {v = v} {g' = g'} {answered = answered} {r = r} 
 }
 
 -- memory for the answers was wanted
-pub stood_first : {before : ℕ} {start : State} {calls : List Call} {touched : Nodes}
+pub stood_first : {before : ℕ} {start : State} {calls : List FueledCall} {touched : Nodes}
     → StoodAt before before start calls 0 start touched
 stood_first = record { answers = []; count = refl; run = all_done nothing_yet }
 
 -- ---- the call at a place of the list
 
-pub call_at : (calls : List Call) (i : ℕ) (d : Call) → i < length calls
-    → take (i + 1) calls ≡ take i calls ++ get_or calls i d ∷ []
-call_at calls i d within = take_more calls i d within
+pub call_at : (fuel : ℕ) (calls : List Call) (i : ℕ) (d : Call) → i < length calls
+    → take (i + 1) (map (with_fuel fuel) calls)
+    ≡ take i (map (with_fuel fuel) calls) ++ with_fuel fuel (get_or calls i d) ∷ []
+call_at fuel calls i d within =
+    let there : i < length (map (with_fuel fuel) calls) = simp length-map within in
+    rw (
+      take_more (map (with_fuel fuel) calls) i (with_fuel fuel d) there,
+      get_or-map (with_fuel fuel) calls i d (with_fuel fuel d) within,
+    ) refl
 
-pub calls_at : (calls : List Call) (i : ℕ) (d : Call) → i < length calls
-    → take i calls ++ get_or calls i d ∷ drop (i + 1) calls ≡ calls
-calls_at calls i d within =
-    sym (append_assoc (take i calls) (get_or calls i d ∷ []) (drop (i + 1) calls))
-    ∙ (rw (← take_more calls i d within) (take-append-drop (i + 1) calls))
+pub calls_at : (fuel : ℕ) (calls : List Call) (i : ℕ) (d : Call) → i < length calls
+    → take i (map (with_fuel fuel) calls)
+    ++ with_fuel fuel (get_or calls i d) ∷ drop (i + 1) (map (with_fuel fuel) calls)
+    ≡ map (with_fuel fuel) calls
+calls_at fuel calls i d within =
+    let all = map (with_fuel fuel) calls in
+    sym (append_assoc (take i all) (with_fuel fuel (get_or calls i d) ∷ []) (drop (i + 1) all))
+    ∙ (rw (← call_at fuel calls i d within) (take-append-drop (i + 1) all))

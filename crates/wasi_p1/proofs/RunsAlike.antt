@@ -9,7 +9,7 @@ use Rattle.wasi_p1.specs.StatesAgree.{Alike, AnswerAlike, RunAlike}
 use Rattle.wasi_p1.specs.Run.{Turned, Run, Gives, ends, answer_of}
 use Rattle.wasi_guest.specs.declared.answer.Answer.{Answer}
 use Rattle.wasi_guest.specs.declared.answer.Answer.TheVariants as answers
-use Rattle.wasi_guest.specs.declared.call.Call.{Call}
+use Rattle.wasi_p1.specs.Front.{FueledCall}
 use Rattle.wasi_guest.specs.declared.answer.Value.{Value}
 use Rattle.wasi_host.proofs.Agreeing.{none_made, once, twice}
 use Rattle.wasi_p1.proofs.Alike.{turn_alike}
@@ -67,15 +67,15 @@ gives_alike (Ok p) (Err f) start both grows given = absurd both
 gives_alike (Err e) (Ok q) start both grows given = absurd both
 
 -- the turn of an alike state, with this answer
-abbrev at : State → Call → Answer → State → Turned
+abbrev at : State → FueledCall → Answer → State → Turned
 at s call answer mid = record { before = s; call = call; answer = answer; after = mid }
 
 -- these calls, from states that are alike
-abbrev RunsAlike : List Call → State → List Turned → State → Type 1
+abbrev RunsAlike : List FueledCall → State → List Turned → State → Type 1
 RunsAlike calls s turns new =
     (Seen : ℕ → Type 0) (s' : State) → Alike Seen s s' → Run 0 s calls turns new → RunAlike Seen s s' calls turns new
 
-step : {Seen : ℕ → Type 0} {old old' new : State} {calls : List Call} {t : Turned} {turns : List Turned} (call : Call)
+step : {Seen : ℕ → Type 0} {old old' new : State} {calls : List FueledCall} {t : Turned} {turns : List Turned} (call : FueledCall)
     (b : Bool) → ends t.answer ≡ b
     → RunsAlike calls t.after turns new → TurnAlike Seen old old' t.after t.answer (turn old' call)
     → Rest calls t turns new b
@@ -101,7 +101,7 @@ step {Seen} {old} {old'} {new} {calls} {t} {turns} call false is further one on 
       grows = let first = one.after.grows in let second = rest.grows in omega arith;
     }
 
-first_alike : {Seen : ℕ → Type 0} {old old' new : State} {call : Call} {calls : List Call} {t : Turned}
+first_alike : {Seen : ℕ → Type 0} {old old' new : State} {call : FueledCall} {calls : List FueledCall} {t : Turned}
     {turns : List Turned}
     → RunsAlike calls t.after turns new → Alike Seen old old' → FirstTurn old call calls t turns new
     → RunAlike Seen old old' (call ∷ calls) (t ∷ turns) new
@@ -110,7 +110,7 @@ first_alike {Seen} {old} {old'} {new} {call} {calls} {t} further alike first =
     (λ p is. row_grows old.tree (row old.guest call) p is) first.gives in
     step call (ends t.answer) refl further one first.rest
 
-pub runs_alike : (calls : List Call) {Seen : ℕ → Type 0} {old old' : State} (new : State) (turns : List Turned)
+pub runs_alike : (calls : List FueledCall) {Seen : ℕ → Type 0} {old old' : State} (new : State) (turns : List Turned)
     → Alike Seen old old'
     → Run 0 old calls turns new → RunAlike Seen old old' calls turns new
 runs_alike [] {old' = old'} new [] alike run =

@@ -6,6 +6,7 @@ use Rattle.wasi_guest.specs.declared.answer.Answer.{Answer}
 use Rattle.wasi_guest.specs.declared.answer.Answer.TheVariants as answers
 use Rattle.wasi_guest.specs.declared.answer.Value.{Value}
 use Rattle.wasi_guest.specs.declared.call.Call.{Call}
+use Rattle.wasi_p1.specs.Front.{FueledCall}
 use Rattle.wasi_guest.specs.declared.errno.Errno.TheVariants as errnos
 use Rattle.wasi_host.specs.Tree.{Tree}
 use Rattle.wasi_p1.specs.Guest.{Guest, State}
@@ -14,7 +15,7 @@ use Rattle.wasi_p1.specs.Rows.{row, turn}
 use Rattle.wasi_p1.specs.Run.{Turned, Run, Played, Faulted, Gives, answer_of, ends}
 use Rattle.wasi_p1.specs.Stems.{opened_through, stems_through, stems_from, stem_of, HasPerms}
 use Rattle.wasi_p1.specs.declared.error.P1Error.{P1Error}
-use Rattle.wasi_p1.specs.declared.error.P1Error.TheVariants.{Errno, Trap, Memory}
+use Rattle.wasi_p1.specs.declared.error.P1Error.TheVariants.{Errno, Trap, Exit, Memory}
 use Rattle.wasi_p1.proofs.Alike.{ended}
 use Rattle.wasi_p1.proofs.Moving.{over_guest, replied_by, guest_still, turned_by}
 use Rattle.wasi_p1.proofs.Near.{IsNear, KeepsPlaces, given_by}
@@ -41,30 +42,32 @@ itself (Some fd) (Errno e) {answer} n is =
     let same : answers.Errno e ≡ answer = (cc) in ap (λ a. stems_through (Some fd) a n) (sym same)
 itself (Some fd) (Trap kind) {answer} n is =
     let same : answers.Trap kind ≡ answer = (cc) in ap (λ a. stems_through (Some fd) a n) (sym same)
+itself (Some fd) (Exit status) {answer} n is =
+    let same : answers.Exit status ≡ answer = (cc) in ap (λ a. stems_through (Some fd) a n) (sym same)
 itself (Some fd) Memory n is = absurd (cc)
 
 pub turn_stems : (t : Turned) → Played t ⊎ Faulted t → (n : ℕ) (perms : FsPerms) → HasPerms t.after.guest n perms
-    → HasPerms t.before.guest (stems_from t.call t.answer n) perms
+    → HasPerms t.before.guest (stems_from t.call.call t.answer n) perms
 turn_stems t (inl played) n perms has = by (turn t.before t.call) refl played
   where
     by : (m : Row (Value × State)) → turn t.before t.call ≡ m → Gives m t.before t.answer t.after
-        → HasPerms t.before.guest (stems_from t.call t.answer n) perms
+        → HasPerms t.before.guest (stems_from t.call.call t.answer n) perms
     by (Ok p) is (answer, new) =
-        let stems = ended_stems t.before.guest t.call t.before.tree (row t.before.guest t.call) p
+        let stems = ended_stems t.before.guest t.call.call t.before.tree (row t.before.guest t.call) p
         (row_near t.before.guest t.call) is in
-        subst (λ a. HasPerms t.before.guest (stems_from t.call a n) perms) (sym answer)
+        subst (λ a. HasPerms t.before.guest (stems_from t.call.call a n) perms) (sym answer)
         (stems n perms (subst (λ (s : State). HasPerms s.guest n perms) new has))
     by (Err e) is (answer, same) =
-        subst (λ k. HasPerms t.before.guest k perms) (sym (itself (opened_through t.call) e n answer))
+        subst (λ k. HasPerms t.before.guest k perms) (sym (itself (opened_through t.call.call) e n answer))
         (subst (λ (s : State). HasPerms s.guest n perms) same has)
 turn_stems t (inr faulted) n perms has =
     let still : t.after.guest ≡ t.before.guest = guest_still t.before t.after (turn t.before t.call) faulted.state in
-    let at = itself (opened_through t.call) (Errno errnos.Io) n (ap Some (sym faulted.io)) in
+    let at = itself (opened_through t.call.call) (Errno errnos.Io) n (ap Some (sym faulted.io)) in
     subst (λ k. HasPerms t.before.guest k perms) (sym at) (subst (λ (g : Guest). HasPerms g n perms) still has)
 
 -- ---- a run
 
-pub run_stems : (calls : List Call) (turns : List Turned) (k : ℕ) (old new : State) → Run k old calls turns new
+pub run_stems : (calls : List FueledCall) (turns : List Turned) (k : ℕ) (old new : State) → Run k old calls turns new
     → (n : ℕ) (perms : FsPerms) → HasPerms new.guest n perms → HasPerms old.guest (stem_of turns n) perms
 run_stems [] [] k old new run n perms has = subst (λ (s : State). HasPerms s.guest n perms) run has
 run_stems [] (t ∷ turns) k old new run n perms has = absurd run

@@ -9,8 +9,9 @@ use Rattle.wasi_host.specs.declared.lookup.Lookup.{Lookup}
 use Rattle.wasi_p1.specs.Slots.{View}
 use Rattle.wasi_p1.specs.Guest.{Guest, places_of, guest_of, guest_by}
 use Rattle.wasi_p1.specs.Request.{Request, Reply}
-use Rattle.wasi_p1.specs.Row.{Row, Program, give, done, asking}
-use Rattle.wasi_p1.specs.Rows.{row, moved}
+use Rattle.wasi_p1.specs.Row.{Row, Program, give, done, asking, made_by}
+use Rattle.wasi_p1.specs.Front.{with_fuel, ask}
+use Rattle.wasi_p1.specs.Rows.{front, row, fuel_left, moved}
 use Rattle.wasi_p1.specs.Owners.{handles, Owned, descriptors_named, SlotsOfCall}
 use Rattle.wasi_p1.specs.CallParts.{Follows, IsReplied, Makes, NotMemory, Stays, open_file_of}
 use Rattle.wasi_p1.specs.Asked.{Does}
@@ -37,48 +38,80 @@ reason is = cc
 never_ok : {x : Value} → (let r : Result Value P1Error = Ok x in r) ≡ Err Memory → ⊥
 never_ok is = absurd (cc)
 
--- a refusal before the host
-pub refused : {H : Type 0} {told : Bool} {world : H → World} {faults : H → ℕ} {lookups : H → List Lookup}
-    {inside view : View H} {memory : List ℕ} {call : Call} {e : P1Error}
-    → inside ≡ view → Err e ≡ row (guest_of world inside memory) call
-    → FollowsRow told world faults lookups view view memory memory call (Err e)
-refused {world = world} {faults = faults} {lookups = lookups} {view = view} {memory = memory} {call = call} {e = e}
-    same at =
-    let g = guest_of world view memory in
-    let is : Err e ≡ row g call = subst (λ v. Err e ≡ row (guest_of world v memory) call) same at in
-    let never : NotMemory e = subst (IsNear g call) (sym is) (row_near g call) in
-    record {
+-- a row, and the fuel that is left at its end
+row_same : {p q : Row (Program (Value × Guest)) × ℕ} → p ≡ q → p.0 ≡ q.0
+row_same at = ap (λ (p : Row (Program (Value × Guest)) × ℕ). p.0) at
+
+pub left_same : {p q : Row (Program (Value × Guest)) × ℕ} → p ≡ q → p.1 ≡ q.1
+left_same at = ap (λ (p : Row (Program (Value × Guest)) × ℕ). p.1) at
+
+-- a refusal before the host, which took this much of the fuel
+pub refused_at : {H : Type 0} {told : Bool} {world : H → World} {faults : H → ℕ} {lookups : H → List Lookup}
+    {inside view : View H} {memory : List ℕ} {call : Call} {e : P1Error} {left : ℕ}
+    → inside ≡ view → (Err e, left) ≡ front (guest_of world inside memory) call inside.fuel
+    → FollowsRow told world faults lookups view (record inside { fuel = left }) memory memory call (Err e)
+refused_at {H} {told} {world} {faults} {lookups} {inside} {view} {memory} {call} {e} {left} same at =
+    subst (λ v. FollowsRow told world faults lookups v (record inside { fuel = left }) memory memory call (Err e)) same
+    (record {
       size = refl;
-      kept = record { slots = refl; stdout = refl; stderr = refl; memory = refl };
+      kept = record { slots = refl; holdings = refl; memory = refl };
       wants = λ want. absurd (never (reason want));
       slots = all_stay refl;
-      front = subst (AtFront (Same view view memory memory) (Quiet faults lookups view view) g (Err e)) is
+      fuel = left_same at;
+      front = subst (AtFront (Same inside new memory memory) (Quiet faults lookups inside new) g (Err e)) is
           (inl refl, (refl, refl));
       turn = λ told. turns.refused is;
       permits = λ told names. refl;
-    }
+    })
+  where
+    g : Guest
+    g = guest_of world inside memory
+
+    new : View H
+    new = record inside { fuel = left }
+
+    is : Err e ≡ row g (with_fuel inside.fuel call)
+    is = row_same at
+
+    never : NotMemory e
+    never = subst (IsNear g call) (sym is) (row_near g (with_fuel inside.fuel call))
+
+-- one before any fuel was taken
+pub refused : {H : Type 0} {told : Bool} {world : H → World} {faults : H → ℕ} {lookups : H → List Lookup}
+    {inside view : View H} {memory : List ℕ} {call : Call} {e : P1Error}
+    → inside ≡ view → (Err e, inside.fuel) ≡ front (guest_of world inside memory) call inside.fuel
+    → FollowsRow told world faults lookups view view memory memory call (Err e)
+refused {told = told} {world = world} {faults = faults} {lookups = lookups} {inside = inside} {view = view}
+    {memory = memory} {call = call} {e = e} same at =
+    subst (λ v. FollowsRow told world faults lookups view v memory memory call (Err e)) same (refused_at same at)
+
+pub ruleset refusals = (refused, refused_at)
 
 -- memory was wanted before anything was asked
 pub wanted : {H : Type 0} {told : Bool} {world : H → World} {faults : H → ℕ} {lookups : H → List Lookup}
-    {view : View H} {memory : List ℕ} {call : Call} → IsTrue (may_want call)
-    → FollowsRow told world faults lookups view view memory memory call (Err Memory)
-wanted {world = world} {faults = faults} {lookups = lookups} {view = view} {memory = memory} {call = call} may =
-    record {
-      size = refl;
-      kept = record { slots = refl; stdout = refl; stderr = refl; memory = refl };
-      wants = λ _. may;
-      slots = all_stay refl;
-      front = front (row (guest_of world view memory) call);
-      turn = λ told. turns.wants_memory;
-      permits = λ told names. refl;
-    }
+    {view : View H} {memory : List ℕ} {call : Call} {left : ℕ} → IsTrue (may_want call)
+    → left ≡ fuel_left (guest_of world view memory) (with_fuel view.fuel call)
+    → FollowsRow told world faults lookups view (record view { fuel = left }) memory memory call (Err Memory)
+wanted {H} {told} {world} {faults} {lookups} {view} {memory} {call} {left} may took = record {
+  size = refl;
+  kept = record { slots = refl; holdings = refl; memory = refl };
+  wants = λ _. may;
+  slots = all_stay refl;
+  fuel = took;
+  front = front_wants (row (guest_of world view memory) (with_fuel view.fuel call));
+  turn = λ told. turns.wants_memory;
+  permits = λ told names. refl;
+}
   where
-    front : (m : Row (Program (Value × Guest)))
-        → AtFront (Same view view memory memory) (Quiet faults lookups view view) (guest_of world view memory)
+    new : View H
+    new = record view { fuel = left }
+
+    front_wants : (m : Row (Program (Value × Guest)))
+        → AtFront (Same view new memory memory) (Quiet faults lookups view new) (guest_of world view memory)
         (Err Memory) m
-    front (Err e) = (inr refl, (refl, refl))
-    front (Ok (done p)) = (refl, (refl, refl))
-    front (Ok (asking r next)) = inl (Wanted, refl)
+    front_wants (Err e) = (inr refl, (refl, refl))
+    front_wants (Ok (done p)) = (refl, (refl, refl))
+    front_wants (Ok (asking r next)) = inl (Wanted, refl)
 
 -- the places stay: for a host that is told, where the handles stand for the same afterwards
 abbrev pub PlacesStay : {H : Type 0} → Bool → (H → World) → View H → View H → Type 0
@@ -92,18 +125,18 @@ guest_then world old new after = guest_by (world old.host).held new after
 same_guest : {H : Type 0} {old new : View H} {before after : List ℕ} (world : H → World) → Kept old new before after
     → places_of (world new.host).held new.slots ≡ places_of (world old.host).held old.slots
     → guest_of world new after ≡ guest_of world old before
-same_guest world kept places = rw (places, kept.stdout, kept.stderr, kept.memory) refl
+same_guest world kept places = rw (places, kept.holdings, kept.memory) refl
 
 -- the row without the tree, and the turn over a host that tells
-abbrev Front : {H : Type 0} → (H → World) → (H → ℕ) → (H → List Lookup) → View H → View H → List ℕ → List ℕ
+abbrev AtHost : {H : Type 0} → (H → World) → (H → ℕ) → (H → List Lookup) → View H → View H → List ℕ → List ℕ
     → Result Value P1Error → Row (Program (Value × Guest)) → Type 0
-Front world faults lookups old new before after result m =
+AtHost world faults lookups old new before after result m =
     AtFront (Same old new before after) (Quiet faults lookups old new) (guest_then world old new after) result m
 
 abbrev Turn : {H : Type 0} → (H → World) → (H → ℕ) → View H → View H → List ℕ → List ℕ → Call → Result Value P1Error
     → Type 0
 Turn world faults old new before after call result =
-    TakesTurn world (Rose (faults old.host) (faults new.host)) old new before after call result
+    TakesTurn world (Rose (faults old.host) (faults new.host)) old new before after (with_fuel old.fuel call) result
 
 -- what came of a request
 abbrev pub Did : {H A : Type 0} → (H → World) → (H → ℕ) → View H → View H → (r : Request) → (Reply r → Row A) → Row A
@@ -120,8 +153,7 @@ Made world faults old new live r next result =
 -- a file's descriptor is put back further on
 pub record Moved {H : Type 0} (old new : View H) (fd : ℕ) (file : FilePlace) (n : ℕ) : Type 0 where
   pub slots : new.slots ≡ slice_set old.slots fd (File file.file (file.position + n))
-  pub stdout : new.stdout ≡ old.stdout
-  pub stderr : new.stderr ≡ old.stderr
+  pub holdings : new.holdings ≡ old.holdings
 
 abbrev guest_moved : {H : Type 0} → (ℕ → Held) → View H → ℕ → FilePlace → ℕ → List ℕ → Guest
 guest_moved held old fd file n after = record (guest_by held old after) {
@@ -131,11 +163,14 @@ guest_moved held old fd file n after = record (guest_by held old after) {
 module _ {H : Type 0} {told : Bool} {world : H → World} {faults : H → ℕ} {lookups : H → List Lookup}
     {old new : View H} {before after : List ℕ} {call : Call} where
   answer_follows : {x : Value} → length after ≡ length before → SlotsOfCall old.slots new.slots before call
-      → Front world faults lookups old new before after (Ok x) (row (guest_of world old before) call)
+      → new.fuel ≡ fuel_left (guest_of world old before) (with_fuel old.fuel call)
+      → AtHost world faults lookups old new before after (Ok x)
+      (row (guest_of world old before) (with_fuel old.fuel call))
       → (IsTrue told → Turn world faults old new before after call (Ok x))
       → FollowsRow told world faults lookups old new before after call (Ok x)
-  answer_follows size slots front turn = record {
+  answer_follows size slots took front turn = record {
     size = size;
+    fuel = took;
     kept = tt;
     wants = λ want. absurd (never_ok want);
     slots = slots;
@@ -145,20 +180,24 @@ module _ {H : Type 0} {told : Bool} {world : H → World} {faults : H → ℕ} {
   }
 
   -- an answer without a request
-  pub answered : {x : Value} → Ok (done (x, guest_then world old new after)) ≡ row (guest_of world old before) call
+  pub answered : {x : Value}
+      → (Ok (done (x, guest_then world old new after)), new.fuel) ≡ front (guest_of world old before) call old.fuel
       → length after ≡ length before → SlotsOfCall old.slots new.slots before call
       → Quiet faults lookups old new → (IsTrue told → Stays (world old.host) (world new.host) new.slots)
       → FollowsRow told world faults lookups old new before after call (Ok x)
-  answered {x} is size slots quiet stays =
-      answer_follows size slots (subst (Front world faults lookups old new before after (Ok x)) is (refl, quiet)) (λ told.
+  answered {x} at size slots quiet stays =
+      let is : Ok (done (x, guest_then world old new after)) ≡ row (guest_of world old before) (with_fuel old.fuel call) =
+      row_same at in
+      answer_follows size slots (left_same at)
+      (subst (AtHost world faults lookups old new before after (Ok x)) is (refl, quiet)) (λ told.
       let still = stays told in
       let placed = ap (λ places. Ok (done (x, record (guest_of world new after) { places = places }))) still.places in
       turns.answered (placed ∙ is) still.tree still.touched)
 
   -- what follows of a request's reply, as a row's answer
   module _ {r : Request} {A : Type 0} (next : Reply r → Row A) (shown : Guest → A → Value × Guest)
-      (front : Ok (asking r (λ reply. next reply >>= (λ x. give (shown (guest_of world old before) x))))
-      ≡ row (guest_of world old before) call) where
+      (at : ask r (made_by r next (shown (guest_of world old before))) new.fuel
+      ≡ front (guest_of world old before) call old.fuel) where
     -- the host refused, or failed, or wanted memory; or the row refused the reply
     pub does_err : {e : P1Error} → IsReplied r next (Err e) → (e ≡ Memory → IsTrue (may_want call))
         → Kept old new before after → PlacesStay told world old new
@@ -169,7 +208,8 @@ module _ {H : Type 0} {told : Bool} {world : H → World} {faults : H → ℕ} {
       kept = kept;
       wants = λ want. wants (reason want);
       slots = all_stay kept.slots;
-      front = subst (Front world faults lookups old new before after (Err e)) front (elim replied [
+      fuel = left_same at;
+      front = subst (AtHost world faults lookups old new before after (Err e)) (row_same at) (elim replied [
         | inl from ↦ inl from
         | inr (reply, may, is) ↦ inr (reply, may, ap then is)
       ]);
@@ -182,9 +222,9 @@ module _ {H : Type 0} {told : Bool} {world : H → World} {faults : H → ℕ} {
 
         turn : IsTrue told → Turn world faults old new before after call (Err e)
         turn is = elim (does is) [
-          | inl asked ↦ turns.asked_err front (same_guest world kept (places is)) asked
+          | inl asked ↦ turns.asked_err (row_same at) (same_guest world kept (places is)) asked
           | inr (reply, asked, refused) ↦
-              turns.asked_then_err front (same_guest world kept (places is)) asked (ap then refused)
+              turns.asked_then_err (row_same at) (same_guest world kept (places is)) asked (ap then refused)
         ]
 
     -- the row answered the reply
@@ -194,10 +234,10 @@ module _ {H : Type 0} {told : Bool} {world : H → World} {faults : H → ℕ} {
         → (IsTrue told → Did world faults old new r next (Ok x')
         × (shown (guest_of world old before) x' ≡ (y, guest_of world new after)))
         → FollowsRow told world faults lookups old new before after call (Ok y)
-    does_ok {y} size slots (reply, may, is) at does =
-        answer_follows size slots
-        (subst (Front world faults lookups old new before after (Ok y)) front (reply, may, ap then is ∙ ap give at))
-        (λ told. let (did, shows) = does told in turns.asked_ok front did.1 (ap then did.2 ∙ ap give shows))
+    does_ok {y} size slots (reply, may, is) shows does =
+        answer_follows size slots (left_same at)
+        (subst (AtHost world faults lookups old new before after (Ok y)) (row_same at) (reply, may, ap then is ∙ ap give shows))
+        (λ told. let (did, shown_so) = does told in turns.asked_ok (row_same at) did.1 (ap then did.2 ∙ ap give shown_so))
       where
         then : Row A → Row (Value × Guest)
         then m = m >>= (λ x. give (shown (guest_of world old before) x))
@@ -252,7 +292,18 @@ module _ {H : Type 0} {told : Bool} {world : H → World} {faults : H → ℕ} {
                 record {
                   places = sym placed i;
                   memory = after;
-                  stdout = sym moved.stdout i;
-                  stderr = sym moved.stderr i;
+                  holdings = sym moved.holdings i;
                 },
               )
+
+-- an answer without a request, where nothing changed
+pub answered_at_once : {H : Type 0} {told : Bool} {world : H → World} {faults : H → ℕ} {lookups : H → List Lookup}
+    {inside view : View H} {memory : List ℕ} {call : Call} {x : Value}
+    → inside ≡ view
+    → (Ok (done (x, guest_of world inside memory)), inside.fuel) ≡ front (guest_of world inside memory) call inside.fuel
+    → FollowsRow told world faults lookups view view memory memory call (Ok x)
+answered_at_once {told = told} {world = world} {faults = faults} {lookups = lookups} {inside = inside}
+    {memory = memory} {call = call} {x = x} same at =
+    subst (λ v. FollowsRow told world faults lookups v v memory memory call (Ok x)) same
+    (answered at refl (all_stay refl) (record { failed = refl; looked = refl })
+    (λ told. record { tree = refl; touched = refl; places = refl }))

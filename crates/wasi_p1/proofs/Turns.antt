@@ -13,6 +13,7 @@ use Rattle.wasi_p1.specs.Turn.{IsTurn, Refuses, Faults, Wants, StepTaken}
 use Rattle.wasi_p1.specs.CallTurn.{Turns, in_world}
 use Rattle.wasi_p1.specs.Asked.{Asked, Hidden, GivesOrElse, TreeAfter}
 use Rattle.wasi_guest.specs.declared.call.Call.{Call}
+use Rattle.wasi_p1.specs.Front.{FueledCall}
 use Rattle.wasi_guest.specs.declared.errno.Errno.TheVariants as errnos
 use Rattle.wasi_p1.specs.declared.error.P1Error.{P1Error}
 use Rattle.wasi_p1.specs.declared.error.P1Error.TheVariants.{Errno, Memory}
@@ -28,7 +29,7 @@ RowTurns rose w v g g' m result =
     IsTurn rose (Asks m) (in_world w g) (in_world v g') result (ended w.tree m)
     × Touches w.tree v.tree (starts m) (if is_ok result then path_ends w.tree m else []) w.touched v.touched
 
-turns : {rose : Type 0} {w v : World} {g g' : Guest} {call : Call} {result : Result Value P1Error}
+turns : {rose : Type 0} {w v : World} {g g' : Guest} {call : FueledCall} {result : Result Value P1Error}
     (m : Row (Program (Value × Guest)))
     → m ≡ row g call → RowTurns rose w v g g' m result → Turns rose w v g g' call result
 turns {rose} {w} {v} {g} {g'} {call} {result} m is both =
@@ -36,17 +37,17 @@ turns {rose} {w} {v} {g} {g'} {call} {result} m is both =
     record { turn = at.0; touched = at.1 }
 
 -- a refusal before the host
-pub refused : {rose : Type 0} {w : World} {g : Guest} {call : Call} {e : P1Error} → Err e ≡ row g call
+pub refused : {rose : Type 0} {w : World} {g : Guest} {call : FueledCall} {e : P1Error} → Err e ≡ row g call
     → Turns rose w w g g call (Err e)
 refused {e = e} is = turns (Err e) is (inl (record { stays = refl; row_is = refl }), touches_same refl)
 
 -- memory was wanted
-pub wants_memory : {rose : Type 0} {w : World} {g : Guest} {call : Call} → Turns rose w w g g call (Err Memory)
+pub wants_memory : {rose : Type 0} {w : World} {g : Guest} {call : FueledCall} → Turns rose w w g g call (Err Memory)
 wants_memory {g = g} {call = call} =
     turns (row g call) refl (inr (inl (record { memory = refl; stays = refl })), touches_same refl)
 
 -- an answer without a request
-pub answered : {rose : Type 0} {w v : World} {g g' : Guest} {call : Call} {x : Value} → Ok (done (x, g')) ≡ row g call
+pub answered : {rose : Type 0} {w v : World} {g g' : Guest} {call : FueledCall} {x : Value} → Ok (done (x, g')) ≡ row g call
     → v.tree ≡ w.tree → v.touched ≡ w.touched
     → Turns rose w v g g' call (Ok x)
 answered {g' = g'} {x = x} is tree touched = turns (Ok (done (x, g'))) is (
@@ -114,7 +115,7 @@ module _ (s s' : State) {call : Call} {r : Request} {next : Reply r → Row (Val
   err_turns e tree (inr (inl is)) = inr (inl (wanted e tree (cc)))
   err_turns e tree (inr (inr is)) = let io = is.0 in inr (inr (failed e tree (cc) is.1))
 
-module _ {rose : Type 0} {w v : World} {g g' : Guest} {call : Call} {r : Request} {next : Reply r → Row (Value × Guest)}
+module _ {rose : Type 0} {w v : World} {g g' : Guest} {call : FueledCall} {r : Request} {next : Reply r → Row (Value × Guest)}
     (front : Ok (asking r next) ≡ row g call) where
   -- the host answered
   pub asked_ok : {reply : Reply r} {x : Value} → Asked rose w v r (Ok reply) → next reply ≡ Ok (x, g')
@@ -128,7 +129,7 @@ module _ {rose : Type 0} {w v : World} {g g' : Guest} {call : Call} {r : Request
   -- the host refused, or failed, or wanted memory
   pub asked_err : {e : P1Error} → g' ≡ g → Asked rose w v r (Err e) → Turns rose w v g g' call (Err e)
   asked_err {e} same asked =
-      let near = subst (IsNear g call) (sym front) (row_near g call) in
+      let near = subst (IsNear g call.call) (sym front) (row_near g call) in
       turns (Ok (asking r next)) front
       (err_turns (in_world w g) (in_world v g') near same e asked.tree asked.reply, asked.touched)
 
@@ -136,7 +137,7 @@ module _ {rose : Type 0} {w v : World} {g g' : Guest} {call : Call} {r : Request
   pub asked_then_err : {reply : Reply r} {e : P1Error} → g' ≡ g → Asked rose w v r (Ok reply) → next reply ≡ Err e
       → Turns rose w v g g' call (Err e)
   asked_then_err {reply} {e} same asked is =
-      let near = subst (IsNear g call) (sym front) (row_near g call) in
+      let near = subst (IsNear g call.call) (sym front) (row_near g call) in
       let answered = given asked.reply in
       let kept = near.ends w.tree reply (host_answered (reply_of w.tree r) answered) in
       turns (Ok (asking r next)) front (

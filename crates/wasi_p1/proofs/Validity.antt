@@ -6,6 +6,7 @@ use Rattle.wasi_host.specs.Step.{times_set}
 use Rattle.wasi_host.specs.declared.system_time.SystemTime.{SystemTime}
 use Rattle.wasi_guest.specs.declared.answer.Value.{Value}
 use Rattle.wasi_guest.specs.declared.call.Call.{Call}
+use Rattle.wasi_p1.specs.Front.{FueledCall}
 use Rattle.wasi_host.specs.Meaning.{World}
 use Rattle.wasi_host.specs.Tree.{Tree, Content, File, Directory, Link, node_at, next_of, bytes_of}
 use Rattle.wasi_host.specs.ValidTree.{IsValidTree, IsValidContent, are_bytes}
@@ -181,39 +182,39 @@ ended_valid : (s : State) (call : Call) (m : Row (Program (Value × Guest))) (p 
     → IsNear s.guest call m → ended s.tree m ≡ Ok p → IsValidState p.1
 ended_valid s call (Ok (done q)) p valid near is = record {
   tree = subst IsValidTree (sym (over_tree (Ok q) is)) valid.tree;
-  memory = subst KeepsBytes (over_guest s.tree (Ok q) is) (near.bytes valid.memory);
+  bytes = subst KeepsBytes (over_guest s.tree (Ok q) is) (near.bytes valid.bytes);
 }
 ended_valid s call (Ok (asking r next)) p valid near is =
     let did = replied_by s.tree r next is in
-    let stepped = request_valid s.tree r valid.tree (near.asked valid.memory) did.is in
+    let stepped = request_valid s.tree r valid.tree (near.asked valid.bytes) did.is in
     let read = gives_bytes s.tree r did.reply valid.tree did.is in record {
       tree = subst IsValidTree (sym did.tree) stepped;
-      memory = subst KeepsBytes did.gives (near.bytes valid.memory did.reply read);
+      bytes = subst KeepsBytes did.gives (near.bytes valid.bytes did.reply read);
     }
 ended_valid s call (Err e) p valid near is = absurd (cc)
 
 -- to whatever state it leads
-pub moved_valid : (s s' : State) (call : Call) → IsValidState s → Moves s s' (turn s call) → IsValidState s'
+pub moved_valid : (s s' : State) (call : FueledCall) → IsValidState s → Moves s s' (turn s call) → IsValidState s'
 moved_valid s s' call valid moves = elim moves [
   | inl same ↦ subst IsValidState (sym same) valid
-  | inr (inl given) ↦ ended_valid s call (row s.guest call) _ valid (row_near s.guest call) given.1
+  | inr (inl given) ↦ ended_valid s call.call (row s.guest call) _ valid (row_near s.guest call) given.1
   | inr (inr step) ↦ by (turn s call) refl step
 ]
   where
     by : (m : Row (Value × State)) → turn s call ≡ m → StepTaken s s' m → IsValidState s'
     by (Ok p) is step =
-        let after = ended_valid s call (row s.guest call) p valid (row_near s.guest call) is in
-        subst IsValidState (sym step) (record { tree = after.tree; memory = valid.memory })
+        let after = ended_valid s call.call (row s.guest call) p valid (row_near s.guest call) is in
+        subst IsValidState (sym step) (record { tree = after.tree; bytes = valid.bytes })
     by (Err e) is step = absurd step
 
-pub turn_valid : {rose : Type 0} {w v : World} {g g' : Guest} {call : Call} {r : Result Value P1Error}
+pub turn_valid : {rose : Type 0} {w v : World} {g g' : Guest} {call : FueledCall} {r : Result Value P1Error}
     → Turns rose w v g g' call r → IsValidState (in_world w g) → IsValidState (in_world v g')
 turn_valid {rose} {w} {v} {g} {g'} {call} {r} takes valid =
     moved_valid (in_world w g) (in_world v g') call valid (turn_moves rose _ r takes.turn)
 
 -- ---- a run
 
-pub run_valid : (calls : List Call) (turns : List Turned) (k : ℕ) (old new : State) → Run k old calls turns new
+pub run_valid : (calls : List FueledCall) (turns : List Turned) (k : ℕ) (old new : State) → Run k old calls turns new
     → IsValidState old → IsValidState new
 run_valid [] [] k old new run valid = subst IsValidState (sym run) valid
 run_valid [] (t ∷ turns) k old new run valid = absurd run

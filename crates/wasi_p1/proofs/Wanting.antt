@@ -1,32 +1,42 @@
 -- No part of a row is refused because memory was wanted.
-use Rattle.std.proofs.Common.{ℕ, true, false, cond, Bool, List, Option, Some, None, Ok, Err}
-use Rattle.std.specs.Str.{is_utf8}
+use Rattle.std.proofs.Common.{refl, ◌≡◌, ◌+◌, ◌*◌, ◌/◌, ◌^◌, ◌%◌, take, [], nat_lt, nat_le, length, ℕ, true, false, cond, Bool, List, Option, Some, None, Ok, Err}
+use Rattle.std.specs.Prelude.{◌==◌}
 use Rattle.wasi_fs.specs.Perms.{is_read_only}
 use Rattle.wasi_fs.specs.declared.perms.FsPerms.{FsPerms}
 use Rattle.wasi_guest.specs.Flags as flag
 use Rattle.wasi_guest.specs.Flags.{has, flags_in, known_lookupflags, known_oflags, known_fdflags, known_fstflags, known_rights}
-use Rattle.wasi_guest.specs.Iovec.{first_buffer}
+use Rattle.wasi_guest.specs.Records.{Found}
+use Rattle.wasi_guest.specs.declared.guest_error.GuestError.{GuestError}
+use Rattle.wasi_guest.specs.declared.guest_error.GuestError.TheVariants as guests
 use Rattle.wasi_guest.specs.Range.{in_memory}
 use Rattle.wasi_host.specs.Steps.{◌>>=◌}
 use Rattle.wasi_guest.specs.declared.answer.TrapKind.{TrapKind}
 use Rattle.wasi_host.specs.declared.errors.ErrorCode.{ErrorCode}
 use Rattle.wasi_guest.specs.declared.errno.Errno.{Errno as ErrorNumber}
 use Rattle.wasi_guest.specs.declared.errno.Errno.TheVariants as errnos
-use Rattle.wasi_guest.specs.declared.iovec.Iovec.{Iovec}
-use Rattle.wasi_p1.specs.CallParts.{NotMemory}
+use Rattle.wasi_p1.specs.CallParts.{NotMemory, is_failure}
 use Rattle.wasi_p1.specs.Guest.{Place, closed, stream, directory, file}
-use Rattle.wasi_p1.specs.NewTimes.{new_time, times_asked}
+use Rattle.wasi_p1.specs.NewTimes.{time_of, new_time, times_asked}
 use Rattle.wasi_p1.specs.RawFlags.{or_inval, open_how, follow_asked}
 use Rattle.wasi_p1.specs.Row.{Row}
-use Rattle.wasi_p1.specs.Rows.{text_in, utf8_text, live_in, directory_in, start_in, file_in, open_node_in, or_trap, buffer_in, range, may_write, permit}
+use Rattle.wasi_p1.specs.Parts.{live_in, directory_in, start_in, source_in, sink_in, open_node_in, range, may_write, permit, fault_of, from_guest}
 use Rattle.wasi_p1.specs.declared.error.P1Error.{P1Error}
-use Rattle.wasi_p1.specs.declared.error.P1Error.TheVariants.{Errno, Trap}
+use Rattle.wasi_guest.specs.Enums.{clockid_of, is_signal}
+use Rattle.wasi_guest.specs.declared.enums.Clockid.{Clockid}
+use Rattle.wasi_guest.specs.declared.enums.Clockid.TheVariants as clocks
+use Rattle.wasi_guest.specs.declared.services.WallDatetime.{WallDatetime}
+use Rattle.wasi_guest.specs.declared.answer.TrapKind.TheVariants.{ExitStatus}
+use Rattle.wasi_p1.specs.declared.context.Stream.TheVariants as streams
+use Rattle.wasi_guest.specs.declared.iovec.Iovec.{Iovec}
+use Rattle.wasi_p1.specs.Services.{next_input, input_into, fits_32, total_of, sizes_of, aligned, put_texts, texts_at, or_unknown, moment_of, clock_res, clock_time, exit_with, known_signal}
+use Rattle.wasi_p1.specs.Stock.{Stock}
+use Rattle.wasi_p1.specs.declared.error.P1Error.TheVariants.{Errno, Trap, Exit}
 
 abbrev pub Never : {A : Type 0} → Row A → Type 0
 Never (Ok x) = Unit {0}
 Never (Err e) = NotMemory e
 
-number : {e : ErrorNumber} → NotMemory (Errno e)
+pub number : {e : ErrorNumber} → NotMemory (Errno e)
 number is = absurd (cc)
 
 trapped : {kind : TrapKind} → NotMemory (Trap kind)
@@ -43,11 +53,25 @@ when false x other = other
 pub range_never : (memory : List ℕ) (at n : ℕ) → Never (range memory at n)
 range_never memory at n = when (in_memory memory at n) _ trapped
 
-pub text_never : (memory : List ℕ) (at n : ℕ) → Never (text_in memory at n)
-text_never memory at n =
-    after (range memory at n) utf8_text (range_never memory at n) (λ bytes. when (is_utf8 bytes) _ number)
+-- nor is one the failure of a host, where something isn't read from memory
+pub fault_never : (e : GuestError) → is_failure (fault_of e) ≡ false
+fault_never guests.PtrOverflow = refl
+fault_never guests.PtrOutOfBounds = refl
+fault_never guests.PtrNotAligned = refl
+fault_never guests.InvalidUtf8 = refl
+fault_never guests.InvalidFlagValue = refl
+fault_never guests.InvalidEnumValue = refl
 
-inval_never : (flags : Option ℕ) → Never (or_inval flags)
+pub guest_never : {A : Type 0} (found : Found A) → Never (from_guest found)
+guest_never (Ok x) = tt
+guest_never (Err guests.PtrOverflow) = trapped
+guest_never (Err guests.PtrOutOfBounds) = trapped
+guest_never (Err guests.PtrNotAligned) = trapped
+guest_never (Err guests.InvalidUtf8) = number
+guest_never (Err guests.InvalidFlagValue) = number
+guest_never (Err guests.InvalidEnumValue) = number
+
+pub inval_never : (flags : Option ℕ) → Never (or_inval flags)
 inval_never (Some set) = tt
 inval_never None = number
 
@@ -104,29 +128,107 @@ node_never (Some (stream s)) = number
 node_never (Some closed) = number
 node_never None = number
 
-time_never : (n : ℕ) (set now : Bool) → Never (new_time n set now)
-time_never n true true = number
-time_never n true false = tt
-time_never n false true = tt
-time_never n false false = tt
+time_never : (wall : WallDatetime) (n : ℕ) (set now : Bool) → Never (new_time wall n set now)
+time_never wall n true true = number
+time_never wall n true false = tt
+time_never wall n false true =
+    after (time_of wall) _ (when (nat_lt (wall.seconds + wall.nanoseconds / 10 ^ 9) (2 ^ 63)) _ number) (λ now. tt)
+time_never wall n false false = tt
 
-pub times_never : (atim mtim fst_flags : ℕ) → Never (times_asked atim mtim fst_flags)
+pub times_never : (wall : WallDatetime) (atim mtim fst_flags : ℕ) → Never (times_asked wall atim mtim fst_flags)
 unfolding times_asked
-times_never atim mtim fst_flags =
+times_never wall atim mtim fst_flags =
     after (or_inval (flags_in known_fstflags fst_flags)) _ (inval_never _) (λ set.
-    after (new_time atim (has set flag.atim) (has set flag.atim_now)) _ (time_never atim _ _) (λ atime.
-    after (new_time mtim (has set flag.mtim) (has set flag.mtim_now)) _ (time_never mtim _ _) (λ mtime. tt)))
+    after (new_time wall atim (has set flag.atim) (has set flag.atim_now)) _ (time_never wall atim _ _) (λ atime.
+    after (new_time wall mtim (has set flag.mtim) (has set flag.mtim_now)) _ (time_never wall mtim _ _) (λ mtime. tt)))
 
-pub file_never : (p : Option Place) → Never (file_in p)
-file_never (Some (directory d)) = number
-file_never (Some (file f)) = tt
-file_never (Some (stream s)) = number
-file_never (Some closed) = number
-file_never None = number
+pub source_never : (p : Option Place) → Never (source_in p)
+source_never (Some (directory d)) = number
+source_never (Some (file f)) = tt
+source_never (Some (stream streams.Input)) = tt
+source_never (Some (stream streams.Output)) = number
+source_never (Some (stream streams.Error)) = number
+source_never (Some closed) = number
+source_never None = number
 
-pub buffer_never : (memory : List ℕ) (iovs n : ℕ) → Never (buffer_in memory iovs n)
-buffer_never memory iovs n = by (first_buffer memory iovs n)
+pub sink_never : (p : Option Place) → Never (sink_in p)
+sink_never (Some (directory d)) = number
+sink_never (Some (file f)) = tt
+sink_never (Some (stream streams.Input)) = number
+sink_never (Some (stream streams.Output)) = tt
+sink_never (Some (stream streams.Error)) = tt
+sink_never (Some closed) = number
+sink_never None = number
+
+-- ---- what needs no tree
+
+fits_never : (n : ℕ) → Never (fits_32 n)
+fits_never n = when (nat_lt n (2 ^ 32)) _ number
+
+pub sizes_never : (texts : List (List ℕ)) → Never (sizes_of texts)
+unfolding sizes_of
+sizes_never texts = after (fits_32 (length texts)) _ (fits_never (length texts)) (λ count.
+    after (fits_32 (total_of texts)) _ (fits_never (total_of texts)) (λ total. tt))
+
+-- the standard input is read into a buffer
+pub input_never : (memory : List ℕ) (stock : Stock) (buffer : Iovec) → Never (input_into memory stock buffer)
+unfolding input_into
+input_never memory stock buffer = after (next_input stock.stdin buffer.buf_len) _ (by (length stock.stdin == 0)) (λ bytes. tt)
   where
-    by : (o : Option Iovec) → Never (or_trap o)
-    by (Some item) = tt
-    by None = trapped
+    some : Row (List ℕ)
+    some = cond (buffer.buf_len == 0) (Err (Errno errnos.Intr)) (Ok (take buffer.buf_len stock.stdin))
+
+    takes : (b : Bool) → Never (let m : Row (List ℕ) = cond b (Err (Errno errnos.Intr)) (Ok (take buffer.buf_len stock.stdin)) in m)
+    takes true = number
+    takes false = tt
+
+    by : (b : Bool) → Never (cond b (Ok []) some)
+    by true = tt
+    by false = takes (buffer.buf_len == 0)
+
+aligned_never : (at : ℕ) → Never (aligned at)
+aligned_never at = when (at % 4 == 0) _ trapped
+
+pub texts_never : (memory : List ℕ) (texts : List (List ℕ)) (at buf : ℕ) → Never (texts_at memory texts at buf)
+unfolding texts_at
+texts_never memory texts at buf = by (length texts == 0)
+  where
+    put : Never (put_texts memory texts at buf)
+    put = after (aligned at) _ (aligned_never at) (λ _.
+        after (range memory at (4 * length texts)) _ (range_never memory at (4 * length texts)) (λ _.
+        after (range memory buf (total_of texts)) _ (range_never memory buf (total_of texts)) (λ _. tt)))
+
+    by : (b : Bool) → Never (cond b (Ok memory) (put_texts memory texts at buf))
+    by true = tt
+    by false = put
+
+moment_never : (wall : WallDatetime) (monotonic : ℕ) (clock : Clockid) → Never (moment_of wall monotonic clock)
+moment_never wall monotonic clocks.Realtime = when (nat_lt (wall.seconds * 10 ^ 9 + wall.nanoseconds) (2 ^ 64)) _ number
+moment_never wall monotonic clocks.Monotonic = tt
+moment_never wall monotonic clocks.ProcessCputimeId = number
+moment_never wall monotonic clocks.ThreadCputimeId = number
+
+unknown_never : (clock : Option Clockid) → Never (or_unknown clock)
+unknown_never (Some clock) = tt
+unknown_never None = number
+
+pub clock_res_never : (stock : Stock) (id : ℕ) → Never (clock_res stock id)
+unfolding clock_res
+clock_res_never stock id = after (or_unknown (clockid_of id)) _ (unknown_never (clockid_of id))
+    (moment_never stock.wall_resolution stock.monotonic_resolution)
+
+pub clock_time_never : (stock : Stock) (id : ℕ) → Never (clock_time stock id)
+unfolding clock_time
+clock_time_never stock id = after (or_unknown (clockid_of id)) _ (unknown_never (clockid_of id))
+    (moment_never stock.wall stock.monotonic)
+
+pub exit_never : (status : ℕ) → NotMemory (exit_with status)
+exit_never status = by (nat_le 126 status)
+  where
+    by : (b : Bool) → NotMemory (cond b (Trap ExitStatus) (Exit status))
+    by true = trapped
+    by false = λ is. absurd (cc)
+
+pub signal_never : (signal : ℕ) → Never (known_signal signal)
+unfolding known_signal
+signal_never signal = when (is_signal signal) _ number

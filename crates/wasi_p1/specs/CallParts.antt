@@ -13,7 +13,7 @@ use Rattle.wasi_p1.specs.Asked.{Does}
 use Rattle.wasi_p1.specs.Errnos.{errno_of, error_of}
 use Rattle.wasi_p1.specs.Request.{Request, Reply, MayReply, Path, Read, Write}
 use Rattle.wasi_p1.specs.Row.{Row, give}
-use Rattle.wasi_p1.specs.Rows.{OpenNode, opened_among}
+use Rattle.wasi_p1.specs.Rows.{OpenNode, opened_among, Source, input, from, Sink, output, into}
 use Rattle.wasi_guest.specs.Range.{with_bytes}
 use Rattle.wasi_guest.specs.declared.errno.Errno.TheVariants as errnos
 use Rattle.wasi_p1.specs.Guest.{OpenDirectory, OpenFile, Place, places_of, directory_by, file_by}
@@ -22,6 +22,10 @@ use Rattle.wasi_p1.specs.declared.error.P1Error.TheVariants.{Errno, Memory}
 use Rattle.wasi_p1.specs.declared.context.Slot.{Slot}
 use Rattle.wasi_p1.specs.declared.context.Slot.TheVariants as slots
 use Rattle.wasi_p1.specs.declared.call_parts.FilePlace.{FilePlace}
+use Rattle.wasi_p1.specs.declared.call_parts.Source.{Source as ReadPlace}
+use Rattle.wasi_p1.specs.declared.call_parts.Source.TheVariants as sources
+use Rattle.wasi_p1.specs.declared.call_parts.Sink.{Sink as WritePlace}
+use Rattle.wasi_p1.specs.declared.call_parts.Sink.TheVariants as sinks
 
 -- a directory's, or a file's descriptor, with what its handle stands for in place of the handle
 abbrev pub open_directory_of : (ℕ → Held) → Dir → OpenDirectory
@@ -69,6 +73,28 @@ ReadsInto rose old w v f position buf size before after result =
 -- a write of a piece
 abbrev pub WritesPiece : Type 0 → Handles → World → World → Held → ℕ → List ℕ → Row ℕ → Type 0
 WritesPiece rose old w v f position piece result = Makes rose old w v (Write f position piece) give result
+
+-- what is read or written by a number, with what a file's handle stands for in place of the handle
+abbrev pub source_of : (ℕ → Held) → ReadPlace → Source
+source_of held sources.Input = input
+source_of held (sources.File file) = from (open_file_of held file)
+
+abbrev pub sink_of : (ℕ → Held) → WritePlace → Sink
+sink_of held (sinks.Output o) = output o
+sink_of held (sinks.File file) = into (open_file_of held file)
+
+-- the slot of a file's descriptor
+abbrev pub file_slot : FilePlace → Slot
+file_slot file = slots.File file.file file.position
+
+-- what holds of a file that is read or written
+abbrev pub OfSource : (FilePlace → Type 0) → ReadPlace → Type 0
+OfSource P sources.Input = Unit {0}
+OfSource P (sources.File file) = P file
+
+abbrev pub OfSink : (FilePlace → Type 0) → WritePlace → Type 0
+OfSink P (sinks.Output o) = Unit {0}
+OfSink P (sinks.File file) = P file
 
 -- some reply of a request leads to this, whatever the tree
 abbrev pub Follows : {A : Type 0} → (r : Request) → (Reply r → Row A) → Row A → Type 0

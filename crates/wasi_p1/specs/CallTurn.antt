@@ -9,10 +9,11 @@ use Rattle.wasi_p1.specs.Owners.{handles, unowned, descriptors_named, CallTraced
 use Rattle.wasi_p1.specs.CallParts.{IsReplied, with_after}
 use Rattle.wasi_p1.specs.Guest.{Guest, State, perms_in, guest_of, guest_by}
 use Rattle.wasi_p1.specs.Row.{Row, Program, done, asking}
-use Rattle.wasi_p1.specs.Rows.{row, turn}
+use Rattle.wasi_p1.specs.Front.{FueledCall, with_fuel}
+use Rattle.wasi_p1.specs.Rows.{row, turn, fuel_left}
 use Rattle.wasi_p1.specs.Turn.{IsTurn, ReachesHost, named_by, roots_of}
 use Rattle.wasi_guest.specs.declared.call.Call.{Call}
-use Rattle.wasi_guest.specs.declared.call.Call.TheVariants.{FdClose, FdFilestatSetTimes, FdRead, FdWrite, PathCreateDirectory, PathFilestatGet, PathFilestatSetTimes, PathLink, PathOpen, PathReadlink, PathRemoveDirectory, PathRename, PathSymlink, PathUnlinkFile}
+use Rattle.wasi_guest.specs.declared.call.Call.TheVariants.{ArgsGet, ArgsSizesGet, ClockResGet, ClockTimeGet, EnvironGet, EnvironSizesGet, FdClose, FdFilestatSetTimes, FdRead, FdWrite, PathCreateDirectory, PathFilestatGet, PathFilestatSetTimes, PathLink, PathOpen, PathReadlink, PathRemoveDirectory, PathRename, PathSymlink, PathUnlinkFile, ProcExit, ProcRaise, RandomGet, SchedYield, SockAccept, SockRecv, SockSend, SockShutdown}
 use Rattle.wasi_guest.specs.declared.errno.Errno.TheVariants.{Io}
 use Rattle.wasi_p1.specs.declared.error.P1Error.{P1Error}
 use Rattle.wasi_p1.specs.declared.error.P1Error.TheVariants.{Errno, Memory}
@@ -37,7 +38,7 @@ in_world w g = record { tree = w.tree; guest = g }
 
 -- The answer and the state are those of the call's row, and the call touches no node but those reached from where its
 -- request starts, and those made, and each at which a path of it ended
-pub record Turns (rose : Type 0) (w v : World) (g g' : Guest) (call : Call)
+pub record Turns (rose : Type 0) (w v : World) (g g' : Guest) (call : FueledCall)
     (result : Result Value P1Error) : Type 0 where
   pub turn : IsTurn rose (ReachesHost (in_world w g) call) (in_world w g) (in_world v g') result
       (turn (in_world w g) call)
@@ -45,20 +46,19 @@ pub record Turns (rose : Type 0) (w v : World) (g g' : Guest) (call : Call)
       (if is_ok result then named_by (in_world w g) call else []) w.touched v.touched
 
 -- from a context and a memory to those after it
-abbrev pub TakesTurn : {H : Type 0} → (H → World) → Type 0 → View H → View H → List ℕ → List ℕ → Call
+abbrev pub TakesTurn : {H : Type 0} → (H → World) → Type 0 → View H → View H → List ℕ → List ℕ → FueledCall
     → Result Value P1Error → Type 0
 TakesTurn world rose old new before after call result =
     Turns rose (world old.host) (world new.host) (guest_of world old before) (guest_of world new after) call result
 
--- nothing changed, and the host wasn't asked
+-- nothing changed but the fuel, and the host wasn't asked
 abbrev pub Same : {H : Type 0} → View H → View H → List ℕ → List ℕ → Type 0
-Same old new before after = (new ≡ old) × (after ≡ before)
+Same old new before after = (new ≡ record old { fuel = new.fuel }) × (after ≡ before)
 
 -- what is the guest's own stays
 pub record Kept {H : Type 0} (old new : View H) (before after : List ℕ) : Type 0 where
   pub slots : new.slots ≡ old.slots
-  pub stdout : new.stdout ≡ old.stdout
-  pub stderr : new.stderr ≡ old.stderr
+  pub holdings : new.holdings ≡ old.holdings
   pub memory : after ≡ before
 
 -- the host was asked nothing that it could fail at, and no look-up was made
@@ -86,34 +86,50 @@ pub record NamesReadOnly (g : Guest) (call : Call) : Type 0 where
 
 -- the calls that take memory; the others are never answered that it was wanted
 abbrev pub may_want : Call → Bool
-may_want (PathOpen fd dirflags path path_len oflags base inheriting fdflags) = true
+may_want (ArgsGet argv argv_buf) = false
+may_want ArgsSizesGet = false
+may_want (EnvironGet environ environ_buf) = false
+may_want EnvironSizesGet = false
+may_want (ClockResGet id) = false
+may_want (ClockTimeGet id precision) = false
+may_want (FdClose fd) = false
+may_want (FdFilestatSetTimes fd atim mtim fst_flags) = false
 may_want (FdRead fd iovs iovs_len) = false
 may_want (FdWrite fd iovs iovs_len) = true
-may_want (FdClose fd) = false
 may_want (PathCreateDirectory fd path path_len) = true
 may_want (PathFilestatGet fd flags path path_len) = true
+may_want (PathFilestatSetTimes fd flags path path_len atim mtim fst_flags) = true
+may_want (PathLink old_fd old_flags old_path old_path_len new_fd new_path new_path_len) = true
+may_want (PathOpen fd dirflags path path_len oflags base inheriting fdflags) = true
 may_want (PathReadlink fd path path_len buf buf_len) = true
 may_want (PathRemoveDirectory fd path path_len) = true
-may_want (PathSymlink old_path old_path_len fd new_path new_path_len) = true
 may_want (PathUnlinkFile fd path path_len) = true
-may_want (PathFilestatSetTimes fd flags path path_len atim mtim fst_flags) = true
-may_want (FdFilestatSetTimes fd atim mtim fst_flags) = false
-may_want (PathLink old_fd old_flags old_path old_path_len new_fd new_path new_path_len) = true
 may_want (PathRename old_fd old_path old_path_len new_fd new_path new_path_len) = true
+may_want (PathSymlink old_path old_path_len fd new_path new_path_len) = true
+may_want (ProcExit status) = false
+may_want (ProcRaise signal) = false
+may_want (RandomGet buf buf_len) = false
+may_want SchedYield = false
+may_want (SockAccept fd flags) = false
+may_want (SockRecv fd iovs iovs_len ri_flags) = false
+may_want (SockSend fd iovs iovs_len si_flags) = false
+may_want (SockShutdown fd how) = false
 
 -- What a call does to its guest, by its row. Over every host: what the row says without the tree, where each handle
--- stands for what it stood for before the call; only an answered call changes what is the guest's own; and descriptors
--- stay under their numbers with their handles, but for those that the call names or closes. Over a host that tells its
--- world: the turn, which leaves the tree, whatever it answers, where a descriptor that the call names is
--- under read-only permissions
+-- stands for what it stood for before the call; only an answered call changes what is the guest's own; descriptors stay
+-- under their numbers with their handles, but for those that the call names or closes; and the fuel is what the row
+-- leaves. Over a host that tells its world: the turn, which leaves the tree, whatever it answers, where a descriptor
+-- that the call names is under read-only permissions
 pub record FollowsRow {H : Type 0} (told : Bool) (world : H → World) (faults : H → ℕ) (lookups : H → List Lookup)
     (old new : View H) (before after : List ℕ) (call : Call) (result : Result Value P1Error) : Type 0 where
   pub size : length after ≡ length before
   pub kept : OnErr result (Kept old new before after)
   pub wants : result ≡ Err Memory → IsTrue (may_want call)
   pub slots : SlotsOfCall old.slots new.slots before call
+  pub fuel : new.fuel ≡ fuel_left (guest_of world old before) (with_fuel old.fuel call)
   pub front : AtFront (Same old new before after) (Quiet faults lookups old new)
-      (guest_by (world old.host).held new after) result (row (guest_of world old before) call)
-  pub turn : IsTrue told → TakesTurn world (Rose (faults old.host) (faults new.host)) old new before after call result
+      (guest_by (world old.host).held new after) result (row (guest_of world old before) (with_fuel old.fuel call))
+  pub turn : IsTrue told → TakesTurn world (Rose (faults old.host) (faults new.host)) old new before after
+      (with_fuel old.fuel call) result
   pub permits : IsTrue told → NamesReadOnly (guest_of world old before) call
       → (world new.host).tree ≡ (world old.host).tree

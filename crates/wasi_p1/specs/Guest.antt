@@ -9,6 +9,7 @@ use Rattle.wasi_fs.specs.declared.perms.FsPerms.{FsPerms}
 use Rattle.wasi_host.specs.Meaning.{World}
 use Rattle.wasi_host.specs.declared.held.AccessMode.{AccessMode}
 use Rattle.wasi_host.specs.declared.held.Held.{Held}
+use Rattle.wasi_p1.specs.Stock.{Stock}
 use Rattle.wasi_p1.specs.declared.context.Stream.{Stream as StandardStream}
 use Rattle.wasi_p1.specs.declared.context.Slot.{Slot}
 use Rattle.wasi_p1.specs.declared.context.Slot.TheVariants as slots
@@ -38,8 +39,7 @@ pub data Place : Type 0 where
 pub record Guest : Type 0 where
   pub places : List Place
   pub memory : List ℕ
-  pub stdout : List ℕ
-  pub stderr : List ℕ
+  pub holdings : Stock
 
 pub record State : Type 0 where
   pub tree : Tree
@@ -74,8 +74,7 @@ abbrev pub guest_by : {H : Type 0} → (ℕ → Held) → View H → List ℕ �
 guest_by held context memory = record {
   places = places_of held context.slots;
   memory = memory;
-  stdout = context.stdout;
-  stderr = context.stderr;
+  holdings = context.holdings;
 }
 
 -- the same, by what the host tells

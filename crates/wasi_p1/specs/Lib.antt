@@ -1,3 +1,4 @@
+pub mod Stock
 pub mod Slots
 pub mod Numbering
 pub mod Descriptors
@@ -9,6 +10,9 @@ pub mod Row
 pub mod RawFlags
 pub mod NewTimes
 pub mod Filestats
+pub mod Parts
+pub mod Front
+pub mod Services
 pub mod Rows
 pub mod Turn
 pub mod CallTurn

@@ -3,7 +3,9 @@ use Rattle.std.specs.Prelude.{ℕ, List, [], Result, Ok, Err}
 use Rattle.wasi_host.specs.Tree.{Tree}
 use Rattle.wasi_host.specs.declared.errors.ErrorCode.{ErrorCode}
 use Rattle.wasi_host.specs.Steps.{◌>>=◌}
+use Rattle.wasi_guest.specs.declared.answer.Value.{Value}
 use Rattle.wasi_p1.specs.Errnos.{errno_of}
+use Rattle.wasi_p1.specs.Guest.{Guest, State}
 use Rattle.wasi_p1.specs.Request.{Request, Reply, reply_of, after, starts_at, ends_at}
 use Rattle.wasi_p1.specs.declared.error.P1Error.{P1Error}
 use Rattle.wasi_p1.specs.declared.error.P1Error.TheVariants.{Errno}
@@ -20,14 +22,6 @@ pub data Program (A : Type 0) : Type 0 where
   done : A → Program A
   asking : (r : Request) → (Reply r → Row A) → Program A
 
--- the end of a row that needs no tree
-abbrev pub answer : {A : Type 0} → A → Row (Program A)
-answer x = Ok (done x)
-
--- the end of a row that asks the tree
-abbrev pub ask : {A : Type 0} → (r : Request) → (Reply r → Row A) → Row (Program A)
-ask r next = Ok (asking r next)
-
 -- a host's answer: a refusal by its error number
 abbrev pub from_host : {A : Type 0} → Result A ErrorCode → Row A
 from_host (Ok x) = Ok x
@@ -42,6 +36,18 @@ beside t (Err e) = Err e
 abbrev pub run_on : {A : Type 0} → Tree → Program A → Row (A × Tree)
 run_on t (done x) = Ok (x, t)
 run_on t (asking r next) = beside (after t r) (from_host (reply_of t r) >>= next)
+
+-- what is made of a reply, as an answer
+abbrev pub made_by : {A : Type 0} (r : Request) → (Reply r → Row A) → (A → Value × Guest) → Reply r → Row (Value × Guest)
+made_by r next shown reply = next reply >>= (λ x. give (shown x))
+
+-- an answer and a guest, beside the tree after them
+abbrev pub with_tree : (Value × Guest) × Tree → Value × State
+with_tree p = (p.0.0, record { tree = p.1; guest = p.0.1 })
+
+-- a row over a tree
+abbrev pub ended : Tree → Row (Program (Value × Guest)) → Row (Value × State)
+ended t m = m >>= run_on t >>= (λ p. give (with_tree p))
 
 -- no refusal stands before the request
 abbrev pub Asks : {A : Type 0} → Row (Program A) → Type 0

@@ -9,12 +9,12 @@ use Rattle.wasi_p1.specs.Rows.{turn}
 use Rattle.wasi_p1.specs.Turn.{StepTaken, ReachesHost, named_by}
 use Rattle.wasi_guest.specs.declared.answer.Answer.{Answer}
 use Rattle.wasi_guest.specs.declared.answer.Answer.TheVariants as answers
-use Rattle.wasi_guest.specs.declared.call.Call.{Call}
+use Rattle.wasi_p1.specs.Front.{FueledCall}
 use Rattle.wasi_guest.specs.declared.errno.Errno.{Errno as ErrorNumber}
 use Rattle.wasi_guest.specs.declared.errno.Errno.TheVariants.{Io}
 use Rattle.wasi_p1.specs.Owners.{one_if}
 use Rattle.wasi_p1.specs.declared.error.P1Error.{P1Error}
-use Rattle.wasi_p1.specs.declared.error.P1Error.TheVariants.{Errno, Trap, Memory}
+use Rattle.wasi_p1.specs.declared.error.P1Error.TheVariants.{Errno, Trap, Exit, Memory}
 use Rattle.wasi_guest.specs.declared.answer.Value.{Value}
 use Rattle.wasi_p1.specs.declared.run.RunError.{RunError}
 use Rattle.wasi_p1.specs.declared.run.RunError.TheVariants as errors
@@ -24,18 +24,20 @@ abbrev pub answer_of : Result Value P1Error → Option Answer
 answer_of (Ok x) = Some (answers.Ok x)
 answer_of (Err (Errno e)) = Some (answers.Errno e)
 answer_of (Err (Trap kind)) = Some (answers.Trap kind)
+answer_of (Err (Exit status)) = Some (answers.Exit status)
 answer_of (Err Memory) = None
 
--- a trap ends the run
+-- a trap ends the run, and so does the guest itself
 abbrev pub ends : Answer → Bool
 ends (answers.Ok x) = false
 ends (answers.Errno e) = false
 ends (answers.Trap kind) = true
+ends (answers.Exit status) = true
 
 -- one call of a run
 pub record Turned : Type 0 where
   pub before : State
-  pub call : Call
+  pub call : FueledCall
   pub answer : Answer
   pub after : State
 
@@ -61,7 +63,7 @@ Spends k j t = (Played t × (j ≡ k)) ⊎ (Faulted t × (suc j ≡ k))
 
 -- The turns of these calls in order from a state, at most k of them faulted, up to and including the first whose answer
 -- ends the run
-abbrev pub Run : ℕ → State → List Call → List Turned → State → Type 0
+abbrev pub Run : ℕ → State → List FueledCall → List Turned → State → Type 0
 Run k old [] [] new = new ≡ old
 Run k old [] (t ∷ turns) new = ⊥
 Run k old (call ∷ calls) [] new = ⊥
@@ -69,7 +71,7 @@ Run k old (call ∷ calls) (t ∷ turns) new = (j : ℕ) × (t.before ≡ old) �
     × MatchBool (ends t.answer) ((turns ≡ []) × (new ≡ t.after)) (Run j t.after calls turns new)
 
 -- one answer for each call, up to the first that ends the run
-abbrev pub AnswersEach : List Call → List Answer → Type 0
+abbrev pub AnswersEach : List FueledCall → List Answer → Type 0
 AnswersEach [] [] = Unit {0}
 AnswersEach [] (a ∷ answers) = ⊥
 AnswersEach (call ∷ calls) [] = ⊥
@@ -88,6 +90,7 @@ abbrev pub io_in : Answer → ℕ
 io_in (answers.Ok x) = 0
 io_in (answers.Errno e) = one_if (is_io e)
 io_in (answers.Trap kind) = 0
+io_in (answers.Exit status) = 0
 
 abbrev pub ios : List Answer → ℕ
 ios [] = 0
@@ -100,6 +103,7 @@ abbrev pub is_success : Answer → Bool
 is_success (answers.Ok x) = true
 is_success (answers.Errno e) = false
 is_success (answers.Trap kind) = false
+is_success (answers.Exit status) = false
 
 -- the nodes at which the paths of the calls answered Ok ended
 abbrev pub named : List Turned → List ℕ
@@ -107,7 +111,7 @@ named turns = flat_map (λ t. if is_success t.answer then named_by t.before t.ca
 
 -- a run of these calls with these answers, from a count of faults to another, that touched each node at which a path
 -- ended
-pub record DidRun (before now : ℕ) (old : State) (calls : List Call) (answers : List Answer) (new : State)
+pub record DidRun (before now : ℕ) (old : State) (calls : List FueledCall) (answers : List Answer) (new : State)
     (touched : Nodes) : Type 0 where
   pub turns : List Turned
   pub faults : ℕ
@@ -117,7 +121,7 @@ pub record DidRun (before now : ℕ) (old : State) (calls : List Call) (answers 
   pub ends_touched : All (λ n. contains touched n ≡ true) (named turns)
 
 -- want of memory: all stands as after the first n calls
-pub record StoodAt (before now : ℕ) (old : State) (calls : List Call) (n : ℕ) (new : State)
+pub record StoodAt (before now : ℕ) (old : State) (calls : List FueledCall) (n : ℕ) (new : State)
     (touched : Nodes) : Type 0 where
   pub answers : List Answer
   pub count : length answers ≡ n

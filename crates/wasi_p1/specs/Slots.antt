@@ -7,17 +7,18 @@ use Rattle.wasi_fs.specs.declared.descriptor.Descriptor.TheVariants as descripto
 use Rattle.wasi_fs.specs.declared.descriptor.Dir.{Dir}
 use Rattle.wasi_fs.specs.declared.open_mode.OpenMode.{OpenMode}
 use Rattle.wasi_fs.specs.declared.perms.FsPerms.{FsPerms}
+use Rattle.wasi_p1.specs.Stock.{Stock}
 use Rattle.wasi_p1.specs.declared.context.P1Preopen.{P1Preopen}
 use Rattle.wasi_p1.specs.declared.context.Stream.TheVariants.{Input, Output, Error}
 use Rattle.wasi_p1.specs.declared.context.Slot.{Slot}
 use Rattle.wasi_p1.specs.declared.context.Slot.TheVariants.{Closed, Stream, Directory, File}
 
--- the host itself, the descriptors by number, and the bytes of the two outputs
+-- the host itself, the descriptors by number, what the guest has beside them, and the fuel that is left
 pub record View (H : Type 0) : Type 0 where
   pub host : H
   pub slots : List Slot
-  pub stdout : List ℕ
-  pub stderr : List ℕ
+  pub holdings : Stock
+  pub fuel : ℕ
 
 -- a directory that the guest is given may be read, and written unless it is read-only
 abbrev pub given_mode : FsPerms → OpenMode

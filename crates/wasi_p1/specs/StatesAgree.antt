@@ -7,7 +7,7 @@ use Rattle.wasi_p1.specs.Row.{Row}
 use Rattle.wasi_p1.specs.Rows.{turn}
 use Rattle.wasi_p1.specs.Reach.{Inside}
 use Rattle.wasi_p1.specs.Run.{Turned, Run, answers_of}
-use Rattle.wasi_guest.specs.declared.call.Call.{Call}
+use Rattle.wasi_p1.specs.Front.{FueledCall}
 use Rattle.wasi_guest.specs.declared.answer.Value.{Value}
 
 -- two states with the same guest, whose trees are equal on a closed set that has its descriptors' nodes
@@ -27,10 +27,10 @@ AnswerAlike Seen s (Err e) (Ok q) = ⊥
 -- what a call answers, and does to what is in its reach, rests on the guest and on what is in reach
 abbrev pub TurnsAgree : Type 0
 TurnsAgree =
-    (s s' : State) (call : Call) → Alike (Inside s) s s' → AnswerAlike (Inside s) s (turn s call) (turn s' call)
+    (s s' : State) (call : FueledCall) → Alike (Inside s) s s' → AnswerAlike (Inside s) s (turn s call) (turn s' call)
 
 -- the calls have the same answers from a state that is alike, and the states after them are alike
-pub record RunAlike (Seen : ℕ → Type 0) (old old' : State) (calls : List Call) (turns : List Turned)
+pub record RunAlike (Seen : ℕ → Type 0) (old old' : State) (calls : List FueledCall) (turns : List Turned)
     (new : State) : Type 0 where
   pub turns' : List Turned
   pub new' : State
@@ -42,5 +42,5 @@ pub record RunAlike (Seen : ℕ → Type 0) (old old' : State) (calls : List Cal
 -- what the calls of a run answer, and do to what is in reach, rests on the guest and on what is in reach at the start
 abbrev pub RunsAgree : Type 0
 RunsAgree =
-    (old old' new : State) (calls : List Call) (turns : List Turned) → Alike (Inside old) old old'
+    (old old' new : State) (calls : List FueledCall) (turns : List Turned) → Alike (Inside old) old old'
     → Run 0 old calls turns new → RunAlike (Inside old) old old' calls turns new

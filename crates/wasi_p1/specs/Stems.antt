@@ -5,6 +5,7 @@ use Rattle.wasi_guest.specs.declared.answer.Answer.{Answer}
 use Rattle.wasi_guest.specs.declared.answer.Answer.TheVariants as answers
 use Rattle.wasi_guest.specs.declared.answer.Value.TheVariants.{Number}
 use Rattle.wasi_guest.specs.declared.call.Call.{Call}
+use Rattle.wasi_p1.specs.Front.{FueledCall}
 use Rattle.wasi_guest.specs.declared.call.Call.TheVariants.{PathOpen}
 use Rattle.wasi_p1.specs.Guest.{Guest, State, perms_in}
 use Rattle.wasi_p1.specs.Run.{Turned, Run}
@@ -26,7 +27,7 @@ stems_from call answer n = stems_through (opened_through call) answer n
 -- the same before all of these turns
 abbrev pub stem_of : List Turned → ℕ → ℕ
 stem_of [] n = n
-stem_of (t ∷ turns) n = stems_from t.call t.answer (stem_of turns n)
+stem_of (t ∷ turns) n = stems_from t.call.call t.answer (stem_of turns n)
 
 -- a number stands for a directory or file under these permissions
 abbrev pub HasPerms : Guest → ℕ → FsPerms → Type 0
@@ -36,5 +37,5 @@ HasPerms g n perms = perms_in (slice_get g.places n) ≡ Some perms
 -- directory that the guest is given has its permissions, for good
 abbrev pub PermissionsStem : Type 0
 PermissionsStem =
-    (k : ℕ) (old new : State) (calls : List Call) (turns : List Turned) → Run k old calls turns new
+    (k : ℕ) (old new : State) (calls : List FueledCall) (turns : List Turned) → Run k old calls turns new
     → (n : ℕ) (perms : FsPerms) → HasPerms new.guest n perms → HasPerms old.guest (stem_of turns n) perms

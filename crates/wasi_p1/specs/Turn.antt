@@ -3,7 +3,7 @@ use Rattle.std.specs.Prelude.{ℕ, List, ◌≡◌, ◌⊎◌, Result, Ok, Err}
 use Rattle.wasi_p1.specs.Guest.{State}
 use Rattle.wasi_p1.specs.Row.{Row, Asks, starts, path_ends}
 use Rattle.wasi_p1.specs.Rows.{row}
-use Rattle.wasi_guest.specs.declared.call.Call.{Call}
+use Rattle.wasi_p1.specs.Front.{FueledCall}
 use Rattle.wasi_guest.specs.declared.errno.Errno.TheVariants as errnos
 use Rattle.wasi_p1.specs.declared.error.P1Error.{P1Error}
 use Rattle.wasi_p1.specs.declared.error.P1Error.TheVariants.{Errno, Memory}
@@ -39,13 +39,13 @@ IsTurn rose reaches before after (Err e) row =
     Refuses before after e row ⊎ (Wants before after e ⊎ Faults rose reaches before after e row)
 
 -- no refusal of the row stands before its request
-abbrev pub ReachesHost : State → Call → Type 0
+abbrev pub ReachesHost : State → FueledCall → Type 0
 ReachesHost s call = Asks (row s.guest call)
 
 -- the nodes at which the paths of a call end
-abbrev pub named_by : State → Call → List ℕ
+abbrev pub named_by : State → FueledCall → List ℕ
 named_by s call = path_ends s.tree (row s.guest call)
 
 -- the nodes from which a call reads or changes the tree
-abbrev pub roots_of : State → Call → List ℕ
+abbrev pub roots_of : State → FueledCall → List ℕ
 roots_of s call = starts (row s.guest call)

@@ -13,16 +13,18 @@ ghost use Rattle.wasi_p1.specs.Request.{Path, Read, Write};
 ghost use Rattle.wasi_fs.specs.Calls.{opens, looks, meant_as, handle_of};
 ghost use Rattle.wasi_fs.specs.OpenHow.{how_of, may_open, mode_of};
 ghost use Rattle.wasi_p1.specs.Filestats.{stat_both, IsStated};
-ghost use Rattle.wasi_p1.specs.Rows.{range, text_in, buffer_in, live_in, directory_in, start_in, file_in, open_node_in, may_write, opened_among, text_to};
+ghost use Rattle.wasi_p1.specs.Front.{charge, charged_text, charged_buffer};
+ghost use Rattle.wasi_p1.specs.Parts.{range, live_in, directory_in, start_in, source_in, sink_in, open_node_in, may_write, opened_among, text_to};
 ghost use Rattle.wasi_p1.specs.Slots.{is_closed_slot, slot_of, descriptor_in};
 ghost use Rattle.wasi_guest.specs.Range.{IsInMemory};
-ghost use Rattle.wasi_p1.specs.CallParts.{open_directory_of, open_file_of, open_node_of, Refused, ReadsInto, WritesPiece, OpensInto, filled_at, with_after, Rests, Stays, IsLive, IsReplied, NotMemory, is_failure};
+ghost use Rattle.wasi_p1.specs.CallParts.{open_directory_of, source_of, sink_of, file_slot, OfSource, OfSink, open_node_of, Refused, ReadsInto, WritesPiece, OpensInto, filled_at, with_after, Rests, Stays, IsLive, IsReplied, NotMemory, is_failure};
 ghost use Rattle.wasi_p1.specs.Row.{give};
 
-use crate::context::Slot;
+use crate::context::{Slot, Stream};
 use crate::descriptors::Descriptors;
 use crate::error::P1Error;
 use crate::filestats::StatBoth;
+use crate::holdings::Output;
 use crate::open_with::OpenWith;
 use std::alloc::Global;
 use wasi_fs::{Descriptor, Dir, File, FsPerms, PathFlags};
@@ -40,15 +42,33 @@ pub fn bytes_at(memory: &GuestMemory, ptr: u32, n: u32) -> Result<&[u8], P1Error
     Ok(bytes)
 }
 
-/// The text in a range of memory.
-pub fn text_at(memory: &GuestMemory, ptr: u32, n: u32) -> Result<&str, P1Error>
-    ensures { result_map_both (λ text. text.now) (λ e. e) result ≡ text_in memory.now ptr n }
+/// Takes so much fuel: Nomem where there is less.
+#[tactic(auto, unfolding(crate::specs::Front::charge))]
+fn charge(fuel: &mut u64, n: u64) -> Result<(), P1Error>
+    ensures row { (result, fuel.new) ≡ charge n fuel.old }
+    ensures refusal { IfErr result (λ e. is_failure e ≡ false) }
 {
-    let bytes = bytes_at(memory, ptr, n)?;
-    match str::from_utf8(bytes) {
-        Ok(text) => Ok(text),
-        Err(_) => Err(P1Error::Errno(Errno::Ilseq)),
+    if *fuel < n {
+        return Err(P1Error::Errno(Errno::Nomem));
     }
+    *fuel -= n;
+    Ok(())
+}
+
+/// The text in a range of memory, which takes as much fuel as it has bytes.
+#[tactic(auto, using(crate::proofs::Wanting::fault_never), unfolding(crate::specs::Front::charged_text))]
+pub fn text_at<'m>(
+    memory: &'m GuestMemory,
+    fuel: &mut u64,
+    ptr: u32,
+    n: u32,
+) -> Result<&'m str, P1Error>
+    ensures row { (result_map_both (λ text. text.now) (λ e. e) result, fuel.new)
+        ≡ charged_text memory.now ptr n fuel.old }
+    ensures refusal { IfErr result (λ e. is_failure e ≡ false) }
+{
+    charge(fuel, n as u64)?;
+    Ok(memory.text(ptr, n)?)
 }
 
 /// What a live number stands for.
@@ -140,34 +160,79 @@ pub struct FilePlace {
     pub position: u64,
 }
 
-/// The file of a file's descriptor.
+/// What is read by a number.
+#[derive(Drop)]
+pub enum Source {
+    Input,
+    File(FilePlace),
+}
+
+/// What is read by a number: Badf where that is neither a file's nor the standard input's.
 #[tactic(auto, using(crate::proofs::PlaceRules::places))]
-pub fn file_at<H: Host>(host: &H, descriptors: &Descriptors, fd: u32) -> Result<FilePlace, P1Error>
+pub fn source_at<H: Host>(host: &H, descriptors: &Descriptors, fd: u32) -> Result<Source, P1Error>
     requires owned { Owned (H.live host.now) (handles descriptors.now.slots) }
-    ensures live { IfOk result (λ place. contains (H.live host.now) place.file.file ≡ true) }
-    ensures is { IfOk result (λ place. slice_get descriptors.now.slots fd
-        ≡ Some (Slot.File place.file place.position)) }
-    ensures row { result_map_both (open_file_of (H.world host.now).held) (λ e. e) result
-        ≡ file_in (slice_get (places_of (H.world host.now).held descriptors.now.slots) fd) }
+    ensures live { IfOk result (OfSource (λ file. contains (H.live host.now) file.file.file ≡ true)) }
+    ensures is { IfOk result (OfSource (λ file. slice_get descriptors.now.slots fd ≡ Some (file_slot file))) }
+    ensures row { result_map_both (source_of (H.world host.now).held) (λ e. e) result
+        ≡ source_in (slice_get (places_of (H.world host.now).held descriptors.now.slots) fd) }
 {
     let Some(slot) = descriptors.get(fd) else {
         return Err(P1Error::Errno(Errno::Badf));
     };
     match slot {
-        Slot::File { file, position } => Ok(FilePlace { file, position }),
+        Slot::File { file, position } => Ok(Source::File(FilePlace { file, position })),
+        Slot::Stream(Stream::Input) => Ok(Source::Input),
+        Slot::Stream(Stream::Output) => Err(P1Error::Errno(Errno::Badf)),
+        Slot::Stream(Stream::Error) => Err(P1Error::Errno(Errno::Badf)),
         Slot::Directory(_) => Err(P1Error::Errno(Errno::Badf)),
-        Slot::Stream(_) => Err(P1Error::Errno(Errno::Badf)),
         Slot::Closed => Err(P1Error::Errno(Errno::Badf)),
     }
 }
 
-/// The first buffer that has bytes, of so many records at an address. Where none has any it is an empty one at 0.
-pub fn buffer_at(memory: &GuestMemory, iovs: u32, iovs_len: u32) -> Result<Iovec, P1Error>
-    ensures { result ≡ buffer_in memory.now iovs iovs_len }
+/// What is written by a number.
+#[derive(Drop)]
+pub enum Sink {
+    Output(Output),
+    File(FilePlace),
+}
+
+/// What is written by a number: Badf where that is neither a file's nor an output's.
+#[tactic(auto, using(crate::proofs::PlaceRules::places))]
+pub fn sink_at<H: Host>(host: &H, descriptors: &Descriptors, fd: u32) -> Result<Sink, P1Error>
+    requires owned { Owned (H.live host.now) (handles descriptors.now.slots) }
+    ensures live { IfOk result (OfSink (λ file. contains (H.live host.now) file.file.file ≡ true)) }
+    ensures is { IfOk result (OfSink (λ file. slice_get descriptors.now.slots fd ≡ Some (file_slot file))) }
+    ensures row { result_map_both (sink_of (H.world host.now).held) (λ e. e) result
+        ≡ sink_in (slice_get (places_of (H.world host.now).held descriptors.now.slots) fd) }
 {
-    let Some(buffer) = memory.first_buffer(iovs, iovs_len) else {
-        return Err(P1Error::Trap(TrapKind::Pointer));
+    let Some(slot) = descriptors.get(fd) else {
+        return Err(P1Error::Errno(Errno::Badf));
     };
+    match slot {
+        Slot::File { file, position } => Ok(Sink::File(FilePlace { file, position })),
+        Slot::Stream(Stream::Output) => Ok(Sink::Output(Output::Stdout)),
+        Slot::Stream(Stream::Error) => Ok(Sink::Output(Output::Stderr)),
+        Slot::Stream(Stream::Input) => Err(P1Error::Errno(Errno::Badf)),
+        Slot::Directory(_) => Err(P1Error::Errno(Errno::Badf)),
+        Slot::Closed => Err(P1Error::Errno(Errno::Badf)),
+    }
+}
+
+/// The first buffer that has bytes, of so many records at an address. Where none has any it is an empty one at 0. The
+/// records take as much fuel as they have bytes, before they are read, and then the buffer does.
+#[tactic(auto, using(crate::proofs::Wanting::fault_never), unfolding(crate::specs::Front::charged_buffer))]
+pub fn buffer_at(
+    memory: &GuestMemory,
+    fuel: &mut u64,
+    iovs: u32,
+    iovs_len: u32,
+) -> Result<Iovec, P1Error>
+    ensures row { (result, fuel.new) ≡ charged_buffer memory.now iovs iovs_len fuel.old }
+    ensures refusal { IfErr result (λ e. is_failure e ≡ false) }
+{
+    charge(fuel, 8 * iovs_len as u64)?;
+    let buffer = memory.first_buffer(iovs, iovs_len)?;
+    charge(fuel, buffer.buf_len as u64)?;
     Ok(buffer)
 }
 

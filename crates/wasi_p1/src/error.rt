@@ -1,10 +1,11 @@
 //! Why a call isn't answered Ok.
 ghost use Rattle.std.specs.Prelude.{◌≡◌};
 ghost use Rattle.wasi_p1.specs.Errnos.{errno_of, error_of};
+ghost use Rattle.wasi_p1.specs.Parts.{fault_of};
 ghost use Rattle.wasi_p1.specs.declared.error.P1Error.TheVariants as errors;
 
 use std::alloc::AllocError;
-use wasi_guest::{Errno, TrapKind};
+use wasi_guest::{Errno, GuestError, TrapKind};
 use wasi_host::{ErrorCode, HostError};
 
 /// Why a call didn't succeed.
@@ -12,6 +13,8 @@ use wasi_host::{ErrorCode, HostError};
 pub enum P1Error {
     Errno(Errno),
     Trap(TrapKind),
+    /// The guest ended with this status.
+    Exit(u32),
     /// Memory was wanted. All stands as before the call.
     Memory,
 }
@@ -40,6 +43,21 @@ impl From<AllocError> for P1Error {
 
     fn from(_: AllocError) -> Self {
         P1Error::Memory
+    }
+}
+
+impl From<GuestError> for P1Error {
+    ghost from_gives = { λ error given. given ≡ fault_of error };
+
+    fn from(error: GuestError) -> Self {
+        match error {
+            GuestError::PtrOverflow => P1Error::Trap(TrapKind::Pointer),
+            GuestError::PtrOutOfBounds => P1Error::Trap(TrapKind::Pointer),
+            GuestError::PtrNotAligned => P1Error::Trap(TrapKind::Pointer),
+            GuestError::InvalidUtf8 => P1Error::Errno(Errno::Ilseq),
+            GuestError::InvalidFlagValue => P1Error::Errno(Errno::Inval),
+            GuestError::InvalidEnumValue => P1Error::Errno(Errno::Inval),
+        }
     }
 }
 

@@ -7,13 +7,17 @@ mod context;
 mod descriptors;
 mod error;
 mod filestats;
+mod holdings;
 mod laws;
 mod new_times;
 mod open_with;
+mod raw_numbers;
 mod run;
+mod service_calls;
 
-pub use context::{CtxRefused, Ended, P1Preopen, Slot, Stream, WasiP1Ctx};
+pub use context::{CtxRefused, Ended, FUEL, P1Preopen, Slot, Stream, WasiP1Ctx};
 pub use error::P1Error;
+pub use holdings::{Holdings, Output, Outputs};
 pub use laws::{
     live_handles_stay, permissions_stem, read_only_runs_leave_the_tree,
     read_only_turns_leave_the_tree, runs_agree, runs_are_functions, runs_stay_valid, turns_agree,
@@ -21,4 +25,6 @@ pub use laws::{
 };
 pub use run::{RunError, call, run_calls};
 pub use wasi_fs::FsPerms;
-pub use wasi_guest::{Answer, Answers, Call, Errno, TrapKind, Value};
+pub use wasi_guest::{
+    Answer, Answers, Call, EnvPair, Errno, Services, TrapKind, Value, WallDatetime,
+};

@@ -1,11 +1,11 @@
 //! The times that a call which sets some is given.
 ghost use Rattle.std.specs.Prelude.{◌≡◌, false, IfErr};
 ghost use Rattle.wasi_p1.specs.CallParts.{is_failure};
-ghost use Rattle.wasi_p1.specs.NewTimes.{time_after, wall_clock, new_time, times_asked};
+ghost use Rattle.wasi_p1.specs.NewTimes.{time_after, time_of, new_time, times_asked};
 
 use crate::error::P1Error;
 use bitflags::Flags;
-use wasi_guest::{Errno, FstFlags};
+use wasi_guest::{Errno, FstFlags, WallDatetime};
 use wasi_host::{NANOSECONDS, SystemTime};
 
 const INVALID: P1Error = P1Error::Errno(Errno::Inval);
@@ -19,19 +19,22 @@ pub struct NewTimes {
 
 impl NewTimes {
     /// The times by preview1's `fstflags`: of each the given nanoseconds since the epoch, or what the wall clock stands
-    /// at, or none. Refusal: Inval of an unknown flag, and of one time both given and the wall clock's.
+    /// at, or none. Refusals: Inval of an unknown flag; then of each time in turn Inval where it is both given and the
+    /// wall clock's, Overflow where the wall clock is asked for and an i64 doesn't hold its seconds.
     #[tactic(auto, unfolding(crate::specs::NewTimes::times_asked))]
-    pub fn of(atim: u64, mtim: u64, fst_flags: u32) -> Result<NewTimes, P1Error>
-        ensures row { result ≡ times_asked atim mtim fst_flags }
+    pub fn of(wall: WallDatetime, atim: u64, mtim: u64, fst_flags: u32) -> Result<NewTimes, P1Error>
+        ensures row { result ≡ times_asked wall atim mtim fst_flags }
         ensures refusal { IfErr result (λ e. is_failure e ≡ false) }
     {
         let set = FstFlags::from_bits(fst_flags).ok_or(INVALID)?;
         let atime = new_time(
+            wall,
             atim,
             set.contains(FstFlags::ATIM),
             set.contains(FstFlags::ATIM_NOW),
         )?;
         let mtime = new_time(
+            wall,
             mtim,
             set.contains(FstFlags::MTIM),
             set.contains(FstFlags::MTIM_NOW),
@@ -51,22 +54,36 @@ fn time_after(nanoseconds: u64) -> SystemTime
     }
 }
 
-/// What the wall clock stands at: a guest is given no clock, so that is the epoch.
-fn wall_clock() -> SystemTime
-    ensures now { result ≡ wall_clock }
+/// A moment of the wall clock as a node's time, with whole seconds carried out of the nanoseconds. Refusal: Overflow of
+/// seconds that an i64 doesn't hold.
+fn time_of(wall: WallDatetime) -> Result<SystemTime, P1Error>
+    ensures row { result ≡ time_of wall }
+    ensures refusal { IfErr result (λ e. is_failure e ≡ false) }
 {
-    SystemTime::EPOCH
+    let carried = (wall.nanoseconds / NANOSECONDS) as u64;
+    if wall.seconds > i64::MAX as u64 - carried {
+        return Err(P1Error::Errno(Errno::Overflow));
+    }
+    Ok(SystemTime {
+        seconds: (wall.seconds + carried) as i64,
+        nanoseconds: wall.nanoseconds % NANOSECONDS,
+    })
 }
 
 /// A time that is given, or what the wall clock stands at, or none.
-fn new_time(given: u64, set: bool, now: bool) -> Result<Option<SystemTime>, P1Error>
-    ensures row { result ≡ new_time given set now }
+fn new_time(
+    wall: WallDatetime,
+    given: u64,
+    set: bool,
+    now: bool,
+) -> Result<Option<SystemTime>, P1Error>
+    ensures row { result ≡ new_time wall given set now }
     ensures refusal { IfErr result (λ e. is_failure e ≡ false) }
 {
     match (set, now) {
         (true, true) => Err(INVALID),
         (true, false) => Ok(Some(time_after(given))),
-        (false, true) => Ok(Some(wall_clock())),
+        (false, true) => Ok(Some(time_of(wall)?)),
         (false, false) => Ok(None),
     }
 }

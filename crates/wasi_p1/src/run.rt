@@ -1,9 +1,11 @@
 //! A list of calls, one after another.
-ghost use Rattle.std.specs.Prelude.{◌≡◌, ◌≤◌, length, IsTrue, IfOk, IfErr};
-ghost use Rattle.wasi_p1.specs.CallTurn.{Causes, OthersStay, Looks, FollowsRow};
+ghost use Rattle.std.specs.Prelude.{◌≡◌, ◌≤◌, length, map, IsTrue, IfOk, IfErr};
+ghost use Rattle.wasi_p1.specs.Front.{with_fuel};
+ghost use Rattle.wasi_p1.specs.CallTurn.{Causes, OthersStay, Looks, FollowsRow, TakesTurn};
+ghost use Rattle.wasi_host.specs.Meaning.{Rose};
 ghost use Rattle.wasi_p1.specs.Guest.{State, state_of};
 ghost use Rattle.wasi_p1.specs.Run.{AnswersEach, answer_of, ends, ios, Allows, answered_in, DidRun, StoodAt};
-ghost use Rattle.wasi_p1.specs.Owners.{RunTraced, SlotsOfRun};
+ghost use Rattle.wasi_p1.specs.Owners.{RunTraced, SlotsOfCall, SlotsOfRun};
 ghost use Rattle.wasi_p1.specs.Reach.{Confined, StaysTouched};
 ghost use Rattle.wasi_p1.specs.Validity.{IsValidState};
 
@@ -20,6 +22,7 @@ pub enum RunError {
     Memory { answered: usize },
 }
 
+/// The answer of a call; want of memory is none.
 fn answer_of(outcome: Result<Value, P1Error>) -> Option<Answer>
     ensures { result ≡ answer_of outcome }
 {
@@ -27,14 +30,16 @@ fn answer_of(outcome: Result<Value, P1Error>) -> Option<Answer>
         Ok(value) => Some(Answer::Ok(value)),
         Err(P1Error::Errno(errno)) => Some(Answer::Errno(errno)),
         Err(P1Error::Trap(kind)) => Some(Answer::Trap(kind)),
+        Err(P1Error::Exit(status)) => Some(Answer::Exit(status)),
         Err(P1Error::Memory) => None,
     }
 }
 
+/// Whether a run ends with an answer: a trap, or the guest's own exit.
 fn ends_run(answer: Answer) -> bool
     ensures { result ≡ ends answer }
 {
-    matches!(answer, Answer::Trap(_))
+    matches!(answer, Answer::Trap(_) | Answer::Exit(_))
 }
 
 /// One call of the context, by the method of its name, with its arguments in the order of `wasi_snapshot_preview1`.
@@ -50,21 +55,24 @@ pub fn call<H: Host>(
         result }
 {
     match call {
-        Call::PathOpen {
+        Call::ArgsGet { argv, argv_buf } => context.args_get(memory, argv, argv_buf),
+        Call::ArgsSizesGet => context.args_sizes_get(memory),
+        Call::EnvironGet {
+            environ,
+            environ_buf,
+        } => context.environ_get(memory, environ, environ_buf),
+        Call::EnvironSizesGet => context.environ_sizes_get(memory),
+        Call::ClockResGet { id } => context.clock_res_get(memory, id),
+        Call::ClockTimeGet { id, precision } => context.clock_time_get(memory, id, precision),
+        Call::FdClose { fd } => context.fd_close(memory, fd),
+        Call::FdFilestatSetTimes {
             fd,
-            dirflags,
-            path,
-            path_len,
-            oflags,
-            base,
-            inheriting,
-            fdflags,
-        } => context.path_open(
-            memory, fd, dirflags, path, path_len, oflags, base, inheriting, fdflags,
-        ),
+            atim,
+            mtim,
+            fst_flags,
+        } => context.fd_filestat_set_times(memory, fd, atim, mtim, fst_flags),
         Call::FdRead { fd, iovs, iovs_len } => context.fd_read(memory, fd, iovs, iovs_len),
         Call::FdWrite { fd, iovs, iovs_len } => context.fd_write(memory, fd, iovs, iovs_len),
-        Call::FdClose { fd } => context.fd_close(memory, fd),
         Call::PathCreateDirectory { fd, path, path_len } => {
             context.path_create_directory(memory, fd, path, path_len)
         }
@@ -74,26 +82,6 @@ pub fn call<H: Host>(
             path,
             path_len,
         } => context.path_filestat_get(memory, fd, flags, path, path_len),
-        Call::PathReadlink {
-            fd,
-            path,
-            path_len,
-            buf,
-            buf_len,
-        } => context.path_readlink(memory, fd, path, path_len, buf, buf_len),
-        Call::PathRemoveDirectory { fd, path, path_len } => {
-            context.path_remove_directory(memory, fd, path, path_len)
-        }
-        Call::PathSymlink {
-            old_path,
-            old_path_len,
-            fd,
-            new_path,
-            new_path_len,
-        } => context.path_symlink(memory, old_path, old_path_len, fd, new_path, new_path_len),
-        Call::PathUnlinkFile { fd, path, path_len } => {
-            context.path_unlink_file(memory, fd, path, path_len)
-        }
         Call::PathFilestatSetTimes {
             fd,
             flags,
@@ -105,12 +93,6 @@ pub fn call<H: Host>(
         } => context.path_filestat_set_times(
             memory, fd, flags, path, path_len, atim, mtim, fst_flags,
         ),
-        Call::FdFilestatSetTimes {
-            fd,
-            atim,
-            mtim,
-            fst_flags,
-        } => context.fd_filestat_set_times(memory, fd, atim, mtim, fst_flags),
         Call::PathLink {
             old_fd,
             old_flags,
@@ -129,6 +111,31 @@ pub fn call<H: Host>(
             new_path,
             new_path_len,
         ),
+        Call::PathOpen {
+            fd,
+            dirflags,
+            path,
+            path_len,
+            oflags,
+            base,
+            inheriting,
+            fdflags,
+        } => context.path_open(
+            memory, fd, dirflags, path, path_len, oflags, base, inheriting, fdflags,
+        ),
+        Call::PathReadlink {
+            fd,
+            path,
+            path_len,
+            buf,
+            buf_len,
+        } => context.path_readlink(memory, fd, path, path_len, buf, buf_len),
+        Call::PathRemoveDirectory { fd, path, path_len } => {
+            context.path_remove_directory(memory, fd, path, path_len)
+        }
+        Call::PathUnlinkFile { fd, path, path_len } => {
+            context.path_unlink_file(memory, fd, path, path_len)
+        }
         Call::PathRename {
             old_fd,
             old_path,
@@ -145,19 +152,66 @@ pub fn call<H: Host>(
             new_path,
             new_path_len,
         ),
+        Call::PathSymlink {
+            old_path,
+            old_path_len,
+            fd,
+            new_path,
+            new_path_len,
+        } => context.path_symlink(memory, old_path, old_path_len, fd, new_path, new_path_len),
+        Call::ProcExit { status } => context.proc_exit(memory, status),
+        Call::ProcRaise { signal } => context.proc_raise(memory, signal),
+        Call::RandomGet { buf, buf_len } => context.random_get(memory, buf, buf_len),
+        Call::SchedYield => context.sched_yield(memory),
+        Call::SockAccept { fd, flags } => context.sock_accept(memory, fd, flags),
+        Call::SockRecv {
+            fd,
+            iovs,
+            iovs_len,
+            ri_flags,
+        } => context.sock_recv(memory, fd, iovs, iovs_len, ri_flags),
+        Call::SockSend {
+            fd,
+            iovs,
+            iovs_len,
+            si_flags,
+        } => context.sock_send(memory, fd, iovs, iovs_len, si_flags),
+        Call::SockShutdown { fd, how } => context.sock_shutdown(memory, fd, how),
     }
 }
 
-/// The calls in order, up to and including the first whose answer is a trap. Room for all answers is taken first.
+/// One call of the context with this fuel.
+fn call_with<H: Host>(
+    context: &mut WasiP1Ctx<H>,
+    memory: &mut GuestMemory,
+    fuel: u64,
+    one: Call,
+) -> Result<Value, P1Error>
+    ensures size { length memory.new ≡ length memory.old }
+    ensures cause { Causes (H.faults context.old.host) (H.faults context.new.host) result }
+    ensures handles { OthersStay H.live context.old context.new }
+    ensures lineage { Looks H.lookups context.old context.new memory.old one }
+    ensures slots { SlotsOfCall context.old.slots context.new.slots memory.old one }
+    ensures turn { IsTrue H.told → TakesTurn H.world (Rose (H.faults context.old.host) (H.faults context.new.host))
+        context.old context.new memory.old memory.new (with_fuel fuel one) result }
+{
+    context.set_hostcall_fuel(fuel);
+    call(context, memory, one)
+}
+
+/// The calls in order, up to and including the first whose answer is a trap or an exit, each with the same fuel. Room for
+/// all answers is taken first. Memory where that is wanted, or a call wants it: all stands as after the calls that were
+/// answered.
 pub fn run_calls<H: Host>(
     alloc: Global,
     context: &mut WasiP1Ctx<H>,
     memory: &mut GuestMemory,
+    fuel: u64,
     calls: &Vec<Call>,
 ) -> Result<Answers, RunError>
     ensures size { length memory.new ≡ length memory.old }
     ensures count { H.faults context.old.host ≤ H.faults context.new.host }
-    ensures answers { IfOk result (λ a. AnswersEach calls.now.items a.answers) }
+    ensures answers { IfOk result (λ a. AnswersEach (map (with_fuel fuel) calls.now.items) a.answers) }
     ensures answered { IfErr result (λ e. answered_in e ≤ length calls.now.items) }
     ensures ios { IfOk result (λ a. Allows (H.faults context.old.host) (H.faults context.new.host) (ios a.answers)) }
     ensures handles { OthersStay H.live context.old context.new }
@@ -165,10 +219,10 @@ pub fn run_calls<H: Host>(
     ensures lineage { RunTraced context.old.slots context.new.slots
         (H.lookups context.old.host) (H.lookups context.new.host) }
     ensures run { IsTrue H.told → IfOk result (λ a. DidRun (H.faults context.old.host) (H.faults context.new.host)
-        (state_of H.world context.old memory.old) calls.now.items a.answers
+        (state_of H.world context.old memory.old) (map (with_fuel fuel) calls.now.items) a.answers
         (state_of H.world context.new memory.new) (H.world context.new.host).touched) }
     ensures memory { IsTrue H.told → IfErr result (λ e. StoodAt (H.faults context.old.host) (H.faults context.new.host)
-        (state_of H.world context.old memory.old) calls.now.items (answered_in e)
+        (state_of H.world context.old memory.old) (map (with_fuel fuel) calls.now.items) (answered_in e)
         (state_of H.world context.new memory.new) (H.world context.new.host).touched) }
     ensures touched { IsTrue H.told
         → StaysTouched (H.world context.old.host).touched (H.world context.new.host).touched }
@@ -182,7 +236,7 @@ pub fn run_calls<H: Host>(
         return Err(RunError::Memory { answered: 0 });
     };
     for one in calls {
-        let outcome = call(context, memory, *one);
+        let outcome = call_with(context, memory, fuel, *one);
         let answer = match answer_of(outcome) {
             Some(answer) => answer,
             None => {

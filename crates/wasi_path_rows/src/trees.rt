@@ -2,7 +2,7 @@
 use crate::dirs::dir_call;
 use crate::paths::path_call;
 use std::alloc::{AllocError, Global};
-use wasi_table::{Answers, told, unknown, word};
+use wasi_table::{Answering, told, unknown, word};
 use wasi_tree::{Limits, MemTree, NewContent, NewNode, TreeError};
 
 /// An empty directory, where no node has a number above the last one.
@@ -45,7 +45,7 @@ impl PathRows {
     }
 }
 
-impl Answers for PathRows {
+impl Answering for PathRows {
     fn answer(&mut self, alloc: Global, asked: &str) -> Result<String, AllocError> {
         let (what, rest) = word(asked);
         match what {

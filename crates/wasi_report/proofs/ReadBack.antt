@@ -32,11 +32,11 @@ use Rattle.wasi_guest.specs.declared.answer.Answer.TheVariants as answers
 use Rattle.wasi_guest.specs.declared.errno.Errno.{Errno}
 use Rattle.wasi_guest.specs.declared.errno.Errno.TheVariants as errno
 use Rattle.wasi_guest.specs.declared.answer.TrapKind.{TrapKind}
-use Rattle.wasi_guest.specs.declared.answer.TrapKind.TheVariants.{Pointer}
+use Rattle.wasi_guest.specs.declared.answer.TrapKind.TheVariants.{Pointer, ExitStatus}
 use Rattle.wasi_guest.specs.declared.answer.Value.{Value}
 use Rattle.wasi_guest.specs.declared.answer.Value.TheVariants as values
 use Rattle.wasi_guest.specs.declared.filestat.Filestat.{Filestat}
-use Rattle.wasi_guest.specs.ErrnoName.{errno_name}
+use Rattle.wasi_guest.specs.Errnos.{errno_name}
 use Rattle.wasi_report.specs.Report.{Report, report_value, report_text, put_all, number_value, filestat_numbers, success_value, trap_name, answer_value, hex_value, node_value, time_value, times_value, content_member, bits_text, bit_letter}
 use Rattle.wasi_report.specs.ReadBack.{FitsNumber, FitsValue, FitsAnswer, FitsEntry, FitsContent, FitsTime, FitsNode, IsOrdered, ReportsAreTold}
 
@@ -122,9 +122,11 @@ same_hex xs ys p q e = let text : encode_lower xs ≡ encode_lower ys = cc in sa
 
 abbrev all_errnos : List Errno
 all_errnos =
-    errno.Acces ∷ errno.Already ∷ errno.Badf ∷ errno.Busy ∷ errno.Exist ∷ errno.Fbig ∷ errno.Ilseq ∷ errno.Inprogress ∷ errno.Intr ∷ errno.Inval ∷ errno.Io
-    ∷ errno.Isdir ∷ errno.Loop ∷ errno.Mlink ∷ errno.Nametoolong ∷ errno.Noent ∷ errno.Nomem ∷ errno.Nospc ∷ errno.Notdir ∷ errno.Notempty ∷ errno.Notsup
-    ∷ errno.Overflow ∷ errno.Perm ∷ errno.Pipe ∷ errno.Spipe ∷ []
+    errno.Acces ∷ errno.Again ∷ errno.Already ∷ errno.Badf ∷ errno.Busy ∷ errno.Deadlk ∷ errno.Dquot ∷ errno.Exist
+    ∷ errno.Fbig ∷ errno.Ilseq ∷ errno.Inprogress ∷ errno.Intr ∷ errno.Inval ∷ errno.Io ∷ errno.Isdir ∷ errno.Loop
+    ∷ errno.Mlink ∷ errno.Msgsize ∷ errno.Nametoolong ∷ errno.Nodev ∷ errno.Noent ∷ errno.Nolck ∷ errno.Nomem
+    ∷ errno.Nospc ∷ errno.Notdir ∷ errno.Notempty ∷ errno.Notrecoverable ∷ errno.Notsock ∷ errno.Notsup ∷ errno.Notty
+    ∷ errno.Nxio ∷ errno.Overflow ∷ errno.Perm ∷ errno.Pipe ∷ errno.Rofs ∷ errno.Spipe ∷ errno.Txtbsy ∷ errno.Xdev ∷ []
 
 -- the first of these that has this name, or else the other
 abbrev named : {A : Type 0} → (A → List ℕ) → A → List A → List ℕ → A
@@ -136,9 +138,12 @@ errno_named name = named errno_name errno.Io all_errnos name
 
 named-errno_name : (e : Errno) → errno_named (errno_name e) ≡ e
 named-errno_name errno.Acces = refl
+named-errno_name errno.Again = refl
 named-errno_name errno.Already = refl
 named-errno_name errno.Badf = refl
 named-errno_name errno.Busy = refl
+named-errno_name errno.Deadlk = refl
+named-errno_name errno.Dquot = refl
 named-errno_name errno.Exist = refl
 named-errno_name errno.Fbig = refl
 named-errno_name errno.Ilseq = refl
@@ -149,29 +154,43 @@ named-errno_name errno.Io = refl
 named-errno_name errno.Isdir = refl
 named-errno_name errno.Loop = refl
 named-errno_name errno.Mlink = refl
+named-errno_name errno.Msgsize = refl
 named-errno_name errno.Nametoolong = refl
+named-errno_name errno.Nodev = refl
 named-errno_name errno.Noent = refl
+named-errno_name errno.Nolck = refl
 named-errno_name errno.Nomem = refl
 named-errno_name errno.Nospc = refl
 named-errno_name errno.Notdir = refl
 named-errno_name errno.Notempty = refl
+named-errno_name errno.Notrecoverable = refl
+named-errno_name errno.Notsock = refl
 named-errno_name errno.Notsup = refl
+named-errno_name errno.Notty = refl
+named-errno_name errno.Nxio = refl
 named-errno_name errno.Overflow = refl
 named-errno_name errno.Perm = refl
 named-errno_name errno.Pipe = refl
+named-errno_name errno.Rofs = refl
 named-errno_name errno.Spipe = refl
+named-errno_name errno.Txtbsy = refl
+named-errno_name errno.Xdev = refl
 
 abbrev trap_named : List ℕ → TrapKind
-trap_named name = named trap_name Pointer (Pointer ∷ []) name
+trap_named name = named trap_name Pointer (Pointer ∷ ExitStatus ∷ []) name
 
 named-trap_name : (kind : TrapKind) → trap_named (trap_name kind) ≡ kind
 named-trap_name Pointer = refl
+named-trap_name ExitStatus = refl
 
 -- ---- answers, read back from their JSON
 
 shallow_value : (v : Value) → FitsValue v → IsShallow 1 (outline (success_value v))
 shallow_value values.Unit fits = record { numbers = tt; depth = omega arith }
 shallow_value (values.Number n) fits = let inside = shallow_number n fits in record { numbers = inside.numbers; depth = omega arith }
+shallow_value (values.Pair first second) fits =
+    let inside = shallow_list 0 FitsNumber number_value shallow_number (first ∷ second ∷ []) fits in
+    record { numbers = inside.numbers; depth = omega arith }
 shallow_value (values.Filestat stat) fits =
     let inside = shallow_list 0 FitsNumber number_value shallow_number (filestat_numbers stat) fits in
     record { numbers = inside.numbers; depth = omega arith }
@@ -204,28 +223,37 @@ filestat_of ns = record {
   ctim = get_or ns 7 0;
 }
 
+-- a pair's two numbers, or the fields of a record
+abbrev listed_back : List ℕ → Value
+listed_back (first ∷ second ∷ []) = values.Pair first second
+listed_back ns = values.Filestat (filestat_of ns)
+
 abbrev value_back : json.Json → Value
 value_back (json.number text) = values.Number (digits_value 10 text)
-value_back (json.array js) = values.Filestat (filestat_of (numbers_back js))
+value_back (json.array js) = listed_back (numbers_back js)
 value_back _ = values.Unit
 
 value_is_back : (v : Value) → FitsValue v → value_back (outline (success_value v)) ≡ v
 value_is_back values.Unit fits = refl
 value_is_back (values.Number n) fits = ap values.Number (number_is_back n fits)
-value_is_back (values.Filestat stat) fits = ap (λ ns. values.Filestat (filestat_of ns)) (numbers_are_back (filestat_numbers stat) fits)
+value_is_back (values.Pair first second) fits = ap listed_back (numbers_are_back (first ∷ second ∷ []) fits)
+value_is_back (values.Filestat stat) fits = ap listed_back (numbers_are_back (filestat_numbers stat) fits)
 
 shallow_answer : (a : Answer) → FitsAnswer a → IsShallow 2 (outline (answer_value a))
 shallow_answer (answers.Ok v) fits =
     let inside = shallow_value v fits in record { numbers = (inside.numbers, tt); depth = omega arith }
 shallow_answer (answers.Errno e) fits = record { numbers = (tt, tt); depth = omega arith }
 shallow_answer (answers.Trap kind) fits = record { numbers = (tt, tt); depth = omega arith }
+shallow_answer (answers.Exit status) fits =
+    let inside = shallow_number status fits in record { numbers = (inside.numbers, tt); depth = omega arith }
 
 -- the answer with this value under this key
 abbrev answer_under : List ℕ → json.Json → Answer
 answer_under key j =
     if bytes_eq key (codes "ok") then answers.Ok (value_back j)
     else if bytes_eq key (codes "errno") then answers.Errno (errno_named (text_in j))
-    else answers.Trap (trap_named (text_in j))
+    else if bytes_eq key (codes "trap") then answers.Trap (trap_named (text_in j))
+    else answers.Exit (number_back j)
 
 abbrev answer_back : json.Members → Answer
 answer_back json.no_members = answers.Ok values.Unit
@@ -235,6 +263,7 @@ answer_is_back : (a : Answer) → FitsAnswer a → answer_back (members_in (outl
 answer_is_back (answers.Ok v) fits = ap answers.Ok (value_is_back v fits)
 answer_is_back (answers.Errno e) fits = ap answers.Errno (named-errno_name e)
 answer_is_back (answers.Trap kind) fits = ap answers.Trap (named-trap_name kind)
+answer_is_back (answers.Exit status) fits = ap answers.Exit (number_is_back status fits)
 
 same_answer : (a b : Answer) → FitsAnswer a → FitsAnswer b → outline (answer_value a) ≡ outline (answer_value b) → a ≡ b
 same_answer a b p q e = sym (answer_is_back a p) ∙ ap (λ j. answer_back (members_in j)) e ∙ answer_is_back b q

@@ -1,5 +1,5 @@
 -- A report's text tells the report.
-use Rattle.std.specs.Prelude.{◌≡◌, ℕ, ◌^◌, ◌<◌, map, ⊤, All}
+use Rattle.std.specs.Prelude.{◌≡◌, ℕ, ◌^◌, ◌<◌, [], ◌∷◌, map, ⊤, All}
 use Rattle.std.specs.Cmp.Lexicographic.{slice_cmp}
 use Rattle.std.specs.Int.Signed.{mag}
 use Rattle.std.specs.List.Sorted.{IsStrictlySortedBy}
@@ -25,12 +25,14 @@ FitsFilestat stat = All FitsNumber (filestat_numbers stat)
 abbrev pub FitsValue : Value → Type 0
 FitsValue values.Unit = ⊤
 FitsValue (values.Number n) = FitsNumber n
+FitsValue (values.Pair first second) = All FitsNumber (first ∷ second ∷ [])
 FitsValue (values.Filestat stat) = FitsFilestat stat
 
 abbrev pub FitsAnswer : Answer → Type 0
 FitsAnswer (answers.Ok value) = FitsValue value
 FitsAnswer (answers.Errno errno) = ⊤
 FitsAnswer (answers.Trap kind) = ⊤
+FitsAnswer (answers.Exit status) = FitsNumber status
 
 -- the number under a name
 abbrev pub FitsEntry : {Name : Type 0} → Name × ℕ → Type 0

@@ -9,11 +9,11 @@ use Rattle.wasi_host.specs.Tree.{Node}
 use Rattle.wasi_host.specs.declared.system_time.SystemTime.{SystemTime}
 use Rattle.wasi_host.specs.declared.bits.Bits.{Bits}
 use Rattle.wasi_tree.specs.Given.{Given, given_of, GivenContent, file, directory, link}
-use Rattle.wasi_guest.specs.ErrnoName.{errno_name}
+use Rattle.wasi_guest.specs.Errnos.{errno_name}
 use Rattle.wasi_guest.specs.declared.answer.Answer.{Answer}
 use Rattle.wasi_guest.specs.declared.answer.Answer.TheVariants as answers
 use Rattle.wasi_guest.specs.declared.answer.TrapKind.{TrapKind}
-use Rattle.wasi_guest.specs.declared.answer.TrapKind.TheVariants.{Pointer}
+use Rattle.wasi_guest.specs.declared.answer.TrapKind.TheVariants.{Pointer, ExitStatus}
 use Rattle.wasi_guest.specs.declared.answer.Value.{Value}
 use Rattle.wasi_guest.specs.declared.answer.Value.TheVariants as values
 use Rattle.wasi_guest.specs.declared.filestat.Filestat.{Filestat}
@@ -62,15 +62,18 @@ filestat_value stat = list_value number_value (filestat_numbers stat)
 abbrev pub success_value : Value → Data
 success_value values.Unit = null
 success_value (values.Number n) = number_value n
+success_value (values.Pair first second) = list_value number_value (first ∷ second ∷ [])
 success_value (values.Filestat stat) = filestat_value stat
 
 abbrev pub trap_name : TrapKind → List ℕ
 trap_name Pointer = codes "pointer"
+trap_name ExitStatus = codes "exit"
 
 abbrev pub answer_value : Answer → Data
 answer_value (answers.Ok value) = only (codes "ok") (success_value value)
 answer_value (answers.Errno errno) = only (codes "errno") (string (errno_name errno))
 answer_value (answers.Trap kind) = only (codes "trap") (string (trap_name kind))
+answer_value (answers.Exit status) = only (codes "exit") (number_value status)
 
 abbrev pub hex_value : List ℕ → Data
 hex_value bytes = string (encode_lower bytes)

@@ -2,7 +2,7 @@
 ghost use Rattle.std.specs.Prelude.{◌≡◌, ◌++◌, OnOk, codes};
 ghost use Rattle.serde_json.specs.Data.{string};
 ghost use Rattle.wasi_report.specs.ReadBack.{FitsAnswer, FitsFilestat, FitsValue};
-ghost use Rattle.wasi_report.specs.Report.{only, filestat_value, success_value, trap_name, answer_value};
+ghost use Rattle.wasi_report.specs.Report.{only, number_value, filestat_value, success_value, trap_name, answer_value};
 ghost use Rattle.wasi_report.specs.Told.{told};
 
 use crate::told::{Told, tell_list};
@@ -20,6 +20,7 @@ impl Told for Answer {
             Answer::Ok(value) => tell_success(alloc, value, out),
             Answer::Errno(errno) => tell_text("errno", errno.name(), out),
             Answer::Trap(kind) => tell_text("trap", trap_name(kind), out),
+            Answer::Exit(status) => tell_exit(status, out),
         }
     }
 }
@@ -33,6 +34,7 @@ impl Told for Value {
         match *self {
             Value::Unit => out.null(),
             Value::Number(n) => out.u64(n),
+            Value::Pair(first, second) => tell_list(alloc, &[first as u64, second as u64], out),
             Value::Filestat(stat) => stat.tell(alloc, out),
         }
     }
@@ -64,6 +66,7 @@ fn trap_name(kind: TrapKind) -> &'static str
 {
     match kind {
         TrapKind::Pointer => "pointer",
+        TrapKind::ExitStatus => "exit",
     }
 }
 
@@ -75,6 +78,16 @@ fn tell_success(alloc: Global, value: Value, out: &mut Writer) -> Result<(), All
     out.begin_object()?;
     out.key("ok")?;
     value.tell(alloc, out)?;
+    out.end_object()
+}
+
+fn tell_exit(status: u32, out: &mut Writer) -> Result<(), AllocError>
+    ensures before { out.new.before ≡ out.old.before }
+    ensures tokens { OnOk result (out.new.tokens ≡ out.old.tokens ++ told (only (codes "exit") (number_value status))) }
+{
+    out.begin_object()?;
+    out.key("exit")?;
+    out.u64(status as u64)?;
     out.end_object()
 }
 

@@ -2,7 +2,8 @@
 
 /// A row's first line, `WORD SCRIPT`: how the program is called, and the script. The word is `failing_source` or
 /// `failing_sink`, where the program is called with `run` and the first read or write fails; `none`, where it is called
-/// with no words; else the words themselves, with commas between them.
+/// with no words; `error`, where no program is called, and the name of an error of scripts stands for the script; else
+/// the words themselves, with commas between them.
 #[derive(Clone, Copy)]
 pub struct Asked<'a> {
     pub word: &'a str,

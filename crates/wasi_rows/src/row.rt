@@ -2,7 +2,8 @@
 use crate::line::{Asked, Wanted};
 use crate::repeats::expanded;
 use std::alloc::{AllocError, Global};
-use wasi_ends::{BytesSink, BytesSource};
+use wasi_ends::{BytesSink, BytesSource, write_all};
+use wasi_form::{Refusal, ScriptError};
 use wasi_script::run_script;
 
 // The sink takes so many bytes; the longest report has a few more than 33,554,432.
@@ -55,12 +56,33 @@ fn sink_of(alloc: Global, word: &str) -> Result<BytesSink, AllocError> {
     BytesSink::new(alloc, ROOM, failing)
 }
 
-// Runs a row's script: the exit status, and the sink with what it took.
-fn ran(alloc: Global, asked: Asked<'_>) -> Result<(u8, BytesSink), AllocError> {
+// Runs a row's script into a sink: the exit status.
+fn run_into(alloc: Global, asked: Asked<'_>, sink: &mut BytesSink) -> Result<u8, AllocError> {
     let words = words_of(alloc, asked.word)?;
     let mut source = source_of(alloc, asked)?;
+    Ok(ended(alloc, &words, &mut source, sink))
+}
+
+// Writes the text of the error of this name into a sink, as a line: the exit status, 0 where it was taken.
+fn tell_error(alloc: Global, name: &str, sink: &mut BytesSink) -> Result<u8, AllocError> {
+    let error = if name == "memory" {
+        ScriptError::Memory
+    } else {
+        ScriptError::Refused(Refusal::Json)
+    };
+    let line = format!(in alloc; "{error}\n")?;
+    let taken = write_all(sink, line.as_bytes());
+    Ok(if taken { 0 } else { 1 })
+}
+
+// Does what a row asks for: the exit status, and the sink with what it took.
+fn ran(alloc: Global, asked: Asked<'_>) -> Result<(u8, BytesSink), AllocError> {
     let mut sink = sink_of(alloc, asked.word)?;
-    let exit = ended(alloc, &words, &mut source, &mut sink);
+    let exit = if asked.word == "error" {
+        tell_error(alloc, asked.script, &mut sink)?
+    } else {
+        run_into(alloc, asked, &mut sink)?
+    };
     Ok((exit, sink))
 }
 

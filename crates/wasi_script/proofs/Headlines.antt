@@ -13,7 +13,7 @@ use Rattle.std.proofs.lemmas.Map.Views.{Contains-from_any}
 use Rattle.wasi_host.specs.Tree.{Nodes}
 use Rattle.wasi_tree.specs.Given.{tree_of}
 use Rattle.wasi_tree.specs.MemState.{MemState, world_of}
-use Rattle.wasi_script.specs.Headline.{told_of, Reports}
+use Rattle.wasi_script.specs.Headline.{told_of, Reports, fueled_calls}
 use Rattle.wasi_p1.specs.Reach.{Confined}
 use Rattle.wasi_report.specs.Report.{report_text}
 use Rattle.wasi_report.specs.ReadBack.{IsOrdered}
@@ -37,7 +37,7 @@ no_fault k (inl fits) = omega arith
 no_fault k (inr full) = absurd (omega arith)
 
 pub begun_at : {context : View MemState} {memory : List ℕ} (plan : Plan)
-    → IsBegun world_of context (tree_of plan.nodes plan.limits) plan.preopens
+    → IsBegun world_of context (tree_of plan.nodes plan.limits) plan.preopens plan.services
     → memory ≡ with_pieces (replicate plan.size 0) plan.pieces → state_of world_of context memory ≡ start plan
 begun_at {memory} plan is memory-is = is.state memory ∙ (rw memory-is refl)
 
@@ -45,7 +45,7 @@ begun_at {memory} plan is memory-is = is.state memory ∙ (rw memory-is refl)
 pub record RanPlan (plan : Plan) (last : State) (answers : List Answer) (touched : Nodes) : Type 0 where
   pub first : State
   pub begins : first ≡ start plan
-  pub ran : DidRun 0 0 first plan.calls answers last touched
+  pub ran : DidRun 0 0 first (fueled_calls plan) answers last touched
   pub confined : Confined first last touched
 
 -- the report of what a run came to, with its nodes listed rising
@@ -57,15 +57,15 @@ pub reports : {plan : Plan} {last : State} {answers : List Answer} {touched : No
     → IfOk result (λ text. Reports plan text.items)
 reports {plan} {last} {answers} {touched} listed (Err error) run nodes-are rising ordered text-is = tt
 reports {plan} {last} {answers} {touched} listed (Ok text) run nodes-are rising ordered text-is =
-    let from_start : DidRun 0 0 (start plan) plan.calls answers last touched =
-    subst (λ s. DidRun 0 0 s plan.calls answers last touched) run.begins run.ran in
+    let from_start : DidRun 0 0 (start plan) (fueled_calls plan) answers last touched =
+    subst (λ s. DidRun 0 0 s (fueled_calls plan) answers last touched) run.begins run.ran in
     let near : Confined (start plan) last touched = subst (λ s. Confined s last touched) run.begins run.confined in
     let told_is = ap (λ all. record (told_of plan.show [] last listed) { answers = all }) from_start.answers_are in
     record {
       turns = from_start.turns;
       last = last;
       touched = listed;
-      run = subst (λ k. Run k (start plan) plan.calls from_start.turns last)
+      run = subst (λ k. Run k (start plan) (fueled_calls plan) from_start.turns last)
           (no_fault from_start.faults from_start.allowed) from_start.run;
       rising = rising;
       ends = All-weaker (λ n. contains touched n ≡ true) (Contains listed) (λ n has. in_listed listed n (rw nodes-are has))

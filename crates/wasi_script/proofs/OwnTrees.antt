@@ -11,7 +11,7 @@ use Rattle.wasi_p1.specs.Guest.{perms_in}
 use Rattle.wasi_p1.specs.ReadOnly.{IsReadOnlyGuest}
 use Rattle.wasi_p1.proofs.Permitting.{run_leaves}
 use Rattle.wasi_script.specs.Due.{Due, the_usage, the_refusal, the_report, OfDue, Writes, KeepsTree}
-use Rattle.wasi_script.specs.Headline.{Reports, GivesReadOnly, TellsOwnTree, own_nodes, node_in_order, told_of}
+use Rattle.wasi_script.specs.Headline.{Reports, GivesReadOnly, TellsOwnTree, fueled_calls, own_nodes, node_in_order, told_of}
 use Rattle.wasi_script.specs.Start.{start, given_place}
 use Rattle.wasi_script.specs.declared.status.Status.{Status}
 use Rattle.wasi_script.specs.declared.status.Status.TheVariants as statuses
@@ -63,7 +63,7 @@ tells_own plan reports only = record {
   text_is = reports.text_is;
   tree =
       ap (λ (t : Tree). map given_of t.nodes)
-      (run_leaves plan.calls reports.turns 0 (start plan) reports.last reports.run (starts_read_only plan only))
+      (run_leaves (fueled_calls plan) reports.turns 0 (start plan) reports.last reports.run (starts_read_only plan only))
       ∙ tree_again plan;
 }
 

@@ -21,10 +21,12 @@ use Rattle.wasi_tree.specs.Given.{Given, GivenContent, file, directory, link, co
 use Rattle.wasi_tree.specs.GivenTests.{is_dir_content}
 use Rattle.wasi_tree.specs.MemState.{HeldMap, MemState, live_of, held_in, world_of}
 use Rattle.wasi_guest.specs.Range.{with_bytes}
+use Rattle.wasi_guest.specs.Services.{Handed}
 use Rattle.wasi_p1.specs.Reach.{Confined}
 use Rattle.wasi_form.specs.Plan.{PlannedPreopen, PlannedPiece, planned_preopen, planned_piece}
 use Rattle.wasi_form.specs.Built.{are_preopens_directories, is_directory_given, is_piece_within}
 use Rattle.wasi_p1.specs.Slots.{first_slots, given_mode, given_directory, given_slot}
+use Rattle.wasi_p1.specs.Stock.{first_stock}
 use Rattle.wasi_p1.specs.declared.context.P1Preopen.{P1Preopen}
 use Rattle.wasi_script.specs.Start.{given_place, AreGiven, IsBegun, with_pieces}
 use Rattle.wasi_p1.specs.Guest.{State, directory as directory_place, directory_by, place_of}
@@ -137,13 +139,15 @@ given_more {old} {new} {planned} {p} preopens given are is = record {
     got = given_is_live (live_of old) (live_of new) p.handle is.live
 
 -- a context over a tree in memory that has given handles
-pub begun_by : (made given : MemState) (tree : Tree) (preopens : List PlannedPreopen) (list : List P1Preopen)
-    → made.tree ≡ tree → made.touched ≡ empty → given.tree ≡ made.tree → given.touched ≡ made.touched
-    → AreGiven given.handles preopens list
-    → IsBegun world_of (record { host = given; slots = first_slots list; stdout = []; stderr = [] }) tree preopens
-begun_by made given tree preopens list made-is none tree-is touched-is are = record {
-  state = λ memory. rw (tree-is, made-is, are.places) refl;
-  untouched = touched-is ∙ none;
+pub begun_by : {given : MemState} {tree : Tree} {preopens : List PlannedPreopen} {services : Handed} {fuel : ℕ}
+    {list : List P1Preopen}
+    → given.tree ≡ tree → given.touched ≡ empty → AreGiven given.handles preopens list
+    → IsBegun world_of
+    (record { host = given; slots = first_slots list; holdings = first_stock services; fuel = fuel })
+    tree preopens services
+begun_by tree-is none are = record {
+  state = λ memory. rw (tree-is, are.places) refl;
+  untouched = none;
 }
 
 -- at the start all that was come to is in reach

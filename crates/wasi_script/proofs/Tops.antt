@@ -12,7 +12,7 @@ use Rattle.wasi_form.specs.declared.verdict.ScriptError.{ScriptError}
 use Rattle.wasi_form.specs.declared.verdict.ScriptError.TheVariants as scripts
 use Rattle.wasi_form.proofs.BuiltScripts.{too_many, refused_before}
 use Rattle.wasi_script.specs.Exit.{unfinished_status, script_status}
-use Rattle.wasi_script.specs.Due.{Due, the_usage, the_refusal, the_report, IsOwed, OfDue, left_unread, LeavesBytes, NotRead}
+use Rattle.wasi_script.specs.Due.{Due, the_usage, the_refusal, the_report, IsOwed, OfDue, left_unread, LeavesBytes, KeepsSink, NotRead}
 use Rattle.wasi_script.specs.Due.{IsText, IsDue, Writes, Written, whole, in_part, status_of}
 use Rattle.wasi_script.specs.declared.status.Status.{Status}
 use Rattle.wasi_script.specs.declared.status.Status.TheVariants as statuses
@@ -63,6 +63,18 @@ leaves_unread left is (whole took) = is
 leaves_unread left is (in_part failed took) = is
 
 -- ---- writing
+
+-- a report that was written isn't a fault of reading
+pub no_read_fault : {told rose Anything : Type 0} {taken now text : List ℕ} {status : Status}
+    → Written told rose taken now text statuses.Done status → status ≡ statuses.ReadFault → Anything
+no_read_fault (whole took) is = absurd (cc)
+no_read_fault (in_part failed took) is = absurd (cc)
+
+-- nor does the sink have to be as it was before it
+pub may_take : {told rose : Type 0} {taken now text : List ℕ} {status : Status}
+    → Written told rose taken now text statuses.Done status → KeepsSink status taken now
+may_take (whole took) = tt
+may_take (in_part failed took) = tt
 
 -- what was written under the status that is due
 pub writes : {told rose : Type 0} {taken now text : List ℕ} {status : Status} (d : Due) → told → IsText d text

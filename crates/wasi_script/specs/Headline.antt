@@ -6,6 +6,7 @@ use Rattle.std.specs.Ordering.{nat_cmp}
 use Rattle.wasi_host.specs.Tree.{Names}
 use Rattle.wasi_tree.specs.Given.{Given, GivenContent, file, directory, link, given_of}
 use Rattle.wasi_fs.specs.declared.perms.FsPerms.TheVariants.{ReadOnly}
+use Rattle.wasi_p1.specs.Front.{FueledCall, with_fuel}
 use Rattle.wasi_p1.specs.Reach.{InReach}
 use Rattle.wasi_report.specs.Report.{Report, report_text}
 use Rattle.wasi_report.specs.ReadBack.{IsOrdered}
@@ -24,11 +25,15 @@ abbrev pub told_of : List Shown → List Turned → State → List ℕ → Repor
 told_of show turns last touched = record {
   answers = answers_of turns;
   memory = map (shown_in last.guest.memory) show;
-  stderr = last.guest.stderr;
-  stdout = last.guest.stdout;
+  stderr = last.guest.holdings.stderr;
+  stdout = last.guest.holdings.stdout;
   touched = touched;
   tree = map given_of last.tree.nodes;
 }
+
+-- a plan's calls, each with all the fuel that the plan has for one
+abbrev pub fueled_calls : Plan → List FueledCall
+fueled_calls plan = map (with_fuel plan.fuel) plan.calls
 
 -- The text is the report of the run of the plan's calls from its start, in which no turn is faulted. The touched nodes are
 -- listed rising; each at which a path of a call answered Ok ended is among them, and each is reached from a directory
@@ -37,7 +42,7 @@ pub record Reports (plan : Plan) (text : List ℕ) : Type 0 where
   pub turns : List Turned
   pub last : State
   pub touched : List ℕ
-  pub run : Run 0 (start plan) plan.calls turns last
+  pub run : Run 0 (start plan) (fueled_calls plan) turns last
   pub rising : IsStrictlySortedBy nat_cmp touched
   pub ends : All (Contains touched) (named turns)
   pub in_reach : (n : ℕ) → Contains touched n → InReach (start plan) last n

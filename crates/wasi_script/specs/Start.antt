@@ -7,9 +7,11 @@ use Rattle.wasi_host.specs.Meaning.{World}
 use Rattle.wasi_tree.specs.Given.{tree_of}
 use Rattle.wasi_tree.specs.MemState.{HeldMap, live_of, held_in}
 use Rattle.wasi_guest.specs.Range.{with_bytes}
+use Rattle.wasi_guest.specs.Services.{Handed}
 use Rattle.wasi_form.specs.Plan.{Plan, PlannedPiece, PlannedPreopen}
 use Rattle.wasi_p1.specs.Slots.{View, given_mode, given_slot}
 use Rattle.wasi_p1.specs.Guest.{State, Place, stream, directory, place_of, state_of}
+use Rattle.wasi_p1.specs.Stock.{first_stock}
 use Rattle.wasi_p1.specs.declared.context.P1Preopen.{P1Preopen}
 use Rattle.wasi_p1.specs.declared.context.Stream.TheVariants.{Input, Output, Error}
 
@@ -27,21 +29,22 @@ abbrev pub with_pieces : List ℕ → List PlannedPiece → List ℕ
 with_pieces memory [] = memory
 with_pieces memory (piece ∷ pieces) = with_pieces (with_bytes memory piece.offset piece.bytes) pieces
 
--- over a tree, with these directories, nothing is written out yet
-abbrev pub begun : Tree → List PlannedPreopen → List ℕ → State
-begun tree preopens memory = record {
+-- over a tree, with these directories and all that is handed in, nothing is written out yet
+abbrev pub begun : Tree → List PlannedPreopen → Handed → List ℕ → State
+begun tree preopens services memory = record {
   tree = tree;
-  guest = record { places = first_places preopens; memory = memory; stdout = []; stderr = [] };
+  guest = record { places = first_places preopens; memory = memory; holdings = first_stock services };
 }
 
--- a plan's tree and directories, and its pieces over zeros
+-- a plan's tree, directories and services, and its pieces over zeros
 abbrev pub start : Plan → State
-start plan = begun (tree_of plan.nodes plan.limits) plan.preopens (with_pieces (replicate plan.size 0) plan.pieces)
+start plan = begun (tree_of plan.nodes plan.limits) plan.preopens plan.services
+    (with_pieces (replicate plan.size 0) plan.pieces)
 
 -- a context in which nothing was done yet, and no node touched
 pub record IsBegun {H : Type 0} (world : H → World) (context : View H) (tree : Tree)
-    (preopens : List PlannedPreopen) : Type 0 where
-  pub state : (memory : List ℕ) → state_of world context memory ≡ begun tree preopens memory
+    (preopens : List PlannedPreopen) (services : Handed) : Type 0 where
+  pub state : (memory : List ℕ) → state_of world context memory ≡ begun tree preopens services memory
   pub untouched : (world context.host).touched ≡ empty
 
 -- handles of these directories in their order, each live and another, with their permissions and names

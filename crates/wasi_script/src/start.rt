@@ -4,6 +4,7 @@ ghost use Rattle.std.specs.List.{list_all};
 ghost use Rattle.wasi_host.specs.Tree.{node_at, is_directory};
 ghost use Rattle.wasi_tree.specs.Given.{tree_of};
 ghost use Rattle.wasi_tree.specs.MemState.{world_of};
+ghost use Rattle.wasi_guest.specs.Services.{handed};
 ghost use Rattle.wasi_form.specs.Plan.{planned_piece, planned_preopen};
 ghost use Rattle.wasi_form.specs.Built.{are_preopens_directories, is_piece_within, is_shown_within};
 ghost use Rattle.wasi_script.specs.Start.{with_pieces, IsBegun, AreGiven};
@@ -11,7 +12,7 @@ ghost use Rattle.wasi_script.specs.Headline.{shown_in};
 
 use std::alloc::{AllocError, Global};
 use wasi_form::{Piece, ScriptPreopen, Shown};
-use wasi_guest::GuestMemory;
+use wasi_guest::{GuestMemory, Services};
 use wasi_p1::{P1Preopen, WasiP1Ctx};
 use wasi_tree::{FitNodes, HandleError, MemTree};
 
@@ -44,19 +45,20 @@ fn given_handles(
     Ok(given)
 }
 
-/// A context over the tree of these nodes, in which the guest is given these directories.
+/// A context over the tree of these nodes, in which the guest is handed in these services and given these directories.
 pub fn first_context(
     alloc: Global,
     nodes: FitNodes,
+    services: Services,
     preopens: &[ScriptPreopen],
 ) -> Result<WasiP1Ctx<MemTree>, AllocError>
     requires directories { are_preopens_directories nodes.nodes (map planned_preopen preopens.now) ≡ true }
     ensures begun { IfOk result (λ c. IsBegun world_of c (tree_of nodes.nodes nodes.limits)
-        (map planned_preopen preopens.now)) }
+        (map planned_preopen preopens.now) (handed services)) }
 {
     let mut tree = MemTree::of(alloc, nodes)?;
     let given = given_handles(alloc, &mut tree, preopens)?;
-    match WasiP1Ctx::new(alloc, tree, given) {
+    match WasiP1Ctx::new(alloc, tree, given, services) {
         Ok(context) => Ok(context),
         Err(_) => Err(AllocError),
     }

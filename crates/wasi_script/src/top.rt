@@ -56,18 +56,25 @@ fn report_of(alloc: Global, script: Script) -> Result<Vec<u8>, AllocError>
     ensures { IfOk result (λ text. Reports (plan script) text.items) }
 {
     let mut memory = first_memory(alloc, script.size, script.pieces.as_slice())?;
-    let mut context = first_context(alloc, script.nodes, script.preopens.as_slice())?;
-    let Ok(answers) = run_calls(alloc, &mut context, &mut memory, &script.calls) else {
+    let mut context = first_context(
+        alloc,
+        script.nodes,
+        script.services,
+        script.preopens.as_slice(),
+    )?;
+    let ran = run_calls(alloc, &mut context, &mut memory, script.fuel, &script.calls);
+    let Ok(answers) = ran else {
         return Err(AllocError);
     };
     let shown = shown(alloc, &memory, script.show.as_slice())?;
     let touched = context.host().touched(alloc)?;
     let ended = context.into_parts();
+    let outputs = ended.holdings.into_outputs();
     let outcome = Outcome {
         answers,
         shown,
-        stdout: ended.stdout,
-        stderr: ended.stderr,
+        stdout: outputs.stdout,
+        stderr: outputs.stderr,
         touched,
     };
     report(alloc, &outcome, &ended.host)

@@ -3,7 +3,7 @@ use std::alloc::{AllocError, Global};
 use wasi_ends::{Sink, Source, read_all, write_all};
 
 /// What answers the lines of a table, one after another.
-pub trait Answers {
+pub trait Answering {
     fn answer(&mut self, alloc: Global, asked: &str) -> Result<String, AllocError>;
 }
 
@@ -31,7 +31,7 @@ impl Tried {
 
 /// Tries the table that a source gives. Of each line that isn't so what came is written into the sink, with its number and
 /// the line, and then how many are so.
-pub fn try_table<A: Answers, S: Source, K: Sink>(
+pub fn try_table<A: Answering, S: Source, K: Sink>(
     alloc: Global,
     answers: &mut A,
     source: &mut S,
@@ -53,7 +53,7 @@ pub fn try_table<A: Answers, S: Source, K: Sink>(
 }
 
 // What a table comes to, which the text says in its end.
-fn try_lines<A: Answers>(
+fn try_lines<A: Answering>(
     alloc: Global,
     answers: &mut A,
     table: &str,
@@ -80,7 +80,7 @@ fn try_lines<A: Answers>(
 }
 
 // Whether a line is so.
-fn try_line<A: Answers>(
+fn try_line<A: Answering>(
     alloc: Global,
     answers: &mut A,
     before: usize,
@@ -99,7 +99,7 @@ fn try_line<A: Answers>(
 }
 
 // Whether what is asked is answered so; where it isn't, the text says what came.
-fn is_answered<A: Answers>(
+fn is_answered<A: Answering>(
     alloc: Global,
     answers: &mut A,
     asked: &str,

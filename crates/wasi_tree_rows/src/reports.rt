@@ -5,8 +5,8 @@ use wasi_report::{Outcome, report};
 use wasi_table::{list_of, number, word};
 use wasi_tree::MemTree;
 
-/// `ANSWER ANSWER ANSWER SHOWN STDOUT STDERR TOUCHED`, or nothing: the report of this outcome with the tree, without the
-/// newline at its end.
+/// `ANSWERS SHOWN STDOUT STDERR TOUCHED`, or nothing: the report of this outcome with the tree, without the newline at its
+/// end. Where nothing is given, the outcome is of no calls.
 pub fn told_report(alloc: Global, tree: &MemTree, rest: &str) -> Result<String, AllocError> {
     let mut outcome = outcome_of(alloc)?;
     if !rest.is_empty() {

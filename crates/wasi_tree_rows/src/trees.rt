@@ -1,11 +1,13 @@
 //! The lines of the tables, over a tree that is kept from line to line.
+ghost use Rattle.wasi_host.specs.ValidTree.{AreLimits};
+
 use crate::calls::call;
 use crate::listed::{chain, listed, tree_of};
 use crate::opened::with_opened;
 use crate::reports::told_report;
 use std::alloc::{AllocError, Global};
 use wasi_host::Limits;
-use wasi_table::{Answers, number, told, word};
+use wasi_table::{Answering, number, told, word};
 use wasi_tree::{MemTree, NewNode, TreeError};
 
 /// What answers the lines: the tree that the last `tree` gave.
@@ -23,7 +25,7 @@ impl TreeRows {
     }
 }
 
-impl Answers for TreeRows {
+impl Answering for TreeRows {
     fn answer(&mut self, alloc: Global, asked: &str) -> Result<String, AllocError> {
         let (what, rest) = word(asked);
         match what {
@@ -57,14 +59,19 @@ fn chained(alloc: Global, rest: &str) -> Result<String, AllocError> {
     made_of(alloc, chain(alloc, number(rest))?, 200_000)
 }
 
-/// How many nodes a tree of these nodes has, in which no node has a number above the last one, and no file or link more
-/// than two names; or why none is made of them.
-fn made_of(alloc: Global, nodes: Vec<NewNode>, last: u32) -> Result<String, AllocError> {
-    let limits = Limits {
+/// That no node has a number above the last one, and no file or link more than two names.
+fn most(last: u32) -> Limits
+    ensures { AreLimits result }
+{
+    Limits {
         nodes: u64::from(last) + 1,
         links: 2,
-    };
-    match MemTree::new(alloc, nodes, limits) {
+    }
+}
+
+/// How many nodes a tree of these nodes has within these limits, or why none is made of them.
+fn made_of(alloc: Global, nodes: Vec<NewNode>, last: u32) -> Result<String, AllocError> {
+    match MemTree::new(alloc, nodes, most(last)) {
         Ok(tree) => told(alloc, &tree.count()),
         Err(error) => told(alloc, &error),
     }
@@ -80,6 +87,7 @@ fn ask(
 ) -> Result<String, AllocError> {
     match what {
         "touched" => told(alloc, &tree.touched(alloc)?),
+        "nodes" => told(alloc, &tree.nodes(alloc)?),
         "looks" => told_looks(alloc, tree),
         "report" => told_report(alloc, tree, rest),
         "many" => many(alloc, tree, rest),

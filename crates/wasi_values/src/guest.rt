@@ -12,6 +12,10 @@ pub fn answer(alloc: Global, what: &str, rest: &str) -> Result<String, AllocErro
     match what {
         "lent" => replaced(alloc, &bytes, ptr),
         "buffer" => first_buffer(alloc, &bytes, ptr, n),
+        "u32" => told(alloc, &memory_of(alloc, &bytes)?.read_u32(ptr)),
+        "text" => told_text(alloc, &bytes, ptr, n),
+        "iovec" => told(alloc, &memory_of(alloc, &bytes)?.read_iovec(ptr)),
+        "subscription" => told(alloc, &memory_of(alloc, &bytes)?.read_subscription(ptr)),
         _ => unknown(alloc),
     }
 }
@@ -39,6 +43,11 @@ fn replace(memory: &mut GuestMemory, ptr: u32, byte: u8) -> Option<u8> {
     let was = part[0];
     part[0] = byte;
     Some(was)
+}
+
+fn told_text(alloc: Global, bytes: &[u8], ptr: u32, n: u32) -> Result<String, AllocError> {
+    let memory = memory_of(alloc, bytes)?;
+    told(alloc, &memory.text(ptr, n))
 }
 
 fn first_buffer(alloc: Global, bytes: &[u8], iovs: u32, n: u32) -> Result<String, AllocError> {

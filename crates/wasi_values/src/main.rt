@@ -7,18 +7,20 @@ mod flags;
 mod guest;
 mod host;
 mod nodes;
+mod numbers;
 mod paths;
+mod records;
 
 use std::alloc::{AllocError, Global};
 use std::process::ExitCode;
 use wasi_ends::{StdinSource, StdoutSink};
-use wasi_table::{Answers, try_table, unknown, word};
+use wasi_table::{Answering, try_table, unknown, word};
 
 /// What answers the lines.
 #[derive(Drop)]
 struct Values;
 
-impl Answers for Values {
+impl Answering for Values {
     fn answer(&mut self, alloc: Global, asked: &str) -> Result<String, AllocError> {
         let (family, asked) = word(asked);
         let (what, rest) = word(asked);
@@ -30,6 +32,8 @@ impl Answers for Values {
             "node" => nodes::answer(alloc, what, rest),
             "flags" => flags::answer(alloc, what, rest),
             "guest" => guest::answer(alloc, what, rest),
+            "record" => records::answer(alloc, what, rest),
+            "number" => numbers::answer(alloc, what, rest),
             "ends" => ends::answer(alloc, what, rest),
             _ => unknown(alloc),
         }

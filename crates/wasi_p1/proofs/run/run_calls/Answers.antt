@@ -1,7 +1,8 @@
-use Rattle.std.proofs.Common.{◌∙◌, inl, arith, sym, refl, length, drop, length-append, ◌≡◌, ◌+◌, ◌<◌, ◌≤◌}
-use Rattle.std.proofs.lemmas.List.{take_all}
+use Rattle.std.proofs.Common.{map, ◌∙◌, inl, arith, sym, refl, length, drop, length-append, ◌≡◌, ◌+◌, ◌<◌, ◌≤◌}
+use Rattle.std.proofs.lemmas.List.{take_all, length-map}
 use Rattle.std.proofs.lemmas.List.Elements.{Contains-get_or}
-use Rattle.wasi_guest.specs.declared.call.Call.TheVariants.{FdClose}
+use Rattle.wasi_p1.specs.Front.{with_fuel}
+use Rattle.wasi_guest.specs.declared.call.Call.TheVariants.{ArgsGet}
 use Rattle.wasi_host.proofs.Tracing.{traced_none}
 use Rattle.wasi_p1.proofs.CallTracing.{traced_on}
 use Rattle.wasi_p1.proofs.Runs.{nothing_yet, io_counted, turned_on, stood, stood_first, ended, all_done, call_at, calls_at}
@@ -37,29 +38,29 @@ loop-one-init g c = record {
 
 pub loop-one-preserved : goal.loop-one-preserved
 loop-one-preserved g c = record {
-  size = c.call-outcome.ensures.turn.size ∙ c.loop-one.invariant.size;
+  size = c.call_with-outcome.ensures.size ∙ c.loop-one.invariant.size;
   ios =
       rw c.push.ensures.answers
-      (io_counted _ _ (sym c.in-Some.ensures) c.call-outcome.ensures.cause c.loop-one.invariant.ios);
+      (io_counted _ _ (sym c.in-Some.ensures) c.call_with-outcome.ensures.cause c.loop-one.invariant.ios);
   goes =
       rw c.push.ensures.answers
       (goes_on-push _ _ c.loop-one.invariant.goes (sym c.ends_run.ensures ∙ c.if-ends_run.false));
-  handles = c.call-outcome.ensures.handles ∙ c.loop-one.invariant.handles;
+  handles = c.call_with-outcome.ensures.handles ∙ c.loop-one.invariant.handles;
   slots = stay_on c.args.calls.now.items _ c.loop-one.memory
       (rw c.deref-one-items.ensures.value (Contains-get_or _ _ _ (omega arith))) c.loop-one.invariant.slots
-      c.call-outcome.ensures.turn.slots;
-  lineage = traced_on _ _ c.call-outcome.ensures.lineage c.loop-one.invariant.lineage;
+      c.call_with-outcome.ensures.slots;
+  lineage = traced_on _ _ c.call_with-outcome.ensures.lineage c.loop-one.invariant.lineage;
   run = λ told.
       let within : c.loop-one.one-index < length c.args.calls.now.items = omega arith in
-      let one = call_at c.args.calls.now.items c.loop-one.one-index (FdClose 0) within in
-      let on = turned_on (sym c.in-Some.ensures) c.call-outcome.ensures.cause (c.call-outcome.ensures.turn.turn told)
+      let one = call_at c.args.fuel c.args.calls.now.items c.loop-one.one-index (ArgsGet 0 0) within in
+      let on = turned_on (sym c.in-Some.ensures) c.call_with-outcome.ensures.cause (c.call_with-outcome.ensures.turn told)
       (c.loop-one.invariant.run told) (sym c.ends_run.ensures ∙ c.if-ends_run.false) in
       rw (c.push.ensures.answers, one) (rw c.deref-one-items.ensures.value at on);
   touched = λ told n was.
-      (c.call-outcome.ensures.turn.turn told).touched.stays n (c.loop-one.invariant.touched told n was);
+      (c.call_with-outcome.ensures.turn told).touched.stays n (c.loop-one.invariant.touched told n was);
   confined = λ told start is.
-      turn_confines (c.call-outcome.ensures.turn.turn told) (c.loop-one.invariant.confined told start is);
-  valid = λ told start. turn_valid (c.call-outcome.ensures.turn.turn told) (c.loop-one.invariant.valid told start);
+      turn_confines (c.call_with-outcome.ensures.turn told) (c.loop-one.invariant.confined told start is);
+  valid = λ told start. turn_valid (c.call_with-outcome.ensures.turn told) (c.loop-one.invariant.valid told start);
   later = omega arith;
   count = rw (c.push.ensures.answers, length-append) (omega arith);
   room = omega arith;
@@ -68,84 +69,84 @@ loop-one-preserved g c = record {
 -- ---- memory was wanted
 
 pub returns-in-None-clause-size : goal.returns-in-None-clause-size
-returns-in-None-clause-size g c = c.call-outcome.ensures.turn.size ∙ c.loop-one.invariant.size
+returns-in-None-clause-size g c = c.call_with-outcome.ensures.size ∙ c.loop-one.invariant.size
 
 pub returns-in-None-clause-handles : goal.returns-in-None-clause-handles
-returns-in-None-clause-handles g c = c.call-outcome.ensures.handles ∙ c.loop-one.invariant.handles
+returns-in-None-clause-handles g c = c.call_with-outcome.ensures.handles ∙ c.loop-one.invariant.handles
 
 pub returns-in-None-clause-lineage : goal.returns-in-None-clause-lineage
-returns-in-None-clause-lineage g c = traced_on _ _ c.call-outcome.ensures.lineage c.loop-one.invariant.lineage
+returns-in-None-clause-lineage g c = traced_on _ _ c.call_with-outcome.ensures.lineage c.loop-one.invariant.lineage
 
 pub returns-in-None-clause-memory : goal.returns-in-None-clause-memory
 returns-in-None-clause-memory g c = λ told.
     let n : c.len-in-None.result ≡ length c.loop-one.answers.answers = c.len-in-None.ensures.count in
     let at : c.loop-one.one-index ≡ c.len-in-None.result = sym (n ∙ c.loop-one.invariant.count) in
-    stood (sym c.in-None.ensures) c.call-outcome.ensures.cause (c.call-outcome.ensures.turn.turn told) (sym n)
+    stood (sym c.in-None.ensures) c.call_with-outcome.ensures.cause (c.call_with-outcome.ensures.turn told) (sym n)
     (rw at at (c.loop-one.invariant.run told))
 
 pub returns-in-None-clause-slots : goal.returns-in-None-clause-slots
 returns-in-None-clause-slots g c = stay_on c.args.calls.now.items _ c.loop-one.memory
     (rw c.deref-one-items.ensures.value (Contains-get_or _ _ _ (omega arith))) c.loop-one.invariant.slots
-    c.call-outcome.ensures.turn.slots
+    c.call_with-outcome.ensures.slots
 
 pub returns-in-None-clause-touched : goal.returns-in-None-clause-touched
 returns-in-None-clause-touched g c = λ told n was.
-    (c.call-outcome.ensures.turn.turn told).touched.stays n (c.loop-one.invariant.touched told n was)
+    (c.call_with-outcome.ensures.turn told).touched.stays n (c.loop-one.invariant.touched told n was)
 
 pub returns-in-None-clause-confined : goal.returns-in-None-clause-confined
 returns-in-None-clause-confined g c = λ told start is.
-    turn_confines (c.call-outcome.ensures.turn.turn told) (c.loop-one.invariant.confined told start is)
+    turn_confines (c.call_with-outcome.ensures.turn told) (c.loop-one.invariant.confined told start is)
 
 pub returns-in-None-clause-valid : goal.returns-in-None-clause-valid
 returns-in-None-clause-valid g c = λ told start.
-    turn_valid (c.call-outcome.ensures.turn.turn told) (c.loop-one.invariant.valid told start)
+    turn_valid (c.call_with-outcome.ensures.turn told) (c.loop-one.invariant.valid told start)
 
 -- ---- an answer that ends the run
 
 pub returns-then-ends_run-clause-size : goal.returns-then-ends_run-clause-size
-returns-then-ends_run-clause-size g c = c.call-outcome.ensures.turn.size ∙ c.loop-one.invariant.size
+returns-then-ends_run-clause-size g c = c.call_with-outcome.ensures.size ∙ c.loop-one.invariant.size
 
 pub returns-then-ends_run-clause-answers : goal.returns-then-ends_run-clause-answers
 returns-then-ends_run-clause-answers g c =
-    rw c.push.ensures.answers (last_answered c.args.calls.now.items c.loop-one.answers.answers _
-    (omega arith) c.loop-one.invariant.goes (sym c.ends_run.ensures ∙ c.if-ends_run.true))
+    rw c.push.ensures.answers (last_answered (map (with_fuel c.args.fuel) c.args.calls.now.items) c.loop-one.answers.answers _
+    (simp length-map (omega arith)) c.loop-one.invariant.goes (sym c.ends_run.ensures ∙ c.if-ends_run.true))
 
 pub returns-then-ends_run-clause-ios : goal.returns-then-ends_run-clause-ios
 returns-then-ends_run-clause-ios g c =
     rw c.push.ensures.answers
-    (io_counted _ _ (sym c.in-Some.ensures) c.call-outcome.ensures.cause c.loop-one.invariant.ios)
+    (io_counted _ _ (sym c.in-Some.ensures) c.call_with-outcome.ensures.cause c.loop-one.invariant.ios)
 
 pub returns-then-ends_run-clause-handles : goal.returns-then-ends_run-clause-handles
-returns-then-ends_run-clause-handles g c = c.call-outcome.ensures.handles ∙ c.loop-one.invariant.handles
+returns-then-ends_run-clause-handles g c = c.call_with-outcome.ensures.handles ∙ c.loop-one.invariant.handles
 
 pub returns-then-ends_run-clause-lineage : goal.returns-then-ends_run-clause-lineage
-returns-then-ends_run-clause-lineage g c = traced_on _ _ c.call-outcome.ensures.lineage c.loop-one.invariant.lineage
+returns-then-ends_run-clause-lineage g c = traced_on _ _ c.call_with-outcome.ensures.lineage c.loop-one.invariant.lineage
 
 pub returns-then-ends_run-clause-run : goal.returns-then-ends_run-clause-run
 returns-then-ends_run-clause-run g c = λ told.
     let within : c.loop-one.one-index < length c.args.calls.now.items = omega arith in
-    let all = calls_at c.args.calls.now.items c.loop-one.one-index (FdClose 0) within in
-    let on = ended (sym c.in-Some.ensures) c.call-outcome.ensures.cause (c.call-outcome.ensures.turn.turn told)
-    (c.loop-one.invariant.run told) (drop (c.loop-one.one-index + 1) c.args.calls.now.items)
+    let all = calls_at c.args.fuel c.args.calls.now.items c.loop-one.one-index (ArgsGet 0 0) within in
+    let on = ended (sym c.in-Some.ensures) c.call_with-outcome.ensures.cause (c.call_with-outcome.ensures.turn told)
+    (c.loop-one.invariant.run told) (drop (c.loop-one.one-index + 1) (map (with_fuel c.args.fuel) c.args.calls.now.items))
     (sym c.ends_run.ensures ∙ c.if-ends_run.true) in
     rw (c.push.ensures.answers) (rw (c.deref-one-items.ensures.value, all) at on)
 
 pub returns-then-ends_run-clause-slots : goal.returns-then-ends_run-clause-slots
 returns-then-ends_run-clause-slots g c = stay_on c.args.calls.now.items _ c.loop-one.memory
     (rw c.deref-one-items.ensures.value (Contains-get_or _ _ _ (omega arith))) c.loop-one.invariant.slots
-    c.call-outcome.ensures.turn.slots
+    c.call_with-outcome.ensures.slots
 
 pub returns-then-ends_run-clause-touched : goal.returns-then-ends_run-clause-touched
 returns-then-ends_run-clause-touched g c = λ told n was.
-    (c.call-outcome.ensures.turn.turn told).touched.stays n (c.loop-one.invariant.touched told n was)
+    (c.call_with-outcome.ensures.turn told).touched.stays n (c.loop-one.invariant.touched told n was)
 
 pub returns-then-ends_run-clause-confined : goal.returns-then-ends_run-clause-confined
 returns-then-ends_run-clause-confined g c = λ told start is.
-    turn_confines (c.call-outcome.ensures.turn.turn told) (c.loop-one.invariant.confined told start is)
+    turn_confines (c.call_with-outcome.ensures.turn told) (c.loop-one.invariant.confined told start is)
 
 pub returns-then-ends_run-clause-valid : goal.returns-then-ends_run-clause-valid
 returns-then-ends_run-clause-valid g c = λ told start.
-    turn_valid (c.call-outcome.ensures.turn.turn told) (c.loop-one.invariant.valid told start)
+    turn_valid (c.call_with-outcome.ensures.turn told) (c.loop-one.invariant.valid told start)
 
 -- ---- all calls are answered
 
@@ -153,9 +154,9 @@ pub returns-clause-size : goal.returns-clause-size
 returns-clause-size g c = c.loop-one.invariant.size
 
 pub returns-clause-answers : goal.returns-clause-answers
-returns-clause-answers g c = each_answered _ _ (omega arith) c.loop-one.invariant.goes
+returns-clause-answers g c = each_answered _ _ (simp length-map (omega arith)) c.loop-one.invariant.goes
 
 pub returns-clause-run : goal.returns-clause-run
 returns-clause-run g c = λ told.
-    rw (take_all c.loop-one.one-index c.args.calls.now.items (omega arith)) at
+    rw (take_all c.loop-one.one-index (map (with_fuel c.args.fuel) c.args.calls.now.items) (simp length-map (omega arith))) at
     (all_done (c.loop-one.invariant.run told))

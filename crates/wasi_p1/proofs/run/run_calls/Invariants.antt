@@ -1,4 +1,5 @@
-use Rattle.std.proofs.Common.{take, length, ◌+◌, ◌≤◌, ◌≡◌}
+use Rattle.wasi_p1.specs.Front.{with_fuel}
+use Rattle.std.proofs.Common.{map, take, length, ◌+◌, ◌≤◌, ◌≡◌}
 use Rattle.std.specs.Prelude.{IsTrue}
 use Rattle.wasi_p1.specs.Guest.{State, state_of}
 use Rattle.wasi_p1.specs.Reach.{Confined, StaysTouched}
@@ -22,7 +23,7 @@ invariant-loop-one g l = record {
   run : IsTrue g.H.Host.told
       → SoFar (g.H.Host.faults l.fn.context.host) (g.H.Host.faults l.context.host)
       (state_of g.H.Host.world l.fn.context l.fn.memory)
-      (take l.one-index l.calls.items) l.answers.answers (state_of g.H.Host.world l.context l.memory)
+      (take l.one-index (map (with_fuel l.fuel) l.calls.items)) l.answers.answers (state_of g.H.Host.world l.context l.memory)
       (g.H.Host.world l.context.host).touched;
   touched : IsTrue g.H.Host.told
       → StaysTouched (g.H.Host.world l.fn.context.host).touched (g.H.Host.world l.context.host).touched;

@@ -1,4 +1,5 @@
-use Rattle.wasi_script.proofs.Starts.{directories_given}
+use Rattle.std.proofs.Common.{◌∙◌}
+use Rattle.wasi_script.proofs.Starts.{begun_by, directories_given}
 use Rattle.wasi_script.proofs.start.first_context.Goals as goal
 
 pub given_handles-requires : goal.given_handles-requires
@@ -6,3 +7,11 @@ given_handles-requires c = record {
   directories = rw c.in_ok-tree.ensures.tree
       (directories_given c.args.nodes.nodes c.args.nodes.limits c.args.preopens.now c.requires.directories);
 }
+
+pub returns-in-Ok : goal.returns-in-Ok
+returns-in-Ok c =
+    let tree = c.in_ok-tree.ensures in
+    let given = c.in_ok-given.ensures in
+    record {
+      begun = rw c.in-Ok.ensures.made (begun_by (given.tree ∙ tree.tree) (given.touched ∙ tree.touched) given.given);
+    }

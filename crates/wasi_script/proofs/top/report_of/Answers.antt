@@ -16,7 +16,7 @@ first_context-requires c = record {
 pub shown-requires : goal.shown-requires
 shown-requires c =
     let parts = built_parts (plan c.args.script) c.requires in
-    rw (c.as_slice-3.ensures.value, c.run_calls.ensures.size, c.in_ok-memory.ensures.size) parts.show
+    rw (c.as_slice-3.ensures.value, c.run_calls-ran.ensures.size, c.in_ok-memory.ensures.size) parts.show
 
 pub returns : goal.returns
 returns c =
@@ -30,7 +30,8 @@ returns c =
     } in
     let shown-is = rw c.as_slice-3.ensures.value at c.in_ok-shown.ensures.shown in
     let ended = c.into_parts-ended.ensures in
+    let outputs = c.into_outputs-outputs.ensures in
     let listed = rw c.host.ensures.host at c.in_ok-touched.ensures.nodes in
     reports _ _ run listed c.in_ok-touched.ensures.rising
-    (rw (shown-is, ended.host, ended.stderr, ended.stdout) at c.report.ensures.ordered)
-    (rw (shown-is, ended.host, ended.stderr, ended.stdout) at c.report.ensures.text)
+    (rw (shown-is, outputs.stderr, outputs.stdout, ended.host, ended.holdings) at c.report.ensures.ordered)
+    (rw (shown-is, outputs.stderr, outputs.stdout, ended.host, ended.holdings) at c.report.ensures.text)

@@ -2,7 +2,7 @@ use Rattle.std.proofs.Common.{◌∙◌, sym, ap}
 use Rattle.wasi_form.specs.Plan.{plan}
 use Rattle.wasi_script.specs.Due.{refusal_line, the_usage, the_refusal, the_report}
 use Rattle.wasi_script.proofs.OwnTrees.{keeps_tree}
-use Rattle.wasi_script.proofs.Tops.{front_read, leaves_unread, writes, writes_due, is_due_by, owes_usage, owes_line, owes_report}
+use Rattle.wasi_script.proofs.Tops.{front_read, leaves_unread, no_read_fault, may_take, writes, writes_due, is_due_by, owes_usage, owes_line, owes_report}
 use Rattle.wasi_script.proofs.top.run_script.Goals as goal
 
 pub returns-then-not-is_run-clause-usage_line : goal.returns-then-not-is_run-clause-usage_line
@@ -59,6 +59,12 @@ returns-in-Ok-report_of-clause-writes g c = λ tells takes.
 pub returns-in-Ok-report_of-clause-read_only : goal.returns-in-Ok-report_of-clause-read_only
 returns-in-Ok-report_of-clause-read_only g c = λ tells takes.
     keeps_tree _ _ _ _ _ (returns-in-Ok-report_of-clause-writes g c tells takes)
+
+pub returns-in-Ok-report_of-clause-read_fault : goal.returns-in-Ok-report_of-clause-read_fault
+returns-in-Ok-report_of-clause-read_fault g c = no_read_fault c.written-in-Ok-report_of.ensures.written
+
+pub returns-in-Ok-report_of-clause-nothing : goal.returns-in-Ok-report_of-clause-nothing
+returns-in-Ok-report_of-clause-nothing g c = λ told. may_take c.written-in-Ok-report_of.ensures.written
 
 pub returns-in-Ok-report_of-clause-left : goal.returns-in-Ok-report_of-clause-left
 returns-in-Ok-report_of-clause-left g c = λ tells runs.

@@ -3,32 +3,37 @@ use Rattle.std.proofs.lemmas.Result.{err_from_is_err_and}
 use Rattle.wasi_host.proofs.Leaving.{Contains-here}
 use Rattle.wasi_p1.specs.Row.{give}
 use Rattle.wasi_p1.specs.Rows.{fd_write}
-use Rattle.wasi_p1.proofs.Taking.{refused, makes_err, moved_ok}
+use Rattle.wasi_p1.proofs.Taking.{refusals, makes_err, moved_ok}
 use Rattle.wasi_p1.proofs.RowFronts.{fd_write_asks, with_position}
-use Rattle.wasi_p1.proofs.Writing.{writes_whole}
+use Rattle.wasi_p1.proofs.Writing.{writes_whole, output_whole}
 use Rattle.wasi_p1.proofs.context.WasiP1Ctx.fd_write.Goals as goal
 
 pub returns-in_err-count-clause-turn : goal.returns-in_err-count-clause-turn
 returns-in_err-count-clause-turn g c =
     let error = err_from_is_err_and c.from_residual-in_err-count.result c.from_residual-in_err-count.ensures.1 in
-    rw (error.1, error.2, ← c.self.view_is) (makes_err give (with_position _ _) (fd_write_asks _ _ _ _
-    (rw c.in_ok-buffer.was at c.buffer_at.ensures) c.in_ok-file.ensures.row c.in_ok-piece.ensures.row
+    rw (error.1, error.2, ← c.self.view_is) (makes_err give (with_position _ _) (fd_write_asks _ _ _ _ _
+    (rw c.in_ok-buffer.was at c.buffer_at.ensures.row) (rw c.in-File.is at c.in_ok-sink.ensures.row) c.in_ok-piece.ensures.row
     c.in_ok-check_write.ensures.row)
     c.self.invariant c.in_err-count.ensures.front (λ _. refl)
-    (record { slots = refl; stdout = refl; stderr = refl; memory = refl }) c.in_err-count.ensures.told)
+    (record { slots = refl; holdings = refl; memory = refl }) c.in_err-count.ensures.told)
 
 pub returns-clause-turn : goal.returns-clause-turn
-returns-clause-turn g c = rw (← c.self.view_is) (moved_ok give (with_position _ _) (fd_write_asks _ _ _ _
-    (rw c.in_ok-buffer.was at c.buffer_at.ensures) c.in_ok-file.ensures.row c.in_ok-piece.ensures.row
+returns-clause-turn g c = rw (← c.self.view_is) (moved_ok give (with_position _ _) (fd_write_asks _ _ _ _ _
+    (rw c.in_ok-buffer.was at c.buffer_at.ensures.row) (rw c.in-File.is at c.in_ok-sink.ensures.row) c.in_ok-piece.ensures.row
     c.in_ok-check_write.ensures.row)
     c.self.invariant refl c.in_ok-count.ensures.front refl
-    (record { slots = c.move_file.ensures.slots; stdout = refl; stderr = refl }) (Contains-here _ []) c.in_ok-file.ensures.is
-    c.in_ok-file.ensures.live
+    (record { slots = c.move_file.ensures.slots; holdings = refl }) (Contains-here _ [])
+    (rw c.in-File.is at c.in_ok-sink.ensures.is) (rw c.in-File.is at c.in_ok-sink.ensures.live)
     c.in_ok-count.ensures.told)
 
 pub returns-clause-whole : goal.returns-clause-whole
-returns-clause-whole g c = λ told. writes_whole _ _ _ _ _ _ ((returns-clause-turn g c).turn told).turn
+returns-clause-whole g c = λ told. writes_whole _ _ _ _ _ _ _ ((returns-clause-turn g c).turn told).turn
 
 pub returns-in_err-check_write-clause-turn : goal.returns-in_err-check_write-clause-turn
 unfolding fd_write
-returns-in_err-check_write-clause-turn g c = rw (← c.self.view_is) (search (rules, refused))
+returns-in_err-check_write-clause-turn g c = rw (← c.self.view_is) (search (rules, refusals))
+
+pub returns-in-Output-clause-whole : goal.returns-in-Output-clause-whole
+returns-in-Output-clause-whole g c = λ told. rw (← c.self.view_is, c.in_ok-write-in-Output.ensures.done) (output_whole _ c.self.inside.fuel
+    _ _ _ (rw c.in_ok-buffer.was at c.buffer_at.ensures.row) (rw c.in-Output.is at c.in_ok-sink.ensures.row)
+    c.in_ok-piece.ensures.row)

@@ -9,13 +9,13 @@ pub returns-in_err-create_directory_at-clause-turn : goal.returns-in_err-create_
 returns-in_err-create_directory_at-clause-turn g c =
     let given = c.in_err-create_directory_at.ensures in
     rw (← c.self.view_is) (done_err (AtPlace _ _ CreateDir)
-    (path_create_directory_asks _ _ _ _ c.in_ok-dir.ensures.row c.in_ok-text.ensures) c.self.invariant
-    (record { slots = refl; stdout = refl; stderr = refl; memory = refl }) _ given.cause given.permit refl given.told
+    (path_create_directory_asks _ _ _ _ _ c.in_ok-dir.ensures.row c.in_ok-text.ensures.row) c.self.invariant
+    (record { slots = refl; holdings = refl; memory = refl }) _ given.cause given.permit refl given.told
     c.from_residual-in_err-create_directory_at.ensures.1)
 
 pub returns-clause-turn : goal.returns-clause-turn
 returns-clause-turn g c =
     let given = c.in_ok-create_directory_at.ensures in
     rw (← c.self.view_is) (done_ok (AtPlace _ _ CreateDir)
-    (path_create_directory_asks _ _ _ _ c.in_ok-dir.ensures.row c.in_ok-text.ensures) c.self.invariant
-    (record { slots = refl; stdout = refl; stderr = refl; memory = refl }) tt given.permit given.told)
+    (path_create_directory_asks _ _ _ _ _ c.in_ok-dir.ensures.row c.in_ok-text.ensures.row) c.self.invariant
+    (record { slots = refl; holdings = refl; memory = refl }) tt given.permit given.told)

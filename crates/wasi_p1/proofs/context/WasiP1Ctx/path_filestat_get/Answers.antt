@@ -15,9 +15,9 @@ returns-in_err-both-clause-turn g c =
     let residual = c.from_residual-in_err-both in
     let error = err_from_is_err_and residual.result residual.ensures.1 in
     rw (error.1, error.2, ← c.self.view_is) (makes_err (λ metadata. filestat_in (stat_both metadata)) with_filestat
-    (path_filestat_get_asks _ _ _ _ _ c.in_ok-flags.ensures.row c.in_ok-dir.ensures.row c.in_ok-text.ensures)
+    (path_filestat_get_asks _ _ _ _ _ _ c.in_ok-flags.ensures.row c.in_ok-dir.ensures.row c.in_ok-text.ensures.row)
     c.self.invariant (inl (_, refl)) (λ _. refl)
-    (record { slots = refl; stdout = refl; stderr = refl; memory = refl }) (λ told. record {
+    (record { slots = refl; holdings = refl; memory = refl }) (λ told. record {
       keeps = (given.told told).keeps;
       does = inl (made_not (LookPath _ _ _) stat_both _ (λ is. given.cause.io (ap Err is)) (given.told told));
     }))
@@ -28,9 +28,9 @@ returns-in_err-filestat-clause-turn g c =
     let residual = c.from_residual-in_err-filestat in
     let error = err_from_is_err_and residual.result residual.ensures.1 in
     rw (error.1, error.2, ← c.self.view_is) (makes_err (λ metadata. filestat_in (stat_both metadata)) with_filestat
-    (path_filestat_get_asks _ _ _ _ _ c.in_ok-flags.ensures.row c.in_ok-dir.ensures.row c.in_ok-text.ensures)
+    (path_filestat_get_asks _ _ _ _ _ _ c.in_ok-flags.ensures.row c.in_ok-dir.ensures.row c.in_ok-text.ensures.row)
     c.self.invariant (inr (stated_reply given.some (sym c.in_err-filestat.ensures.row))) (λ _. refl)
-    (record { slots = refl; stdout = refl; stderr = refl; memory = refl }) (λ told. record {
+    (record { slots = refl; holdings = refl; memory = refl }) (λ told. record {
       keeps = (given.told told).keeps;
       does = inr (stated_again (made_ok (LookPath _ _ _) stat_both (given.told told)) (sym c.in_err-filestat.ensures.row));
     }))
@@ -39,7 +39,7 @@ pub returns-clause-turn : goal.returns-clause-turn
 returns-clause-turn g c =
     let given = c.in_ok-both.ensures in
     rw (← c.self.view_is) (makes_ok (λ metadata. filestat_in (stat_both metadata)) with_filestat
-    (path_filestat_get_asks _ _ _ _ _ c.in_ok-flags.ensures.row c.in_ok-dir.ensures.row c.in_ok-text.ensures)
+    (path_filestat_get_asks _ _ _ _ _ _ c.in_ok-flags.ensures.row c.in_ok-dir.ensures.row c.in_ok-text.ensures.row)
     c.self.invariant refl (stated_reply given.some (sym c.in_ok-filestat.ensures.row)) refl refl (λ told. record {
       keeps = (given.told told).keeps;
       does = stated_again (made_ok (LookPath _ _ _) stat_both (given.told told)) (sym c.in_ok-filestat.ensures.row);

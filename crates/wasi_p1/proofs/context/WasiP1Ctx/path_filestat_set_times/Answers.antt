@@ -8,15 +8,15 @@ pub returns-in_err-set_times_at-clause-turn : goal.returns-in_err-set_times_at-c
 returns-in_err-set_times_at-clause-turn g c =
     let given = c.in_err-set_times_at.ensures in
     rw (← c.self.view_is) (done_err (TimesPath _ _ _ _ _)
-    (path_filestat_set_times_asks _ _ _ _ _ _ _ _ c.in_ok-flags.ensures.row c.in_ok-times.ensures.row c.in_ok-dir.ensures.row
-    c.in_ok-text.ensures) c.self.invariant
-    (record { slots = refl; stdout = refl; stderr = refl; memory = refl }) _ given.cause given.permit refl given.told
+    (path_filestat_set_times_asks _ _ _ _ _ _ _ _ _ c.in_ok-flags.ensures.row (rw c.wall.ensures.wall at c.in_ok-times.ensures.row) c.in_ok-dir.ensures.row
+    c.in_ok-text.ensures.row) c.self.invariant
+    (record { slots = refl; holdings = refl; memory = refl }) _ given.cause given.permit refl given.told
     c.from_residual-in_err-set_times_at.ensures.1)
 
 pub returns-clause-turn : goal.returns-clause-turn
 returns-clause-turn g c =
     let given = c.in_ok-set_times_at.ensures in
     rw (← c.self.view_is) (done_ok (TimesPath _ _ _ _ _)
-    (path_filestat_set_times_asks _ _ _ _ _ _ _ _ c.in_ok-flags.ensures.row c.in_ok-times.ensures.row c.in_ok-dir.ensures.row
-    c.in_ok-text.ensures) c.self.invariant
-    (record { slots = refl; stdout = refl; stderr = refl; memory = refl }) tt given.permit given.told)
+    (path_filestat_set_times_asks _ _ _ _ _ _ _ _ _ c.in_ok-flags.ensures.row (rw c.wall.ensures.wall at c.in_ok-times.ensures.row) c.in_ok-dir.ensures.row
+    c.in_ok-text.ensures.row) c.self.invariant
+    (record { slots = refl; holdings = refl; memory = refl }) tt given.permit given.told)

@@ -4,30 +4,38 @@ use Rattle.wasi_resolve.specs.PathRequest.{AtTwo}
 use Rattle.wasi_p1.proofs.RowFronts.{path_link_asks}
 use Rattle.wasi_p1.proofs.Below.{done_err, done_ok}
 use Rattle.wasi_p1.specs.Rows.{path_link}
-use Rattle.wasi_p1.proofs.Taking.{refused}
+use Rattle.wasi_p1.proofs.Taking.{refusals}
 use Rattle.wasi_p1.proofs.context.WasiP1Ctx.path_link.Goals as goal
 
 pub returns-in_err-link_at-clause-turn : goal.returns-in_err-link_at-clause-turn
 returns-in_err-link_at-clause-turn g c =
     let given = c.in_err-link_at.ensures in
     rw (← c.self.view_is) (done_err (AtTwo _ _ _ _ HardLink)
-    (path_link_asks _ _ _ _ _ _ _ _ c.in_ok-flags.ensures.row c.in_ok-old.ensures.row c.in_ok-new.ensures.row
-    c.in_ok-old_text.ensures c.in_ok-new_text.ensures) c.self.invariant
-    (record { slots = refl; stdout = refl; stderr = refl; memory = refl }) _ given.cause given.permit refl given.told
+    (path_link_asks _ _ _ _ _ _ _ _ _ c.in_ok-flags.ensures.row c.in_ok-old.ensures.row c.in_ok-new.ensures.row
+    c.in_ok-old_text.ensures.row c.in_ok-new_text.ensures.row) c.self.invariant
+    (record { slots = refl; holdings = refl; memory = refl }) _ given.cause given.permit refl given.told
     c.from_residual-in_err-link_at.ensures.1)
 
 pub returns-clause-turn : goal.returns-clause-turn
 returns-clause-turn g c =
     let given = c.in_ok-link_at.ensures in
     rw (← c.self.view_is) (done_ok (AtTwo _ _ _ _ HardLink)
-    (path_link_asks _ _ _ _ _ _ _ _ c.in_ok-flags.ensures.row c.in_ok-old.ensures.row c.in_ok-new.ensures.row
-    c.in_ok-old_text.ensures c.in_ok-new_text.ensures) c.self.invariant
-    (record { slots = refl; stdout = refl; stderr = refl; memory = refl }) tt given.permit given.told)
+    (path_link_asks _ _ _ _ _ _ _ _ _ c.in_ok-flags.ensures.row c.in_ok-old.ensures.row c.in_ok-new.ensures.row
+    c.in_ok-old_text.ensures.row c.in_ok-new_text.ensures.row) c.self.invariant
+    (record { slots = refl; holdings = refl; memory = refl }) tt given.permit given.told)
 
 pub returns-in_err-old_text-clause-turn : goal.returns-in_err-old_text-clause-turn
 unfolding path_link
-returns-in_err-old_text-clause-turn g c = rw (← c.self.view_is) (search (rules, refused))
+returns-in_err-old_text-clause-turn g c = rw (← c.self.view_is) (search (rules, refusals))
 
 pub returns-in_err-new_text-clause-turn : goal.returns-in_err-new_text-clause-turn
 unfolding path_link
-returns-in_err-new_text-clause-turn g c = rw (← c.self.view_is) (search (rules, refused))
+returns-in_err-new_text-clause-turn g c = rw (← c.self.view_is) (search (rules, refusals))
+
+pub returns-in_err-old-clause-turn : goal.returns-in_err-old-clause-turn
+unfolding path_link
+returns-in_err-old-clause-turn g c = rw (← c.self.view_is) (search (rules, refusals))
+
+pub returns-in_err-new-clause-turn : goal.returns-in_err-new-clause-turn
+unfolding path_link
+returns-in_err-new-clause-turn g c = rw (← c.self.view_is) (search (rules, refusals))

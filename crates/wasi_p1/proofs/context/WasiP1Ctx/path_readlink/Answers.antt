@@ -13,8 +13,8 @@ returns-in_err-link-clause-turn g c =
     let residual = c.from_residual-in_err-link in
     let error = err_from_is_err_and residual.result residual.ensures.1 in
     rw (error.1, error.2, ← c.self.view_is) (found_err (λ link. text_to _ _ (take _ link)) with_text
-    (path_readlink_asks _ _ _ _ _ _ c.in_ok-dir.ensures.row c.in_ok-text.ensures) c.self.invariant _ given.cause refl
-    (record { slots = refl; stdout = refl; stderr = refl; memory = refl }) given.told)
+    (path_readlink_asks _ _ _ _ _ _ _ c.in_ok-dir.ensures.row c.in_ok-text.ensures.row) c.self.invariant _ given.cause refl
+    (record { slots = refl; holdings = refl; memory = refl }) given.told)
 
 pub returns-in_err-count-clause-turn : goal.returns-in_err-count-clause-turn
 returns-in_err-count-clause-turn g c =
@@ -23,15 +23,15 @@ returns-in_err-count-clause-turn g c =
     let error = err_from_is_err_and residual.result residual.ensures.1 in
     let same : c.as_bytes.result.now ≡ string_bytes c.in_ok-link.link = c.as_bytes.ensures.value in
     rw (error.1, error.2, ← c.self.view_is) (found_refused (λ link. text_to _ _ (take _ link)) with_text
-    (path_readlink_asks _ _ _ _ _ _ c.in_ok-dir.ensures.row c.in_ok-text.ensures) c.self.invariant
+    (path_readlink_asks _ _ _ _ _ _ _ c.in_ok-dir.ensures.row c.in_ok-text.ensures.row) c.self.invariant
     (given.some, given.most, given.unrooted) given.told (rw same at (sym c.in_err-count.ensures.row)) refl
-    (record { slots = refl; stdout = refl; stderr = refl; memory = c.in_err-count.ensures.same }))
+    (record { slots = refl; holdings = refl; memory = c.in_err-count.ensures.same }))
 
 pub returns-clause-turn : goal.returns-clause-turn
 returns-clause-turn g c =
     let given = c.in_ok-link.ensures in
     let same : c.as_bytes.result.now ≡ string_bytes c.in_ok-link.link = c.as_bytes.ensures.value in
     rw (← c.self.view_is) (found_ok (λ link. text_to _ _ (take _ link)) with_text
-    (path_readlink_asks _ _ _ _ _ _ c.in_ok-dir.ensures.row c.in_ok-text.ensures) c.self.invariant
+    (path_readlink_asks _ _ _ _ _ _ _ c.in_ok-dir.ensures.row c.in_ok-text.ensures.row) c.self.invariant
     (given.some, given.most, given.unrooted) given.told (rw same at (sym c.in_ok-count.ensures.row))
     c.in_ok-count.ensures.size refl refl)

@@ -9,13 +9,13 @@ pub returns-in_err-symlink_at-clause-turn : goal.returns-in_err-symlink_at-claus
 returns-in_err-symlink_at-clause-turn g c =
     let given = c.in_err-symlink_at.ensures in
     rw (← c.self.view_is) (done_err (AtPlace _ _ (Symlink _))
-    (path_symlink_asks _ _ _ _ _ _ c.in_ok-dir.ensures.row c.in_ok-target.ensures c.in_ok-text.ensures) c.self.invariant
-    (record { slots = refl; stdout = refl; stderr = refl; memory = refl }) _ given.cause given.permit refl given.told
+    (path_symlink_asks _ _ _ _ _ _ _ c.in_ok-dir.ensures.row c.in_ok-target.ensures.row c.in_ok-text.ensures.row) c.self.invariant
+    (record { slots = refl; holdings = refl; memory = refl }) _ given.cause given.permit refl given.told
     c.from_residual-in_err-symlink_at.ensures.1)
 
 pub returns-clause-turn : goal.returns-clause-turn
 returns-clause-turn g c =
     let given = c.in_ok-symlink_at.ensures in
     rw (← c.self.view_is) (done_ok (AtPlace _ _ (Symlink _))
-    (path_symlink_asks _ _ _ _ _ _ c.in_ok-dir.ensures.row c.in_ok-target.ensures c.in_ok-text.ensures) c.self.invariant
-    (record { slots = refl; stdout = refl; stderr = refl; memory = refl }) tt given.permit given.told)
+    (path_symlink_asks _ _ _ _ _ _ _ c.in_ok-dir.ensures.row c.in_ok-target.ensures.row c.in_ok-text.ensures.row) c.self.invariant
+    (record { slots = refl; holdings = refl; memory = refl }) tt given.permit given.told)

@@ -1,0 +1,152 @@
+-- What of a script is within its range: the limits of its tree, and what its wall clock stands at.
+use Rattle.std.proofs.Common.{◌≡◌, ℕ, ◌^◌, List, Bool, true, false, Option, Some, None, refl, lit≤, lit<, ◌&&◌, codes}
+use Rattle.std.specs.Prelude.{IfSome, if◌then◌else◌, is_some, nat_lt}
+use Rattle.std.specs.List.{list_any}
+use Rattle.std.proofs.lemmas.Bool.{and_parts, leb-true, ltb-true}
+use Rattle.serde_json.specs.Data.{Data, Members}
+use Rattle.serde_json.specs.Find as find
+use Rattle.serde_json.specs.Find.{get_member}
+use Rattle.wasi_host.specs.ValidTree.{AreLimits}
+use Rattle.wasi_host.specs.declared.limits.Limits.{Limits}
+use Rattle.wasi_tree.specs.Given.{Given}
+use Rattle.wasi_guest.specs.Services.{Handed, IsWallMoment, AreWithin}
+use Rattle.wasi_guest.specs.declared.call.Call.{Call}
+use Rattle.wasi_guest.specs.declared.services.WallDatetime.{WallDatetime}
+use Rattle.wasi_form.specs.declared.script.Shown.{Shown}
+use Rattle.wasi_form.specs.declared.shapes.Form.TheVariants as forms
+use Rattle.wasi_form.specs.Lists.{◌>>=◌, only_if, needed, optional}
+use Rattle.wasi_form.specs.Shapes.{u64_of, u32_of, two_of, is_object}
+use Rattle.wasi_form.specs.LimitsForm.{default_limits, is_limit, limits_of}
+use Rattle.wasi_form.specs.ServicesForm.{wall_of, default_wall, default_wall_resolution, ServicesFound, services_in, services_found}
+use Rattle.wasi_form.specs.Plan.{PlannedPreopen, PlannedMemory, Plan}
+use Rattle.wasi_form.specs.ScriptForm.{Found, found_in, planned, script_found, script_of}
+
+-- what holds of all that a step goes on to
+kept : {A B : Type 0} (P : B → Type 0) (o : Option A) (f : A → Option B) → ((x : A) → IfSome (f x) P) → IfSome (o >>= f) P
+kept P None f after = tt
+kept P (Some x) f after = after x
+
+-- the same, where something is known of what the step gives
+kept_of : {A B : Type 0} (P : B → Type 0) (Q : A → Type 0) (o : Option A) (f : A → Option B) → IfSome o Q
+    → ((x : A) → Q x → IfSome (f x) P) → IfSome (o >>= f) P
+kept_of P Q None f known after = tt
+kept_of P Q (Some x) f known after = after x known
+
+-- ---- the limits of its tree
+
+in_range : (limits : Limits) → is_limit limits.nodes && is_limit limits.links ≡ true → AreLimits limits
+in_range limits is =
+    let both = and_parts _ _ is in
+    let nodes = and_parts _ _ both.0 in
+    let links = and_parts _ _ both.1 in
+    record {
+      some_nodes = leb-true _ _ nodes.0;
+      most_nodes = leb-true _ _ nodes.1;
+      some_links = leb-true _ _ links.0;
+      most_links = leb-true _ _ links.1;
+    }
+
+tested : (limits : Limits) (test : Bool) → is_limit limits.nodes && is_limit limits.links ≡ test
+    → IfSome (only_if test >>= (λ _. Some limits)) AreLimits
+tested limits true is = in_range limits is
+tested limits false is = tt
+
+limits_read : (d : Data) → IfSome (limits_of d) AreLimits
+limits_read d =
+    let nodes_of = needed u64_of (find.get (codes "nodes") d) in
+    let links_of = needed u64_of (find.get (codes "links") d) in
+    kept AreLimits (only_if (is_object forms.Limits d)) _ (λ _. kept AreLimits nodes_of _ (λ nodes.
+    kept AreLimits links_of _ (λ links. tested (record { nodes = nodes; links = links }) _ refl)))
+
+limits_found : (part : Option Data) → IfSome (optional limits_of default_limits part) AreLimits
+limits_found None =
+    record { some_nodes = lit≤ tt; most_nodes = lit≤ tt; some_links = lit≤ tt; most_links = lit≤ tt }
+limits_found (Some d) = limits_read d
+
+-- ---- what its wall clock stands at
+
+moment_in_range : (moment : WallDatetime)
+    → nat_lt moment.seconds (2 ^ 63) && nat_lt moment.nanoseconds 1000000000 ≡ true → IsWallMoment moment
+moment_in_range moment is =
+    let both = and_parts _ _ is in
+    record { seconds = ltb-true _ _ both.0; nanoseconds = ltb-true _ _ both.1 }
+
+moment_tested : (moment : WallDatetime) (test : Bool)
+    → nat_lt moment.seconds (2 ^ 63) && nat_lt moment.nanoseconds 1000000000 ≡ test
+    → IfSome (only_if test >>= (λ _. Some moment)) IsWallMoment
+moment_tested moment true is = moment_in_range moment is
+moment_tested moment false is = tt
+
+wall_read : (d : Data) → IfSome (wall_of d) IsWallMoment
+wall_read d =
+    kept IsWallMoment (two_of d) _ (λ two. kept IsWallMoment (u64_of two.0) _ (λ seconds.
+    kept IsWallMoment (u32_of two.1) _ (λ nanoseconds.
+    moment_tested (record { seconds = seconds; nanoseconds = nanoseconds }) _ refl)))
+
+wall_found : (absent : WallDatetime) (part : Option Data) → IsWallMoment absent
+    → IfSome (optional wall_of absent part) IsWallMoment
+wall_found absent None is = is
+wall_found absent (Some d) is = wall_read d
+
+-- what was found of the wall clock is within its range
+record AreWallsFound (found : ServicesFound) : Type 0 where
+  wall : IfSome found.wall IsWallMoment
+  wall_resolution : IfSome found.wall_resolution IsWallMoment
+
+walls_found : (ms : Members) → AreWallsFound (services_in ms)
+walls_found ms = record {
+  wall = wall_found default_wall (get_member (codes "wall") ms) (record { seconds = lit< tt; nanoseconds = lit< tt });
+  wall_resolution =
+      wall_found default_wall_resolution (get_member (codes "wall_res") ms)
+      (record { seconds = lit< tt; nanoseconds = lit< tt });
+}
+
+services_within : (found : ServicesFound) → AreWallsFound found → IfSome (services_found found) AreWithin
+unfolding services_found
+services_within found are =
+    kept AreWithin found.args _ (λ args. kept AreWithin found.env _ (λ env. kept AreWithin found.stdin _ (λ stdin.
+    kept_of AreWithin IsWallMoment found.wall _ are.wall (λ wall is.
+    kept_of AreWithin IsWallMoment found.wall_resolution _ are.wall_resolution (λ resolution also.
+    kept AreWithin found.monotonic _ (λ monotonic. kept AreWithin found.monotonic_resolution _ (λ apart.
+    kept AreWithin found.random _ (λ random. record { wall = is; wall_resolution = also }))))))))
+
+-- ---- the script
+
+-- a plan of which all is within its range
+pub record IsInRange (p : Plan) : Type 0 where
+  pub limits : AreLimits p.limits
+  pub services : AreWithin p.services
+
+-- where none of its forms waits
+abbrev pub FormInRange : Option Plan → Type 0
+FormInRange form = IfSome form IsInRange
+
+unless : (waits : Bool) (form : Option Plan) → IfSome form IsInRange → IfSome (if waits then None else form) IsInRange
+unless true form is = tt
+unless false form is = is
+
+planned_in_range : (limits : Limits) (fuel : ℕ) (services : Handed) (nodes : Option (List Given))
+    (preopens : Option (List PlannedPreopen)) (calls : Option (List Call)) (memory : Option PlannedMemory)
+    (show : Option (List Shown)) → AreLimits limits → AreWithin services
+    → IfSome (planned limits fuel services nodes preopens calls memory show) IsInRange
+planned_in_range limits fuel services nodes preopens calls memory show are within =
+    kept IsInRange nodes _ (λ ns. kept IsInRange preopens _ (λ ps. kept IsInRange calls _ (λ cs.
+    kept IsInRange memory _ (λ m. kept IsInRange show _ (λ ss. record { limits = are; services = within })))))
+
+found_in_range : (found : Found) → IfSome found.limits AreLimits → AreWallsFound found.services
+    → IfSome (script_found found) FormInRange
+unfolding script_found
+found_in_range found are walls =
+    kept FormInRange (only_if _) _ (λ _. kept FormInRange found.nodes _ (λ nodes. kept FormInRange found.preopens _ (λ preopens.
+    kept FormInRange found.calls _ (λ calls. kept FormInRange found.memory _ (λ memory.
+    kept FormInRange found.show _ (λ show. kept_of FormInRange AreLimits found.limits _ are (λ limits range.
+    kept FormInRange found.fuel _ (λ fuel.
+    kept_of FormInRange AreWithin (services_found found.services) _ (services_within found.services walls) (λ services within.
+    unless (list_any is_some found.waiting) _
+    (planned_in_range limits fuel services nodes preopens calls memory show range within))))))))))
+
+-- of what is read as a script all is within its range
+pub script_in_range : (d : Data) → IfSome (script_of d) FormInRange
+script_in_range d =
+    kept FormInRange (find.as_object d) _ (λ ms.
+    found_in_range (found_in ms) (limits_found (get_member (codes "limits") ms)) (walls_found ms))

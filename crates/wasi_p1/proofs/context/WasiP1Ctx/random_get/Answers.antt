@@ -1,0 +1,13 @@
+use Rattle.std.proofs.Common.{refl}
+use Rattle.wasi_guest.proofs.Ranges.{with_bytes_length}
+use Rattle.wasi_p1.specs.Rows.{random_get}
+use Rattle.wasi_p1.proofs.Staying.{all_stay}
+use Rattle.wasi_p1.proofs.Taking.{answered}
+use Rattle.wasi_p1.proofs.context.WasiP1Ctx.random_get.Goals as goal
+
+pub returns-clause-turn : goal.returns-clause-turn
+unfolding random_get
+returns-clause-turn g c = let given = c.fill_random.ensures in rw (← c.self.view_is) (answered
+    (rw (← c.in_ok-bytes_at.ensures.row, given.bytes, given.taken, c.range_mut-part.ensures.len) refl)
+    (with_bytes_length _ _ _) (all_stay refl) (record { failed = refl; looked = refl })
+    (λ told. record { tree = refl; touched = refl; places = refl }))

@@ -1,0 +1,46 @@
+-- What a guest has beside its descriptors and its memory.
+use Rattle.std.specs.Prelude.{ℕ, List, [], ◌∷◌, ◌++◌, map}
+use Rattle.wasi_guest.specs.Services.{Handed}
+use Rattle.wasi_guest.specs.declared.services.WallDatetime.{WallDatetime}
+
+-- What it was handed in, as far as that is left, and what it has written
+pub record Stock : Type 0 where
+  -- the arguments, and the variables of the environment as texts `key=value`
+  pub args : List (List ℕ)
+  pub environ : List (List ℕ)
+  -- what is left of the standard input, and what was written to the two outputs
+  pub stdin : List ℕ
+  pub stdout : List ℕ
+  pub stderr : List ℕ
+  -- what the two clocks stand at, and how far apart two of their moments are
+  pub wall : WallDatetime
+  pub wall_resolution : WallDatetime
+  pub monotonic : ℕ
+  pub monotonic_resolution : ℕ
+  -- bytes that are given round and round, and the place of the next one
+  pub random : List ℕ
+  pub random_at : ℕ
+
+-- a variable, with `=` between its key and its value
+abbrev pub env_text : List ℕ × List ℕ → List ℕ
+env_text pair = pair.0 ++ 61 ∷ pair.1
+
+-- at the start
+abbrev pub first_stock : Handed → Stock
+first_stock given = record {
+  args = given.args;
+  environ = map env_text given.env;
+  stdin = given.stdin;
+  stdout = [];
+  stderr = [];
+  wall = given.wall;
+  wall_resolution = given.wall_resolution;
+  monotonic = given.monotonic;
+  monotonic_resolution = given.monotonic_resolution;
+  random = given.random;
+  random_at = 0;
+}
+
+-- the fuel of a new context
+abbrev pub first_fuel : ℕ
+first_fuel = 134217728
