@@ -13,7 +13,7 @@ use Rattle.wasi_tree.specs.Fit.{AreFit}
 use Rattle.wasi_form.specs.Plan.{Plan, plan}
 use Rattle.wasi_form.specs.ScriptForm.{script_of}
 use Rattle.wasi_form.specs.Built.{default_table, most_memory, are_preopens_directories, is_piece_within, is_shown_within, is_built_call, is_built, is_within_limits, is_built_script}
-use Rattle.wasi_form.specs.Verdict.{holds, found, value_of, built, plan_in, built_plan, most_script, verdict_of, IsFitFor, IsVerdict, Reads, ReadsDraft, IsTestOf}
+use Rattle.wasi_form.specs.Verdict.{refused_unless, found, value_of, built, plan_in, built_plan, most_script, verdict_of, IsFitFor, IsVerdict, Reads, ReadsDraft, IsTestOf}
 use Rattle.wasi_form.specs.declared.verdict.Refusal.{Refusal}
 use Rattle.wasi_form.specs.declared.verdict.Refusal.TheVariants.{Long, Shape, Later, Tree, Limit}
 use Rattle.wasi_form.specs.declared.script.Script.{Script}
@@ -70,7 +70,7 @@ value_built : (d : Option Data) (p : Plan) → plan_in d ≡ Ok p → AreForms p
 value_built None p e = absurd (cc)
 value_built (Some d) p e = shape_built (script_of d) p (script_in_range d) e
 
-within_built : (fits : Bool) (d : Option Data) (p : Plan) → (holds Long fits >>= (λ _. plan_in d)) ≡ Ok p
+within_built : (fits : Bool) (d : Option Data) (p : Plan) → (refused_unless Long fits >>= (λ _. plan_in d)) ≡ Ok p
     → AreForms p
 within_built false d p e = absurd (cc)
 within_built true d p e = value_built d p e
@@ -133,8 +133,8 @@ taken {p} {fit} is fits within =
 -- what is left to ask of a plan whose forms are built
 abbrev past_forms : Bool → Plan → Result Plan Refusal
 past_forms fit p = do
-  _ ← holds Tree fit
-  _ ← holds Limit (is_within_limits p)
+  _ ← refused_unless Tree fit
+  _ ← refused_unless Limit (is_within_limits p)
   Ok p
 
 one_outcome : (first : Result Plan Refusal) (fit other : Bool) → IsFitFor fit first → IsFitFor other first

@@ -11,8 +11,7 @@ use Rattle.json.proofs.Grammar.{value_is}
 use Rattle.serde_json.specs.Data.{Num, Data, null, boolean, number, string, array, object, Items, Members}
 use Rattle.serde_json.specs.Find.{as_object, as_array}
 use Rattle.serde_json.specs.Read.{number_of, of_json, converted}
-use Rattle.wasi_form.specs.Atoms.{flat, flat_items}
-use Rattle.wasi_form.specs.Lists.{forms_of}
+use Rattle.wasi_form.specs.Atoms.{flat}
 use Rattle.wasi_form.specs.Tokens.{next_value}
 use Rattle.wasi_form.proofs.Grammar.{next_null, next_boolean, next_string, next_number, next_array, next_deep_array, next_object, next_deep_object}
 
@@ -63,54 +62,47 @@ fails_first p depth (tokens.Bool b) ts fails = ap (first_is p) (next_boolean dep
 fails_first p depth tokens.Null ts fails = ap (first_is p) (next_null depth ts) ∙ fails.null
 fails_first p depth tokens.Bad ts fails = ap (λ o. first_is p (converted of_json o)) (value_is depth (Token.bad ∷ ts))
 
-no_object : (d : Data) → is_some (as_object d) ≡ false → as_object d ≡ None
-no_object null other = refl
-no_object (boolean b) other = refl
-no_object (number n) other = refl
-no_object (string s) other = refl
-no_object (array ds) other = refl
-no_object (object ms) other = absurd (cc)
+none_there : {A : Type 0} (o : Option A) → is_some o ≡ false → o ≡ None
+none_there None none = refl
+none_there (Some x) none = absurd (cc)
 
-no_array : (d : Data) → is_some (as_array d) ≡ false → as_array d ≡ None
-no_array null other = refl
-no_array (boolean b) other = refl
-no_array (number n) other = refl
-no_array (string s) other = refl
-no_array (array ds) other = absurd (cc)
-no_array (object ms) other = refl
+-- a test of lists and objects alone, where the token begins neither that passes
+others_fail : (p : Data → Bool) (t : Read.Token) → p null ≡ false → ((b : Bool) → p (boolean b) ≡ false)
+    → ((n : Num) → p (number n) ≡ false) → ((s : List ℕ) → p (string s) ≡ false)
+    → ((ds : Items) → t ≡ tokens.BeginArray → p (array ds) ≡ false)
+    → ((ms : Members) → t ≡ tokens.BeginObject → p (object ms) ≡ false) → Fails p t
+others_fail p t nulls booleans numbers strings arrays objects = record {
+  null = nulls;
+  boolean = booleans;
+  number = λ n text begins. numbers n;
+  string = λ s text begins. strings s;
+  array = arrays;
+  object = objects;
+}
 
--- a value that doesn't begin as an object is none
-pub other_is_no_object : {S : Type 0} (of : Members → S) (depth : ℕ) (t : Read.Token) (ts r : List Token) (d : Data)
+-- a value that begins otherwise than those of a kind is none of them
+other_kind : {A B : Type 0} (of_kind : Data → Option B) (make : Option B → A) (depth : ℕ) (t : Read.Token) (ts r : List Token)
+    (d : Data) → Fails (λ v. is_some (of_kind v)) t → next_value depth (token_of t ∷ ts) ≡ Some (d, r)
+    → parse_map (λ v. make (of_kind v)) (next_value depth (token_of t ∷ ts)) ≡ Some (make None, r)
+other_kind of_kind make depth t ts r d fails is =
+    let none = none_there (of_kind d) (rw is at (fails_first (λ v. is_some (of_kind v)) depth t ts fails)) in
+    rw is (rw none refl)
+
+pub other_is_no_object : {A : Type 0} (make : Option Members → A) (depth : ℕ) (t : Read.Token) (ts r : List Token) (d : Data)
     → (t ≡ tokens.BeginObject → ⊥) → next_value depth (token_of t ∷ ts) ≡ Some (d, r)
-    → parse_map (λ v. option_map of (as_object v)) (next_value depth (token_of t ∷ ts)) ≡ Some (None, r)
-other_is_no_object of depth t ts r d other is =
-    let first = fails_first (λ v. is_some (as_object v)) depth t ts (record {
-      null = refl;
-      boolean = λ b. refl;
-      number = λ n text begins. refl;
-      string = λ s text begins. refl;
-      array = λ ds begins. refl;
-      object = λ ms begins. absurd (other begins);
-    }) in
-    let none = no_object d (rw is at first) in
-    rw is (rw none refl)
+    → parse_map (λ v. make (as_object v)) (next_value depth (token_of t ∷ ts)) ≡ Some (make None, r)
+other_is_no_object make depth t ts r d other is =
+    other_kind as_object make depth t ts r d
+    (others_fail (λ v. is_some (as_object v)) t refl (λ b. refl) (λ n. refl) (λ s. refl) (λ ds begins. refl) (λ ms begins. absurd (other begins)))
+    is
 
--- a value that doesn't begin as a list is none
-pub other_is_no_list : {A : Type 0} (of : Data → Option (Option A)) (depth : ℕ) (t : Read.Token) (ts r : List Token)
-    (d : Data)
+pub other_is_no_list : {A : Type 0} (make : Option Items → A) (depth : ℕ) (t : Read.Token) (ts r : List Token) (d : Data)
     → (t ≡ tokens.BeginArray → ⊥) → next_value depth (token_of t ∷ ts) ≡ Some (d, r)
-    → parse_map (forms_of of) (next_value depth (token_of t ∷ ts)) ≡ Some (None, r)
-other_is_no_list of depth t ts r d other is =
-    let first = fails_first (λ v. is_some (as_array v)) depth t ts (record {
-      null = refl;
-      boolean = λ b. refl;
-      number = λ n text begins. refl;
-      string = λ s text begins. refl;
-      array = λ ds begins. absurd (other begins);
-      object = λ ms begins. refl;
-    }) in
-    let none = no_array d (rw is at first) in
-    rw is (rw none refl)
+    → parse_map (λ v. make (as_array v)) (next_value depth (token_of t ∷ ts)) ≡ Some (make None, r)
+other_is_no_list make depth t ts r d other is =
+    other_kind as_array make depth t ts r d
+    (others_fail (λ v. is_some (as_array v)) t refl (λ b. refl) (λ n. refl) (λ s. refl) (λ ds begins. absurd (other begins)) (λ ms begins. refl))
+    is
 
 -- whether it is a number or a text
 abbrev is_atom : Data → Bool
@@ -144,20 +136,4 @@ other_is_no_atom depth t ts r d no_number no_string is =
       object = λ ms begins. refl;
     }) in
     let none = no_atom d (rw is at first) in
-    rw is (rw none refl)
-
--- what isn't a list has no items
-pub other_has_no_items : (depth : ℕ) (t : Read.Token) (ts r : List Token) (d : Data)
-    → (t ≡ tokens.BeginArray → ⊥) → next_value depth (token_of t ∷ ts) ≡ Some (d, r)
-    → parse_map (λ v. option_map flat_items (as_array v)) (next_value depth (token_of t ∷ ts)) ≡ Some (None, r)
-other_has_no_items depth t ts r d other is =
-    let first = fails_first (λ v. is_some (as_array v)) depth t ts (record {
-      null = refl;
-      boolean = λ b. refl;
-      number = λ n text begins. refl;
-      string = λ s text begins. refl;
-      array = λ ds begins. absurd (other begins);
-      object = λ ms begins. refl;
-    }) in
-    let none = no_array d (rw is at first) in
     rw is (rw none refl)

@@ -1,5 +1,5 @@
 -- The grammar of JSON, a token at a time, with each value as datum.
-use Rattle.std.proofs.Common.{◌≡◌, ℕ, zero, suc, ◌-◌, ◌<◌, ◌≤◌, List, [], ◌∷◌, ◌++◌, length, Option, Some, None, refl, ap, ◌∙◌, sym, arith}
+use Rattle.std.proofs.Common.{◌≡◌, ℕ, zero, suc, ◌-◌, ◌<◌, ◌≤◌, List, [], ◌∷◌, ◌++◌, length, map, Option, Some, None, refl, ap, ◌∙◌, sym, arith}
 use Rattle.std.specs.Prelude.{Bool, option_map}
 use Rattle.json.specs.Token.{Token}
 use Rattle.json.specs.Json as json
@@ -8,8 +8,7 @@ use Rattle.json.proofs.Grammar.{left, value_is, value-begin_array, value-begin_o
 use Rattle.serde_json.specs.Data as datum
 use Rattle.serde_json.specs.Data.{Num, Data, Items, Members, no_items, item, no_members, put}
 use Rattle.serde_json.specs.Read.{number_of, of_json, of_items, of_members, converted}
-use Rattle.serde_json.specs.View.{view, items_view}
-use Rattle.serde_json.specs.declared.value.Value.{Value}
+use Rattle.serde_json.specs.View.{items_of}
 use Rattle.wasi_form.specs.Tokens.{next_value, next_items, next_members}
 
 -- ---- what was read, as data
@@ -231,20 +230,21 @@ pub record FoundLeft {S : Type 0} (of : Members → S) (depth : ℕ) (all : List
   pub is : found ≡ of before
   pub left : MembersLeft depth all before ts
 
--- ---- the items of a list of values, as they are found
+-- ---- the items of a list, as they are found
 
-abbrev pub items_before : List Value → Items → Items
-items_before [] rest = rest
-items_before (v ∷ vs) rest = item (view v) (items_before vs rest)
+abbrev pub items_before : {T : Type 0} → (T → Data) → List T → Items → Items
+items_before see [] rest = rest
+items_before see (x ∷ xs) rest = item (see x) (items_before see xs rest)
 
-pub items_before-push : (vs : List Value) (v : Value) (rest : Items)
-    → items_before vs (item (view v) rest) ≡ items_before (vs ++ v ∷ []) rest
-items_before-push [] v rest = refl
-items_before-push (w ∷ vs) v rest = ap (item (view w)) (items_before-push vs v rest)
+pub items_before-push : {T : Type 0} (see : T → Data) (xs : List T) (x : T) (rest : Items)
+    → items_before see xs (item (see x) rest) ≡ items_before see (xs ++ x ∷ []) rest
+items_before-push see [] x rest = refl
+items_before-push see (y ∷ xs) x rest = ap (item (see y)) (items_before-push see xs x rest)
 
-pub items_before-no_items : (vs : List Value) → items_before vs no_items ≡ items_view vs
-items_before-no_items [] = refl
-items_before-no_items (v ∷ vs) = ap (item (view v)) (items_before-no_items vs)
+pub items_before-no_items : {T : Type 0} (see : T → Data) (xs : List T)
+    → items_before see xs no_items ≡ items_of (map see xs)
+items_before-no_items see [] = refl
+items_before-no_items see (x ∷ xs) = ap (item (see x)) (items_before-no_items see xs)
 
 pub as_it_is : {A : Type 0} (o : Option (A × List Token)) → o ≡ parse_map (λ a. a) o
 as_it_is None = refl

@@ -14,7 +14,6 @@ pub mod Lengths
 pub mod Places
 pub mod Moments
 pub mod ScriptRanges
-pub mod Arguments
 pub mod Names
 pub mod Values
 pub mod BuiltScripts

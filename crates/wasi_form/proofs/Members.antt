@@ -1,6 +1,6 @@
 -- The members of an object after one was put in.
-use Rattle.std.proofs.Common.{◌≡◌, ℕ, List, Bool, true, false, ◌&&◌, Ordering, Less, Equal, Greater, Option, Some, refl, sym, ap, subst, inl, inr, ◌∙◌}
-use Rattle.std.specs.Prelude.{if◌then◌else◌}
+use Rattle.std.proofs.Common.{◌≡◌, ℕ, List, [], ◌∷◌, Bool, true, false, ◌&&◌, Ordering, Less, Equal, Greater, Some, refl, sym, ap, subst, inl, inr, ◌∙◌}
+use Rattle.std.specs.Prelude.{if◌then◌else◌, unwrap_or}
 use Rattle.std.specs.Ordering.{nat_cmp, match_ordering, is_eq}
 use Rattle.std.specs.Cmp.Lexicographic.{slice_cmp}
 use Rattle.std.specs.Str.{bytes_eq}
@@ -10,6 +10,7 @@ use Rattle.std.proofs.lemmas.Slice.Eq.{bytes_eq-Decides}
 use Rattle.serde_json.specs.Data.{Data, Members, member, no_members, put}
 use Rattle.serde_json.specs.Find.{get_member}
 use Rattle.serde_json.proofs.Views.{get_member-put, get_member-put_other}
+use Rattle.wasi_form.specs.Lists.{names, at_name}
 use Rattle.wasi_form.specs.Shapes.{has_key, all_keys}
 
 pub same_texts : (a b : List ℕ) → bytes_eq a b ≡ true → a ≡ b
@@ -51,24 +52,57 @@ all_keys-put keys k d (member l e ms) =
 
 -- ---- what stands at a key
 
-pub at_itself : (name k : List ℕ) (d : Data) (ms : Members) → bytes_eq k name ≡ true → get_member name (put k d ms) ≡ Some d
+at_itself : (name k : List ℕ) (d : Data) (ms : Members) → bytes_eq k name ≡ true → get_member name (put k d ms) ≡ Some d
 at_itself name k d ms is =
     subst (λ (key : List ℕ). get_member name (put key d ms) ≡ Some d) (sym (same_texts k name is))
     (get_member-put name d ms)
 
-pub at_other : (name k : List ℕ) (d : Data) (ms : Members) → bytes_eq k name ≡ false
+at_other : (name k : List ℕ) (d : Data) (ms : Members) → bytes_eq k name ≡ false
     → get_member name (put k d ms) ≡ get_member name ms
 at_other name k d ms other = get_member-put_other name k d ms (λ same. other_texts k name other (sym same))
 
--- what is made of what stands at a name, after a member was put in
-pub made-put : {A : Type 0} (of : Option Data → A) (name k : List ℕ) (d : Data) (ms : Members)
-    → of (get_member name (put k d ms)) ≡ (if bytes_eq k name then of (Some d) else of (get_member name ms))
-made-put of name k d ms =
+pub get_put : (name k : List ℕ) (d : Data) (ms : Members)
+    → get_member name (put k d ms) ≡ (if bytes_eq k name then Some d else get_member name ms)
+get_put name k d ms =
     elim (cases_Bool (bytes_eq k name)) [
-      | inl is ↦ rw is (ap of (at_itself name k d ms is))
-      | inr other ↦ rw other (ap of (at_other name k d ms other))
+      | inl is ↦ rw is (at_itself name k d ms is)
+      | inr other ↦ rw other (at_other name k d ms other)
     ]
+
+-- what is rewritten after a member was put in
+pub ruleset puts = (get_put, all_keys-put)
 
 -- what holds at a name holds at a key that equals it
 pub at_key : (P : List ℕ → Type 0) (key name : List ℕ) → bytes_eq key name ≡ true → P name → P key
 at_key P key name is here = subst P (sym (same_texts key name is)) here
+
+-- a key that isn't among others is none of them
+differs : (keys : List (List ℕ)) (k name : List ℕ) → has_key keys k ≡ false → has_key keys name ≡ true → bytes_eq k name ≡ false
+differs keys k name none has =
+    elim (cases_Bool (bytes_eq k name)) [
+      | inl is ↦ let here : has_key keys name ≡ false = rw (← same_texts k name is) none in absurd (cc)
+      | inr other ↦ other
+    ]
+
+-- a member at another key leaves what stands at these
+pub stays : (keys : List (List ℕ)) (k : List ℕ) (d : Data) (ms : Members) → has_key keys k ≡ false
+    → (name : List ℕ) → has_key keys name ≡ true → get_member name (put k d ms) ≡ get_member name ms
+stays keys k d ms none name has = at_other name k d ms (differs keys k name none has)
+
+-- ---- a table of keys, each with what a member adds there
+
+-- what is made of a key is what the row of the key adds
+abbrev pub AreAdded : {S : Type 0} → (List ℕ → S) → Data → S → List (List ℕ × (Data → S → S)) → Type 0
+AreAdded make d found [] = Unit {0}
+AreAdded make d found (row ∷ rows) = (make row.0 ≡ row.1 d found) × AreAdded make d found rows
+
+pub by_rows : {S : Type 0} (make : List ℕ → S) (rows : List (List ℕ × (Data → S → S))) (other : Data → S → S) (d : Data)
+    (found : S) (key : List ℕ) → AreAdded make d found rows
+    → (has_key (names rows) key ≡ false → make key ≡ other d found)
+    → make key ≡ unwrap_or (at_name rows key) other d found
+by_rows make [] other d found key added none = none refl
+by_rows make (row ∷ rows) other d found key added none =
+    elim (cases_Bool (bytes_eq key row.0)) [
+      | inl is ↦ rw is (at_key (λ k. make k ≡ row.1 d found) key row.0 is added.0)
+      | inr differ ↦ rw differ (by_rows make rows other d found key added.1 (λ absent. none (rw differ absent)))
+    ]

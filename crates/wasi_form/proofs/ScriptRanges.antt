@@ -19,7 +19,7 @@ use Rattle.wasi_form.specs.Shapes.{u64_of, u32_of, two_of, is_object}
 use Rattle.wasi_form.specs.LimitsForm.{default_limits, is_limit, limits_of}
 use Rattle.wasi_form.specs.ServicesForm.{wall_of, default_wall, default_wall_resolution, ServicesFound, services_in, services_found}
 use Rattle.wasi_form.specs.Plan.{PlannedPreopen, PlannedMemory, Plan}
-use Rattle.wasi_form.specs.ScriptForm.{Found, found_in, planned, script_found, script_of}
+use Rattle.wasi_form.specs.ScriptForm.{ScriptFound, found_in, planned, script_found, script_of}
 
 -- what holds of all that a step goes on to
 kept : {A B : Type 0} (P : B → Type 0) (o : Option A) (f : A → Option B) → ((x : A) → IfSome (f x) P) → IfSome (o >>= f) P
@@ -130,10 +130,10 @@ planned_in_range : (limits : Limits) (fuel : ℕ) (services : Handed) (nodes : O
     (show : Option (List Shown)) → AreLimits limits → AreWithin services
     → IfSome (planned limits fuel services nodes preopens calls memory show) IsInRange
 planned_in_range limits fuel services nodes preopens calls memory show are within =
-    kept IsInRange nodes _ (λ ns. kept IsInRange preopens _ (λ ps. kept IsInRange calls _ (λ cs.
-    kept IsInRange memory _ (λ m. kept IsInRange show _ (λ ss. record { limits = are; services = within })))))
+    kept IsInRange memory _ (λ m. kept IsInRange nodes _ (λ ns. kept IsInRange preopens _ (λ ps.
+    kept IsInRange show _ (λ ss. kept IsInRange calls _ (λ cs. record { limits = are; services = within })))))
 
-found_in_range : (found : Found) → IfSome found.limits AreLimits → AreWallsFound found.services
+found_in_range : (found : ScriptFound) → IfSome found.limits AreLimits → AreWallsFound found.services
     → IfSome (script_found found) FormInRange
 unfolding script_found
 found_in_range found are walls =

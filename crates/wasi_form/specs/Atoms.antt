@@ -4,6 +4,7 @@ use Rattle.serde_json.specs.Data.{Data, null, boolean, number, string, array, ob
 use Rattle.serde_json.specs.View.{number_view, items_of}
 use Rattle.wasi_form.specs.declared.atoms.Atom.{Atom}
 use Rattle.wasi_form.specs.declared.atoms.Atom.TheVariants as atoms
+use Rattle.wasi_form.specs.declared.arguments.Arguments.{Arguments}
 
 -- a number or a text; any other value is let go, and counts as null
 abbrev pub flat : Data → Data
@@ -26,6 +27,10 @@ atom_data atoms.Other = null
 
 abbrev pub atoms_data : List Atom → Items
 atoms_data list = items_of (map atom_data list)
+
+-- what is known of the arguments of a call that weren't read yet
+abbrev pub values_left : Arguments → Items
+values_left arguments = atoms_data arguments.left.now
 
 -- a form that sees no more of its items than numbers and texts
 abbrev pub SeesAtoms : {A : Type 0} → (Items → A) → Type 0

@@ -1,336 +1,124 @@
 -- The forms of calls.
-use Rattle.std.specs.Prelude.{ℕ, List, [], ◌∷◌, Bool, true, false, ◌&&◌, codes, if◌then◌else◌, Option, Some, None, is_some}
-use Rattle.std.specs.Str.{bytes_eq}
+use Rattle.std.specs.Prelude.{ℕ, ℤ, List, [], ◌∷◌, Bool, true, false, ◌&&◌, codes, if◌then◌else◌, Option, Some, None, option_map, is_some}
 use Rattle.serde_json.specs.Data.{Data, Items, no_items, item}
 use Rattle.serde_json.specs.Find as find
 use Rattle.wasi_guest.specs.declared.call.Call.{Call}
 use Rattle.wasi_guest.specs.declared.call.Call.TheVariants.{ArgsGet, ArgsSizesGet, EnvironGet, EnvironSizesGet, ClockResGet, ClockTimeGet, FdClose, FdFilestatSetTimes, FdRead, FdWrite, PathCreateDirectory, PathFilestatGet, PathFilestatSetTimes, PathLink, PathOpen, PathReadlink, PathRemoveDirectory, PathUnlinkFile, PathRename, PathSymlink, ProcExit, ProcRaise, RandomGet, SchedYield, SockAccept, SockRecv, SockSend, SockShutdown}
-use Rattle.wasi_form.specs.declared.calls.Argument.{Argument}
-use Rattle.wasi_form.specs.declared.calls.Argument.TheVariants.{U32, U64, I64}
-use Rattle.wasi_form.specs.Lists.{◌>>=◌, only_if}
+use Rattle.wasi_form.specs.declared.arguments.Argument.{Argument}
+use Rattle.wasi_form.specs.declared.arguments.Argument.TheVariants.{U32, U64, I64}
+use Rattle.wasi_form.specs.Lists.{◌>>=◌, at_name}
 use Rattle.wasi_form.specs.Shapes.{u64_of, i64_of, u32_of}
 
--- the calls of `wasi_snapshot_preview1`, each with the types of its arguments
-abbrev pub call_rows : List (List ℕ × List Argument)
-call_rows =
-    (codes "args_get", U32 ∷ U32 ∷ [])
-    ∷ (codes "args_sizes_get", [])
-    ∷ (codes "environ_get", U32 ∷ U32 ∷ [])
-    ∷ (codes "environ_sizes_get", [])
-    ∷ (codes "clock_res_get", U32 ∷ [])
-    ∷ (codes "clock_time_get", U32 ∷ U64 ∷ [])
-    ∷ (codes "fd_advise", U32 ∷ U64 ∷ U64 ∷ U32 ∷ [])
-    ∷ (codes "fd_allocate", U32 ∷ U64 ∷ U64 ∷ [])
-    ∷ (codes "fd_close", U32 ∷ [])
-    ∷ (codes "fd_datasync", U32 ∷ [])
-    ∷ (codes "fd_sync", U32 ∷ [])
-    ∷ (codes "fd_fdstat_get", U32 ∷ [])
-    ∷ (codes "fd_fdstat_set_flags", U32 ∷ U32 ∷ [])
-    ∷ (codes "fd_fdstat_set_rights", U32 ∷ U64 ∷ U64 ∷ [])
-    ∷ (codes "fd_filestat_get", U32 ∷ [])
-    ∷ (codes "fd_filestat_set_size", U32 ∷ U64 ∷ [])
-    ∷ (codes "fd_filestat_set_times", U32 ∷ U64 ∷ U64 ∷ U32 ∷ [])
-    ∷ (codes "fd_pread", U32 ∷ U32 ∷ U32 ∷ U64 ∷ [])
-    ∷ (codes "fd_prestat_get", U32 ∷ [])
-    ∷ (codes "fd_prestat_dir_name", U32 ∷ U32 ∷ U32 ∷ [])
-    ∷ (codes "fd_pwrite", U32 ∷ U32 ∷ U32 ∷ U64 ∷ [])
-    ∷ (codes "fd_read", U32 ∷ U32 ∷ U32 ∷ [])
-    ∷ (codes "fd_readdir", U32 ∷ U32 ∷ U32 ∷ U64 ∷ [])
-    ∷ (codes "fd_renumber", U32 ∷ U32 ∷ [])
-    ∷ (codes "fd_seek", U32 ∷ I64 ∷ U32 ∷ [])
-    ∷ (codes "fd_tell", U32 ∷ [])
-    ∷ (codes "fd_write", U32 ∷ U32 ∷ U32 ∷ [])
-    ∷ (codes "path_create_directory", U32 ∷ U32 ∷ U32 ∷ [])
-    ∷ (codes "path_filestat_get", U32 ∷ U32 ∷ U32 ∷ U32 ∷ [])
-    ∷ (codes "path_filestat_set_times", U32 ∷ U32 ∷ U32 ∷ U32 ∷ U64 ∷ U64 ∷ U32 ∷ [])
-    ∷ (codes "path_link", U32 ∷ U32 ∷ U32 ∷ U32 ∷ U32 ∷ U32 ∷ U32 ∷ [])
-    ∷ (codes "path_open", U32 ∷ U32 ∷ U32 ∷ U32 ∷ U32 ∷ U64 ∷ U64 ∷ U32 ∷ [])
-    ∷ (codes "path_readlink", U32 ∷ U32 ∷ U32 ∷ U32 ∷ U32 ∷ [])
-    ∷ (codes "path_remove_directory", U32 ∷ U32 ∷ U32 ∷ [])
-    ∷ (codes "path_unlink_file", U32 ∷ U32 ∷ U32 ∷ [])
-    ∷ (codes "path_rename", U32 ∷ U32 ∷ U32 ∷ U32 ∷ U32 ∷ U32 ∷ [])
-    ∷ (codes "path_symlink", U32 ∷ U32 ∷ U32 ∷ U32 ∷ U32 ∷ [])
-    ∷ (codes "poll_oneoff", U32 ∷ U32 ∷ U32 ∷ [])
-    ∷ (codes "proc_exit", U32 ∷ [])
-    ∷ (codes "proc_raise", U32 ∷ [])
-    ∷ (codes "random_get", U32 ∷ U32 ∷ [])
-    ∷ (codes "sched_yield", [])
-    ∷ (codes "sock_accept", U32 ∷ U32 ∷ [])
-    ∷ (codes "sock_recv", U32 ∷ U32 ∷ U32 ∷ U32 ∷ [])
-    ∷ (codes "sock_send", U32 ∷ U32 ∷ U32 ∷ U32 ∷ [])
-    ∷ (codes "sock_shutdown", U32 ∷ U32 ∷ [])
-    ∷ []
+-- ---- arguments
 
--- what stands at a name
-abbrev pub at_name : {A : Type 0} → List (List ℕ × A) → List ℕ → Option A
-at_name [] name = None
-at_name (row ∷ rows) name = if bytes_eq name row.0 then Some row.1 else at_name rows name
+-- the numbers of a type
+abbrev pub Number : Argument → Type 0
+Number U32 = ℕ
+Number U64 = ℕ
+Number I64 = ℤ
 
--- the types of the arguments of the call of a name
-unfoldable pub arguments_of : List ℕ → Option (List Argument)
-arguments_of name = at_name call_rows name
+-- the number of a type that a value is
+abbrev pub number_of : (t : Argument) → Data → Option (Number t)
+number_of U32 d = u32_of d
+number_of U64 d = u64_of d
+number_of I64 d = i64_of d
+
+-- the first of some values, and those after it
+abbrev pub first_value : Items → Option (Data × Items)
+first_value no_items = None
+first_value (item d ds) = Some (d, ds)
+
+-- the same, where the first is a number of a type
+unfoldable pub first_number : (t : Argument) → Items → Option (Number t × Items)
+first_number t ds = first_value ds >>= (λ first. option_map (λ n. (n, first.1)) (number_of t first.0))
+
+-- what makes a call of numbers of these types
+abbrev pub Maker : List Argument → Type 0
+Maker [] = Call
+Maker (t ∷ types) = Number t → Maker types
+
+-- the call that is made of values, where they are as many as the types, and each is a number of its type
+unfoldable pub call_made : (types : List Argument) → Maker types → Items → Option Call
+call_made [] call ds = if is_some (first_value ds) then None else Some call
+call_made (t ∷ types) make ds = first_number t ds >>= (λ first. call_made types (make first.0) first.1)
 
 abbrev pub is_argument : Argument → Data → Bool
 is_argument U32 d = is_some (u32_of d)
 is_argument U64 d = is_some (u64_of d)
 is_argument I64 d = is_some (i64_of d)
 
-abbrev pub is_empty : List Argument → Bool
-is_empty [] = true
-is_empty (t ∷ ts) = false
-
--- as many values, each a number of its type
+-- whether values are as many as the types, and each is a number of its type
 abbrev pub are_arguments : List Argument → Items → Bool
-are_arguments types no_items = is_empty types
+are_arguments [] no_items = true
 are_arguments [] (item d ds) = false
-are_arguments (t ∷ ts) (item d ds) = is_argument t d && are_arguments ts ds
+are_arguments (t ∷ types) no_items = false
+are_arguments (t ∷ types) (item d ds) = is_argument t d && are_arguments types ds
 
-abbrev pub u64_at : ℕ → Items → Option ℕ
-u64_at i ds = find.get_item i ds >>= u64_of
+-- ---- the calls of `wasi_snapshot_preview1`
 
-abbrev pub u32_at : ℕ → Items → Option ℕ
-u32_at i ds = find.get_item i ds >>= u32_of
+-- a call by the types of its arguments: what makes it of them, where it is built, and else that it waits
+pub data CallRow : Type 0 where
+  Built : (types : List Argument) → Maker types → CallRow
+  Waits : List Argument → CallRow
 
-unfoldable pub args_get_of : Items → Option Call
-args_get_of ds = do
-  argv ← u32_at 0 ds
-  argv_buf ← u32_at 1 ds
-  Some (ArgsGet argv argv_buf)
-
-unfoldable pub args_sizes_get_of : Items → Option Call
-args_sizes_get_of ds = Some ArgsSizesGet
-
-unfoldable pub environ_get_of : Items → Option Call
-environ_get_of ds = do
-  environ ← u32_at 0 ds
-  environ_buf ← u32_at 1 ds
-  Some (EnvironGet environ environ_buf)
-
-unfoldable pub environ_sizes_get_of : Items → Option Call
-environ_sizes_get_of ds = Some EnvironSizesGet
-
-unfoldable pub clock_res_get_of : Items → Option Call
-clock_res_get_of ds = do
-  id ← u32_at 0 ds
-  Some (ClockResGet id)
-
-unfoldable pub clock_time_get_of : Items → Option Call
-clock_time_get_of ds = do
-  id ← u32_at 0 ds
-  precision ← u64_at 1 ds
-  Some (ClockTimeGet id precision)
-
-unfoldable pub fd_close_of : Items → Option Call
-fd_close_of ds = do
-  fd ← u32_at 0 ds
-  Some (FdClose fd)
-
-unfoldable pub fd_filestat_set_times_of : Items → Option Call
-fd_filestat_set_times_of ds = do
-  fd ← u32_at 0 ds
-  atim ← u64_at 1 ds
-  mtim ← u64_at 2 ds
-  fst_flags ← u32_at 3 ds
-  Some (FdFilestatSetTimes fd atim mtim fst_flags)
-
-unfoldable pub fd_read_of : Items → Option Call
-fd_read_of ds = do
-  fd ← u32_at 0 ds
-  iovs ← u32_at 1 ds
-  iovs_len ← u32_at 2 ds
-  Some (FdRead fd iovs iovs_len)
-
-unfoldable pub fd_write_of : Items → Option Call
-fd_write_of ds = do
-  fd ← u32_at 0 ds
-  iovs ← u32_at 1 ds
-  iovs_len ← u32_at 2 ds
-  Some (FdWrite fd iovs iovs_len)
-
-unfoldable pub path_create_directory_of : Items → Option Call
-path_create_directory_of ds = do
-  fd ← u32_at 0 ds
-  path ← u32_at 1 ds
-  path_len ← u32_at 2 ds
-  Some (PathCreateDirectory fd path path_len)
-
-unfoldable pub path_filestat_get_of : Items → Option Call
-path_filestat_get_of ds = do
-  fd ← u32_at 0 ds
-  flags ← u32_at 1 ds
-  path ← u32_at 2 ds
-  path_len ← u32_at 3 ds
-  Some (PathFilestatGet fd flags path path_len)
-
-unfoldable pub path_filestat_set_times_of : Items → Option Call
-path_filestat_set_times_of ds = do
-  fd ← u32_at 0 ds
-  flags ← u32_at 1 ds
-  path ← u32_at 2 ds
-  path_len ← u32_at 3 ds
-  atim ← u64_at 4 ds
-  mtim ← u64_at 5 ds
-  fst_flags ← u32_at 6 ds
-  Some (PathFilestatSetTimes fd flags path path_len atim mtim fst_flags)
-
--- the place of the node comes before where its new name is made
-unfoldable pub path_link_of : Items → Option Call
-path_link_of ds = do
-  old_fd ← u32_at 0 ds
-  old_flags ← u32_at 1 ds
-  old_path ← u32_at 2 ds
-  old_path_len ← u32_at 3 ds
-  new_fd ← u32_at 4 ds
-  new_path ← u32_at 5 ds
-  new_path_len ← u32_at 6 ds
-  Some (PathLink old_fd old_flags old_path old_path_len new_fd new_path new_path_len)
-
-unfoldable pub path_open_of : Items → Option Call
-path_open_of ds = do
-  fd ← u32_at 0 ds
-  dirflags ← u32_at 1 ds
-  path ← u32_at 2 ds
-  path_len ← u32_at 3 ds
-  oflags ← u32_at 4 ds
-  base ← u64_at 5 ds
-  inheriting ← u64_at 6 ds
-  fdflags ← u32_at 7 ds
-  Some (PathOpen fd dirflags path path_len oflags base inheriting fdflags)
-
-unfoldable pub path_readlink_of : Items → Option Call
-path_readlink_of ds = do
-  fd ← u32_at 0 ds
-  path ← u32_at 1 ds
-  path_len ← u32_at 2 ds
-  buf ← u32_at 3 ds
-  buf_len ← u32_at 4 ds
-  Some (PathReadlink fd path path_len buf buf_len)
-
-unfoldable pub path_remove_directory_of : Items → Option Call
-path_remove_directory_of ds = do
-  fd ← u32_at 0 ds
-  path ← u32_at 1 ds
-  path_len ← u32_at 2 ds
-  Some (PathRemoveDirectory fd path path_len)
-
-unfoldable pub path_unlink_file_of : Items → Option Call
-path_unlink_file_of ds = do
-  fd ← u32_at 0 ds
-  path ← u32_at 1 ds
-  path_len ← u32_at 2 ds
-  Some (PathUnlinkFile fd path path_len)
-
--- the name that is moved comes before where it is moved to
-unfoldable pub path_rename_of : Items → Option Call
-path_rename_of ds = do
-  old_fd ← u32_at 0 ds
-  old_path ← u32_at 1 ds
-  old_path_len ← u32_at 2 ds
-  new_fd ← u32_at 3 ds
-  new_path ← u32_at 4 ds
-  new_path_len ← u32_at 5 ds
-  Some (PathRename old_fd old_path old_path_len new_fd new_path new_path_len)
-
--- the text of the link comes before where it is made
-unfoldable pub path_symlink_of : Items → Option Call
-path_symlink_of ds = do
-  old_path ← u32_at 0 ds
-  old_path_len ← u32_at 1 ds
-  fd ← u32_at 2 ds
-  new_path ← u32_at 3 ds
-  new_path_len ← u32_at 4 ds
-  Some (PathSymlink old_path old_path_len fd new_path new_path_len)
-
-unfoldable pub proc_exit_of : Items → Option Call
-proc_exit_of ds = do
-  status ← u32_at 0 ds
-  Some (ProcExit status)
-
-unfoldable pub proc_raise_of : Items → Option Call
-proc_raise_of ds = do
-  signal ← u32_at 0 ds
-  Some (ProcRaise signal)
-
-unfoldable pub random_get_of : Items → Option Call
-random_get_of ds = do
-  buf ← u32_at 0 ds
-  buf_len ← u32_at 1 ds
-  Some (RandomGet buf buf_len)
-
-unfoldable pub sched_yield_of : Items → Option Call
-sched_yield_of ds = Some SchedYield
-
-unfoldable pub sock_accept_of : Items → Option Call
-sock_accept_of ds = do
-  fd ← u32_at 0 ds
-  flags ← u32_at 1 ds
-  Some (SockAccept fd flags)
-
-unfoldable pub sock_recv_of : Items → Option Call
-sock_recv_of ds = do
-  fd ← u32_at 0 ds
-  iovs ← u32_at 1 ds
-  iovs_len ← u32_at 2 ds
-  ri_flags ← u32_at 3 ds
-  Some (SockRecv fd iovs iovs_len ri_flags)
-
-unfoldable pub sock_send_of : Items → Option Call
-sock_send_of ds = do
-  fd ← u32_at 0 ds
-  iovs ← u32_at 1 ds
-  iovs_len ← u32_at 2 ds
-  si_flags ← u32_at 3 ds
-  Some (SockSend fd iovs iovs_len si_flags)
-
-unfoldable pub sock_shutdown_of : Items → Option Call
-sock_shutdown_of ds = do
-  fd ← u32_at 0 ds
-  how ← u32_at 1 ds
-  Some (SockShutdown fd how)
-
--- the calls that are built, each with what its arguments make of it
-unfoldable pub built_rows : List (List ℕ × (Items → Option Call))
-built_rows =
-    (codes "args_get", args_get_of)
-    ∷ (codes "args_sizes_get", args_sizes_get_of)
-    ∷ (codes "environ_get", environ_get_of)
-    ∷ (codes "environ_sizes_get", environ_sizes_get_of)
-    ∷ (codes "clock_res_get", clock_res_get_of)
-    ∷ (codes "clock_time_get", clock_time_get_of)
-    ∷ (codes "fd_close", fd_close_of)
-    ∷ (codes "fd_filestat_set_times", fd_filestat_set_times_of)
-    ∷ (codes "fd_read", fd_read_of)
-    ∷ (codes "fd_write", fd_write_of)
-    ∷ (codes "path_create_directory", path_create_directory_of)
-    ∷ (codes "path_filestat_get", path_filestat_get_of)
-    ∷ (codes "path_filestat_set_times", path_filestat_set_times_of)
-    ∷ (codes "path_link", path_link_of)
-    ∷ (codes "path_open", path_open_of)
-    ∷ (codes "path_readlink", path_readlink_of)
-    ∷ (codes "path_remove_directory", path_remove_directory_of)
-    ∷ (codes "path_unlink_file", path_unlink_file_of)
-    ∷ (codes "path_rename", path_rename_of)
-    ∷ (codes "path_symlink", path_symlink_of)
-    ∷ (codes "proc_exit", proc_exit_of)
-    ∷ (codes "proc_raise", proc_raise_of)
-    ∷ (codes "random_get", random_get_of)
-    ∷ (codes "sched_yield", sched_yield_of)
-    ∷ (codes "sock_accept", sock_accept_of)
-    ∷ (codes "sock_recv", sock_recv_of)
-    ∷ (codes "sock_send", sock_send_of)
-    ∷ (codes "sock_shutdown", sock_shutdown_of)
+abbrev pub call_rows : List (List ℕ × CallRow)
+call_rows =
+    (codes "args_get", Built (U32 ∷ U32 ∷ []) ArgsGet)
+    ∷ (codes "args_sizes_get", Built [] ArgsSizesGet)
+    ∷ (codes "environ_get", Built (U32 ∷ U32 ∷ []) EnvironGet)
+    ∷ (codes "environ_sizes_get", Built [] EnvironSizesGet)
+    ∷ (codes "clock_res_get", Built (U32 ∷ []) ClockResGet)
+    ∷ (codes "clock_time_get", Built (U32 ∷ U64 ∷ []) ClockTimeGet)
+    ∷ (codes "fd_advise", Waits (U32 ∷ U64 ∷ U64 ∷ U32 ∷ []))
+    ∷ (codes "fd_allocate", Waits (U32 ∷ U64 ∷ U64 ∷ []))
+    ∷ (codes "fd_close", Built (U32 ∷ []) FdClose)
+    ∷ (codes "fd_datasync", Waits (U32 ∷ []))
+    ∷ (codes "fd_sync", Waits (U32 ∷ []))
+    ∷ (codes "fd_fdstat_get", Waits (U32 ∷ []))
+    ∷ (codes "fd_fdstat_set_flags", Waits (U32 ∷ U32 ∷ []))
+    ∷ (codes "fd_fdstat_set_rights", Waits (U32 ∷ U64 ∷ U64 ∷ []))
+    ∷ (codes "fd_filestat_get", Waits (U32 ∷ []))
+    ∷ (codes "fd_filestat_set_size", Waits (U32 ∷ U64 ∷ []))
+    ∷ (codes "fd_filestat_set_times", Built (U32 ∷ U64 ∷ U64 ∷ U32 ∷ []) FdFilestatSetTimes)
+    ∷ (codes "fd_pread", Waits (U32 ∷ U32 ∷ U32 ∷ U64 ∷ []))
+    ∷ (codes "fd_prestat_get", Waits (U32 ∷ []))
+    ∷ (codes "fd_prestat_dir_name", Waits (U32 ∷ U32 ∷ U32 ∷ []))
+    ∷ (codes "fd_pwrite", Waits (U32 ∷ U32 ∷ U32 ∷ U64 ∷ []))
+    ∷ (codes "fd_read", Built (U32 ∷ U32 ∷ U32 ∷ []) FdRead)
+    ∷ (codes "fd_readdir", Waits (U32 ∷ U32 ∷ U32 ∷ U64 ∷ []))
+    ∷ (codes "fd_renumber", Waits (U32 ∷ U32 ∷ []))
+    ∷ (codes "fd_seek", Waits (U32 ∷ I64 ∷ U32 ∷ []))
+    ∷ (codes "fd_tell", Waits (U32 ∷ []))
+    ∷ (codes "fd_write", Built (U32 ∷ U32 ∷ U32 ∷ []) FdWrite)
+    ∷ (codes "path_create_directory", Built (U32 ∷ U32 ∷ U32 ∷ []) PathCreateDirectory)
+    ∷ (codes "path_filestat_get", Built (U32 ∷ U32 ∷ U32 ∷ U32 ∷ []) PathFilestatGet)
+    ∷ (codes "path_filestat_set_times", Built (U32 ∷ U32 ∷ U32 ∷ U32 ∷ U64 ∷ U64 ∷ U32 ∷ []) PathFilestatSetTimes)
+    ∷ (codes "path_link", Built (U32 ∷ U32 ∷ U32 ∷ U32 ∷ U32 ∷ U32 ∷ U32 ∷ []) PathLink)
+    ∷ (codes "path_open", Built (U32 ∷ U32 ∷ U32 ∷ U32 ∷ U32 ∷ U64 ∷ U64 ∷ U32 ∷ []) PathOpen)
+    ∷ (codes "path_readlink", Built (U32 ∷ U32 ∷ U32 ∷ U32 ∷ U32 ∷ []) PathReadlink)
+    ∷ (codes "path_remove_directory", Built (U32 ∷ U32 ∷ U32 ∷ []) PathRemoveDirectory)
+    ∷ (codes "path_unlink_file", Built (U32 ∷ U32 ∷ U32 ∷ []) PathUnlinkFile)
+    ∷ (codes "path_rename", Built (U32 ∷ U32 ∷ U32 ∷ U32 ∷ U32 ∷ U32 ∷ []) PathRename)
+    ∷ (codes "path_symlink", Built (U32 ∷ U32 ∷ U32 ∷ U32 ∷ U32 ∷ []) PathSymlink)
+    ∷ (codes "poll_oneoff", Waits (U32 ∷ U32 ∷ U32 ∷ []))
+    ∷ (codes "proc_exit", Built (U32 ∷ []) ProcExit)
+    ∷ (codes "proc_raise", Built (U32 ∷ []) ProcRaise)
+    ∷ (codes "random_get", Built (U32 ∷ U32 ∷ []) RandomGet)
+    ∷ (codes "sched_yield", Built [] SchedYield)
+    ∷ (codes "sock_accept", Built (U32 ∷ U32 ∷ []) SockAccept)
+    ∷ (codes "sock_recv", Built (U32 ∷ U32 ∷ U32 ∷ U32 ∷ []) SockRecv)
+    ∷ (codes "sock_send", Built (U32 ∷ U32 ∷ U32 ∷ U32 ∷ []) SockSend)
+    ∷ (codes "sock_shutdown", Built (U32 ∷ U32 ∷ []) SockShutdown)
     ∷ []
 
--- the call of a name with these arguments; all other names wait
-abbrev pub call_named : List ℕ → Items → Option Call
-call_named name ds = at_name built_rows name >>= (λ of. of ds)
+-- the call of a row with these arguments, which are of its types: `Some None` where it waits
+abbrev pub call_by : CallRow → Items → Option (Option Call)
+call_by (Built types make) ds = option_map Some (call_made types make ds)
+call_by (Waits types) ds = if are_arguments types ds then Some None else None
 
--- the call of a name with these arguments, which are of its types: `Some None` where it waits
+-- the call of a name with these arguments
 unfoldable pub call_with : List ℕ → Items → Option (Option Call)
-call_with name ds = do
-  types ← arguments_of name
-  _ ← only_if (are_arguments types ds)
-  Some (call_named name ds)
+call_with name ds = at_name call_rows name >>= (λ row. call_by row ds)
 
 -- `[NAME, ARGUMENT ..]`
 abbrev pub call_in : Items → Option (Option Call)
@@ -341,3 +129,17 @@ call_in (item d ds) = do
 
 abbrev pub call_of : Data → Option (Option Call)
 call_of d = find.as_array d >>= call_in
+
+-- ---- which calls are built
+
+-- the names of the calls that are built
+abbrev pub built_names : List (List ℕ × CallRow) → List (List ℕ)
+built_names [] = []
+built_names ((name, Built types make) ∷ rows) = name ∷ built_names rows
+built_names ((name, Waits types) ∷ rows) = built_names rows
+
+-- the calls that wait, each with the types of its arguments
+abbrev pub waiting_rows : List (List ℕ × CallRow) → List (List ℕ × List Argument)
+waiting_rows [] = []
+waiting_rows ((name, Built types make) ∷ rows) = waiting_rows rows
+waiting_rows ((name, Waits types) ∷ rows) = (name, types) ∷ waiting_rows rows

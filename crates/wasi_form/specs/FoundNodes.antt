@@ -1,10 +1,9 @@
 -- What the members of a node, and of a directory's names, are read as, one after another.
-use Rattle.std.specs.Prelude.{ℕ, List, [], ◌∷◌, map, Bool, ◌&&◌, codes, if◌then◌else◌, Option, Some, None, option_map}
+use Rattle.std.specs.Prelude.{ℕ, List, [], ◌∷◌, map, Bool, false, codes, Option, Some, None, option_map, unwrap_or}
 use Rattle.std.specs.Cmp.Lexicographic.{slice_cmp}
 use Rattle.std.specs.FinMap.Entries.{put}
 use Rattle.std.specs.List.{fold}
 use Rattle.std.specs.Ordering.{nat_cmp}
-use Rattle.std.specs.Str.{bytes_eq}
 use Rattle.std.specs.String.{string_bytes}
 use Rattle.std.specs.declared.alloc.Global.{Global}
 use Rattle.std.specs.declared.string.String.{String}
@@ -17,9 +16,9 @@ use Rattle.wasi_form.specs.declared.nodes.EntryParts.{EntryParts}
 use Rattle.wasi_form.specs.declared.nodes.NodeParts.{NodeParts}
 use Rattle.wasi_form.specs.declared.nodes.NodeTimes.{NodeTimes}
 use Rattle.wasi_form.specs.declared.shapes.Form.TheVariants as forms
-use Rattle.wasi_form.specs.Lists.{same, ◌>>=◌, only_if}
-use Rattle.wasi_form.specs.NodeForm.{script_entries, bits_of, times_of, no_times}
-use Rattle.wasi_form.specs.Shapes.{u64_of, hex_of, keys_of, has_key, all_keys}
+use Rattle.wasi_form.specs.Lists.{same, ◌>>=◌, at_name, only_if}
+use Rattle.wasi_form.specs.NodeForm.{script_entries, bits_of, times_of, no_times, given_at}
+use Rattle.wasi_form.specs.Shapes.{u64_of, hex_of, keys_of, all_keys}
 
 -- ---- the names of a directory
 
@@ -68,8 +67,8 @@ pub record NodeFound : Type 0 where
   pub times : Option (Option NodeTimes)
 
 -- of all members
-abbrev pub node_in : Members → NodeFound
-node_in ms = record {
+abbrev pub node_parts_in : Members → NodeFound
+node_parts_in ms = record {
   known = all_keys (keys_of forms.Node) ms;
   dir = option_map script_entries (get_member (codes "dir") ms);
   file = option_map hex_of (get_member (codes "file") ms);
@@ -78,16 +77,19 @@ node_in ms = record {
   times = option_map times_of (get_member (codes "times") ms);
 }
 
+-- the keys, each with what a member adds there
+abbrev pub node_rows : List (List ℕ × (Data → NodeFound → NodeFound))
+node_rows =
+    (codes "dir", λ d found. record found { dir = Some (script_entries d) })
+    ∷ (codes "file", λ d found. record found { file = Some (hex_of d) })
+    ∷ (codes "link", λ d found. record found { link = Some (find.as_str d) })
+    ∷ (codes "bits", λ d found. record found { bits = Some (bits_of d) })
+    ∷ (codes "times", λ d found. record found { times = Some (times_of d) })
+    ∷ []
+
 -- with one more member, which counts for those before it at its key
 unfoldable pub with_node_member : List ℕ → Data → NodeFound → NodeFound
-with_node_member key d found = record {
-  known = has_key (keys_of forms.Node) key && found.known;
-  dir = if bytes_eq key (codes "dir") then Some (script_entries d) else found.dir;
-  file = if bytes_eq key (codes "file") then Some (hex_of d) else found.file;
-  link = if bytes_eq key (codes "link") then Some (find.as_str d) else found.link;
-  bits = if bytes_eq key (codes "bits") then Some (bits_of d) else found.bits;
-  times = if bytes_eq key (codes "times") then Some (times_of d) else found.times;
-}
+with_node_member key d found = unwrap_or (at_name node_rows key) (λ _ all. record all { known = false }) d found
 
 -- of the parts of a node that were read
 abbrev pub node_found_of : NodeParts → NodeFound
@@ -123,10 +125,4 @@ node_found found = do
   content ← content_found found.dir found.file found.link
   bits ← or_absent (new_given content).bits found.bits
   times ← or_absent no_times found.times
-  Some (record {
-    content = content;
-    bits = bits;
-    atime = times.accessed;
-    mtime = times.modified;
-    btime = times.created;
-  })
+  Some (given_at content bits times)

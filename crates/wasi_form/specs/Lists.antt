@@ -1,5 +1,6 @@
--- Options one after another, and lists of a shape.
-use Rattle.std.specs.Prelude.{List, [], ◌∷◌, ◌++◌, map, Vec, Bool, if◌then◌else◌, Option, Some, None, option_map, option_and_then}
+-- Options one after another, tables of names, and lists of a shape.
+use Rattle.std.specs.Prelude.{ℕ, List, [], ◌∷◌, ◌++◌, map, Vec, Bool, if◌then◌else◌, Option, Some, None, option_map, option_and_then}
+use Rattle.std.specs.Str.{bytes_eq}
 use Rattle.std.specs.declared.alloc.Global.{Global}
 use Rattle.serde_json.specs.Data.{Data, Items, no_items, item}
 use Rattle.serde_json.specs.Find as find
@@ -26,6 +27,15 @@ abbrev pub optional : {A : Type 0} → (Data → Option A) → A → Option Data
 optional of absent None = Some absent
 optional of absent (Some d) = of d
 
+-- what stands at a name
+abbrev pub at_name : {A : Type 0} → List (List ℕ × A) → List ℕ → Option A
+at_name [] name = None
+at_name (row ∷ rows) name = if bytes_eq name row.0 then Some row.1 else at_name rows name
+
+-- the names of a table
+abbrev pub names : {A : Type 0} → List (List ℕ × A) → List (List ℕ)
+names rows = map (λ row. row.0) rows
+
 -- each item of the shape
 unfoldable pub items_all : {A : Type 0} → (Data → Option A) → Items → Option (List A)
 items_all of no_items = Some []
@@ -43,10 +53,6 @@ list_of of d = find.as_array d >>= items_all of
 -- a form that never waits
 abbrev pub always : {A : Type 0} → (Data → Option A) → Data → Option (Option A)
 always of d = option_map Some (of d)
-
--- a form of the items of a list that never waits
-abbrev pub always_in : {A : Type 0} → (Items → Option A) → Items → Option (Option A)
-always_in of ds = option_map Some (of ds)
 
 -- the list, where none of its items waits
 abbrev pub none_waits : {A : Type 0} → List (Option A) → Option (List A)

@@ -65,8 +65,8 @@ unfoldable pub moment_at : ℤ → ℕ → Option SystemTime
 moment_at seconds nanoseconds = moment_by seconds nanoseconds (nat_lt nanoseconds 1000000000) refl
 
 -- `[SECONDS, NANOSECONDS]`, the seconds with a sign
-abbrev pub time_of : Data → Option SystemTime
-time_of d = do
+abbrev pub moment_in : Data → Option SystemTime
+moment_in d = do
   two ← two_of d
   seconds ← i64_of two.0
   nanoseconds ← u64_of two.1
@@ -76,14 +76,24 @@ time_of d = do
 abbrev pub times_of : Data → Option NodeTimes
 times_of d = do
   three ← three_of d
-  accessed ← time_of three.0
-  modified ← time_of three.1
-  created ← time_of three.2
+  accessed ← moment_in three.0
+  modified ← moment_in three.1
+  created ← moment_in three.2
   Some (record { accessed = accessed; modified = modified; created = created })
 
 -- where nothing is said of its times
 abbrev pub no_times : NodeTimes
 no_times = record { accessed = zero_time; modified = zero_time; created = zero_time }
+
+-- a node of this content, with its bits and times
+abbrev pub given_at : GivenContent → Bits → NodeTimes → Given
+given_at content bits times = record {
+  content = content;
+  bits = bits;
+  atime = times.accessed;
+  mtime = times.modified;
+  btime = times.created;
+}
 
 -- its bits and times are those of a new node where none are given
 abbrev pub script_node : Data → Option Given
@@ -92,10 +102,4 @@ script_node d = do
   content ← script_content (find.get (codes "dir") d) (find.get (codes "file") d) (find.get (codes "link") d)
   bits ← optional bits_of (new_given content).bits (find.get (codes "bits") d)
   times ← optional times_of no_times (find.get (codes "times") d)
-  Some (record {
-    content = content;
-    bits = bits;
-    atime = times.accessed;
-    mtime = times.modified;
-    btime = times.created;
-  })
+  Some (given_at content bits times)

@@ -10,8 +10,8 @@ use Rattle.wasi_form.specs.Shapes.{u64_of, is_text, is_object}
 use Rattle.wasi_form.specs.Plan.{PlannedPreopen}
 
 -- `"ro"` or `"rw"`
-abbrev pub perms_of : Data → Option FsPerms
-perms_of d = if is_text (codes "ro") d then Some ReadOnly else (if is_text (codes "rw") d then Some ReadWrite else None)
+abbrev pub perms_named : Data → Option FsPerms
+perms_named d = if is_text (codes "ro") d then Some ReadOnly else (if is_text (codes "rw") d then Some ReadWrite else None)
 
 -- `{"node": NODE, "name": NAME, "perms": PERMS}`
 abbrev pub preopen_of : Data → Option PlannedPreopen
@@ -19,5 +19,5 @@ preopen_of d = do
   _ ← only_if (is_object forms.Preopen d)
   node ← needed u64_of (find.get (codes "node") d)
   name ← needed find.as_str (find.get (codes "name") d)
-  perms ← needed perms_of (find.get (codes "perms") d)
+  perms ← needed perms_named (find.get (codes "perms") d)
   Some (record { node = node; name = name; perms = perms })

@@ -1,5 +1,5 @@
 -- The form of a whole script: an object with a key for each part, and no others.
-use Rattle.std.specs.Prelude.{ℕ, List, [], ◌∷◌, ◌++◌, map, Bool, true, ◌&&◌, codes, if◌then◌else◌, Option, Some, None, is_some, unwrap_or}
+use Rattle.std.specs.Prelude.{ℕ, List, [], ◌∷◌, ◌++◌, Bool, true, ◌&&◌, codes, if◌then◌else◌, Option, Some, None, is_some, unwrap_or}
 use Rattle.std.specs.List.{list_any, list_all}
 use Rattle.serde_json.specs.Data.{Data, Members}
 use Rattle.serde_json.specs.Find as find
@@ -9,7 +9,7 @@ use Rattle.wasi_guest.specs.declared.call.Call.{Call}
 use Rattle.wasi_host.specs.declared.limits.Limits.{Limits}
 use Rattle.wasi_tree.specs.Given.{Given}
 use Rattle.wasi_form.specs.declared.script.Shown.{Shown}
-use Rattle.wasi_form.specs.Lists.{◌>>=◌, only_if, needed, optional, always, forms_of}
+use Rattle.wasi_form.specs.Lists.{◌>>=◌, names, only_if, needed, optional, always, forms_of}
 use Rattle.wasi_form.specs.Shapes.{u64_of, all_keys}
 use Rattle.wasi_form.specs.Plan.{PlannedPreopen, PlannedMemory, Plan}
 use Rattle.wasi_form.specs.NodeForm.{script_node}
@@ -20,11 +20,6 @@ use Rattle.wasi_form.specs.CallForm.{call_of}
 use Rattle.wasi_form.specs.ServicesForm.{service_keys, ServicesFound, services_in, services_found}
 use Rattle.wasi_form.specs.WaitingForm.{waiting_keys, waiting_in}
 
-unfoldable pub script_keys : List (List ℕ)
-script_keys =
-    codes "nodes" ∷ codes "preopens" ∷ codes "calls" ∷ codes "memory" ∷ codes "show" ∷ codes "limits" ∷ codes "fuel"
-    ∷ (map (λ row. row.0) service_keys ++ map (λ row. row.0) waiting_keys)
-
 -- how much fuel each call has in a script that doesn't say it
 abbrev pub default_fuel : ℕ
 default_fuel = 134217728
@@ -32,7 +27,7 @@ default_fuel = 134217728
 -- Whether all keys are those of a script, and what stands at them. A part is `None` where it is of another shape, or is
 -- missing and has to be there, and `Some None` where a form in it waits. At a key that waits: nothing, or whether what
 -- stands there is of its kind.
-pub record Found : Type 0 where
+pub record ScriptFound : Type 0 where
   pub known : Bool
   pub nodes : Option (Option (List Given))
   pub preopens : Option (Option (List PlannedPreopen))
@@ -44,8 +39,23 @@ pub record Found : Type 0 where
   pub services : ServicesFound
   pub waiting : List (Option Bool)
 
+-- the keys of its own parts, each with what a member adds there
+abbrev pub part_rows : List (List ℕ × (Data → ScriptFound → ScriptFound))
+part_rows =
+    (codes "nodes", λ d found. record found { nodes = forms_of (always script_node) d })
+    ∷ (codes "preopens", λ d found. record found { preopens = forms_of (always preopen_of) d })
+    ∷ (codes "calls", λ d found. record found { calls = forms_of call_of d })
+    ∷ (codes "memory", λ d found. record found { memory = memory_of d })
+    ∷ (codes "show", λ d found. record found { show = forms_of (always shown_of) d })
+    ∷ (codes "limits", λ d found. record found { limits = limits_of d })
+    ∷ (codes "fuel", λ d found. record found { fuel = u64_of d })
+    ∷ []
+
+unfoldable pub script_keys : List (List ℕ)
+script_keys = names part_rows ++ (names service_keys ++ names waiting_keys)
+
 -- of all members
-abbrev pub found_in : Members → Found
+abbrev pub found_in : Members → ScriptFound
 found_in ms = record {
   known = all_keys script_keys ms;
   nodes = needed (forms_of (always script_node)) (get_member (codes "nodes") ms);
@@ -63,11 +73,11 @@ found_in ms = record {
 abbrev pub planned : Limits → ℕ → Handed → Option (List Given) → Option (List PlannedPreopen) → Option (List Call)
     → Option PlannedMemory → Option (List Shown) → Option Plan
 planned limits fuel services nodes preopens calls memory show = do
+  m ← memory
   ns ← nodes
   ps ← preopens
-  cs ← calls
-  m ← memory
   ss ← show
+  cs ← calls
   Some (record {
     nodes = ns;
     limits = limits;
@@ -81,7 +91,7 @@ planned limits fuel services nodes preopens calls memory show = do
   })
 
 -- the plan of what was found, where it is of the shape of a script; `Some None` where a form in it waits
-unfoldable pub script_found : Found → Option (Option Plan)
+unfoldable pub script_found : ScriptFound → Option (Option Plan)
 script_found found = do
   _ ← only_if (found.known && list_all (λ is. unwrap_or is true) found.waiting)
   nodes ← found.nodes

@@ -7,8 +7,7 @@ use Rattle.wasi_guest.specs.Services.{Handed}
 use Rattle.wasi_guest.specs.declared.services.WallDatetime.{WallDatetime}
 use Rattle.wasi_form.specs.declared.services.ServiceKey.{ServiceKey}
 use Rattle.wasi_form.specs.declared.services.ServiceKey.TheVariants.{Args, Env, Stdin, Wall, WallResolution, Monotonic, MonotonicResolution, Random}
-use Rattle.wasi_form.specs.CallForm.{at_name}
-use Rattle.wasi_form.specs.Lists.{◌>>=◌, only_if, optional, list_of}
+use Rattle.wasi_form.specs.Lists.{◌>>=◌, at_name, only_if, optional, list_of}
 use Rattle.wasi_form.specs.Shapes.{u64_of, u32_of, hex_of, two_in, two_of}
 
 -- a list of texts
@@ -16,19 +15,19 @@ abbrev pub args_of : Data → Option (List (List ℕ))
 args_of d = list_of find.as_str d
 
 -- `[KEY, VALUE]`, two texts
-abbrev pub pair_in : Items → Option (List ℕ × List ℕ)
-pair_in ds = do
+abbrev pub env_pair_of_items : Items → Option (List ℕ × List ℕ)
+env_pair_of_items ds = do
   two ← two_in ds
   key ← find.as_str two.0
   value ← find.as_str two.1
   Some (key, value)
 
-abbrev pub pair_of : Data → Option (List ℕ × List ℕ)
-pair_of d = find.as_array d >>= pair_in
+abbrev pub env_pair_of : Data → Option (List ℕ × List ℕ)
+env_pair_of d = find.as_array d >>= env_pair_of_items
 
 -- a list of such pairs
 abbrev pub env_of : Data → Option (List (List ℕ × List ℕ))
-env_of d = list_of pair_of d
+env_of d = list_of env_pair_of d
 
 -- `[SECONDS, NANOSECONDS]`: below 2^63 seconds, and nanoseconds that make no second
 abbrev pub wall_of : Data → Option WallDatetime

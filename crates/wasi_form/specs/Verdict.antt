@@ -19,8 +19,8 @@ use Rattle.wasi_form.specs.ScriptForm.{script_of}
 use Rattle.wasi_form.specs.Built.{is_built, is_within_limits}
 
 -- a step that refuses where the test fails
-abbrev pub holds : Refusal → Bool → Result (Unit {0}) Refusal
-holds refusal test = if test then Ok tt else Err refusal
+abbrev pub refused_unless : Refusal → Bool → Result (Unit {0}) Refusal
+refused_unless refusal test = if test then Ok tt else Err refusal
 
 -- a step that refuses where there is nothing
 abbrev pub found : {A : Type 0} → Refusal → Option A → Result A Refusal
@@ -38,7 +38,7 @@ value_of bytes = if is_utf8 bytes then read bytes else None
 -- a plan whose calls are built
 abbrev pub built : Plan → Result Plan Refusal
 built p = do
-  _ ← holds Later (is_built p)
+  _ ← refused_unless Later (is_built p)
   Ok p
 
 -- the plan of a value, where all its forms are built
@@ -52,15 +52,15 @@ plan_in value = do
 -- the plan of bytes, all that is known of them but for what their nodes and numbers are
 unfoldable pub built_plan : List ℕ → Result Plan Refusal
 built_plan bytes = do
-  _ ← holds Long (nat_le (length bytes) most_script)
+  _ ← refused_unless Long (nat_le (length bytes) most_script)
   plan_in (value_of bytes)
 
 -- The plan of bytes that are a script, or why they are refused; by whether a tree can be made of the nodes.
 unfoldable pub verdict_of : Bool → List ℕ → Result Plan Refusal
 verdict_of fit bytes = do
   p ← built_plan bytes
-  _ ← holds Tree fit
-  _ ← holds Limit (is_within_limits p)
+  _ ← refused_unless Tree fit
+  _ ← refused_unless Limit (is_within_limits p)
   Ok p
 
 abbrev pub IsFitFor : Bool → Result Plan Refusal → Type 0

@@ -9,8 +9,8 @@ use Rattle.wasi_form.specs.Lists.{◌>>=◌, only_if, always, forms_of}
 use Rattle.wasi_form.specs.Shapes.{u64_of, u32_of, is_text, two_of}
 
 -- the number of `[NUMBER, "before"]` or `[NUMBER, "after"]`
-abbrev pub fault_of : Data → Option ℕ
-fault_of d = do
+abbrev pub fault_number : Data → Option ℕ
+fault_number d = do
   two ← two_of d
   number ← u64_of two.0
   _ ← only_if (is_text (codes "before") two.1 || is_text (codes "after") two.1)
@@ -29,7 +29,7 @@ rise (Some (Some numbers)) = rise_above 0 numbers
 
 abbrev pub has_kind : Kind → Data → Bool
 has_kind U32 d = is_some (u32_of d)
-has_kind Faults d = rise (forms_of (always fault_of) d)
+has_kind Faults d = rise (forms_of (always fault_number) d)
 
 -- the keys that wait, each with the kind of its value
 abbrev pub waiting_keys : List (List ℕ × Kind)

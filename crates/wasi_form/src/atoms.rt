@@ -3,12 +3,13 @@ ghost use Rattle.std.specs.Prelude.{◌≡◌, ◌∷◌, option_map};
 ghost use Rattle.json.specs.Json.{parse_map};
 ghost use Rattle.json.specs.Reads.{token_of};
 ghost use Rattle.serde_json.specs.Find as find;
+ghost use Rattle.serde_json.specs.View.{number_view};
 ghost use Rattle.wasi_form.specs.Atoms.{flat, flat_items, atom_data, atoms_data};
 ghost use Rattle.wasi_form.specs.IsRead.{IsRead};
 ghost use Rattle.wasi_form.specs.Shapes as shapes;
 ghost use Rattle.wasi_form.specs.Tokens.{next_value, next_items};
 
-use crate::shapes::Unread;
+use crate::shapes::{Reading, Unread};
 use crate::tokens::{number, value_after};
 use json::{Reader, Token};
 use serde_json::Number;
@@ -23,26 +24,28 @@ pub enum Atom<'a> {
 }
 
 impl<'a> Atom<'a> {
+    fn as_number(self) -> Option<Number>
+        ensures { option_map number_view result ≡ find.as_number (atom_data self.entry) }
+    {
+        match self {
+            Atom::Number(number) => Some(number),
+            Atom::Text(_) => None,
+            Atom::Other => None,
+        }
+    }
+
     /// A whole number of 64 bits.
     pub fn as_u64(self) -> Option<u64>
         ensures { result ≡ shapes.u64_of (atom_data self.entry) }
     {
-        match self {
-            Atom::Number(number) => number.as_u64(),
-            Atom::Text(_) => None,
-            Atom::Other => None,
-        }
+        self.as_number()?.as_u64()
     }
 
     /// A whole number of 64 bits with a sign.
     pub fn as_i64(self) -> Option<i64>
         ensures { result ≡ shapes.i64_of (atom_data self.entry) }
     {
-        match self {
-            Atom::Number(number) => number.as_i64(),
-            Atom::Text(_) => None,
-            Atom::Other => None,
-        }
+        self.as_number()?.as_i64()
     }
 
     /// A whole number of 32 bits.
@@ -76,11 +79,7 @@ impl<'a> Atom<'a> {
 }
 
 /// The next value of a text.
-pub fn next_atom<'a>(
-    alloc: Global,
-    reader: &mut Reader<'a>,
-    depth: usize,
-) -> Result<Atom<'a>, Unread>
+pub fn next_atom<'a>(alloc: Global, reader: &mut Reader<'a>, depth: usize) -> Reading<Atom<'a>>
     ensures { IsRead (λ atom. (atom_data atom, reader.new)) result (parse_map flat (next_value depth reader.old)) }
 {
     match reader.next() {
@@ -94,7 +93,7 @@ fn atom_after<'a>(
     token: Token<'a>,
     reader: &mut Reader<'a>,
     depth: usize,
-) -> Result<Atom<'a>, Unread>
+) -> Reading<Atom<'a>>
     ensures { IsRead (λ atom. (atom_data atom, reader.new)) result
         (parse_map flat (next_value depth (token_of token.entry ∷ reader.old))) }
 {
@@ -116,7 +115,7 @@ pub fn next_text<'a>(
     alloc: Global,
     reader: &mut Reader<'a>,
     depth: usize,
-) -> Result<Option<&'a str>, Unread>
+) -> Reading<Option<&'a str>>
     ensures { IsRead (λ found. (option_map (λ text. text.now) found, reader.new)) result
         (parse_map find.as_str (next_value depth reader.old)) }
 {
@@ -127,11 +126,7 @@ pub fn next_text<'a>(
 const MOST_ITEMS: usize = 9;
 
 // The items that are left of a list.
-fn atoms_left<'a>(
-    alloc: Global,
-    reader: &mut Reader<'a>,
-    depth: usize,
-) -> Result<Vec<Atom<'a>>, Unread>
+fn atoms_left<'a>(alloc: Global, reader: &mut Reader<'a>, depth: usize) -> Reading<Vec<Atom<'a>>>
     ensures { IsRead (λ v. (atoms_data v.items, reader.new)) result
         (parse_map flat_items (next_items depth reader.old)) }
 {

@@ -1,6 +1,7 @@
 //! The form of scripts: which bytes are scripts, and what each of them is.
 #![tactic(auto)]
 
+mod arguments;
 mod atoms;
 mod built;
 mod calls;

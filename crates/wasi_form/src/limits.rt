@@ -3,7 +3,7 @@ ghost use Rattle.std.specs.Prelude.{◌≡◌};
 ghost use Rattle.wasi_form.specs.LimitsForm as specs;
 ghost use Rattle.wasi_form.specs.Lists.{same};
 
-use crate::shapes::{Form, Shaped, Unread, needed, require};
+use crate::shapes::{Form, Reading, Shaped, needed, require};
 use serde_json::Value;
 use std::alloc::Global;
 use wasi_host::Limits;
@@ -29,7 +29,7 @@ impl Shaped for Limits {
 
     ghost of = { specs.limits_of };
 
-    fn read(alloc: Global, value: &Value) -> Result<Limits, Unread> {
+    fn read(alloc: Global, value: &Value) -> Reading<Limits> {
         require(Form::Limits.is_of(value))?;
         let nodes = needed(alloc, value.get("nodes"))?;
         let links = needed(alloc, value.get("links"))?;

@@ -7,15 +7,18 @@ ghost use Rattle.serde_json.specs.Find as find;
 ghost use Rattle.serde_json.specs.View.{view};
 ghost use Rattle.wasi_form.specs.Atoms.{atoms_data, SeesAtoms};
 ghost use Rattle.wasi_form.specs.IsRead.{IsRead};
-ghost use Rattle.wasi_form.specs.Lists.{forms_in, forms_of, forms_seen, pushed, form_pushed};
+ghost use Rattle.wasi_form.specs.Lists.{always, forms_in, forms_of, forms_seen, pushed, form_pushed};
 ghost use Rattle.wasi_form.specs.Tokens.{next_value, next_items};
 
 use crate::atoms::{Atom, list_atoms};
-use crate::shapes::{Shaped, Unread};
+use crate::shapes::{Reading, Shaped, Unread};
 use crate::tokens::{value, value_after};
 use json::{Reader, Token};
 use serde_json::Value;
 use std::alloc::{AllocError, Global};
+
+/// What a value is read as: `None` where it is of another shape, `Some(None)` where it waits until its form is built.
+pub type MayWait<T> = Option<Option<T>>;
 
 /// An item of a list of a script, whose form may wait until it is built.
 pub trait Item: Drop + Sized {
@@ -26,25 +29,17 @@ pub trait Item: Drop + Sized {
 
     ghost of: { Data → Option (Option Self.Seen) };
 
-    /// The next value of a text. `None` where it is of another shape, `Some(None)` where it waits.
-    fn next(
-        alloc: Global,
-        reader: &mut Reader<'_>,
-        depth: usize,
-    ) -> Result<Option<Option<Self>>, Unread>
+    /// The next value of a text.
+    fn next(alloc: Global, reader: &mut Reader<'_>, depth: usize) -> Reading<MayWait<Self>>
         ensures { IsRead (λ found. (option_map (λ item. option_map see item) found, reader.new)) result
             (parse_map of (next_value depth reader.old)) };
 }
 
-/// What a list is read as: `None` where it is of another shape, `Some(None)` where one of its items waits.
-pub type Forms<T> = Option<Option<Vec<T>>>;
+/// What a list is read as: it waits where one of its items does.
+pub type Forms<T> = MayWait<Vec<T>>;
 
 /// The next value of a text, read as a list.
-pub fn list<T: Item>(
-    alloc: Global,
-    reader: &mut Reader<'_>,
-    depth: usize,
-) -> Result<Forms<T>, Unread>
+pub fn list<T: Item>(alloc: Global, reader: &mut Reader<'_>, depth: usize) -> Reading<Forms<T>>
     ensures { IsRead (λ found. (forms_seen T.see found, reader.new)) result
         (parse_map (forms_of T.of) (next_value depth reader.old)) }
 {
@@ -59,7 +54,7 @@ fn list_after<T: Item>(
     token: Token<'_>,
     reader: &mut Reader<'_>,
     depth: usize,
-) -> Result<Forms<T>, Unread>
+) -> Reading<Forms<T>>
     ensures { IsRead (λ found. (forms_seen T.see found, reader.new)) result
         (parse_map (forms_of T.of) (next_value depth (token_of token.entry ∷ reader.old))) }
 {
@@ -77,11 +72,7 @@ fn list_after<T: Item>(
     }
 }
 
-fn items_left<T: Item>(
-    alloc: Global,
-    reader: &mut Reader<'_>,
-    depth: usize,
-) -> Result<Forms<T>, Unread>
+fn items_left<T: Item>(alloc: Global, reader: &mut Reader<'_>, depth: usize) -> Reading<Forms<T>>
     ensures { IsRead (λ found. (forms_seen T.see found, reader.new)) result
         (parse_map (forms_in T.of) (next_items depth reader.old)) }
 {
@@ -94,7 +85,7 @@ fn items_left<T: Item>(
 }
 
 // The list with an item at its end, `None` where one of them is of another shape.
-fn with_form<T: Drop>(found: Forms<T>, item: Option<Option<T>>) -> Result<Forms<T>, AllocError>
+fn with_form<T: Drop>(found: Forms<T>, item: MayWait<T>) -> Result<Forms<T>, AllocError>
     ensures { IfOk result (λ all. option_map (λ list. option_map (λ v. v.items) list) all
         ≡ form_pushed (option_map (λ list. option_map (λ v. v.items) list) found) item) }
 {
@@ -128,7 +119,7 @@ pub fn next_shaped<T: Shaped>(
     alloc: Global,
     reader: &mut Reader<'_>,
     depth: usize,
-) -> Result<Option<T>, Unread>
+) -> Reading<Option<T>>
     ensures { IsRead (λ found. (option_map T.see found, reader.new)) result
         (parse_map T.of (next_value depth reader.old)) }
 {
@@ -147,41 +138,36 @@ fn shaped<T: Shaped>(alloc: Global, value: &Value) -> Result<Option<T>, AllocErr
     }
 }
 
-/// An item that is a list of numbers and texts, whose form may wait until it is built.
+/// An item that is a list of numbers and texts.
 pub trait Listed: Drop + Sized {
     /// What is seen of what is read.
     ghost Seen: { Type 0 };
 
     ghost see: { Self → Self.Seen };
 
-    ghost of: { Items → Option (Option Self.Seen) };
+    ghost of: { Items → Option Self.Seen };
 
-    /// `None` where the item waits.
-    fn read(alloc: Global, atoms: &[Atom<'_>]) -> Result<Option<Self>, Unread>
-        ensures { IsRead (λ item. option_map see item) result (of (atoms_data atoms.now)) };
+    fn read(alloc: Global, atoms: &[Atom<'_>]) -> Reading<Self>
+        ensures { IsRead Self.see result (of (atoms_data atoms.now)) };
 }
 
-/// The next value of a text, read as a list of numbers and texts. `None` where it is of another shape, `Some(None)`
-/// where it waits.
+/// The next value of a text, read as a list of numbers and texts.
 pub fn next_listed<T: Listed>(
     alloc: Global,
     reader: &mut Reader<'_>,
     depth: usize,
-) -> Result<Option<Option<T>>, Unread>
+) -> Reading<MayWait<T>>
     requires { SeesAtoms T.of }
     ensures { IsRead (λ found. (option_map (λ item. option_map T.see item) found, reader.new)) result
-        (parse_map (λ d. option_and_then T.of (find.as_array d)) (next_value depth reader.old)) }
+        (parse_map (always (λ d. option_and_then T.of (find.as_array d))) (next_value depth reader.old)) }
 {
     let atoms = list_atoms(alloc, reader, depth)?;
-    Ok(formed(alloc, atoms)?)
+    Ok(formed(alloc, atoms)?.map(Some))
 }
 
 // What numbers and texts are read as, where they are a list.
-fn formed<T: Listed>(
-    alloc: Global,
-    atoms: Option<Vec<Atom<'_>>>,
-) -> Result<Option<Option<T>>, AllocError>
-    ensures { IfOk result (λ found. option_map (λ item. option_map T.see item) found
+fn formed<T: Listed>(alloc: Global, atoms: Option<Vec<Atom<'_>>>) -> Result<Option<T>, AllocError>
+    ensures { IfOk result (λ found. option_map T.see found
         ≡ option_and_then T.of (option_map (λ v. atoms_data v.items) atoms.entry)) }
 {
     let Some(atoms) = atoms else {

@@ -3,22 +3,22 @@ ghost use Rattle.std.specs.Prelude.{◌≡◌, option_map};
 ghost use Rattle.json.specs.Json.{parse_map};
 ghost use Rattle.wasi_form.specs.Atoms.{atom_data};
 ghost use Rattle.wasi_form.specs.IsRead.{IsRead};
-ghost use Rattle.wasi_form.specs.Lists.{same, always, always_in};
+ghost use Rattle.wasi_form.specs.Lists.{same, always};
 ghost use Rattle.wasi_form.specs.MemoryForm as specs;
 ghost use Rattle.wasi_form.specs.FoundParts.{memory_found_of};
 ghost use Rattle.wasi_form.specs.Plan as plans;
 ghost use Rattle.wasi_form.specs.Tokens.{next_value};
 
 use crate::atoms::Atom;
-use crate::lists::{Forms, Item, Listed, list, next_listed, next_shaped};
+use crate::lists::{Forms, Item, Listed, MayWait, list, next_listed, next_shaped};
 use crate::objects::{Fields, object};
 use crate::script::{Piece, Shown};
-use crate::shapes::{Unread, hex_of_text};
+use crate::shapes::{Reading, Unread, hex_of_text};
 use crate::tokens::value;
 use json::Reader;
 use std::alloc::Global;
 
-fn piece_bytes(alloc: Global, kind: Atom<'_>, text: Atom<'_>) -> Result<Vec<u8>, Unread>
+fn piece_bytes(alloc: Global, kind: Atom<'_>, text: Atom<'_>) -> Reading<Vec<u8>>
     ensures { IsRead (λ v. v.items) result (specs.piece_bytes (atom_data kind.entry) (atom_data text.entry)) }
 {
     let Some(text) = text.as_str() else {
@@ -40,17 +40,17 @@ impl Listed for Piece {
 
     ghost see = { plans.planned_piece };
 
-    ghost of = { always_in specs.piece_in };
+    ghost of = { specs.piece_of_items };
 
     #[tactic(auto, using(crate::proofs::Lengths::short_is_no_three, crate::proofs::Lengths::long_is_no_three))]
-    fn read(alloc: Global, atoms: &[Atom<'_>]) -> Result<Option<Piece>, Unread> {
+    fn read(alloc: Global, atoms: &[Atom<'_>]) -> Reading<Piece> {
         let [offset, kind, text] = atoms else {
             return Err(Unread::Shape);
         };
-        Ok(Some(Piece {
+        Ok(Piece {
             offset: offset.as_u32().ok_or(Unread::Shape)?,
             bytes: piece_bytes(alloc, *kind, *text)?,
-        }))
+        })
     }
 }
 
@@ -63,11 +63,7 @@ impl Item for Piece {
 
     ghost of = { always specs.piece_of };
 
-    fn next(
-        alloc: Global,
-        reader: &mut Reader<'_>,
-        depth: usize,
-    ) -> Result<Option<Option<Piece>>, Unread> {
+    fn next(alloc: Global, reader: &mut Reader<'_>, depth: usize) -> Reading<MayWait<Piece>> {
         next_listed(alloc, reader, depth)
     }
 }
@@ -82,6 +78,7 @@ pub struct ScriptMemory {
 // Whether all keys are those of a memory, and what stands at them.
 #[derive(Drop)]
 struct MemoryParts {
+    alloc: Global,
     known: bool,
     size: Option<u32>,
     pieces: Forms<Piece>,
@@ -99,31 +96,31 @@ impl Fields for MemoryParts {
 
     ghost with = { with_memory_member };
 
-    fn none(_alloc: Global) -> MemoryParts {
+    fn none(alloc: Global) -> MemoryParts {
         MemoryParts {
+            alloc,
             known: true,
             size: None,
             pieces: None,
         }
     }
 
-    fn with_member(
-        self,
-        alloc: Global,
-        key: &str,
-        reader: &mut Reader<'_>,
-        depth: usize,
-    ) -> Result<MemoryParts, Unread> {
-        if key == "size" {
-            let size = next_shaped(alloc, reader, depth)?;
-            Ok(MemoryParts { size, ..self })
-        } else if key == "pieces" {
-            let pieces = list(alloc, reader, depth)?;
-            Ok(MemoryParts { pieces, ..self })
-        } else {
-            drop(value(alloc, reader, depth)?);
-            let known = false;
-            Ok(MemoryParts { known, ..self })
+    #[tactic(auto, unfolding(crate::specs::FoundParts::with_memory_member))]
+    fn with_member(self, key: &str, reader: &mut Reader<'_>, depth: usize) -> Reading<Self> {
+        match key {
+            "size" => {
+                let size = next_shaped(self.alloc, reader, depth)?;
+                Ok(MemoryParts { size, ..self })
+            }
+            "pieces" => {
+                let pieces = list(self.alloc, reader, depth)?;
+                Ok(MemoryParts { pieces, ..self })
+            }
+            _ => {
+                drop(value(self.alloc, reader, depth)?);
+                let known = false;
+                Ok(MemoryParts { known, ..self })
+            }
         }
     }
 }
@@ -148,7 +145,7 @@ pub fn memory(
     alloc: Global,
     reader: &mut Reader<'_>,
     depth: usize,
-) -> Result<Option<Option<ScriptMemory>>, Unread>
+) -> Reading<MayWait<ScriptMemory>>
     ensures { IsRead (λ found. (option_map (λ memory. option_map plans.planned_memory memory) found, reader.new)) result
         (parse_map specs.memory_of (next_value depth reader.old)) }
 {
@@ -166,17 +163,17 @@ impl Listed for Shown {
 
     ghost see = { same };
 
-    ghost of = { always_in specs.shown_in };
+    ghost of = { specs.shown_of_items };
 
     #[tactic(auto, using(crate::proofs::Lengths::short_is_no_two, crate::proofs::Lengths::long_is_no_two))]
-    fn read(_alloc: Global, atoms: &[Atom<'_>]) -> Result<Option<Shown>, Unread> {
+    fn read(_alloc: Global, atoms: &[Atom<'_>]) -> Reading<Shown> {
         let [ptr, len] = atoms else {
             return Err(Unread::Shape);
         };
-        Ok(Some(Shown {
+        Ok(Shown {
             ptr: ptr.as_u32().ok_or(Unread::Shape)?,
             len: len.as_u32().ok_or(Unread::Shape)?,
-        }))
+        })
     }
 }
 
@@ -189,11 +186,7 @@ impl Item for Shown {
 
     ghost of = { always specs.shown_of };
 
-    fn next(
-        alloc: Global,
-        reader: &mut Reader<'_>,
-        depth: usize,
-    ) -> Result<Option<Option<Shown>>, Unread> {
+    fn next(alloc: Global, reader: &mut Reader<'_>, depth: usize) -> Reading<MayWait<Shown>> {
         next_listed(alloc, reader, depth)
     }
 }

@@ -8,14 +8,14 @@ ghost use Rattle.serde_json.specs.Find as find;
 ghost use Rattle.wasi_form.specs.IsRead.{IsRead};
 ghost use Rattle.wasi_form.specs.Tokens.{next_value, next_members, TakesMembers};
 
-use crate::shapes::Unread;
+use crate::shapes::{Reading, Unread};
 use crate::tokens::value_after;
 use json::{Reader, Token};
 use std::alloc::Global;
 
 /// What the members of an object are put into, one after another.
 pub trait Fields: Drop + Sized {
-    /// What is seen of it.
+    /// What is seen of what is read.
     ghost Seen: { Type 0 };
 
     ghost see: { Self → Self.Seen };
@@ -31,23 +31,13 @@ pub trait Fields: Drop + Sized {
         ensures { see result ≡ of no_members };
 
     /// With the member of a key, whose value is next in the text.
-    fn with_member(
-        self,
-        alloc: Global,
-        key: &str,
-        reader: &mut Reader<'_>,
-        depth: usize,
-    ) -> Result<Self, Unread>
+    fn with_member(self, key: &str, reader: &mut Reader<'_>, depth: usize) -> Reading<Self>
         ensures { IsRead (λ all. (see all, reader.new)) result
             (parse_map (λ d. with key.now d (see self)) (next_value depth reader.old)) };
 }
 
 /// The next value of a text, read as an object. `None` where it is none.
-pub fn object<F: Fields>(
-    alloc: Global,
-    reader: &mut Reader<'_>,
-    depth: usize,
-) -> Result<Option<F>, Unread>
+pub fn object<F: Fields>(alloc: Global, reader: &mut Reader<'_>, depth: usize) -> Reading<Option<F>>
     requires { TakesMembers F.of F.with }
     ensures { IsRead (λ found. (option_map F.see found, reader.new)) result
         (parse_map (λ d. option_map F.of (find.as_object d)) (next_value depth reader.old)) }
@@ -63,7 +53,7 @@ fn object_after<F: Fields>(
     token: Token<'_>,
     reader: &mut Reader<'_>,
     depth: usize,
-) -> Result<Option<F>, Unread>
+) -> Reading<Option<F>>
     requires { TakesMembers F.of F.with }
     ensures { IsRead (λ found. (option_map F.see found, reader.new)) result
         (parse_map (λ d. option_map F.of (find.as_object d)) (next_value depth (token_of token.entry ∷ reader.old))) }
@@ -82,18 +72,14 @@ fn object_after<F: Fields>(
     }
 }
 
-fn members_left<F: Fields>(
-    alloc: Global,
-    reader: &mut Reader<'_>,
-    depth: usize,
-) -> Result<F, Unread>
+fn members_left<F: Fields>(alloc: Global, reader: &mut Reader<'_>, depth: usize) -> Reading<F>
     requires { TakesMembers F.of F.with }
     ensures { IsRead (λ all. (F.see all, reader.new)) result
         (parse_map F.of (next_members depth no_members reader.old)) }
 {
     let mut all = F::none(alloc);
     'members: while let Some(key) = reader.next_key()? {
-        all = all.with_member(alloc, key, reader, depth)?;
+        all = all.with_member(key, reader, depth)?;
     }
     Ok(all)
 }

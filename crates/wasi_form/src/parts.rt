@@ -5,19 +5,20 @@ ghost use Rattle.wasi_guest.specs.Services.{handed};
 ghost use Rattle.wasi_tree.specs.Given.{given};
 ghost use Rattle.wasi_form.specs.IsRead.{IsRead};
 ghost use Rattle.wasi_form.specs.Lists.{same};
-ghost use Rattle.wasi_form.specs.FoundParts.{found_of, with_service, with_waiting};
+ghost use Rattle.wasi_form.specs.FoundParts.{found_of, with_beside, with_waiting};
 ghost use Rattle.wasi_form.specs.Plan.{drafted, planned_preopen, planned_memory};
 ghost use Rattle.wasi_form.specs.ScriptForm.{planned, script_found, script_of};
+ghost use Rattle.wasi_form.specs.ServicesForm.{service_key};
 ghost use Rattle.wasi_form.specs.Tokens.{most_nesting, next_value};
 ghost use Rattle.wasi_form.specs.WaitingForm.{waiting_key};
 
 use crate::limits::DEFAULT_LIMITS;
-use crate::lists::{Forms, list, next_shaped};
+use crate::lists::{Forms, MayWait, list, next_shaped};
 use crate::memory::{ScriptMemory, memory, no_memory};
 use crate::objects::{Fields, object};
 use crate::script::{Draft, ScriptPreopen, Shown};
 use crate::services::{ServiceKey, ServiceParts};
-use crate::shapes::Unread;
+use crate::shapes::Reading;
 use crate::tokens::value;
 use crate::waiting::{Waiting, is_of_kind, waiting_key};
 use json::Reader;
@@ -35,6 +36,7 @@ const DEFAULT_FUEL: u64 = 134_217_728;
 // Whether all keys are those of a script, and what stands at them, or counts where nothing does.
 #[derive(Drop)]
 struct Parts {
+    alloc: Global,
     known: bool,
     nodes: Forms<NewNode>,
     preopens: Forms<ScriptPreopen>,
@@ -49,9 +51,9 @@ struct Parts {
 
 impl Fields for Parts {
     ghost use Rattle.wasi_form.specs.FoundParts.{found_of, with_member};
-    ghost use Rattle.wasi_form.specs.ScriptForm.{Found, found_in};
+    ghost use Rattle.wasi_form.specs.ScriptForm.{ScriptFound, found_in};
 
-    ghost Seen = { Found };
+    ghost Seen = { ScriptFound };
 
     ghost see = { found_of };
 
@@ -61,6 +63,7 @@ impl Fields for Parts {
 
     fn none(alloc: Global) -> Parts {
         Parts {
+            alloc,
             known: true,
             nodes: None,
             preopens: None,
@@ -74,77 +77,72 @@ impl Fields for Parts {
         }
     }
 
-    fn with_member(
-        self,
-        alloc: Global,
-        key: &str,
-        reader: &mut Reader<'_>,
-        depth: usize,
-    ) -> Result<Parts, Unread> {
-        if key == "nodes" {
-            let nodes = list(alloc, reader, depth)?;
-            Ok(Parts { nodes, ..self })
-        } else if key == "preopens" {
-            let preopens = list(alloc, reader, depth)?;
-            Ok(Parts { preopens, ..self })
-        } else if key == "calls" {
-            let calls = list(alloc, reader, depth)?;
-            Ok(Parts { calls, ..self })
-        } else if key == "memory" {
-            let memory = memory(alloc, reader, depth)?;
-            Ok(Parts { memory, ..self })
-        } else if key == "show" {
-            let show = list(alloc, reader, depth)?;
-            Ok(Parts { show, ..self })
-        } else if key == "limits" {
-            let limits = next_shaped(alloc, reader, depth)?;
-            Ok(Parts { limits, ..self })
-        } else if key == "fuel" {
-            let fuel = next_shaped(alloc, reader, depth)?;
-            Ok(Parts { fuel, ..self })
-        } else if let Some(service) = ServiceKey::of(key) {
-            self.with_service(alloc, service, reader, depth)
-        } else {
-            self.with_waiting(alloc, key, reader, depth)
+    #[tactic(auto, unfolding(crate::specs::FoundParts::with_member))]
+    fn with_member(self, key: &str, reader: &mut Reader<'_>, depth: usize) -> Reading<Self> {
+        match key {
+            "nodes" => {
+                let nodes = list(self.alloc, reader, depth)?;
+                Ok(Parts { nodes, ..self })
+            }
+            "preopens" => {
+                let preopens = list(self.alloc, reader, depth)?;
+                Ok(Parts { preopens, ..self })
+            }
+            "calls" => {
+                let calls = list(self.alloc, reader, depth)?;
+                Ok(Parts { calls, ..self })
+            }
+            "memory" => {
+                let memory = memory(self.alloc, reader, depth)?;
+                Ok(Parts { memory, ..self })
+            }
+            "show" => {
+                let show = list(self.alloc, reader, depth)?;
+                Ok(Parts { show, ..self })
+            }
+            "limits" => {
+                let limits = next_shaped(self.alloc, reader, depth)?;
+                Ok(Parts { limits, ..self })
+            }
+            "fuel" => {
+                let fuel = next_shaped(self.alloc, reader, depth)?;
+                Ok(Parts { fuel, ..self })
+            }
+            _ => self.with_other(key, reader, depth),
         }
     }
 }
 
 impl Parts {
-    // With the member of a key of the services.
-    fn with_service(
-        self,
-        alloc: Global,
-        service: ServiceKey,
-        reader: &mut Reader<'_>,
-        depth: usize,
-    ) -> Result<Parts, Unread>
-        ensures { IsRead (λ parts. (found_of parts, reader.new)) result
-            (parse_map (λ d. with_service service d (found_of self)) (next_value depth reader.old)) }
+    // With the member of a key that is no part of its own.
+    fn with_other(self, key: &str, reader: &mut Reader<'_>, depth: usize) -> Reading<Parts>
+        ensures { IsRead (λ parts. (found_of parts, reader.new)) result (parse_map
+            (λ d. with_beside (service_key key.now) (waiting_key key.now) d (found_of self)) (next_value depth reader.old)) }
     {
-        let services = self.services.with_member(alloc, service, reader, depth)?;
-        Ok(Parts { services, ..self })
+        match ServiceKey::of(key) {
+            Some(service) => {
+                let services = self
+                    .services
+                    .with_member(self.alloc, service, reader, depth)?;
+                Ok(Parts { services, ..self })
+            }
+            None => self.with_waiting(key, reader, depth),
+        }
     }
 
     // With the member of another key.
-    fn with_waiting(
-        self,
-        alloc: Global,
-        key: &str,
-        reader: &mut Reader<'_>,
-        depth: usize,
-    ) -> Result<Parts, Unread>
+    fn with_waiting(self, key: &str, reader: &mut Reader<'_>, depth: usize) -> Reading<Parts>
         ensures { IsRead (λ parts. (found_of parts, reader.new)) result
             (parse_map (λ d. with_waiting (waiting_key key.now) d (found_of self)) (next_value depth reader.old)) }
     {
         match waiting_key(key) {
             Some((place, kind)) => {
-                let is = is_of_kind(alloc, kind, reader, depth)?;
+                let is = is_of_kind(self.alloc, kind, reader, depth)?;
                 let waiting = self.waiting.with(place, is);
                 Ok(Parts { waiting, ..self })
             }
             None => {
-                drop(value(alloc, reader, depth)?);
+                drop(value(self.alloc, reader, depth)?);
                 let known = false;
                 Ok(Parts { known, ..self })
             }
@@ -157,6 +155,7 @@ impl Parts {
         ensures { option_map (λ draft. option_map drafted draft) result ≡ script_found (found_of self) }
     {
         let Parts {
+            alloc: _,
             known,
             nodes,
             preopens,
@@ -203,19 +202,15 @@ fn built(
         (option_map (λ v. map same v.items) calls) (option_map planned_memory memory)
         (option_map (λ v. map same v.items) show) }
 {
-    let nodes = nodes?;
-    let preopens = preopens?;
-    let calls = calls?;
     let ScriptMemory { size, pieces } = memory?;
-    let show = show?;
     Some(Draft {
-        nodes,
+        nodes: nodes?,
         limits,
-        preopens,
+        preopens: preopens?,
         size,
         pieces,
-        show,
-        calls,
+        show: show?,
+        calls: calls?,
         fuel,
         services,
     })
@@ -223,7 +218,7 @@ fn built(
 
 /// The next value of a text, read as a script. `None` where it is of another shape, `Some(None)` where a form in it
 /// waits.
-pub fn draft(alloc: Global, reader: &mut Reader<'_>) -> Result<Option<Option<Draft>>, Unread>
+pub fn draft(alloc: Global, reader: &mut Reader<'_>) -> Reading<MayWait<Draft>>
     ensures { IsRead (λ found. (option_map (λ draft. option_map drafted draft) found, reader.new)) result
         (parse_map script_of (next_value most_nesting reader.old)) }
 {

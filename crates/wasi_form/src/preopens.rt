@@ -3,9 +3,9 @@ ghost use Rattle.wasi_form.specs.Lists.{same, always};
 ghost use Rattle.wasi_form.specs.Plan as plans;
 ghost use Rattle.wasi_form.specs.PreopenForm as specs;
 
-use crate::lists::{Item, next_shaped};
+use crate::lists::{Item, MayWait, next_shaped};
 use crate::script::ScriptPreopen;
-use crate::shapes::{Form, Shaped, Unread, is_text, needed, require};
+use crate::shapes::{Form, Reading, Shaped, Unread, is_text, needed, require};
 use json::Reader;
 use serde_json::Value;
 use std::alloc::Global;
@@ -18,9 +18,9 @@ impl Shaped for FsPerms {
 
     ghost see = { same };
 
-    ghost of = { specs.perms_of };
+    ghost of = { specs.perms_named };
 
-    fn read(_alloc: Global, value: &Value) -> Result<FsPerms, Unread> {
+    fn read(_alloc: Global, value: &Value) -> Reading<FsPerms> {
         if is_text(value, "ro") {
             Ok(FsPerms::ReadOnly)
         } else if is_text(value, "rw") {
@@ -40,7 +40,7 @@ impl Shaped for ScriptPreopen {
 
     ghost of = { specs.preopen_of };
 
-    fn read(alloc: Global, value: &Value) -> Result<ScriptPreopen, Unread> {
+    fn read(alloc: Global, value: &Value) -> Reading<ScriptPreopen> {
         require(Form::Preopen.is_of(value))?;
         let node = needed(alloc, value.get("node"))?;
         let name = needed(alloc, value.get("name"))?;
@@ -62,7 +62,7 @@ impl Item for ScriptPreopen {
         alloc: Global,
         reader: &mut Reader<'_>,
         depth: usize,
-    ) -> Result<Option<Option<ScriptPreopen>>, Unread> {
+    ) -> Reading<MayWait<ScriptPreopen>> {
         let found: Option<ScriptPreopen> = next_shaped(alloc, reader, depth)?;
         Ok(found.map(Some))
     }

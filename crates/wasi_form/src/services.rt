@@ -6,13 +6,13 @@ ghost use Rattle.serde_json.specs.Find as find;
 ghost use Rattle.wasi_guest.specs.Services.{env_pair, handed};
 ghost use Rattle.wasi_form.specs.FoundParts.{services_found_of, services_with};
 ghost use Rattle.wasi_form.specs.IsRead.{IsRead};
-ghost use Rattle.wasi_form.specs.Lists.{same, always, always_in, forms_of};
+ghost use Rattle.wasi_form.specs.Lists.{same, always, forms_of};
 ghost use Rattle.wasi_form.specs.ServicesForm as specs;
 ghost use Rattle.wasi_form.specs.Tokens.{next_value};
 
 use crate::atoms::Atom;
-use crate::lists::{Forms, Item, Listed, list, next_listed, next_shaped};
-use crate::shapes::{Shaped, Unread, as_u32, require, two};
+use crate::lists::{Forms, Item, Listed, MayWait, list, next_listed, next_shaped};
+use crate::shapes::{Reading, Shaped, Unread, as_u32, require, two};
 use crate::texts::{hex, text};
 use json::Reader;
 use serde_json::Value;
@@ -71,11 +71,7 @@ impl Item for String {
 
     ghost of = { always find.as_str };
 
-    fn next(
-        alloc: Global,
-        reader: &mut Reader<'_>,
-        depth: usize,
-    ) -> Result<Option<Option<String>>, Unread> {
+    fn next(alloc: Global, reader: &mut Reader<'_>, depth: usize) -> Reading<MayWait<String>> {
         Ok(text(alloc, reader, depth)?.map(Some))
     }
 }
@@ -87,19 +83,19 @@ impl Listed for EnvPair {
 
     ghost see = { env_pair };
 
-    ghost of = { always_in specs.pair_in };
+    ghost of = { specs.env_pair_of_items };
 
     #[tactic(auto, using(crate::proofs::Lengths::short_is_no_two, crate::proofs::Lengths::long_is_no_two))]
-    fn read(alloc: Global, atoms: &[Atom<'_>]) -> Result<Option<EnvPair>, Unread> {
+    fn read(alloc: Global, atoms: &[Atom<'_>]) -> Reading<EnvPair> {
         let [key, value] = atoms else {
             return Err(Unread::Shape);
         };
         let key = key.as_str().ok_or(Unread::Shape)?;
         let value = value.as_str().ok_or(Unread::Shape)?;
-        Ok(Some(EnvPair {
+        Ok(EnvPair {
             key: String::from_str(alloc, key)?,
             value: String::from_str(alloc, value)?,
-        }))
+        })
     }
 }
 
@@ -111,13 +107,9 @@ impl Item for EnvPair {
 
     ghost see = { env_pair };
 
-    ghost of = { always specs.pair_of };
+    ghost of = { always specs.env_pair_of };
 
-    fn next(
-        alloc: Global,
-        reader: &mut Reader<'_>,
-        depth: usize,
-    ) -> Result<Option<Option<EnvPair>>, Unread> {
+    fn next(alloc: Global, reader: &mut Reader<'_>, depth: usize) -> Reading<MayWait<EnvPair>> {
         next_listed(alloc, reader, depth)
     }
 }
@@ -132,16 +124,10 @@ impl Shaped for WallDatetime {
 
     ghost of = { specs.wall_of };
 
-    fn read(_alloc: Global, value: &Value) -> Result<WallDatetime, Unread> {
-        let Some((seconds, nanoseconds)) = two(value) else {
-            return Err(Unread::Shape);
-        };
-        let Some(seconds) = seconds.as_u64() else {
-            return Err(Unread::Shape);
-        };
-        let Some(nanoseconds) = as_u32(nanoseconds) else {
-            return Err(Unread::Shape);
-        };
+    fn read(_alloc: Global, value: &Value) -> Reading<WallDatetime> {
+        let (seconds, nanoseconds) = two(value).ok_or(Unread::Shape)?;
+        let seconds = seconds.as_u64().ok_or(Unread::Shape)?;
+        let nanoseconds = as_u32(nanoseconds).ok_or(Unread::Shape)?;
         require(seconds < 1 << 63 && nanoseconds < NANOSECONDS)?;
         Ok(WallDatetime {
             seconds,
@@ -155,7 +141,7 @@ fn whole_list<T: Item>(
     alloc: Global,
     reader: &mut Reader<'_>,
     depth: usize,
-) -> Result<Option<Vec<T>>, Unread>
+) -> Reading<Option<Vec<T>>>
     ensures { IsRead (λ found. (option_map (λ v. map T.see v.items) found, reader.new)) result
         (parse_map (λ d. option_and_then same (forms_of T.of d)) (next_value depth reader.old)) }
 {
@@ -163,14 +149,14 @@ fn whole_list<T: Item>(
     Ok(found.flatten())
 }
 
-fn args(alloc: Global, reader: &mut Reader<'_>, depth: usize) -> Result<Option<Vec<String>>, Unread>
+fn args(alloc: Global, reader: &mut Reader<'_>, depth: usize) -> Reading<Option<Vec<String>>>
     ensures { IsRead (λ found. (option_map (λ v. map string_bytes v.items) found, reader.new)) result
         (parse_map specs.args_of (next_value depth reader.old)) }
 {
     whole_list(alloc, reader, depth)
 }
 
-fn env(alloc: Global, reader: &mut Reader<'_>, depth: usize) -> Result<Option<Vec<EnvPair>>, Unread>
+fn env(alloc: Global, reader: &mut Reader<'_>, depth: usize) -> Reading<Option<Vec<EnvPair>>>
     ensures { IsRead (λ found. (option_map (λ v. map env_pair v.items) found, reader.new)) result
         (parse_map specs.env_of (next_value depth reader.old)) }
 {
@@ -222,7 +208,7 @@ impl ServiceParts {
         key: ServiceKey,
         reader: &mut Reader<'_>,
         depth: usize,
-    ) -> Result<ServiceParts, Unread>
+    ) -> Reading<ServiceParts>
         ensures { IsRead (λ parts. (services_found_of parts, reader.new)) result
             (parse_map (λ d. services_with key d (services_found_of self)) (next_value depth reader.old)) }
     {

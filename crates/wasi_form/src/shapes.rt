@@ -96,6 +96,9 @@ impl Form {
     }
 }
 
+/// What reading answers.
+pub type Reading<T> = Result<T, Unread>;
+
 /// A type that is read of a value.
 pub trait Shaped: Drop + Sized {
     /// What is seen of what is read.
@@ -105,7 +108,7 @@ pub trait Shaped: Drop + Sized {
 
     ghost of: { Data → Option Self.Seen };
 
-    fn read(alloc: Global, value: &Value) -> Result<Self, Unread>
+    fn read(alloc: Global, value: &Value) -> Reading<Self>
         ensures { IsRead Self.see result (Self.of (view value.now)) };
 }
 
@@ -118,7 +121,7 @@ impl Shaped for u64 {
 
     ghost of = { shapes.u64_of };
 
-    fn read(_alloc: Global, value: &Value) -> Result<u64, Unread> {
+    fn read(_alloc: Global, value: &Value) -> Reading<u64> {
         value.as_u64().ok_or(Unread::Shape)
     }
 }
@@ -132,7 +135,7 @@ impl Shaped for u32 {
 
     ghost of = { shapes.u32_of };
 
-    fn read(_alloc: Global, value: &Value) -> Result<u32, Unread> {
+    fn read(_alloc: Global, value: &Value) -> Reading<u32> {
         as_u32(value).ok_or(Unread::Shape)
     }
 }
@@ -146,7 +149,7 @@ impl Shaped for String {
 
     ghost of = { find.as_str };
 
-    fn read(alloc: Global, value: &Value) -> Result<String, Unread> {
+    fn read(alloc: Global, value: &Value) -> Reading<String> {
         match value.as_str() {
             Some(text) => Ok(String::from_str(alloc, text)?),
             None => Err(Unread::Shape),
@@ -162,14 +165,14 @@ pub fn as_u32(value: &Value) -> Option<u32>
 }
 
 /// Goes on where a test holds.
-pub fn require(holds: bool) -> Result<(), Unread>
+pub fn require(holds: bool) -> Reading<()>
     ensures { IsRead same result (lists.only_if holds) }
 {
     if holds { Ok(()) } else { Err(Unread::Shape) }
 }
 
 /// A part that must be there.
-pub fn needed<T: Shaped>(alloc: Global, value: Option<&Value>) -> Result<T, Unread>
+pub fn needed<T: Shaped>(alloc: Global, value: Option<&Value>) -> Reading<T>
     ensures { IsRead T.see result (lists.needed T.of (option_map (λ v. view v.now) value.entry)) }
 {
     match value {

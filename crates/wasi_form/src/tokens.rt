@@ -7,7 +7,7 @@ ghost use Rattle.serde_json.specs.View.{view, number_view, items_view, members_v
 ghost use Rattle.wasi_form.specs.IsRead.{IsRead};
 ghost use Rattle.wasi_form.specs.Tokens.{next_value, next_items, next_members};
 
-use crate::shapes::Unread;
+use crate::shapes::{Reading, Unread};
 use fast_float::Numeral;
 use json::{Reader, Token};
 use serde_json::{Map, Number, Value};
@@ -15,7 +15,7 @@ use std::alloc::Global;
 
 /// The next value of a text. Lists and objects nest at most `depth` deep. `Shape` where no value of JSON stands there.
 #[cycle(values)]
-pub fn value(alloc: Global, reader: &mut Reader<'_>, depth: usize) -> Result<Value, Unread>
+pub fn value(alloc: Global, reader: &mut Reader<'_>, depth: usize) -> Reading<Value>
     ensures { IsRead (λ v. (view v, reader.new)) result (next_value depth reader.old) }
 {
     match reader.next() {
@@ -31,7 +31,7 @@ pub fn value_after(
     token: Token<'_>,
     reader: &mut Reader<'_>,
     depth: usize,
-) -> Result<Value, Unread>
+) -> Reading<Value>
     ensures { IsRead (λ v. (view v, reader.new)) result (next_value depth (token_of token.entry ∷ reader.old)) }
 {
     match token {
@@ -60,7 +60,7 @@ pub fn value_after(
 
 // The items that are left of a list.
 #[cycle(values)]
-fn items(alloc: Global, reader: &mut Reader<'_>, depth: usize) -> Result<Vec<Value>, Unread>
+fn items(alloc: Global, reader: &mut Reader<'_>, depth: usize) -> Reading<Vec<Value>>
     ensures { IsRead (λ v. (items_view v.items, reader.new)) result (next_items depth reader.old) }
 {
     let mut found = Vec::new(alloc);
@@ -73,11 +73,7 @@ fn items(alloc: Global, reader: &mut Reader<'_>, depth: usize) -> Result<Vec<Val
 
 // The members that are left of an object, the last one of equal keys.
 #[cycle(values)]
-fn members(
-    alloc: Global,
-    reader: &mut Reader<'_>,
-    depth: usize,
-) -> Result<Map<String, Value>, Unread>
+fn members(alloc: Global, reader: &mut Reader<'_>, depth: usize) -> Reading<Map<String, Value>>
     ensures { IsRead (λ m. (members_view m.entries, reader.new)) result (next_members depth no_members reader.old) }
 {
     let mut found = Map::new(alloc);

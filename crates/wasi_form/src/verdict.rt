@@ -9,9 +9,10 @@ ghost use Rattle.wasi_form.specs.declared.verdict.Refusal.{Refusal};
 ghost use Rattle.wasi_form.specs.Verdict.{Reads, ReadsDraft, IsTestOf, IsVerdict, value_of, built, plan_in, built_plan};
 
 use crate::built::{is_built, is_within_limits};
+use crate::lists::MayWait;
 use crate::parts::draft;
 use crate::script::{Draft, Script};
-use crate::shapes::Unread;
+use crate::shapes::{Reading, Unread};
 use json::{Reader, Scratch};
 use std::alloc::{AllocError, Global};
 use std::str;
@@ -153,7 +154,7 @@ fn if_built(draft: Draft) -> Result<Draft, ScriptError>
 }
 
 // `Shape` where there is no value of JSON; `None` where it is no script, `Some(None)` where a form in it waits.
-fn draft_of_bytes(alloc: Global, bytes: &[u8]) -> Result<Option<Option<Draft>>, Unread>
+fn draft_of_bytes(alloc: Global, bytes: &[u8]) -> Reading<MayWait<Draft>>
     ensures { IsRead (λ found. option_map (λ draft. option_map drafted draft) found) result
         (option_map script_of (value_of bytes.now)) }
 {
@@ -163,7 +164,7 @@ fn draft_of_bytes(alloc: Global, bytes: &[u8]) -> Result<Option<Option<Draft>>, 
     }
 }
 
-fn draft_of_text(alloc: Global, text: &str) -> Result<Option<Option<Draft>>, Unread>
+fn draft_of_text(alloc: Global, text: &str) -> Reading<MayWait<Draft>>
     ensures { IsRead (λ found. option_map (λ draft. option_map drafted draft) found) result
         (option_map script_of (read_text text.now)) }
 {

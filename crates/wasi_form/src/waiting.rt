@@ -9,8 +9,8 @@ ghost use Rattle.wasi_form.specs.Shapes as shapes;
 ghost use Rattle.wasi_form.specs.Tokens.{next_value};
 ghost use Rattle.wasi_form.specs.WaitingForm as specs;
 
-use crate::lists::{Forms, Item, list, next_shaped};
-use crate::shapes::{Shaped, Unread, is_text, require, two};
+use crate::lists::{Forms, Item, MayWait, list, next_shaped};
+use crate::shapes::{Reading, Shaped, Unread, is_text, require, two};
 use json::Reader;
 use serde_json::Value;
 use std::alloc::Global;
@@ -104,15 +104,11 @@ impl Shaped for Fault {
 
     ghost see = { λ fault. fault.number };
 
-    ghost of = { specs.fault_of };
+    ghost of = { specs.fault_number };
 
-    fn read(_alloc: Global, value: &Value) -> Result<Fault, Unread> {
-        let Some((number, when)) = two(value) else {
-            return Err(Unread::Shape);
-        };
-        let Some(number) = number.as_u64() else {
-            return Err(Unread::Shape);
-        };
+    fn read(_alloc: Global, value: &Value) -> Reading<Fault> {
+        let (number, when) = two(value).ok_or(Unread::Shape)?;
+        let number = number.as_u64().ok_or(Unread::Shape)?;
         require(is_text(when, "before") || is_text(when, "after"))?;
         Ok(Fault { number })
     }
@@ -125,13 +121,9 @@ impl Item for Fault {
 
     ghost see = { λ fault. fault.number };
 
-    ghost of = { always specs.fault_of };
+    ghost of = { always specs.fault_number };
 
-    fn next(
-        alloc: Global,
-        reader: &mut Reader<'_>,
-        depth: usize,
-    ) -> Result<Option<Option<Fault>>, Unread> {
+    fn next(alloc: Global, reader: &mut Reader<'_>, depth: usize) -> Reading<MayWait<Fault>> {
         let found: Option<Fault> = next_shaped(alloc, reader, depth)?;
         Ok(found.map(Some))
     }
@@ -150,28 +142,23 @@ fn rise(faults: &[Fault]) -> bool
     true
 }
 
-fn is_u32(alloc: Global, reader: &mut Reader<'_>, depth: usize) -> Result<bool, Unread>
+fn is_u32(alloc: Global, reader: &mut Reader<'_>, depth: usize) -> Reading<bool>
     ensures { IsRead (λ is. (is, reader.new)) result (parse_map (λ d. is_some (shapes.u32_of d)) (next_value depth reader.old)) }
 {
     let found: Option<u32> = next_shaped(alloc, reader, depth)?;
     Ok(found.is_some())
 }
 
-fn are_faults(alloc: Global, reader: &mut Reader<'_>, depth: usize) -> Result<bool, Unread>
+fn are_faults(alloc: Global, reader: &mut Reader<'_>, depth: usize) -> Reading<bool>
     ensures { IsRead (λ is. (is, reader.new)) result
-        (parse_map (λ d. specs.rise (forms_of (always specs.fault_of) d)) (next_value depth reader.old)) }
+        (parse_map (λ d. specs.rise (forms_of (always specs.fault_number) d)) (next_value depth reader.old)) }
 {
     let found: Forms<Fault> = list(alloc, reader, depth)?;
     Ok(found.flatten().is_some_and(|faults| rise(&faults)))
 }
 
 /// Whether the next value of a text is of a kind.
-pub fn is_of_kind(
-    alloc: Global,
-    kind: Kind,
-    reader: &mut Reader<'_>,
-    depth: usize,
-) -> Result<bool, Unread>
+pub fn is_of_kind(alloc: Global, kind: Kind, reader: &mut Reader<'_>, depth: usize) -> Reading<bool>
     ensures { IsRead (λ is. (is, reader.new)) result (parse_map (specs.has_kind kind) (next_value depth reader.old)) }
 {
     match kind {

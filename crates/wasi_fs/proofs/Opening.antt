@@ -27,7 +27,7 @@ use Rattle.wasi_resolve.specs.Meanings.{follows, ends_by, opened_node, opens_at}
 use Rattle.wasi_resolve.specs.Paths.{Opening, opening, opened_by, step_of, opened, after_open}
 use Rattle.wasi_resolve.specs.PathRequest.{OpenPath, Opened, opened_at, answer_at, as_asked, meant_by}
 use Rattle.wasi_resolve.specs.Resolved.{Meant, TreeAfter, Resolved}
-use Rattle.wasi_resolve.specs.WalkSteps.{Stayed}
+use Rattle.wasi_resolve.specs.WalkSteps.{WorldStays}
 use Rattle.wasi_resolve.proofs.Calls.{means_then, still_live, same_live, close_stays}
 use Rattle.wasi_resolve.proofs.Parenting.{opening_leaves}
 use Rattle.wasi_resolve.proofs.Requests.{reached_closed, path_given_seen}
@@ -212,7 +212,7 @@ touches_then {t} {t'} {roots} {ends} {a} {b} {c} ns first with near =
 module _ {live : Handles} {w u v : World} {s : ℕ} {text : List ℕ} {how : OpenHow} {found : Opened}
     (has : HasOpened live w u s text how found) where
   -- nothing more was touched
-  opened_stays : Stayed live u v → HasOpened live w v s text how found
+  opened_stays : WorldStays live u v → HasOpened live w v s text how found
   opened_stays stayed = record {
     reply = has.reply;
     tree = stayed.tree ∙ has.tree;
@@ -292,7 +292,7 @@ module _ (how : OpenHow) {old mid new : Handles} {w u : World} {s : ℕ} {text :
 
   -- it is closed again
   closed : {last : Handles} {v z : World} → last ≡ remove new h
-      → Told {A = Unit {0}} new last v z Close (λ unit. unit) answered → Stayed old v z
+      → Told {A = Unit {0}} new last v z Close (λ unit. unit) answered → WorldStays old v z
   closed ended told =
       let again = ended ∙ ap (λ s. remove s h) (same ∙ is.live) ∙ remove-insert old h is.fresh in
       close_stays told (λ q live. ((kept q live).1, subst (λ s. contains s q ≡ true) (sym again) live))

@@ -4,14 +4,14 @@ use Rattle.std.specs.Prelude.{length}
 use Rattle.std.specs.Bool.{OnTrue, OnFalse}
 use lib.Dec.{T, leb→le, le→leb}
 use mathlib.Core.Bool.{not}
-use Rattle.wasi_guest.specs.Range.{IsInMemory, in_memory, place}
+use Rattle.wasi_guest.specs.Range.{IsInMemory, in_memory, lent_at}
 
 pub inside : (memory : List ℕ) (at n : ℕ) (found : Bool) → T found → found ≡ in_memory memory at n
     → IsInMemory memory at n
 inside memory at n found t e = leb→le (at + n) (length memory) (subst T e t)
 
 pub placed : (memory : List ℕ) (at n : ℕ) (found : Bool) → T found → found ≡ in_memory memory at n
-    → place memory at n ≡ at
+    → lent_at memory at n ≡ at
 placed memory at n true t e = rw (← e) refl
 placed memory at n false t e = absurd t
 

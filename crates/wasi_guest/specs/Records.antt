@@ -24,8 +24,8 @@ record_in memory at size alignment =
     if at % alignment == 0 then bytes_in memory at size else Err errors.PtrNotAligned
 
 -- the text that bytes are
-abbrev pub text_of : List ℕ → Found (List ℕ)
-text_of bytes = if is_utf8 bytes then Ok bytes else Err errors.InvalidUtf8
+abbrev pub text_from : List ℕ → Found (List ℕ)
+text_from bytes = if is_utf8 bytes then Ok bytes else Err errors.InvalidUtf8
 
 -- what is read further in what was read
 abbrev pub read_on : {A B : Type 0} → Found A → (A → Found B) → Found B
@@ -34,7 +34,7 @@ read_on (Err e) next = Err e
 
 -- the text in a range
 abbrev pub text_in : List ℕ → ℕ → ℕ → Found (List ℕ)
-text_in memory at n = read_on (bytes_in memory at n) text_of
+text_in memory at n = read_on (bytes_in memory at n) text_from
 
 -- what is made of what was read
 abbrev pub made_of : {A B : Type 0} → (A → B) → Found A → Found B

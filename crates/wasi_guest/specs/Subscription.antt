@@ -24,11 +24,11 @@ kind_by (Some eventtypes.FdWrite) bytes = Ok (kinds.FdWrite (u32_at bytes 16))
 kind_by None bytes = Err errors.InvalidEnumValue
 
 -- what is waited for, by the tag
-abbrev pub kind_of : List ℕ → Found SubscriptionKind
-kind_of bytes = kind_by (eventtype_of (slice_index_or bytes 8 0)) bytes
+abbrev pub awaited_of : List ℕ → Found SubscriptionKind
+awaited_of bytes = kind_by (eventtype_of (slice_index_or bytes 8 0)) bytes
 
 abbrev pub subscription_of : List ℕ → Found Subscription
-subscription_of bytes = made_of (λ what. record { userdata = u64_at bytes 0; what = what }) (kind_of bytes)
+subscription_of bytes = made_of (λ what. record { userdata = u64_at bytes 0; what = what }) (awaited_of bytes)
 
 -- 48 bytes at a multiple of 8
 abbrev pub subscription_in : List ℕ → ℕ → Found Subscription

@@ -16,6 +16,8 @@ mod guest_error;
 mod iovec;
 mod memory;
 mod prestat;
+mod range;
+mod records;
 mod services;
 mod subscription;
 
@@ -37,5 +39,7 @@ pub use guest_error::GuestError;
 pub use iovec::Iovec;
 pub use memory::GuestMemory;
 pub use prestat::PrestatDir;
+pub use range::{in_memory, slice_at, write_bytes};
+pub use records::{first_buffer, iovec_in, subscription_in, text_in, u32_in};
 pub use services::{EnvPair, Services, WallDatetime};
 pub use subscription::{Subscription, SubscriptionKind};

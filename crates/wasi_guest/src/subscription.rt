@@ -1,11 +1,11 @@
 //! The record of what is waited for.
 ghost use Rattle.std.specs.Prelude.{◌≡◌, length};
-ghost use Rattle.wasi_guest.specs.Subscription.{clock_of, kind_of};
+ghost use Rattle.wasi_guest.specs.Subscription.{clock_of, awaited_of};
 
 use crate::enums::{Clockid, Eventtype};
 use crate::flags::SubclockFlags;
 use crate::guest_error::GuestError;
-use crate::memory::{u16_at, u32_at, u64_at};
+use crate::records::{u16_at, u32_at, u64_at};
 
 /// What a guest waits for, with a number of its own: preview1's `subscription`.
 #[derive(Clone, Copy, Debug, PartialEq, Eq)]
@@ -59,9 +59,9 @@ fn clock_of(bytes: &[u8]) -> Result<SubscriptionKind, GuestError>
 }
 
 /// What is waited for, from the bytes of its record.
-pub(crate) fn kind_of(bytes: &[u8]) -> Result<SubscriptionKind, GuestError>
+pub(crate) fn awaited_of(bytes: &[u8]) -> Result<SubscriptionKind, GuestError>
     requires { length bytes.now ≡ 48 }
-    ensures { result ≡ kind_of bytes.now }
+    ensures { result ≡ awaited_of bytes.now }
 {
     let fd = u32_at(bytes, 16);
     match Eventtype::from_number(bytes[8] as u32) {

@@ -13,13 +13,13 @@ use Rattle.wasi_host.specs.ValidTree.{Reached, root, held}
 use Rattle.wasi_host.specs.Below.{is_within, is_below}
 use Rattle.wasi_host.specs.Agree.{IsClosed, AgreeOn, IsMade, OrMade}
 use Rattle.wasi_host.specs.HostCall.{HostCall, OpenAt, StatAt, ReadLinkAt, MakeDirAt, SymlinkAt, LinkAt, RenameAt, UnlinkAt, RemoveDirAt, TimesAt, Access, Stat, SetTimes, Pread, Pwrite, ListDir, Dup, Close}
-use Rattle.wasi_host.specs.Refusal.{refusal, passes, holds, holds_above, is_bare}
+use Rattle.wasi_host.specs.Refusal.{refusal, passes, holds, finds_above, is_bare}
 use Rattle.wasi_host.specs.Step.{step, open_step, opened_step, unlink_step, remove_step, rename_step, moved_step, link_step, added_step, times_step, times_set, times_set_if, dropped_step, node_made, file_cut, name_dropped, is_cut, with_name, without_name, with_times, with_nodes, new_file, new_directory, new_link, name_lost, name_taken, name_moved, one_name_more, one_name_less, made_gone, write_step}
 use Rattle.wasi_host.specs.Answer.{kind_of, reached, or_next, unless, text_held, link_text, listed, listing}
 use Rattle.wasi_host.specs.declared.errors.ErrorCode.{ErrorCode}
 use Rattle.wasi_host.specs.declared.system_time.SystemTime.{SystemTime}
 use Rattle.wasi_host.proofs.EntryLemmas.{get_entry}
-use Rattle.wasi_host.proofs.Leaving.{next_of-moved, next_of-dropped_step, Contains-here, named_in, no_name, made_next, next_is_made, emptied, put_into, node_put, starts_of, step_leaves}
+use Rattle.wasi_host.proofs.Leaving.{LeavesNear, next_of-moved, next_of-dropped_step, Contains-here, named_in, no_name, made_next, next_is_made, emptied, put_into, node_put, starts_of}
 
 map_same : {X Y : Type 0} (f g : X → Y) (xs : List X)
     → ((i : ℕ) (d : X) → i < length xs → f (get_or xs i d) ≡ g (get_or xs i d)) → map f xs ≡ map g xs
@@ -176,18 +176,18 @@ module _ {Seen : ℕ → Type 0} {t : Tree} (closed : IsClosed Seen t) where
   reach_closed rooted n (root m has) = rooted m has
   reach_closed rooted n (held d m name above has) = closed.under d m name (reach_closed rooted d above) has
 
-  -- the set with what a step makes is closed again
-  pub step_closed : (call : HostCall) → ((n : ℕ) → Contains (starts_of call) n → Seen n)
-      → IsClosed (OrMade Seen t (step t call)) (step t call)
-  step_closed call from = record {
-    under = λ d n name above has. elim ((step_leaves t call).names d n name has) [
+  -- the set with what is made is closed again, where a name holds what it held, what is made, or what is reached
+  pub leaves_closed : (u : Tree) {roots : List ℕ} → LeavesNear t roots u → ((n : ℕ) → Contains roots n → Seen n)
+      → IsClosed (OrMade Seen t u) u
+  leaves_closed u leaves from = record {
+    under = λ d n name above has. elim (leaves.names d n name has) [
       | inl was ↦ inl (was_seen d n name above was)
       | inr (inl made) ↦ inr made
       | inr (inr near) ↦ inl (reach_closed from n near)
     ];
   }
     where
-      was_seen : (d n : ℕ) (name : List ℕ) → OrMade Seen t (step t call) d → named_in (node_at t d) name ≡ Some n → Seen n
+      was_seen : (d n : ℕ) (name : List ℕ) → OrMade Seen t u d → named_in (node_at t d) name ≡ Some n → Seen n
       was_seen d n name (inl old) was = closed.under d n name old was
       was_seen d n name (inr new) was = absurd (none_past t d n name new.fresh was)
 
@@ -242,7 +242,8 @@ module _ {Seen : ℕ → Type 0} {t u : Tree} (closed : IsClosed Seen t) (agree 
   below_same top n seen =
       within_same (next_of t) top n seen ∙ ap (λ names. is_within u names top n) agree.next
 
-  above_same : (d : ℕ) (name : List ℕ) (n : ℕ) → Seen d → holds_above t d name n ≡ holds_above u d name n
+  above_same : (d : ℕ) (name : List ℕ) (n : ℕ) → Seen d
+      → finds_above t (child t d name) n ≡ finds_above u (child u d name) n
   above_same d name n seen =
       passes_same d name (λ top. is_below t top n) (λ top. is_below u top n) seen (λ top has. below_same top n has)
 

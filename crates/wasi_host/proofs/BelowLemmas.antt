@@ -17,7 +17,8 @@ use Rattle.wasi_host.proofs.Touching.{or_left, or_right, one_of, same_node, at_r
 
 -- ---- what is below is reached
 
-any_where : {X : Type 0} (p : X → Bool) (xs : List X) (d : X) → list_any p xs ≡ true
+-- an entry of which a test holds
+pub any_where : {X : Type 0} (p : X → Bool) (xs : List X) (d : X) → list_any p xs ≡ true
     → (i : ℕ) × (i < length xs) × (p (get_or xs i d) ≡ true)
 any_where p [] d is = absurd (cc)
 any_where p (x ∷ xs) d is = elim (one_of (p x) (list_any p xs) is) [

@@ -1,14 +1,14 @@
 -- What a step leaves of a tree, so that the contents of its nodes stay valid.
-use Rattle.std.proofs.Common.{◌≡◌, ◌⊎◌, ℕ, suc, ◌<◌, ◌≤◌, true, false, cond, List, [], ◌∷◌, Some, inl, inr, sym, ap, ◌∙◌, subst, arith, get_or}
+use Rattle.std.proofs.Common.{◌≡◌, ◌≢◌, ◌⊎◌, ℕ, suc, ◌<◌, ◌≤◌, true, false, cond, List, [], ◌∷◌, Some, inl, inr, sym, ap, ◌∙◌, subst, arith, get_or}
 use Rattle.std.specs.List.{All}
 use Rattle.std.specs.Ordering.{nat_cmp, eq_by_cmp}
 use Rattle.std.specs.Cmp.Lexicographic.{slice_cmp}
 use Rattle.std.specs.FinMap as maps
-use Rattle.std.proofs.lemmas.Bool.{cases_eq}
-use Rattle.wasi_host.specs.Tree.{Tree, Content, File, Directory, Link, Names, node_at, next_of, names_of, is_directory, is_gone}
+use Rattle.std.proofs.lemmas.Bool.{true≢false, cases_eq}
+use Rattle.wasi_host.specs.Tree.{Tree, Node, Content, File, Directory, Link, Names, node_at, next_of, names_of, is_directory, is_gone}
 use Rattle.wasi_host.specs.ValidTree.{name_count, Reached, root, held, IsEntry, IsPlaced, IsValidContent, IsValidTree}
 use Rattle.wasi_host.specs.declared.limits.Limits.{Limits}
-use Rattle.wasi_host.proofs.Changes.{directory_within}
+use Rattle.wasi_host.proofs.Changes.{HasBoth, directory_within}
 use Rattle.wasi_host.proofs.EntryLemmas.{find_in}
 use Rattle.wasi_host.proofs.Leaving.{named_in}
 
@@ -138,3 +138,45 @@ pub reached_still : (t u : Tree)
     → (n : ℕ) → Reached t (0 ∷ []) n → Reached u (0 ∷ []) n
 reached_still t u still n =
     reached_among t u (λ _. Unit {0}) (record { names = λ d k name _ is. (tt, still d k name is) }) n tt
+
+-- ---- a directory with other entries, and another node in the place of one
+
+module _ {t u : Tree} {d n : ℕ} {parent other : Node} (both : HasBoth t u d n parent other) where
+  -- what the directory keeps stays everywhere but at the node
+  kept : {B : Type 0} (f : Node → B) → f parent ≡ f (node_at t d) → (k : ℕ) → k ≢ n
+      → f (node_at u k) ≡ f (node_at t k)
+  kept f same k not_second = elim (cases_eq k d) [
+    | inl here ↦ ap (λ j. f (node_at u j)) here ∙ ap f both.first ∙ same ∙ ap (λ j. f (node_at t j)) (sym here)
+    | inr not_first ↦ ap f (both.others k not_first not_second)
+  ]
+
+  -- where the directory isn't gone, and stays one
+  pub carries_both : is_directory parent.content ≡ is_directory (node_at t d).content
+      → is_gone parent.content ≡ is_gone (node_at t d).content → is_gone (node_at t d).content ≡ false → (k : ℕ) → k ≢ n
+      → name_count u k ≡ name_count t k → (Reached t (0 ∷ []) k → Reached u (0 ∷ []) k) → Carries t u k
+  carries_both directory gone stays k not_second count reached = record {
+    limits = both.limits;
+    next = omega (arith, both.next);
+    count = count;
+    reached = reached;
+    directory = kept (λ node. is_directory node.content) directory k not_second;
+    gone = kept (λ node. is_gone node.content) gone k not_second;
+    emptied = λ is.
+        let not_first : k ≢ d = λ here. true≢false (sym (rw here at is) ∙ stays) in
+        ap (λ (node : Node). names_of node.content) (both.others k not_first not_second);
+  }
+
+  pub valid_both : IsValidTree t → 0 ≢ n → ((k : ℕ) → k ≢ n → Carries t u k) → IsValidContent u d parent.content
+      → IsValidContent u n other.content → IsValidTree u
+  valid_both valid not_root carries first_fits second_fits =
+      valid_still t u (carries 0 not_root) valid (omega (arith, both.next, valid.numbers)) (λ k h.
+      elim (cases_eq k n) [
+        | inl here ↦ rw (here, both.second) second_fits
+        | inr not_second ↦ elim (cases_eq k d) [
+          | inl here ↦ rw (here, both.first) first_fits
+          | inr not_first ↦
+              let before : k < next_of t = omega (arith, both.next, h) in
+              rw (both.others k not_first not_second)
+              (content_still (carries k not_second) (node_at t k).content (valid.nodes k before))
+        ]
+      ])

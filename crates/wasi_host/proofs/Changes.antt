@@ -1,12 +1,14 @@
 -- Trees in which one node is another, and trees with one node more.
-use Rattle.std.proofs.Common.{◌≡◌, ◌≢◌, ℕ, ◌+◌, ◌<◌, ◌≤◌, true, List, [], ◌∷◌, inl, inr, sym, ap, ◌∙◌, arith, slice_index_or, slice_set}
+use Rattle.std.proofs.Common.{◌≡◌, ◌≢◌, ℕ, ◌+◌, ◌<◌, ◌≤◌, true, List, [], ◌∷◌, inl, inr, refl, sym, ap, ◌∙◌, arith, nat_eq, slice_index_or, slice_set}
 use Rattle.std.proofs.Math.Seq.{get_or-append_seam}
 use Rattle.std.proofs.lemmas.Bool.{true≢false, cases_eq, cases_lt}
 use Rattle.std.proofs.lemmas.List.{length-set, length-append, get_or-set_same, get_or-set_other, get_or_append_left, get_or_past}
 use Rattle.std.proofs.lemmas.List.Sums.{sum_by-set}
-use Rattle.wasi_host.specs.Tree.{Tree, Node, Nodes, node_at, next_of, is_directory, stray}
+use Rattle.std.specs.FinMap as maps
+use Rattle.std.specs.Prelude.{count_by}
+use Rattle.wasi_host.specs.Tree.{Tree, Node, Nodes, Names, Content, names_of, node_at, next_of, is_directory, stray}
 use Rattle.wasi_host.specs.ValidTree.{names_for, name_count}
-use Rattle.wasi_host.specs.Step.{with_name, node_made}
+use Rattle.wasi_host.specs.Step.{with_nodes, with_content, content_changed, entry_changed, with_name, node_made}
 
 pub node_at-past : (t : Tree) (n : ℕ) → next_of t ≤ n → node_at t n ≡ stray
 unfolding node_at
@@ -49,6 +51,16 @@ module _ (t : Tree) (n : ℕ) (node : Node) (worked : Nodes) (within : n < next_
 
 -- ---- two nodes are others
 
+pub record HasBoth (t u : Tree) (d n : ℕ) (parent other : Node) : Type 0 where
+  pub limits : u.limits ≡ t.limits
+  pub next : next_of u ≡ next_of t
+  pub first : node_at u d ≡ parent
+  pub second : node_at u n ≡ other
+  pub others : (k : ℕ) → k ≢ d → k ≢ n → node_at u k ≡ node_at t k
+  -- how many names hold a node, where the second keeps its names
+  pub counts : names_of other.content ≡ names_of (node_at t n).content → (k : ℕ)
+      → name_count u k + names_for k (node_at t d) ≡ name_count t k + names_for k parent
+
 module _ (t : Tree) (d n : ℕ) (parent other : Node) (worked : Nodes) (first : d < next_of t) (second : n < next_of t)
     (apart : d ≢ n) where
   -- before the second
@@ -61,33 +73,15 @@ module _ (t : Tree) (d n : ℕ) (parent other : Node) (worked : Nodes) (first : 
   half_within : n < next_of half
   half_within = omega (arith, second, next_of-changed t d parent worked)
 
-  pub next_of-both : next_of both ≡ next_of t
-  next_of-both = next_of-changed half n other worked ∙ next_of-changed t d parent worked
-
   node_at-not : (k : ℕ) → k ≢ n → node_at both k ≡ node_at half k
   node_at-not k not_second = node_at-other half n other worked half_within k not_second
 
-  pub node_at-second : node_at both n ≡ other
-  node_at-second = node_at-changed half n other worked half_within
-
-  pub node_at-first : node_at both d ≡ parent
-  node_at-first = node_at-not d apart ∙ node_at-changed t d parent worked first
-
-  pub node_at-neither : (k : ℕ) → k ≢ d → k ≢ n → node_at both k ≡ node_at t k
-  node_at-neither k not_first not_second =
-      node_at-not k not_second ∙ node_at-other t d parent worked first k not_first
-
-  -- what the first keeps stays everywhere but at the second
-  pub node_at-both : {B : Type 0} (f : Node → B) → f parent ≡ f (node_at t d) → (k : ℕ) → k ≢ n
-      → f (node_at both k) ≡ f (node_at t k)
-  node_at-both f same k not_second =
-      ap f (node_at-not k not_second) ∙ node_at-same t d parent worked first f same k
-
-  -- how many names hold a node, where the second keeps its names
-  pub name_count-both : (k : ℕ) → names_for k other ≡ names_for k (node_at t n)
+  name_count-both : names_of other.content ≡ names_of (node_at t n).content → (k : ℕ)
       → name_count both k + names_for k (node_at t d) ≡ name_count t k + names_for k parent
   unfolding node_at
-  name_count-both k same =
+  name_count-both keeps k =
+      let same : names_for k other ≡ names_for k (node_at t n) =
+      ap (λ (names : Names). count_by (λ held. nat_eq held k) (maps.values names)) keeps in
       let before : names_for k (node_at half n) ≡ names_for k (node_at t n) =
       ap (names_for k) (node_at-other t d parent worked first n (λ here. apart (sym here))) in
       omega (
@@ -97,6 +91,26 @@ module _ (t : Tree) (d n : ℕ) (parent other : Node) (worked : Nodes) (first : 
         sum_by-set (names_for k) t.nodes d parent stray first,
         sum_by-set (names_for k) half.nodes n other stray half_within,
       )
+
+  pub has_both : HasBoth t both d n parent other
+  has_both = record {
+    limits = refl;
+    next = next_of-changed half n other worked ∙ next_of-changed t d parent worked;
+    first = node_at-not d apart ∙ node_at-changed t d parent worked first;
+    second = node_at-changed half n other worked half_within;
+    others = λ k not_first not_second. node_at-not k not_second ∙ node_at-other t d parent worked first k not_first;
+    counts = name_count-both;
+  }
+
+-- the entries of a directory are changed, and then the content of another node
+pub changed_apart : (t : Tree) (d n : ℕ) (entries change : Content → Content) → d < next_of t → n ≢ d
+    → content_changed (content_changed t d entries) n change ≡ entry_changed t d entries n change
+changed_apart t d n entries change within apart =
+    ap (λ (node : Node). record t {
+      nodes = slice_set (slice_set t.nodes d (with_content (node_at t d) entries)) n (with_content node change);
+      worked = with_nodes t.worked (d ∷ n ∷ []);
+    })
+    (node_at-other t d (with_content (node_at t d) entries) (with_nodes t.worked (d ∷ [])) within n apart)
 
 -- ---- one node more, under a name of a directory
 

@@ -2,16 +2,15 @@
 use Rattle.std.proofs.Common.{◌≡◌, ◌≢◌, ℕ, ◌+◌, ◌-◌, ◌<◌, ◌≤◌, true, false, nat_eq, List, Some, inl, inr, refl, sym, ap, ◌∙◌, subst, arith, zero-add}
 use Rattle.std.specs.List.{All}
 use Rattle.std.specs.FinMap as maps
-use Rattle.std.proofs.lemmas.Bool.{true≢false, cases_eq, ne_eqb}
+use Rattle.std.proofs.lemmas.Bool.{cases_eq, ne_eqb}
 use Rattle.wasi_host.specs.Tree.{Tree, Node, Content, File, Directory, Link, Names, node_at, next_of, names_of, is_directory, is_gone}
-use Rattle.wasi_host.specs.ValidTree.{names_for, name_count, IsEntry, IsValidContent, IsValidTree}
+use Rattle.wasi_host.specs.ValidTree.{name_count, IsEntry, IsValidContent, IsValidTree}
 use Rattle.wasi_host.specs.Step.{without_name, one_name_less, made_gone, name_dropped}
 use Rattle.wasi_host.specs.declared.limits.Limits.{Limits}
-use Rattle.wasi_host.proofs.Changes as changes
-use Rattle.wasi_host.proofs.Changes.{directory_within}
-use Rattle.wasi_host.proofs.EntryLemmas.{times, once, All-no_names, unnamed, times-removed, All-removed, get-left, nat_eq-refl}
+use Rattle.wasi_host.proofs.Changes.{HasBoth, has_both, directory_within}
+use Rattle.wasi_host.proofs.EntryLemmas.{once, All-no_names, unnamed, times-removed, All-removed, get-left, nat_eq-refl}
 use Rattle.wasi_host.proofs.Leaving.{fewer_names, gone_names}
-use Rattle.wasi_host.proofs.Carrying.{Carries, StillNamed, entries_still, content_still, directory_still, valid_still, reached_among, valid_entries, named_within, stays_or_gone}
+use Rattle.wasi_host.proofs.Carrying.{Carries, StillNamed, entries_still, directory_still, reached_among, valid_entries, named_within, stays_or_gone, carries_both, valid_both}
 
 -- ---- a node with one name fewer
 
@@ -75,34 +74,12 @@ module _ {t : Tree} {d n : ℕ} {name : List ℕ} (drops : Drops t d name n) (va
   pub apart : d ≢ n
   apart same = unnamed names name n (ap (λ k. names_of (node_at t k).content) same ∙ drops.bare) drops.named
 
-  pub next_of-dropped : next_of dropped ≡ next_of t
-  next_of-dropped = changes.next_of-both t d n parent other dropped.worked within_tree within_node apart
-
-  pub node_at-dropped : node_at dropped n ≡ other
-  node_at-dropped = changes.node_at-second t d n parent other dropped.worked within_tree within_node apart
-
-  pub node_at-parent : node_at dropped d ≡ parent
-  node_at-parent = changes.node_at-first t d n parent other dropped.worked within_tree within_node apart
-
-  node_at-apart : (k : ℕ) → k ≢ d → k ≢ n → node_at dropped k ≡ node_at t k
-  node_at-apart k not_parent not_node =
-      changes.node_at-neither t d n parent other dropped.worked within_tree within_node apart k not_parent not_node
-
-  -- what the directory keeps stays everywhere but at the node
-  node_at-kept : {B : Type 0} (f : Node → B) → f parent ≡ f (node_at t d) → (k : ℕ) → k ≢ n
-      → f (node_at dropped k) ≡ f (node_at t k)
-  node_at-kept f same k not_node =
-      changes.node_at-both t d n parent other dropped.worked within_tree within_node apart f same k not_node
+  pub both : HasBoth t dropped d n parent other
+  both = has_both t d n parent other dropped.worked within_tree within_node apart
 
   name_count-dropped : (k : ℕ) → once (nat_eq n k) + name_count dropped k ≡ name_count t k
   name_count-dropped k =
-      let same : names_for k other ≡ names_for k (node_at t n) =
-      ap (λ (m : Names). times k (maps.values m)) (keeps (node_at t n).content) in
-      omega (
-        arith,
-        times-removed names name n drops.named k,
-        changes.name_count-both t d n parent other dropped.worked within_tree within_node apart k same,
-      )
+      omega (arith, times-removed names name n drops.named k, both.counts (keeps (node_at t n).content) k)
 
   pub one_less : HasOneLess t dropped n
   one_less = record {
@@ -117,8 +94,8 @@ module _ {t : Tree} {d n : ℕ} {name : List ℕ} (drops : Drops t d name n) (va
         let at_node : e ≢ n = λ here. unnamed (names_of (node_at t n).content) q m drops.bare (rw here at is) in (
           at_node,
           elim (cases_eq e d) [
-            | inl here ↦ rw (here, node_at-parent) (get-left names name n drops.named q m other (rw here at is))
-            | inr not_parent ↦ rw (node_at-apart e not_parent at_node) is
+            | inl here ↦ rw (here, both.first) (get-left names name n drops.named q m other (rw here at is))
+            | inr not_parent ↦ rw (both.others e not_parent at_node) is
           ],
         );
   }
@@ -131,20 +108,13 @@ module _ {t : Tree} {d n : ℕ} {name : List ℕ} (drops : Drops t d name n) (va
   ]
 
   pub carries-dropped : (k : ℕ) → k ≢ n → Carries t dropped k
-  carries-dropped k not_node = record {
-    limits = refl;
-    next = omega (arith, next_of-dropped);
-    count =
-        sym (zero-add (name_count dropped k))
-        ∙ ap (λ b. once b + name_count dropped k) (sym (ne_eqb n k (λ same. not_node (sym same))))
-        ∙ name_count-dropped k;
-    reached = reached_among t dropped (λ k. k ≢ n) still_named k not_node;
-    directory = node_at-kept (λ node. is_directory node.content) (sym drops.directory) k not_node;
-    gone = node_at-kept (λ node. is_gone node.content) refl k not_node;
-    emptied = λ gone.
-        let not_parent : k ≢ d = λ here. true≢false (sym (rw here at gone) ∙ parent_stays) in
-        ap (λ (node : Node). names_of node.content) (node_at-apart k not_parent not_node);
-  }
+  carries-dropped k not_node =
+      carries_both both (sym drops.directory) refl parent_stays
+      k not_node
+      (sym (zero-add (name_count dropped k))
+      ∙ ap (λ b. once b + name_count dropped k) (sym (ne_eqb n k (λ same. not_node (sym same))))
+      ∙ name_count-dropped k)
+      (reached_among t dropped (λ k. k ≢ n) still_named k not_node)
 
   -- node 0 has no name
   pub not_root : 0 ≢ n
@@ -152,7 +122,7 @@ module _ {t : Tree} {d n : ℕ} {name : List ℕ} (drops : Drops t d name n) (va
 
   valid-parent : IsValidContent dropped d parent.content
   valid-parent =
-      let next : next_of t ≤ next_of dropped = omega (arith, next_of-dropped) in
+      let next : next_of t ≤ next_of dropped = omega (arith, both.next) in
       let others = entries_still t dropped (maps.entries names) next (valid_entries t d valid drops.directory) in
       directory_still (carries-dropped d apart) (node_at t d).content (maps.remove names name) drops.directory
       (valid.nodes d within_tree) (All-removed names name n drops.named (IsEntry dropped) others)
@@ -160,18 +130,8 @@ module _ {t : Tree} {d n : ℕ} {name : List ℕ} (drops : Drops t d name n) (va
   -- a change that leaves the node valid leaves the tree so
   pub valid-dropped : IsValidContent dropped n (change (node_at t n).content) → IsValidTree dropped
   valid-dropped fits =
-      let room : next_of dropped ≤ t.limits.nodes = omega (arith, next_of-dropped, valid.numbers) in
-      valid_still t dropped (carries-dropped 0 not_root) valid room (λ k h.
-      elim (cases_eq k n) [
-        | inl here ↦ rw (here, node_at-dropped) fits
-        | inr not_node ↦ elim (cases_eq k d) [
-          | inl here ↦ rw (here, node_at-parent) valid-parent
-          | inr not_parent ↦
-              let before : k < next_of t = omega (arith, next_of-dropped, h) in
-              rw (node_at-apart k not_parent not_node)
-              (content_still (carries-dropped k not_node) (node_at t k).content (valid.nodes k before))
-        ]
-      ])
+      valid_both both valid not_root carries-dropped
+      valid-parent fits
 
 -- ---- the two kinds
 
@@ -192,6 +152,6 @@ module _ {t : Tree} {d n : ℕ} {name : List ℕ} (drops : Drops t d name n) (va
   pub valid-removed : is_directory content ≡ true → IsValidTree (name_dropped t d name made_gone n)
   valid-removed is =
       let positive : 0 < n = omega (arith, not_root drops valid made_gone gone_names) in
-      let now = ap (λ (node : Node). node.content) (node_at-dropped drops valid made_gone gone_names) in
+      let now = ap (λ (node : Node). node.content) (both drops valid made_gone gone_names).second in
       valid-dropped drops valid made_gone gone_names
       (content_gone (one_less drops valid made_gone gone_names) content is drops.bare positive now was_valid)

@@ -8,7 +8,7 @@ use Rattle.std.proofs.lemmas.List.{length-set}
 use Rattle.std.specs.FinMap as maps
 use Rattle.wasi_paths.specs.Text.{is_dot_text}
 use Rattle.wasi_host.specs.Options.{Options}
-use Rattle.wasi_host.specs.Tree.{Tree, Node, Nodes, Content, File, Directory, Link, node_at, next_of, names_of, child, hold_one, stray}
+use Rattle.wasi_host.specs.Tree.{Tree, Node, Nodes, Names, Content, File, Directory, Link, node_at, next_of, names_of, child, hold_one, stray}
 use Rattle.wasi_host.specs.ValidTree.{Reached, root, held}
 use Rattle.wasi_host.specs.Agree.{IsMade}
 use Rattle.wasi_host.specs.HostCall.{HostCall, OpenAt, StatAt, ReadLinkAt, MakeDirAt, SymlinkAt, LinkAt, RenameAt, UnlinkAt, RemoveDirAt, TimesAt, Access, Stat, SetTimes, Pread, Pwrite, ListDir, Dup, Close}
@@ -174,15 +174,19 @@ without_name_names node name q n has =
     by true none = absurd (cc)
     by false is = is
 
+-- what holds of each kind of content
+pub each_kind : (P : Content → Type 0) → ((bytes : List ℕ) (links : ℕ) → P (File bytes links))
+    → ((names : Names) (gone : Bool) → P (Directory names gone)) → ((text : List ℕ) (links : ℕ) → P (Link text links))
+    → (content : Content) → P content
+each_kind P file directory link (File bytes links) = file bytes links
+each_kind P file directory link (Directory names gone) = directory names gone
+each_kind P file directory link (Link text links) = link text links
+
 pub fewer_names : (content : Content) → names_of (one_name_less content) ≡ names_of content
-fewer_names (File bytes links) = refl
-fewer_names (Directory names gone) = refl
-fewer_names (Link text links) = refl
+fewer_names = each_kind (λ c. names_of (one_name_less c) ≡ names_of c) (λ _ _. refl) (λ _ _. refl) (λ _ _. refl)
 
 pub gone_names : (content : Content) → names_of (made_gone content) ≡ names_of content
-gone_names (File bytes links) = refl
-gone_names (Directory names gone) = refl
-gone_names (Link text links) = refl
+gone_names = each_kind (λ c. names_of (made_gone c) ≡ names_of c) (λ _ _. refl) (λ _ _. refl) (λ _ _. refl)
 
 -- a name goes, and what it held keeps its own names
 drop_leaves : (t : Tree) (d n : ℕ) (name : List ℕ) (change : Content → Content)
@@ -258,9 +262,7 @@ pub Contains-here : (d : ℕ) (ds : List ℕ) → Contains (d ∷ ds) d
 Contains-here d ds = (0, omega arith, refl)
 
 pub more_names : (content : Content) → names_of (one_name_more content) ≡ names_of content
-more_names (File bytes links) = refl
-more_names (Directory names gone) = refl
-more_names (Link text links) = refl
+more_names = each_kind (λ c. names_of (one_name_more c) ≡ names_of c) (λ _ _. refl) (λ _ _. refl) (λ _ _. refl)
 
 -- a name that is added holds its node
 add_near : (t : Tree) {Near : ℕ → Type 0} (d n : ℕ) (name : List ℕ) → Near n
@@ -291,9 +293,7 @@ added_near t d name None near = stays_near
 added_near t d name (Some n) near = add_near t d n name (near n refl)
 
 pub lost_names : (content : Content) → names_of (name_lost content) ≡ names_of content
-lost_names (File bytes links) = refl
-lost_names (Directory names gone) = refl
-lost_names (Link text links) = refl
+lost_names = each_kind (λ c. names_of (name_lost c) ≡ names_of c) (λ _ _. refl) (λ _ _. refl) (λ _ _. refl)
 
 -- a name that is taken leaves the others
 taken_names : (t : Tree) (d : ℕ) (name : List ℕ) (e m : ℕ) (q : List ℕ)

@@ -14,7 +14,7 @@ use Rattle.wasi_host.proofs.EntryLemmas.{unnamed, times-removed, times-inserted,
 use Rattle.wasi_host.proofs.Leaving.{named_in, Leaves, lost_names, dropped_leaves}
 use Rattle.wasi_host.proofs.Carrying.{Carries, StillNamed, entries_still, content_still, directory_still, valid_still, reached_among, valid_entries, named_within, stays_or_gone}
 use Rattle.wasi_host.proofs.Making.{Lacks}
-use Rattle.wasi_host.proofs.Dropping.{Drops, HasOneLess, content_less, content_gone, one_less, node_at-dropped, node_at-parent, next_of-dropped, not_root, apart, still_named, carries-dropped, valid-dropped}
+use Rattle.wasi_host.proofs.Dropping.{Drops, HasOneLess, content_less, content_gone, one_less, not_root, apart, still_named, carries-dropped, valid-dropped, both}
 use Rattle.wasi_host.proofs.Touching.{at_root}
 
 -- ---- what the new name held
@@ -31,7 +31,7 @@ pub valid-lost : {t : Tree} {d n : ℕ} {name : List ℕ} → Drops t d name n �
 valid-lost {t} {d} {n} {name} drops valid =
     let content : Content = (node_at t n).content in
     let positive : 0 < n = omega (arith, not_root drops valid name_lost lost_names) in
-    let now = ap (λ (node : Node). node.content) (node_at-dropped drops valid name_lost lost_names) in
+    let now = ap (λ (node : Node). node.content) (both drops valid name_lost lost_names).second in
     let was = valid.nodes n (named_within t d valid drops.directory name n drops.named) in
     valid-dropped drops valid name_lost lost_names
     (content_lost (one_less drops valid name_lost lost_names) content drops.bare positive now was)
@@ -287,14 +287,14 @@ module _ {t : Tree} {old new n m : ℕ} {old_name new_name : List ℕ}
       directory = (carries-cleared new new_other).directory ∙ can.drops.directory;
       stays = (carries-cleared new new_other).gone ∙ can.stays;
       missing =
-          rw (node_at-parent can.drops valid name_lost lost_names)
+          rw (both can.drops valid name_lost lost_names).first
           (get-removed (names_of (node_at t new).content) new_name m can.drops.named);
       good = can.good;
       utf8 = can.utf8;
     };
     apart = λ below. can.below
         (reached_before (dropped_leaves t new new_name name_lost (Some m) lost_names)
-        (next_of-dropped can.drops valid name_lost lost_names) new below);
+        (both can.drops valid name_lost lost_names).next new below);
   }
 
   pub valid-replaced : IsValidTree (name_moved cleared old old_name new new_name n)

@@ -1,10 +1,41 @@
--- A code of the table is a refusal.
-use Rattle.std.proofs.Common.{◌≡◌, Option, Some, None, Err}
+-- Rows before others, and that a code of the table is a refusal.
+use Rattle.std.proofs.Common.{◌≡◌, ◌⊎◌, inl, inr, Bool, true, false, List, [], ◌∷◌, ◌++◌, Option, Some, None, Err, refl}
 use Rattle.wasi_host.specs.Tree.{Tree}
 use Rattle.wasi_host.specs.HostCall.{HostCall, OpenAt, StatAt, ReadLinkAt, MakeDirAt, SymlinkAt, LinkAt, RenameAt, UnlinkAt, RemoveDirAt, TimesAt, Access, Stat, SetTimes, Pread, Pwrite, ListDir, Dup, Close}
-use Rattle.wasi_host.specs.Refusal.{refusal}
+use Rattle.wasi_host.specs.Refusal.{refusal, first_row}
 use Rattle.wasi_host.specs.Answer.{unless, host_answer}
 use Rattle.wasi_host.specs.declared.errors.ErrorCode.{ErrorCode}
+
+-- ---- rows before others
+
+-- where no row holds, none of either part does
+pub none_refuses : (rows others : List (Bool × ErrorCode)) → first_row (rows ++ others) ≡ None
+    → (first_row rows ≡ None) × (first_row others ≡ None)
+none_refuses [] others none = (refl, none)
+none_refuses ((true, code) ∷ rows) others none = absurd (cc)
+none_refuses ((false, code) ∷ rows) others none = none_refuses rows others none
+
+-- a code is that of a row of one part
+pub part_refuses : (rows others : List (Bool × ErrorCode)) {code : ErrorCode} → first_row (rows ++ others) ≡ Some code
+    → (first_row rows ≡ Some code) ⊎ (first_row others ≡ Some code)
+part_refuses [] others is = inr is
+part_refuses ((true, code) ∷ rows) others is = inl is
+part_refuses ((false, code) ∷ rows) others is = part_refuses rows others is
+
+-- the first part's code is that of both
+pub refused_before : (rows more : List (Bool × ErrorCode)) {code : ErrorCode} → first_row rows ≡ Some code
+    → first_row (rows ++ more) ≡ Some code
+refused_before [] more is = absurd (cc)
+refused_before ((true, code) ∷ rows) more is = is
+refused_before ((false, code) ∷ rows) more is = refused_before rows more is
+
+pub left_behind : (rows more : List (Bool × ErrorCode)) → first_row rows ≡ None
+    → first_row (rows ++ more) ≡ first_row more
+left_behind [] more none = refl
+left_behind ((true, code) ∷ rows) more some = absurd (cc)
+left_behind ((false, code) ∷ rows) more none = left_behind rows more none
+
+-- ---- codes of the table
 
 unless-err : {B : Type 0} (refused : Option ErrorCode) (x : B) {code : ErrorCode} → unless refused x ≡ Err code
     → refused ≡ Some code

@@ -98,11 +98,6 @@ touches_through first each second = record {
   ends = second.ends;
 }
 
-pub touches_on : {t t' : Tree} {s d : ℕ} {ends : List ℕ} {a b c : Nodes} → Touches t t (s ∷ []) [] a b
-    → Reached t (s ∷ []) d
-    → Touches t t' (d ∷ []) ends b c → Touches t t' (s ∷ []) ends a c
-touches_on first to second = touches_through first (to_one to) second
-
 -- ---- the nodes to which a call comes
 
 -- the node under a name is reached from its directory

@@ -1,20 +1,21 @@
 -- The step of a call that isn't refused keeps a valid tree valid.
 use Rattle.std.proofs.Common.{◌≡◌, ◌≢◌, nat_eq, ◌⊎◌, ℕ, ◌+◌, ◌<◌, ◌≤◌, Bool, true, false, cond, List, [], ◌∷◌, ◌++◌, length, Option, Some, None, inl, inr, refl, sym, ap, ◌∙◌, subst, arith}
-use Rattle.std.specs.Prelude.{IsTrue}
+use Rattle.std.specs.Prelude.{IsTrue, is_some}
 use Rattle.std.specs.FinMap as maps
 use Rattle.std.specs.Str.{IsUtf8}
 use Rattle.std.proofs.lemmas.Bool.{true≢false, cases_eq, cases_lt}
 use Rattle.std.proofs.lemmas.List.{set_past}
 use Rattle.std.proofs.lemmas.List.Sums.{sum_by-set}
-use Rattle.wasi_paths.specs.Text.{is_dot_text, is_long, IsName}
+use Rattle.wasi_paths.specs.Text.{is_dot_text, is_name_text, is_long, IsName}
 use Rattle.wasi_host.specs.Tree.{Tree, Node, Nodes, Content, File, Directory, Link, node_at, next_of, names_of, is_file, is_directory, is_gone, links_of, stray, child, hold_one}
 use Rattle.wasi_host.specs.Below.{is_below}
-use Rattle.wasi_host.specs.ValidTree.{are_bytes, has_nul, is_entry_name, names_for, name_count, IsValidContent, IsValidTree}
+use Rattle.wasi_host.specs.ValidTree.{are_bytes, has_nul, is_entry_name, names_for, name_count, Reached, IsValidContent, IsValidTree}
 use Rattle.wasi_host.specs.Options.{Options}
 use Rattle.wasi_host.specs.HostCall.{HostCall, OpenAt, StatAt, ReadLinkAt, MakeDirAt, SymlinkAt, LinkAt, RenameAt, UnlinkAt, RemoveDirAt, TimesAt, Access, Stat, SetTimes, Pread, Pwrite, ListDir, Dup, Close, CanBeAsked}
-use Rattle.wasi_host.specs.Refusal.{refusal, first_row, directory_row, name_rows, making_rows, renaming_rows, moving_rows, text_rows}
+use Rattle.wasi_host.specs.Refusal.{refusal, first_row, directory_row, name_rows, both_rows, growing_rows, making_rows, linking_rows, source_rows, naming_rows, loop_rows, moving_rows, renaming_rows, text_rows}
 use Rattle.wasi_host.specs.Step.{with_nodes, directory_made, link_made, no_bytes, is_cut, file_cut, opened_step, open_step, piece_in, bytes_put, write_step, one_name_less, made_gone, dropped_step, unlink_step, remove_step, rename_step, moved_step, name_lost, name_moved, link_step, added_step, with_times, times_set, times_set_if, times_step, step, with_piece}
 use Rattle.wasi_host.specs.declared.errors.ErrorCode.{ErrorCode}
+use Rattle.wasi_host.specs.declared.errors.ErrorCode.TheVariants.{Exist}
 use Rattle.wasi_host.specs.declared.held.Held.{Held}
 use Rattle.wasi_host.specs.declared.system_time.SystemTime.{SystemTime}
 use Rattle.wasi_host.specs.Numbers.{largest_file, longest_link}
@@ -27,7 +28,8 @@ use Rattle.wasi_host.proofs.Making.{Lacks, valid-file, valid-directory, valid-li
 use Rattle.wasi_host.proofs.Linking.{valid-added}
 use Rattle.wasi_host.proofs.BelowLemmas.{is_below-Decides}
 use Rattle.wasi_host.proofs.Moving.{valid-moved, valid-replaced}
-use Rattle.wasi_host.proofs.Dropping.{valid-unlinked, valid-removed}
+use Rattle.wasi_host.proofs.Dropping.{Drops, valid-unlinked, valid-removed}
+use Rattle.wasi_host.proofs.Refusals.{none_refuses}
 
 -- ---- a file with other bytes
 
@@ -157,63 +159,78 @@ valid-times t n atime mtime valid =
 
 -- ---- what the rows leave
 
-pub open_directory : (t : Tree) (d : ℕ) (name : List ℕ) (o : Options) → refusal t (OpenAt d name o) ≡ None
-    → (is_directory (node_at t d).content ≡ true) × (has_nul name ≡ false) × (is_long name ≡ false)
-unfolding refusal
-open_directory t d name o none = (grind arith, grind arith, grind arith)
-
--- of a name that is to hold a new node
-record CanMake (t : Tree) (d : ℕ) (name : List ℕ) : Type 0 where
+-- of a name that is to be looked up
+pub record CanLook (t : Tree) (d : ℕ) (name : List ℕ) : Type 0 where
   pub directory : is_directory (node_at t d).content ≡ true
   pub no_nul : has_nul name ≡ false
   pub short : is_long name ≡ false
+
+is_directory_row : (t : Tree) (d : ℕ) → first_row (directory_row t d) ≡ None → is_directory (node_at t d).content ≡ true
+is_directory_row t d none = grind arith
+
+can_look : (t : Tree) (d : ℕ) (name : List ℕ) → first_row (directory_row t d) ≡ None
+    → first_row (name_rows t d name) ≡ None → CanLook t d name
+can_look t d name first none = record {
+  directory = is_directory_row t d first;
+  no_nul = grind arith;
+  short = grind arith;
+}
+
+-- of two names
+can_look_both : (t : Tree) (old : ℕ) (old_name : List ℕ) (new : ℕ) (new_name : List ℕ)
+    → first_row (both_rows t old old_name new new_name) ≡ None
+    → (is_directory (node_at t old).content ≡ true) × CanLook t new new_name
+can_look_both t old old_name new new_name none =
+    let names : List (Bool × ErrorCode) = name_rows t old old_name ++ name_rows t new new_name in
+    let first = none_refuses (directory_row t old) (directory_row t new ++ names) none in
+    let second = none_refuses (directory_row t new) names first.1 in
+    let third = none_refuses (name_rows t old old_name) (name_rows t new new_name) second.1 in
+    (is_directory_row t old first.0, can_look t new new_name second.0 third.1)
+
+pub can_open : (t : Tree) (d : ℕ) (name : List ℕ) (o : Options) → refusal t (OpenAt d name o) ≡ None
+    → CanLook t d name
+unfolding refusal
+can_open t d name o none = record { directory = grind arith; no_nul = grind arith; short = grind arith }
+
+-- of a name that is to hold a new node
+pub record CanMake (t : Tree) (d : ℕ) (name : List ℕ) : Type 0 where
+  pub looks : CanLook t d name
   pub missing : child t d name ≡ None
   pub stays : is_gone (node_at t d).content ≡ false
   pub room : next_of t < t.limits.nodes
 
-open_missing : (t : Tree) (d : ℕ) (name : List ℕ) (o : Options) → refusal t (OpenAt d name o) ≡ None
+pub can_make_file : (t : Tree) (d : ℕ) (name : List ℕ) (o : Options) → refusal t (OpenAt d name o) ≡ None
     → child t d name ≡ None → CanMake t d name
 unfolding refusal
-open_missing t d name o none missing =
-    let front = open_directory t d name o none in
-    record {
-      directory = front.0;
-      no_nul = front.1;
-      short = front.2;
-      missing = missing;
-      stays = grind arith;
-      room = grind arith;
-    }
-
--- where no row holds, none of a part of them does
-no_row : (rows others : List (Bool × ErrorCode)) → first_row (rows ++ others) ≡ None
-    → (first_row rows ≡ None) × (first_row others ≡ None)
-no_row [] others none = (refl, none)
-no_row ((true, code) ∷ rows) others none = absurd (cc)
-no_row ((false, code) ∷ rows) others none = no_row rows others none
+can_make_file t d name o none missing = record {
+  looks = can_open t d name o none;
+  missing = missing;
+  stays = grind arith;
+  room = grind arith;
+}
 
 -- with these rows before those of the name
 making : (t : Tree) (d : ℕ) (name : List ℕ) (before : List (Bool × ErrorCode))
-    → first_row (directory_row t d ++ (before ++ (name_rows t d name ++ making_rows t d name))) ≡ None
+    → first_row (directory_row t d ++ (before ++ making_rows t d name)) ≡ None
     → (first_row before ≡ None) × CanMake t d name
 making t d name before none =
-    let named : List (Bool × ErrorCode) = name_rows t d name ++ making_rows t d name in
-    let first = no_row (directory_row t d) (before ++ named) none in
-    let second = no_row before named first.1 in
-    let third = no_row (name_rows t d name) (making_rows t d name) second.1 in
-    let directory = first.0 in
-    let name = third.0 in
-    let made = third.1 in (
+    let made : List (Bool × ErrorCode) = (is_some (child t d name), Exist) ∷ growing_rows t d in
+    let first = none_refuses (directory_row t d) (before ++ making_rows t d name) none in
+    let second = none_refuses before (making_rows t d name) first.1 in
+    let third = none_refuses (name_rows t d name) made second.1 in
+    let free = third.1 in (
       second.0,
       record {
-        directory = grind arith;
-        no_nul = grind arith;
-        short = grind arith;
+        looks = can_look t d name first.0 third.0;
         missing = grind arith;
         stays = grind arith;
         room = grind arith;
       },
     )
+
+pub can_make_directory : (t : Tree) (d : ℕ) (name : List ℕ) → refusal t (MakeDirAt d name) ≡ None → CanMake t d name
+unfolding refusal
+can_make_directory t d name none = (making t d name [] none).1
 
 -- of the text of a link
 text_fits : (text : List ℕ) → first_row (text_rows text) ≡ None
@@ -221,114 +238,130 @@ text_fits : (text : List ℕ) → first_row (text_rows text) ≡ None
 text_fits [] none = absurd (cc)
 text_fits (byte ∷ text) none = (omega arith, grind arith, grind arith)
 
+pub can_make_link : (t : Tree) (d : ℕ) (name text : List ℕ) → refusal t (SymlinkAt text d name) ≡ None
+    → CanMake t d name × ((0 < length text) × (length text ≤ longest_link) × (has_nul text ≡ false))
+unfolding refusal
+can_make_link t d name text none =
+    let rows = making t d name (text_rows text) none in
+    (rows.1, text_fits text rows.0)
+
 -- of a name that is to go
-unlinks : (t : Tree) (d n : ℕ) (name : List ℕ) → refusal t (UnlinkAt d name) ≡ None → child t d name ≡ Some n
+pub can_unlink : (t : Tree) (d n : ℕ) (name : List ℕ) → refusal t (UnlinkAt d name) ≡ None → child t d name ≡ Some n
     → (is_directory (node_at t d).content ≡ true) × (is_dot_text name ≡ false)
     × (is_directory (node_at t n).content ≡ false)
 unfolding refusal
-unlinks t d n name none found = (grind arith, grind arith, grind arith)
+can_unlink t d n name none found = (grind arith, grind arith, grind arith)
 
-removes : (t : Tree) (d n : ℕ) (name : List ℕ) → refusal t (RemoveDirAt d name) ≡ None → child t d name ≡ Some n
+pub can_remove : (t : Tree) (d n : ℕ) (name : List ℕ) → refusal t (RemoveDirAt d name) ≡ None → child t d name ≡ Some n
     → (is_directory (node_at t d).content ≡ true) × (is_dot_text name ≡ false)
     × (is_directory (node_at t n).content ≡ true) × (maps.len (names_of (node_at t n).content) ≡ 0)
 unfolding refusal
-removes t d n name none found = (grind arith, grind arith, grind arith, grind arith)
+can_remove t d n name none found = (grind arith, grind arith, grind arith, grind arith)
 
 -- of a name that is to be added to the node of another
-record CanAdd (t : Tree) (old new n : ℕ) (new_name : List ℕ) : Type 0 where
+pub record CanAdd (t : Tree) (old new n : ℕ) (new_name : List ℕ) : Type 0 where
   pub old_directory : is_directory (node_at t old).content ≡ true
-  pub directory : is_directory (node_at t new).content ≡ true
-  pub no_nul : has_nul new_name ≡ false
-  pub short : is_long new_name ≡ false
+  pub looks : CanLook t new new_name
   pub missing : child t new new_name ≡ None
   pub stays : is_gone (node_at t new).content ≡ false
   pub leaf : is_directory (node_at t n).content ≡ false
   pub room : links_of (node_at t n).content < t.limits.links
 
-links : (t : Tree) (old new n : ℕ) (old_name new_name : List ℕ) → refusal t (LinkAt old old_name new new_name) ≡ None
+linking : (t : Tree) (new n : ℕ) (there : Option ℕ) → first_row (linking_rows t new (Some n) there) ≡ None
+    → (there ≡ None) × (is_gone (node_at t new).content ≡ false) × (is_directory (node_at t n).content ≡ false)
+    × (links_of (node_at t n).content < t.limits.links)
+linking t new n there none = (grind arith, grind arith, grind arith, grind arith)
+
+pub can_add : (t : Tree) (old new n : ℕ) (old_name new_name : List ℕ) → refusal t (LinkAt old old_name new new_name) ≡ None
     → child t old old_name ≡ Some n → CanAdd t old new n new_name
 unfolding refusal
-links t old new n old_name new_name none found = record {
-  old_directory = grind arith;
-  directory = grind arith;
-  no_nul = grind arith;
-  short = grind arith;
-  missing = grind arith;
-  stays = grind arith;
-  leaf = grind arith;
-  room = grind arith;
-}
+can_add t old new n old_name new_name none found =
+    let there : Option ℕ = child t new new_name in
+    let parts = none_refuses (both_rows t old old_name new new_name) (linking_rows t new (child t old old_name) there) none in
+    let both = can_look_both t old old_name new new_name parts.0 in
+    let free = linking t new n there
+    (subst (λ named. first_row (linking_rows t new named there) ≡ None) found parts.1) in
+    record {
+      old_directory = both.0;
+      looks = both.1;
+      missing = free.0;
+      stays = free.1;
+      leaf = free.2;
+      room = free.3;
+    }
+
+-- of two names, of which one is to come in the place of the other
+pub record CanRename (t : Tree) (old : ℕ) (old_name : List ℕ) (new : ℕ) (new_name : List ℕ) : Type 0 where
+  pub old_directory : is_directory (node_at t old).content ≡ true
+  pub looks : CanLook t new new_name
+  pub old_plain : is_dot_text old_name ≡ false
+  pub plain : is_dot_text new_name ≡ false
+
+source : (t : Tree) (old_name new_name : List ℕ) (requires_dir : Bool) (found : Option ℕ)
+    → first_row (source_rows t old_name new_name requires_dir found) ≡ None
+    → (is_dot_text old_name ≡ false) × (is_dot_text new_name ≡ false)
+source t old_name new_name requires_dir found none = (grind arith, grind arith)
+
+pub can_rename : (t : Tree) (old : ℕ) (old_name : List ℕ) (new : ℕ) (new_name : List ℕ) (requires_dir : Bool)
+    → first_row (naming_rows t old old_name new new_name requires_dir) ≡ None
+    → CanRename t old old_name new new_name
+can_rename t old old_name new new_name requires_dir none =
+    let found : Option ℕ = child t old old_name in
+    let parts = none_refuses (both_rows t old old_name new new_name)
+    (source_rows t old_name new_name requires_dir found) none in
+    let both = can_look_both t old old_name new new_name parts.0 in
+    let plain = source t old_name new_name requires_dir found parts.1 in
+    record { old_directory = both.0; looks = both.1; old_plain = plain.0; plain = plain.1 }
+
+-- a node doesn't come below itself
+pub not_below : (t : Tree) (old new n : ℕ) (there : Option ℕ) → first_row (loop_rows t old new (Some n) there) ≡ None
+    → is_below t n new ≡ false
+not_below t old new n there none = grind arith
+
+-- what it replaces has no names
+pub replaces : (t : Tree) (old new n m : ℕ) → first_row (moving_rows t old new (Some n) (Some m)) ≡ None
+    → is_directory (node_at t m).content ≡ true → maps.len (names_of (node_at t m).content) ≡ 0
+replaces t old new n m none directory = grind arith
+
+gets_names : (t : Tree) (old new n : ℕ) (there : Option ℕ) → first_row (moving_rows t old new (Some n) there) ≡ None
+    → is_gone (node_at t new).content ≡ false
+gets_names t old new n there none = grind arith
 
 -- of a name that is to move
 record MayMove (t : Tree) (old : ℕ) (old_name : List ℕ) (new : ℕ) (new_name : List ℕ) (n : ℕ) : Type 0 where
-  pub old_directory : is_directory (node_at t old).content ≡ true
-  pub directory : is_directory (node_at t new).content ≡ true
-  pub no_nul : has_nul new_name ≡ false
-  pub short : is_long new_name ≡ false
-  pub old_plain : is_dot_text old_name ≡ false
-  pub plain : is_dot_text new_name ≡ false
+  pub names : CanRename t old old_name new new_name
   pub below : is_below t n new ≡ false
   pub stays : is_gone (node_at t new).content ≡ false
   pub bare : (m : ℕ) → child t new new_name ≡ Some m → is_directory (node_at t m).content ≡ true
       → maps.len (names_of (node_at t m).content) ≡ 0
-
-is_directory_row : (t : Tree) (d : ℕ) → first_row (directory_row t d) ≡ None → is_directory (node_at t d).content ≡ true
-is_directory_row t d none = grind arith
-
-fits_rows : (t : Tree) (d : ℕ) (name : List ℕ) → first_row (name_rows t d name) ≡ None
-    → (has_nul name ≡ false) × (is_long name ≡ false)
-fits_rows t d name none = (grind arith, grind arith)
-
-renames : (t : Tree) (old : ℕ) (old_name : List ℕ) (new : ℕ) (new_name : List ℕ) (requires_dir : Bool) (n : ℕ)
-    → first_row (renaming_rows t old old_name new new_name requires_dir) ≡ None → child t old old_name ≡ Some n
-    → (is_dot_text old_name ≡ false) × (is_dot_text new_name ≡ false) × (is_below t n new ≡ false)
-renames t old old_name new new_name requires_dir n none found = (grind arith, grind arith, grind arith)
-
--- what it replaces has no names
-replaces : (t : Tree) (old : ℕ) (old_name : List ℕ) (new : ℕ) (new_name : List ℕ) (m : ℕ)
-    → first_row (moving_rows t old old_name new new_name) ≡ None → child t new new_name ≡ Some m
-    → (is_directory (node_at t m).content ≡ true) → maps.len (names_of (node_at t m).content) ≡ 0
-replaces t old old_name new new_name m none holds directory = grind arith
-
-lasts : (t : Tree) (old : ℕ) (old_name : List ℕ) (new : ℕ) (new_name : List ℕ)
-    → first_row (moving_rows t old old_name new new_name) ≡ None → is_gone (node_at t new).content ≡ false
-lasts t old old_name new new_name none = grind arith
 
 may_move : (t : Tree) (old : ℕ) (old_name : List ℕ) (new : ℕ) (new_name : List ℕ) (requires_dir : Bool) (n : ℕ)
     → refusal t (RenameAt old old_name new new_name requires_dir) ≡ None → child t old old_name ≡ Some n
     → hold_one (child t old old_name) (child t new new_name) ≡ false → MayMove t old old_name new new_name n
 unfolding refusal
 may_move t old old_name new new_name requires_dir n none found two =
-    let one : Bool = hold_one (child t old old_name) (child t new new_name) in
-    let last : List (Bool × ErrorCode) = cond one [] (moving_rows t old old_name new new_name) in
-    let rows : List (Bool × ErrorCode) = renaming_rows t old old_name new new_name requires_dir ++ last in
-    let first = no_row (directory_row t old)
-    (directory_row t new ++ (name_rows t old old_name ++ (name_rows t new new_name ++ rows))) none in
-    let second = no_row (directory_row t new) (name_rows t old old_name ++ (name_rows t new new_name ++ rows)) first.1 in
-    let third = no_row (name_rows t old old_name) (name_rows t new new_name ++ rows) second.1 in
-    let fourth = no_row (name_rows t new new_name) rows third.1 in
-    let fifth = no_row (renaming_rows t old old_name new new_name requires_dir) last fourth.1 in
-    let fits = fits_rows t new new_name fourth.0 in
-    let named = renames t old old_name new new_name requires_dir n fifth.0 found in
-    let moves : first_row (moving_rows t old old_name new new_name) ≡ None =
-    subst (λ b. first_row (cond b [] (moving_rows t old old_name new new_name)) ≡ None) two fifth.1 in
+    let there : Option ℕ = child t new new_name in
+    let moving : List (Bool × ErrorCode) = moving_rows t old new (Some n) there in
+    let parts = none_refuses (naming_rows t old old_name new new_name requires_dir)
+    (renaming_rows t old new (child t old old_name) there) none in
+    let later : first_row (renaming_rows t old new (Some n) there) ≡ None =
+    subst (λ named. first_row (renaming_rows t old new named there) ≡ None) found parts.1 in
+    let free = none_refuses (loop_rows t old new (Some n) there) (cond (hold_one (Some n) there) [] moving) later in
+    let moves : first_row moving ≡ None =
+    subst (λ b. first_row (cond b [] moving) ≡ None) (ap (λ named. hold_one named there) (sym found) ∙ two) free.1 in
     record {
-      old_directory = is_directory_row t old first.0;
-      directory = is_directory_row t new second.0;
-      no_nul = fits.0;
-      short = fits.1;
-      old_plain = named.0;
-      plain = named.1;
-      below = named.2;
-      stays = lasts t old old_name new new_name moves;
-      bare = λ m holds. replaces t old old_name new new_name m moves holds;
+      names = can_rename t old old_name new new_name requires_dir parts.0;
+      below = not_below t old new n there free.0;
+      stays = gets_names t old new n there moves;
+      bare = λ m holds. replaces t old new n m
+          (subst (λ named. first_row (moving_rows t old new (Some n) named) ≡ None) holds moves);
     }
 
 -- ---- the names of the calls
 
-is_named : (name : List ℕ) → is_dot_text name ≡ false → IsName name → has_nul name ≡ false → is_long name ≡ false
-    → is_entry_name name ≡ true
-is_named name not_dot is no_nul short = let text = is.name in grind arith
+pub is_named : (name : List ℕ) → is_dot_text name ≡ false → IsTrue (is_name_text name) → has_nul name ≡ false
+    → is_long name ≡ false → is_entry_name name ≡ true
+is_named name not_dot text no_nul short = grind arith
 
 abbrev child_by : Bool → ℕ → Option ℕ → Option ℕ
 child_by dot d there = cond dot (Some d) there
@@ -342,7 +375,7 @@ found_by_name true d n there is = inl (cc)
 found_by_name false d n there is = inr is
 
 -- a name that is missing isn't `.`, and its directory lacks it
-missing_name : (t : Tree) (d : ℕ) (name : List ℕ) → child t d name ≡ None
+pub missing_name : (t : Tree) (d : ℕ) (name : List ℕ) → child t d name ≡ None
     → (is_dot_text name ≡ false) × (maps.get (names_of (node_at t d).content) name ≡ None)
 unfolding child
 missing_name t d name is = missing_by (is_dot_text name) d (maps.get (names_of (node_at t d).content) name) is
@@ -353,28 +386,27 @@ bare_unless_directory (Directory names gone) is = absurd (cc)
 bare_unless_directory (Link text links) is = refl
 
 -- a name that isn't `.`, and its directory has it
-found_name : (t : Tree) (d n : ℕ) (name : List ℕ) → is_dot_text name ≡ false → child t d name ≡ Some n
+pub found_name : (t : Tree) (d n : ℕ) (name : List ℕ) → is_dot_text name ≡ false → child t d name ≡ Some n
     → maps.get (names_of (node_at t d).content) name ≡ Some n
 unfolding child
 found_name t d n name not_dot is =
     ap (λ b. child_by b d (maps.get (names_of (node_at t d).content) name)) (sym not_dot) ∙ is
 
 -- a name that may be given
-lacks_this : (t : Tree) (d : ℕ) (name : List ℕ) → IsName name → is_directory (node_at t d).content ≡ true
-    → has_nul name ≡ false → is_long name ≡ false → child t d name ≡ None → is_gone (node_at t d).content ≡ false
-    → Lacks t d name
-lacks_this t d name is directory no_nul short missing stays =
+lacks_this : (t : Tree) (d : ℕ) (name : List ℕ) → IsName name → CanLook t d name → child t d name ≡ None
+    → is_gone (node_at t d).content ≡ false → Lacks t d name
+lacks_this t d name is looks missing stays =
     let lacks = missing_name t d name missing in
     record {
-      directory = directory;
+      directory = looks.directory;
       stays = stays;
       missing = lacks.1;
-      good = is_named name lacks.0 is no_nul short;
+      good = is_named name lacks.0 is.name looks.no_nul looks.short;
       utf8 = is.utf8;
     }
 
 lacks_name : (t : Tree) (d : ℕ) (name : List ℕ) → IsName name → CanMake t d name → Lacks t d name
-lacks_name t d name is may = lacks_this t d name is may.directory may.no_nul may.short may.missing may.stays
+lacks_name t d name is may = lacks_this t d name is may.looks may.missing may.stays
 
 -- the node of a name is in the tree
 pub child_within : (t : Tree) (d n : ℕ) (name : List ℕ) → IsValidTree t → is_directory (node_at t d).content ≡ true
@@ -392,7 +424,7 @@ valid-opened : (t : Tree) (d : ℕ) (name : List ℕ) (o : Options) → IsValidT
     → refusal t (OpenAt d name o) ≡ None
     → (found : Option ℕ) → child t d name ≡ found → IsValidTree (opened_step t d name o found)
 valid-opened t d name o valid is none None missing =
-    let may = open_missing t d name o none missing in
+    let may = can_make_file t d name o none missing in
     valid-file (lacks_name t d name is may) valid may.room
 valid-opened t d name o valid is none (Some n) found =
     elim (is_cut o (node_at t n).content) as (λ b. IsValidTree (cond b (file_cut t n) t)) [
@@ -402,18 +434,16 @@ valid-opened t d name o valid is none (Some n) found =
 
 valid-dir_made : (t : Tree) (d : ℕ) (name : List ℕ) → IsValidTree t → IsName name
     → refusal t (MakeDirAt d name) ≡ None → IsValidTree (directory_made t d name)
-unfolding refusal
 valid-dir_made t d name valid is none =
-    let may = (making t d name [] none).1 in
+    let may = can_make_directory t d name none in
     valid-directory (lacks_name t d name is may) valid may.room
 
 valid-symlink : (t : Tree) (d : ℕ) (name text : List ℕ) → IsValidTree t → IsUtf8 text → IsName name
     → refusal t (SymlinkAt text d name) ≡ None → IsValidTree (link_made t d name text)
-unfolding refusal
 valid-symlink t d name text valid utf8 is none =
-    let rows = making t d name (text_rows text) none in
-    let may = rows.1 in
-    let fits = text_fits text rows.0 in
+    let rows = can_make_link t d name text none in
+    let may = rows.0 in
+    let fits = rows.1 in
     valid-link (lacks_name t d name is may) valid may.room text fits.0 fits.1 utf8 fits.2
 
 valid-link_at : (t : Tree) (old new : ℕ) (old_name new_name : List ℕ) → IsValidTree t → IsName new_name
@@ -421,8 +451,8 @@ valid-link_at : (t : Tree) (old new : ℕ) (old_name new_name : List ℕ) → Is
     → (found : Option ℕ) → child t old old_name ≡ found → IsValidTree (added_step t new new_name found)
 valid-link_at t old new old_name new_name valid is none None missing = valid
 valid-link_at t old new old_name new_name valid is none (Some n) found =
-    let can = links t old new n old_name new_name none found in
-    valid-added (lacks_this t new new_name is can.directory can.no_nul can.short can.missing can.stays) valid
+    let can = can_add t old new n old_name new_name none found in
+    valid-added (lacks_this t new new_name is can.looks can.missing can.stays) valid
     (record {
       within = child_within t old n old_name valid can.old_directory found;
       leaf = can.leaf;
@@ -436,6 +466,16 @@ bare_if (File bytes links) bare = refl
 bare_if (Directory names gone) bare = maps.empty_of_len names (bare refl)
 bare_if (Link text links) bare = refl
 
+-- a name that is to be dropped
+drops_name : (t : Tree) (d n : ℕ) (name : List ℕ) → is_directory (node_at t d).content ≡ true
+    → is_dot_text name ≡ false → child t d name ≡ Some n → names_of (node_at t n).content ≡ maps.empty
+    → Drops t d name n
+drops_name t d n name directory plain found bare = record {
+  directory = directory;
+  named = found_name t d n name plain found;
+  bare = bare;
+}
+
 -- two names that hold two nodes
 two_nodes : (n m : ℕ) → nat_eq n m ≡ false → n ≢ m
 two_nodes n m two same = true≢false (sym (ap (nat_eq n) (sym same) ∙ nat_eq-refl n) ∙ two)
@@ -444,35 +484,41 @@ module _ (t : Tree) (old : ℕ) (old_name : List ℕ) (new : ℕ) (new_name : Li
     (valid : IsValidTree t) (is : IsName new_name)
     (none : refusal t (RenameAt old old_name new new_name requires_dir) ≡ None)
     (two : hold_one (child t old old_name) (child t new new_name) ≡ false) where
-  valid-moves : (n : ℕ) → child t old old_name ≡ Some n → (held : Option ℕ) → child t new new_name ≡ held
-      → IsValidTree (name_moved (dropped_step t new new_name name_lost held) old old_name new new_name n)
-  valid-moves n found None missing =
-      let may = may_move t old old_name new new_name requires_dir n none found two in
-      let within = child_within t old n old_name valid may.old_directory found in
-      valid-moved (record {
-        directory = may.old_directory;
-        named = found_name t old n old_name may.old_plain found;
-        lacks = lacks_this t new new_name is may.directory may.no_nul may.short missing may.stays;
-        apart = λ below. true≢false (sym ((is_below-Decides t n new valid within).1 below) ∙ may.below);
-      }) valid
-  valid-moves n found (Some m) holds =
-      let may = may_move t old old_name new new_name requires_dir n none found two in
-      let within = child_within t old n old_name valid may.old_directory found in
-      valid-replaced (record {
-        directory = may.old_directory;
-        named = found_name t old n old_name may.old_plain found;
-        drops = record {
-          directory = may.directory;
-          named = found_name t new m new_name may.plain holds;
-          bare = bare_if (node_at t m).content (may.bare m holds);
-        };
-        good = is_named new_name may.plain is may.no_nul may.short;
-        utf8 = is.utf8;
-        stays = may.stays;
-        below = λ below. true≢false (sym ((is_below-Decides t n new valid within).1 below) ∙ may.below);
-        other = two_nodes n m (ap (λ c. hold_one c (Some m)) (sym found)
-            ∙ ap (hold_one (child t old old_name)) (sym holds) ∙ two);
-      }) valid
+  module _ (n : ℕ) (found : child t old old_name ≡ Some n) where
+    may : MayMove t old old_name new new_name n
+    may = may_move t old old_name new new_name requires_dir n none found two
+
+    named : maps.get (names_of (node_at t old).content) old_name ≡ Some n
+    named = found_name t old n old_name may.names.old_plain found
+
+    apart : Reached t (n ∷ []) new → ⊥
+    apart below =
+        let within = child_within t old n old_name valid may.names.old_directory found in
+        true≢false (sym ((is_below-Decides t n new valid within).1 below) ∙ may.below)
+
+    valid-moves : (there : Option ℕ) → child t new new_name ≡ there
+        → IsValidTree (name_moved (dropped_step t new new_name name_lost there) old old_name new new_name n)
+    valid-moves None missing =
+        valid-moved (record {
+          directory = may.names.old_directory;
+          named = named;
+          lacks = lacks_this t new new_name is may.names.looks missing may.stays;
+          apart = apart;
+        }) valid
+    valid-moves (Some m) holds =
+        let looks = may.names.looks in
+        valid-replaced (record {
+          directory = may.names.old_directory;
+          named = named;
+          drops = drops_name t new m new_name looks.directory may.names.plain holds
+              (bare_if (node_at t m).content (may.bare m holds));
+          good = is_named new_name may.names.plain is.name looks.no_nul looks.short;
+          utf8 = is.utf8;
+          stays = may.stays;
+          below = apart;
+          other = two_nodes n m (ap (λ c. hold_one c (Some m)) (sym found)
+              ∙ ap (hold_one (child t old old_name)) (sym holds) ∙ two);
+        }) valid
 
   valid-moves_if : (found : Option ℕ) → child t old old_name ≡ found
       → IsValidTree (moved_step t old old_name new new_name found)
@@ -495,23 +541,17 @@ valid-unlink : (t : Tree) (d : ℕ) (name : List ℕ) → IsValidTree t → refu
     → (found : Option ℕ) → child t d name ≡ found → IsValidTree (dropped_step t d name one_name_less found)
 valid-unlink t d name valid none None missing = valid
 valid-unlink t d name valid none (Some n) found =
-    let rows = unlinks t d n name none found in
-    valid-unlinked (record {
-      directory = rows.0;
-      named = found_name t d n name rows.1 found;
-      bare = bare_unless_directory (node_at t n).content rows.2;
-    }) valid rows.2
+    let can = can_unlink t d n name none found in
+    valid-unlinked (drops_name t d n name can.0 can.1 found (bare_unless_directory (node_at t n).content can.2)) valid
+    can.2
 
 valid-remove : (t : Tree) (d : ℕ) (name : List ℕ) → IsValidTree t → refusal t (RemoveDirAt d name) ≡ None
     → (found : Option ℕ) → child t d name ≡ found → IsValidTree (dropped_step t d name made_gone found)
 valid-remove t d name valid none None missing = valid
 valid-remove t d name valid none (Some n) found =
-    let rows = removes t d n name none found in
-    valid-removed (record {
-      directory = rows.0;
-      named = found_name t d n name rows.1 found;
-      bare = maps.empty_of_len (names_of (node_at t n).content) rows.3;
-    }) valid rows.2
+    let can = can_remove t d n name none found in
+    valid-removed
+    (drops_name t d n name can.0 can.1 found (maps.empty_of_len (names_of (node_at t n).content) can.3)) valid can.2
 
 valid-times_if : (t : Tree) (atime mtime : Option SystemTime) (found : Option ℕ) → IsValidTree t
     → IsValidTree (times_set_if t atime mtime found)

@@ -119,10 +119,8 @@ pub trait Host {
             (λ unit. unit) result };
 
     /// Gives the file or link under the old name in a directory a new name in another, which may be the same; a link is
-    /// not followed, as with POSIX's `linkat` without its flag. Refusals: the rows for the old name, then those for the
-    /// new one; NoEntry where the old name is missing; Exist where the new one is there, `.` among them; NoEntry where
-    /// the new directory is removed; Access where it may not be written; NotPermitted where the old name holds a
-    /// directory; TooManyLinks where what it holds has as many names as it may.
+    /// not followed, as with POSIX's `linkat` without its flag. Refusals: the rows of `link_at` in the host's table, those
+    /// for the two names first, the old one before the new one.
     fn link_at(
         &mut self,
         old: Handle,
@@ -143,13 +141,9 @@ pub trait Host {
     /// Moves what the old name in a directory holds to the new name in another, which may be the same; a link is not
     /// followed. What the new name held loses it: a file or link has one name fewer, and stays with none too; a
     /// directory is removed. Where both names hold one node, both stay, as with POSIX's `rename`. `requires_dir` asks
-    /// for a directory, as a slash at the end of a path does. Refusals: the rows for the old name, then those for the
-    /// new one; Busy where either is `.`; NoEntry where the old name is missing; NotDirectory where a directory is
-    /// asked for and it holds none; Invalid where the new directory is the node that is to move, or is below it;
-    /// NotEmpty where the new name holds a directory which is the old directory, or has it below. Where both names hold
-    /// one node there are no others. Access where the old directory may not be written, or the new one, or a directory
-    /// that is to move from one to the other; NoEntry where the new directory is removed; NotDirectory of a directory
-    /// onto what is none; IsDirectory of what is none onto a directory; NotEmpty onto a directory that has names.
+    /// for a directory, as a slash at the end of a path does. Refusals: the rows of `rename_at` in the host's table, those
+    /// for its names first, then those for what would come below itself or in the place of a directory above it. Where
+    /// both names hold one node there are no others; else those of a move follow.
     fn rename_at(
         &mut self,
         old: Handle,

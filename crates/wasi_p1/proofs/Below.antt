@@ -1,7 +1,6 @@
 -- From what a call below a directory gives to what the call does.
 use Rattle.std.proofs.Common.{◌≡◌, inl, inr, true, ℕ, List, Option, Some, None, Ok, Err, refl, ap, sym, ◌∙◌, subst, length}
-use Rattle.std.specs.Prelude.{Bool, IsTrue, IsErrAnd, Result}
-use Rattle.std.proofs.lemmas.Result.{err_from_is_err_and}
+use Rattle.std.specs.Prelude.{Bool, IsTrue}
 use Rattle.wasi_fs.specs.Calls.{Refuses}
 use Rattle.std.specs.FinSet.{contains}
 use Rattle.wasi_host.specs.Meaning.{World, Handles, HasCause, Rose}
@@ -17,22 +16,22 @@ use Rattle.wasi_guest.specs.declared.answer.Value.TheVariants.{Unit as Nothing}
 use Rattle.wasi_guest.specs.declared.call.Call.{Call}
 use Rattle.wasi_p1.specs.Asked.{Asked}
 use Rattle.wasi_p1.specs.CallParts.{Refused, Follows, IsReplied}
-use Rattle.wasi_p1.specs.CallTurn.{FollowsRow, Kept, may_want}
+use Rattle.wasi_p1.specs.CallTurn.{FollowsRow, Kept}
 use Rattle.wasi_p1.specs.Errnos.{errno_of, error_of}
-use Rattle.wasi_p1.specs.Guest.{Guest, places_of, guest_of, guest_by}
+use Rattle.wasi_p1.specs.Guest.{Guest, guest_slots, guest_of, guest_by}
 use Rattle.wasi_p1.specs.Owners.{handles, Owned, SlotsOfCall}
 use Rattle.wasi_p1.specs.Request.{Request, Reply, MayReply, Path}
-use Rattle.wasi_p1.specs.Row.{Row, give, made_by}
-use Rattle.wasi_p1.specs.Front.{ask}
-use Rattle.wasi_p1.specs.Rows.{front}
+use Rattle.wasi_p1.specs.Row.{Row, give, made_of_reply}
+use Rattle.wasi_p1.specs.Front.{ask, done_if}
+use Rattle.wasi_p1.specs.Rows.{front, may_want}
 use Rattle.wasi_p1.specs.Slots.{View}
 use Rattle.wasi_p1.specs.declared.error.P1Error.{P1Error}
 use Rattle.wasi_p1.specs.declared.error.P1Error.TheVariants.{Errno, Memory}
-use Rattle.wasi_p1.proofs.RowFronts.{tail, changes, with_nothing}
-use Rattle.wasi_p1.proofs.Placing.{places_stay}
+use Rattle.wasi_p1.proofs.RowEnds.{tail, with_nothing}
+use Rattle.wasi_p1.proofs.GuestSlots.{guest_slots_stay}
 use Rattle.wasi_p1.proofs.Staying.{all_stay}
 use Rattle.wasi_p1.proofs.Resolving.{resolved_ok, resolved_err}
-use Rattle.wasi_p1.proofs.Taking.{left_same, refused_at, wanted, does_err, does_ok, makes_err, makes_ok, Did}
+use Rattle.wasi_p1.proofs.Taking.{left_same, refused_at, wanted, unchanged, does_err, does_ok, makes_err, makes_ok, Did}
 
 -- what a directory doesn't permit is refused by the error number of its code
 pub refused_by : (A B : Type 0) {H : Type 0} (own : Option ErrorCode) (e : HostError) (old new : H)
@@ -81,14 +80,14 @@ module _ {H : Type 0} {told : Bool} {world : H → World} {faults : H → ℕ} {
       pub permitted_err : {e : P1Error} → Refused {A = A} own (Err e) old.host new.host
           → (own ≡ None → IsReplied r next (Err e)) → (e ≡ Memory → IsTrue (may_want call)) → Kept old new before after
           → (IsTrue told → own ≡ None
-          → places_of (world new.host).held new.slots ≡ places_of (world old.host).held old.slots)
+          → guest_slots (world new.host).held new.slots ≡ guest_slots (world old.host).held old.slots)
           → (IsTrue told → own ≡ None → Did world faults old new r next (Err e))
           → FollowsRow told world faults lookups old new before after call (Err e)
-      permitted_err {e} refuses replied may kept places does = by own refl
+      permitted_err {e} refuses replied may kept slots does = by own refl
         where
           by : (o : Option ErrorCode) → own ≡ o → FollowsRow told world faults lookups old new before after call (Err e)
           by None none = does_err next shown (subst (λ o. tail o r next shown (guest_of world old before) new.fuel
-              ≡ front (guest_of world old before) call old.fuel) none at) (replied none) may kept (λ told. places told none)
+              ≡ front (guest_of world old before) call old.fuel) none at) (replied none) may kept (λ told. slots told none)
               (λ told. does told none)
           by (Some code) some = not_permitted e code (subst (λ o. tail o r next shown (guest_of world old before) new.fuel
               ≡ front (guest_of world old before) call old.fuel) some at) (again (subst (λ o. Refused {A = A} o (Err e) old.host
@@ -120,24 +119,20 @@ module _ {H : Type 0} {told : Bool} {world : H → World} {faults : H → ℕ} {
   -- ---- what is done, and answered by nothing
 
   module _ {live : Handles} {own : Option ErrorCode} {r : Request}
-      (at : changes own r (guest_of world old before) new.fuel ≡ front (guest_of world old before) call old.fuel)
+      (at : done_if own r (guest_of world old before) new.fuel ≡ front (guest_of world old before) call old.fuel)
       (owned : Owned live (handles old.slots)) (kept : Kept old new before after) where
-    pub changed_err : (e : HostError) {result : Result Value P1Error}
-        → Refuses {A = Unit {0}} own (Err e) old.host new.host
+    pub changed_err : (e : HostError) → Refuses {A = Unit {0}} own (Err e) old.host new.host
         → (error_of e ≡ Memory → IsTrue (may_want call))
         → (IsTrue told → own ≡ None → KeepsHeld live (world old.host) (world new.host))
         → (IsTrue told → own ≡ None
         → Asked (Rose (faults old.host) (faults new.host)) (world old.host) (world new.host) r (Err (error_of e)))
-        → IsErrAnd result (λ f. f ≡ error_of e)
-        → FollowsRow told world faults lookups old new before after call result
-    changed_err e {result} refuses may keeps asked is =
-        let error = err_from_is_err_and result is in
-        rw (error.1, error.2) (permitted_err (λ _. give tt) with_nothing at
+        → FollowsRow told world faults lookups old new before after call (Err (error_of e))
+    changed_err e refuses may keeps asked = permitted_err (λ _. give tt) with_nothing at
         (refused_by (Unit {0}) (Unit {0}) own e old.host new.host refuses)
         (λ none. inl (e, refl)) may kept
-        (λ told none. ap (places_of (world new.host).held) kept.slots
-        ∙ places_stay old.slots owned (keeps told none))
-        (λ told none. inl (asked told none)))
+        (λ told none. ap (guest_slots (world new.host).held) kept.slots
+        ∙ guest_slots_stay old.slots owned (keeps told none))
+        (λ told none. inl (asked told none))
 
     pub changed_ok : (reply : Reply r) → MayReply r reply → Refuses {A = Unit {0}} own (Ok tt) old.host new.host
         → (IsTrue told → own ≡ None → KeepsHeld live (world old.host) (world new.host))
@@ -149,7 +144,7 @@ module _ {H : Type 0} {told : Bool} {world : H → World} {faults : H → ℕ} {
         (ap length kept.memory) (all_stay kept.slots) (λ none. (reply, may, refl)) (again (world old.host).held refl)
         (λ told none. (
           (reply, asked told none, refl),
-          again (world new.host).held (places_stay old.slots owned (keeps told none)),
+          again (world new.host).held (guest_slots_stay old.slots owned (keeps told none)),
         ))
       where
         by : (o : Option ErrorCode) → Refuses {A = Unit {0}} o (Ok tt) old.host new.host
@@ -157,45 +152,22 @@ module _ {H : Type 0} {told : Bool} {world : H → World} {faults : H → ℕ} {
         by None is = tt
         by (Some code) is = absurd (let r = is.0 in cc)
 
-        again : (stands : ℕ → Held) → places_of stands old.slots ≡ places_of (world old.host).held old.slots
+        again : (stands : ℕ → Held) → guest_slots stands old.slots ≡ guest_slots (world old.host).held old.slots
             → ◌≡◌ {A = Value × Guest} (Nothing, guest_of world old before) (Nothing, guest_by stands new after)
         again stands same = λ i. (
           Nothing,
           record {
-            places = (sym same ∙ ap (places_of stands) (sym kept.slots)) i;
+            slots = (sym same ∙ ap (guest_slots stands) (sym kept.slots)) i;
             memory = sym kept.memory i;
             holdings = sym kept.holdings i;
           },
         )
 
-  -- below a directory
-  module _ {live : Handles} {own : Option ErrorCode} (p : PathRequest) {shown : Unit {0} → PathReply p}
-      (at : changes own (Path p) (guest_of world old before) new.fuel ≡ front (guest_of world old before) call old.fuel)
-      (owned : Owned live (handles old.slots)) (kept : Kept old new before after) where
-    pub done_err : (e : HostError) {result : Result Value P1Error}
-        → HasCause {A = Unit {0}} (faults old.host) (faults new.host) (Err e)
-        → Refuses {A = Unit {0}} own (Err e) old.host new.host → IsTrue (may_want call)
-        → (IsTrue told → own ≡ None → Resolved {A = Unit {0}} live (world old.host) (world new.host)
-        (meant_by (world old.host).tree p) shown (Err e))
-        → IsErrAnd result (λ f. f ≡ error_of e)
-        → FollowsRow told world faults lookups old new before after call result
-    done_err e cause refuses may resolves is =
-        changed_err at owned kept e refuses (λ _. may) (λ told none. (resolves told none).keeps)
-        (λ told none. resolved_err e (λ is. cause.io (ap Err is)) (resolves told none)) is
-
-    pub done_ok : MayReply (Path p) (shown tt) → Refuses {A = Unit {0}} own (Ok tt) old.host new.host
-        → (IsTrue told → own ≡ None → Resolved {A = Unit {0}} live (world old.host) (world new.host)
-        (meant_by (world old.host).tree p) shown (Ok tt))
-        → FollowsRow told world faults lookups old new before after call (Ok Nothing)
-    done_ok may refuses resolves =
-        changed_ok at owned kept (shown tt) may refuses (λ told none. (resolves told none).keeps)
-        (λ told none. resolved_ok (resolves told none))
-
   -- ---- what is found at a path, where nothing has to be permitted
 
   module _ {B : Type 0} {live : Handles} {p : PathRequest} {A : Type 0} {shown : B → PathReply p}
       (next : PathReply p → Row A) (told_by : Guest → A → Value × Guest)
-      (at : ask (Path p) (made_by (Path p) next (told_by (guest_of world old before))) new.fuel
+      (at : ask (Path p) (made_of_reply (Path p) next (told_by (guest_of world old before))) new.fuel
       ≡ front (guest_of world old before) call old.fuel)
       (owned : Owned live (handles old.slots)) where
     pub found_err : (e : HostError) → HasCause {A = B} (faults old.host) (faults new.host) (Err e)
@@ -229,3 +201,26 @@ module _ {H : Type 0} {told : Bool} {world : H → World} {faults : H → ℕ} {
             keeps = (resolves told).keeps;
             does = (shown b, resolved_ok (resolves told), is);
           })
+
+-- what is done by a path, where nothing else changed
+module _ {H : Type 0} {told : Bool} {world : H → World} {faults : H → ℕ} {lookups : H → List Lookup}
+    {old : View H} {host : H} {left : ℕ} {memory : List ℕ} {call : Call} {live : Handles} {own : Option ErrorCode}
+    (p : PathRequest) {shown : Unit {0} → PathReply p}
+    (at : done_if own (Path p) (guest_of world old memory) left ≡ front (guest_of world old memory) call old.fuel)
+    (owned : Owned live (handles old.slots)) where
+  pub done_err : (e : HostError) → HasCause {A = Unit {0}} (faults old.host) (faults host) (Err e)
+      → Refuses {A = Unit {0}} own (Err e) old.host host → IsTrue (may_want call)
+      → (IsTrue told → own ≡ None → Resolved {A = Unit {0}} live (world old.host) (world host)
+      (meant_by (world old.host).tree p) shown (Err e))
+      → FollowsRow told world faults lookups old (record old { host = host; fuel = left }) memory memory call (Err (error_of e))
+  done_err e cause refuses may resolves =
+      changed_err at owned unchanged e refuses (λ _. may) (λ told none. (resolves told none).keeps)
+      (λ told none. resolved_err e (λ is. cause.io (ap Err is)) (resolves told none))
+
+  pub done_ok : MayReply (Path p) (shown tt) → Refuses {A = Unit {0}} own (Ok tt) old.host host
+      → (IsTrue told → own ≡ None → Resolved {A = Unit {0}} live (world old.host) (world host)
+      (meant_by (world old.host).tree p) shown (Ok tt))
+      → FollowsRow told world faults lookups old (record old { host = host; fuel = left }) memory memory call (Ok Nothing)
+  done_ok may refuses resolves =
+      changed_ok at owned unchanged (shown tt) may refuses (λ told none. (resolves told none).keeps)
+      (λ told none. resolved_ok (resolves told none))

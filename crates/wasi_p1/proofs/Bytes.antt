@@ -22,7 +22,7 @@ use Rattle.wasi_host.specs.Steps.{◌>>=◌}
 use Rattle.wasi_guest.specs.declared.answer.TrapKind.TheVariants.{Pointer}
 use Rattle.wasi_guest.specs.declared.errno.Errno.TheVariants as errnos
 use Rattle.wasi_p1.specs.Row.{Row}
-use Rattle.wasi_guest.specs.Records.{Found, read_on, bytes_in, text_of, text_in}
+use Rattle.wasi_guest.specs.Records.{Found, read_on, bytes_in, text_from, text_in}
 use Rattle.wasi_guest.specs.declared.guest_error.GuestError.TheVariants as guests
 use Rattle.wasi_p1.specs.Parts.{range, from_guest, fault_of}
 use Rattle.wasi_p1.specs.declared.error.P1Error.TheVariants.{Errno, Trap}
@@ -83,7 +83,7 @@ range_bytes memory at n are is =
 
 -- ---- a text
 
-text_is : (bytes : List ℕ) {text : List ℕ} → from_guest (text_of bytes) ≡ Ok text → IsUtf8 text
+text_is : (bytes : List ℕ) {text : List ℕ} → from_guest (text_from bytes) ≡ Ok text → IsUtf8 text
 text_is bytes {text} is = by (is_utf8 bytes) refl is
   where
     by : (b : Bool) → is_utf8 bytes ≡ b
@@ -96,7 +96,7 @@ pub text_utf8 : (memory : List ℕ) (path len : ℕ) {text : List ℕ} → from_
     → IsUtf8 text
 text_utf8 memory path len = by (bytes_in memory path len)
   where
-    by : (found : Found (List ℕ)) {text : List ℕ} → from_guest (read_on found text_of) ≡ Ok text → IsUtf8 text
+    by : (found : Found (List ℕ)) {text : List ℕ} → from_guest (read_on found text_from) ≡ Ok text → IsUtf8 text
     by (Ok bytes) is = text_is bytes is
     by (Err e) is = let wrong : from_guest (let found : Found (List ℕ) = Err e in found) ≡ Err (fault_of e) = refl in absurd (cc)
 

@@ -36,6 +36,9 @@ one_cond false = refl
 times-cons : (k n : ℕ) (heap : List ℕ) → times n (k ∷ heap) ≡ one_if (k == n) + times n heap
 times-cons k n heap = sum_by-cons (λ j. cond (j == n) 1 0) k heap ∙ ap (λ m. m + times n heap) (one_cond (k == n))
 
+itself : (n : ℕ) → (n == n) ≡ true
+itself n = grind (arith, nat_tests)
+
 same_number : (k n : ℕ) → (k == n) ≡ true → k ≡ n
 same_number k n is = grind (arith, nat_tests)
 
@@ -58,6 +61,18 @@ module _ {heap : List ℕ} {table : List Slot} (holds : HoldsClosed heap table) 
   -- and with a slot in the place of another
   abbrev closed_then : Slot → ℕ → ℕ → Bool
   closed_then slot i n = passes_at is_closed_slot (slice_set table i slot) n
+
+  -- a slot was put in another's place: its number is counted as it is closed, and all others as before
+  each_then : (slot : Slot) (k : ℕ) (now : List ℕ) → k < length table → times k now ≡ one_if (is_closed_slot slot)
+      → ((n : ℕ) → (k == n) ≡ false → times n now ≡ times n heap)
+      → (n : ℕ) → times n now ≡ one_if (closed_then slot k n)
+  each_then slot k now within at others n = by (k == n) refl
+    where
+      by : (b : Bool) → (k == n) ≡ b → times n now ≡ one_if (closed_then slot k n)
+      by true is = subst (λ m. times m now ≡ one_if (closed_then slot k m)) (same_number k n is)
+          (at ∙ ap one_if (sym (passes_at-set_same is_closed_slot table k slot within)))
+      by false is = others n is ∙ holds.each n ∙ ap one_if
+          (sym (passes_at-set_other is_closed_slot table k n slot (λ e. other_number k n is (sym e))))
 
   is_counted : (n : ℕ) → closed_at n ≡ true → 1 ≤ times n heap
   is_counted n is = let one = ap one_if is in omega (arith, holds.each n, one)
@@ -89,8 +104,7 @@ module _ {heap : List ℕ} {table : List Slot} (holds : HoldsClosed heap table) 
     popped n = sym (sum_by-IsPermutation (λ k. cond (k == n) 1 0) heap (top ∷ rest) moved) ∙ times-cons top n rest
 
     top_closed : closed_at top ≡ true
-    top_closed = one_true _ (let one : (top == top) ≡ true = grind (arith, nat_tests) in
-        let is = ap one_if one in omega (arith, popped top, holds.each top, is))
+    top_closed = one_true _ (let is = ap one_if (itself top) in omega (arith, popped top, holds.each top, is))
 
     pub top_within : top < length table
     top_within = passes_within is_closed_slot table top top_closed
@@ -105,7 +119,10 @@ module _ {heap : List ℕ} {table : List Slot} (holds : HoldsClosed heap table) 
         → HoldsClosed rest (slice_set table top slot)
     holds_taken slot used order = record {
       order = order;
-      each = λ n. by n (top == n) refl;
+      each = each_then slot top rest top_within
+          (let one = ap one_if (itself top) in let was = ap one_if top_closed in let none = ap one_if used in
+          omega (arith, popped top, holds.each top, one, was, none))
+          (λ n is. let none = ap one_if is in omega (arith, popped n, none));
       count =
           let longer = length_permutation heap (top ∷ rest) moved in
           let fewer = sum_by-set one_closed table top slot Closed top_within in
@@ -114,21 +131,6 @@ module _ {heap : List ℕ} {table : List Slot} (holds : HoldsClosed heap table) 
           let is = ap {B = ℕ} (λ b. cond b 1 0) used in
           omega (arith, holds.count, longer, fewer, was, is);
     }
-      where
-        by : (n : ℕ) (b : Bool) → (top == n) ≡ b → times n rest ≡ one_if (closed_then slot top n)
-        by n true is =
-            let same = same_number top n is in
-            let one = ap one_if is in
-            let was = ap one_if (ap closed_at (sym same) ∙ top_closed) in
-            let none = ap one_if
-            (ap (closed_then slot top) (sym same) ∙ passes_at-set_same is_closed_slot table top slot top_within
-            ∙ used) in
-            omega (arith, popped n, holds.each n, one, was, none)
-        by n false is =
-            let none = ap one_if is in
-            let same = ap one_if
-            (passes_at-set_other is_closed_slot table top n slot (λ e. other_number top n is (sym e))) in
-            omega (arith, popped n, holds.each n, none, same)
 
   -- ---- a number that was in use becomes closed
 
@@ -149,26 +151,14 @@ module _ {heap : List ℕ} {table : List Slot} (holds : HoldsClosed heap table) 
         → HoldsClosed now (slice_set table i Closed)
     holds_closed {now} moved order = record {
       order = order;
-      each = λ n. by n (i == n) refl;
+      each = each_then Closed i now within
+          (let one = ap one_if (itself i) in let none = ap one_if was in omega (arith, pushed i, holds.each i, one, none))
+          (λ n is. let none = ap one_if is in omega (arith, pushed n, none));
       count = omega (arith, length_permutation (i ∷ heap) now moved, one_more_closed, holds.count);
     }
       where
         pushed : (n : ℕ) → times n now ≡ one_if (i == n) + times n heap
         pushed n = sum_by-IsPermutation (λ k. cond (k == n) 1 0) (i ∷ heap) now moved ∙ times-cons i n heap
-
-        by : (n : ℕ) (b : Bool) → (i == n) ≡ b → times n now ≡ one_if (closed_then Closed i n)
-        by n true is =
-            let same = same_number i n is in
-            let one = ap one_if is in
-            let none = ap one_if (ap closed_at (sym same) ∙ was) in
-            let set = ap one_if
-            (ap (closed_then Closed i) (sym same) ∙ passes_at-set_same is_closed_slot table i Closed within) in
-            omega (arith, pushed n, holds.each n, one, none, set)
-        by n false is =
-            let none = ap one_if is in
-            let same = ap one_if
-            (passes_at-set_other is_closed_slot table i n Closed (λ e. other_number i n is (sym e))) in
-            omega (arith, pushed n, holds.each n, none, same)
 
   -- ---- another descriptor under a number that is in use
 
@@ -176,17 +166,10 @@ module _ {heap : List ℕ} {table : List Slot} (holds : HoldsClosed heap table) 
       → HoldsClosed heap (slice_set table i slot)
   holds_set slot i within was used = record {
     order = holds.order;
-    each = λ n. holds.each n ∙ ap one_if (by n (n == i) refl);
+    each = each_then slot i heap within (holds.each i ∙ ap one_if (was ∙ sym used)) (λ n is. refl);
     count =
         let same = sum_by-set one_closed table i slot Closed within in
         let before = ap {B = ℕ} (λ b. cond b 1 0) (sym (passes_at-get_or is_closed_slot table i Closed within) ∙ was) in
         let after = ap {B = ℕ} (λ b. cond b 1 0) used in
         omega (arith, holds.count, same, before, after);
   }
-    where
-      by : (n : ℕ) (b : Bool) → (n == i) ≡ b → closed_at n ≡ closed_then slot i n
-      by n true is =
-          let same = same_number n i is in
-          ap closed_at same ∙ was
-          ∙ sym (ap (closed_then slot i) same ∙ passes_at-set_same is_closed_slot table i slot within ∙ used)
-      by n false is = sym (passes_at-set_other is_closed_slot table i n slot (other_number n i is))

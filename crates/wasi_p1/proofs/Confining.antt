@@ -22,7 +22,7 @@ use Rattle.wasi_p1.proofs.Changing.{named_has}
 use Rattle.wasi_p1.proofs.RequestsLeave.{request_leaves}
 use Rattle.wasi_host.proofs.Agreeing.{itself, still_closed, reach_closed, once, twice}
 use Rattle.wasi_p1.proofs.Nearness.{row_near}
-use Rattle.wasi_p1.proofs.Alike.{over, ended, turn_alike}
+use Rattle.wasi_p1.proofs.Alike.{over, row_on, turn_alike}
 
 -- ---- no number is given up
 
@@ -32,7 +32,7 @@ over_grows t t' (Ok q) p grows is =
     let same : with_tree (q, t') ≡ p = (cc) in subst (λ (x : Value × State). next_of t ≤ next_of x.1.tree) same grows
 over_grows t t' (Err e) p grows is = absurd (cc)
 
-pub row_grows : (t : Tree) (m : Row (Program (Value × Guest))) (p : Value × State) → ended t m ≡ Ok p
+pub row_grows : (t : Tree) (m : Row (Program (Value × Guest))) (p : Value × State) → row_on t m ≡ Ok p
     → next_of t ≤ next_of p.1.tree
 row_grows t (Ok (done q)) p is = over_grows t t (Ok q) p (omega arith) is
 row_grows t (Ok (asking r next)) p is =
@@ -44,7 +44,7 @@ row_grows t (Err e) p is = absurd (cc)
 -- a closed set that has the descriptors' nodes
 pub record Holds (Seen : ℕ → Type 0) (s : State) : Type 0 where
   pub closed : IsClosed Seen s.tree
-  pub places : (n : ℕ) → Has s.guest n → Seen n
+  pub slots : (n : ℕ) → Has s.guest n → Seen n
 
 -- the set with what was made is one again
 pub record Keeping (Seen : ℕ → Type 0) (s s' : State) : Type 0 where
@@ -54,7 +54,7 @@ pub record Keeping (Seen : ℕ → Type 0) (s s' : State) : Type 0 where
 module _ {Seen : ℕ → Type 0} {s : State} (holds : Holds Seen s) where
   stays : (s' : State) → s' ≡ s → Keeping Seen s s'
   stays s' same = subst (Keeping Seen s) (sym same) (record {
-    holds = record { closed = still_closed holds.closed; places = λ n has. inl (holds.places n has) };
+    holds = record { closed = still_closed holds.closed; slots = λ n has. inl (holds.slots n has) };
     grows = omega arith;
   })
 
@@ -64,7 +64,7 @@ module _ {Seen : ℕ → Type 0} {s : State} (holds : Holds Seen s) where
       let same : q ≡ p = (cc) in
       subst (λ (x : Value × State). Holds (OrMade Seen s.tree x.1.tree) x.1) same (record {
         closed = alike.1.closed;
-        places = alike.1.places;
+        slots = alike.1.slots;
       })
   keeps_alike (Err e) p alike is = absurd (cc)
 
@@ -74,7 +74,7 @@ module _ {Seen : ℕ → Type 0} {s : State} (holds : Holds Seen s) where
         guest = refl;
         trees = itself;
         closed = holds.closed;
-        places = holds.places;
+        slots = holds.slots;
       } in
       record {
         holds = keeps_alike (turn s call) p (turn_alike same call) is;
@@ -86,7 +86,7 @@ module _ {Seen : ℕ → Type 0} {s : State} (holds : Holds Seen s) where
   step_keeps s' call (Ok p) is step =
       let keeps = row_keeps call p is in
       subst (Keeping Seen s) (sym step) (record {
-        holds = record { closed = keeps.holds.closed; places = λ n has. inl (holds.places n has) };
+        holds = record { closed = keeps.holds.closed; slots = λ n has. inl (holds.slots n has) };
         grows = keeps.grows;
       })
   step_keeps s' call (Err e) is step = absurd step
@@ -114,14 +114,14 @@ pub turn_confines : {rose : Type 0} {start : State} {w v : World} {g g' : Guest}
     → Turns rose w v g g' call r → Confined start (in_world w g) w.touched → Confined start (in_world v g') v.touched
 turn_confines {rose} {start} {w} {v} {g} {g'} {call} {r} takes is = record {
   later = let later = is.later in let grows = keeps.grows in omega arith;
-  descriptors = λ n has. to n (keeps.holds.places n has);
+  descriptors = λ n has. to n (keeps.holds.slots n has);
   names = λ d n name above has.
       to n (keeps.holds.closed.under d n name (twice (Inside start) start.tree w.tree v.tree d above) has);
   touched_in = λ n has. to n (elim (takes.touched.near n has) [
     | inl was ↦ inl (is.touched_in n was)
     | inr (inl near) ↦ inl
         (reach_closed holds.closed
-        (λ m from. holds.places m (starts_near g call.call (row g call) (row_near g call) m from)) n near)
+        (λ m from. holds.slots m (starts_near g call.call (row g call) (row_near g call) m from)) n near)
     | inr (inr made) ↦ inr made
   ]);
 }
@@ -130,7 +130,7 @@ turn_confines {rose} {start} {w} {v} {g} {g'} {call} {r} takes is = record {
     s = in_world w g
 
     holds : Holds (InReach start s) s
-    holds = record { closed = record { under = is.names }; places = is.descriptors }
+    holds = record { closed = record { under = is.names }; slots = is.descriptors }
 
     keeps : Keeping (InReach start s) s (in_world v g')
     keeps = turn_keeps holds rose (in_world v g') call r takes.turn

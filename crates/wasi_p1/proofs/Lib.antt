@@ -3,6 +3,7 @@ mod Numbers
 mod ClosedHeap
 mod RequestsLeave
 mod RequestsAgree
+mod RowEnds
 mod Changing
 mod Wanting
 mod Bytes
@@ -13,7 +14,6 @@ mod Moving
 pub mod Permitting
 mod Turns
 mod Taking
-mod RowFronts
 mod Below
 mod Standing
 mod Resolving
@@ -23,10 +23,10 @@ mod Counting
 mod Owning
 mod Staying
 mod CallTracing
-mod Placing
+mod GuestSlots
 mod OpeningInto
 mod Stating
-mod PlaceRules
+mod SlotRules
 mod Utf8
 mod Runs
 mod RunAnswers

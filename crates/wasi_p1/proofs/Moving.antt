@@ -1,23 +1,22 @@
 -- To which state a turn leads.
-use Rattle.std.proofs.Common.{ℕ, ◌-◌, ◌*◌, ◌≡◌, ◌⊎◌, inl, inr, refl, ap, sym, nat_le, Bool, true, false, cond, List, Result, Ok, Err}
+use Rattle.std.proofs.Common.{ℕ, ◌-◌, ◌*◌, ◌≡◌, ◌⊎◌, inl, inr, refl, ap, sym, nat_le, Bool, true, false, List, Result, Ok, Err}
 use Rattle.wasi_host.specs.Tree.{Tree}
 use Rattle.wasi_host.specs.declared.errors.ErrorCode.{ErrorCode}
 use Rattle.wasi_p1.specs.Guest.{Guest, State}
 use Rattle.wasi_p1.specs.Request.{Request, Reply, reply_of, after}
-use Rattle.wasi_p1.specs.Row.{with_tree, Row, Program, give, asking}
+use Rattle.wasi_p1.specs.Row.{with_tree, Row, give, asking}
 use Rattle.wasi_guest.specs.Iovec.{first_buffer}
 use Rattle.wasi_guest.specs.Records.{Found}
 use Rattle.wasi_guest.specs.declared.iovec.Iovec.{Iovec}
-use Rattle.wasi_guest.specs.declared.errno.Errno.TheVariants as errnos
-use Rattle.wasi_p1.specs.declared.error.P1Error.TheVariants.{Errno}
-use Rattle.wasi_p1.specs.Front.{Front, onward, free, charge, charged_buffer, ◌>>=◌}
+use Rattle.wasi_p1.specs.Front.{Front, CallFront, onward, free, charge, charged_buffer, ◌>>=◌}
 use Rattle.wasi_p1.specs.Parts.{from_guest}
 use Rattle.wasi_p1.specs.Rows.{turn}
 use Rattle.wasi_p1.specs.Run.{Turned, Played, Faulted, Gives, Spends}
 use Rattle.wasi_p1.specs.Turn.{IsTurn, StepTaken}
 use Rattle.wasi_p1.specs.declared.error.P1Error.{P1Error}
 use Rattle.wasi_guest.specs.declared.answer.Value.{Value}
-use Rattle.wasi_p1.proofs.Alike.{over, ended, replied}
+use Rattle.wasi_p1.proofs.Alike.{over, row_on, replied}
+use Rattle.wasi_p1.proofs.Nearness.Parts.{taken}
 
 -- it stays, or is the row's, or has the row's step alone
 abbrev pub Moves : State → State → Row (Value × State) → Type 0
@@ -65,24 +64,20 @@ over_guest t (Err e) is = absurd (cc)
 -- ---- the parts of a row that was answered
 
 -- each gave what the next one took
-pub gave : {A : Type 0} {p : Value × State} (t : Tree) (m : Row A) (next : A → Front (Program (Value × Guest))) (fuel : ℕ)
-    → ended t ((free m >>= next) fuel).0 ≡ Ok p → (x : A) × (m ≡ Ok x) × (ended t (next x fuel).0 ≡ Ok p)
+pub gave : {A : Type 0} {p : Value × State} (t : Tree) (m : Row A) (next : A → CallFront) (fuel : ℕ)
+    → row_on t ((free m >>= next) fuel).0 ≡ Ok p → (x : A) × (m ≡ Ok x) × (row_on t (next x fuel).0 ≡ Ok p)
 gave t (Ok x) next fuel is = (x, refl, is)
 gave t (Err e) next fuel is = absurd (cc)
 
--- so much of what fuel there is taken, if there is enough
-abbrev pub taken : ℕ → ℕ → Bool → Row (Unit {0}) × ℕ
-taken size has b = cond b (Ok tt, has - size) (Err (Errno errnos.Nomem), has)
-
 -- a buffer was read, and so much fuel was left then
-abbrev pub GaveBuffer : Value × State → Tree → List ℕ → ℕ → ℕ → (Iovec → Front (Program (Value × Guest))) → Type 0
+abbrev pub GaveBuffer : Value × State → Tree → List ℕ → ℕ → ℕ → (Iovec → CallFront) → Type 0
 GaveBuffer p t memory iovs n next =
-    (buffer : Iovec) × (left : ℕ) × (first_buffer memory iovs n ≡ Ok buffer) × (ended t (next buffer left).0 ≡ Ok p)
+    (buffer : Iovec) × (left : ℕ) × (first_buffer memory iovs n ≡ Ok buffer) × (row_on t (next buffer left).0 ≡ Ok p)
 
 -- a buffer was charged
 pub gave_buffer : {p : Value × State} (t : Tree) (memory : List ℕ) (iovs n : ℕ)
-    (next : Iovec → Front (Program (Value × Guest))) (fuel : ℕ)
-    → ended t ((charged_buffer memory iovs n >>= next) fuel).0 ≡ Ok p
+    (next : Iovec → CallFront) (fuel : ℕ)
+    → row_on t ((charged_buffer memory iovs n >>= next) fuel).0 ≡ Ok p
     → GaveBuffer p t memory iovs n next
 unfolding charged_buffer charge
 gave_buffer {p} t memory iovs n next fuel = by (nat_le (8 * n) fuel)
@@ -92,18 +87,18 @@ gave_buffer {p} t memory iovs n next fuel = by (nat_le (8 * n) fuel)
         onward part.0 part.1 (λ _. free (give buffer)))
 
     by_found : (found : Found Iovec) → first_buffer memory iovs n ≡ found → (left : ℕ)
-        → ended t (let part = onward (from_guest found) left charged in onward part.0 part.1 next).0 ≡ Ok p → GaveBuffer p t memory iovs n next
+        → row_on t (let part = onward (from_guest found) left charged in onward part.0 part.1 next).0 ≡ Ok p → GaveBuffer p t memory iovs n next
     by_found (Err e) at left is = absurd (cc)
     by_found (Ok buffer) at left is = by_length (nat_le buffer.buf_len left) is
       where
         by_length : (b : Bool)
-            → ended t (let part = (let first = taken buffer.buf_len left b in
+            → row_on t (let part = (let first = taken buffer.buf_len left b in
             onward first.0 first.1 (λ _. free (give buffer))) in onward part.0 part.1 next).0 ≡ Ok p → GaveBuffer p t memory iovs n next
         by_length true is = (buffer, left - buffer.buf_len, at, is)
         by_length false is = absurd (cc)
 
     by : (b : Bool)
-        → ended t (let part = (let first = taken (8 * n) fuel b in
+        → row_on t (let part = (let first = taken (8 * n) fuel b in
         onward first.0 first.1 (λ _. free (from_guest (first_buffer memory iovs n)) >>= charged)) in
         onward part.0 part.1 next).0 ≡ Ok p → GaveBuffer p t memory iovs n next
     by true is = by_found (first_buffer memory iovs n) refl (fuel - 8 * n) is
@@ -117,7 +112,7 @@ pub record Replied (t : Tree) (r : Request) (next : Reply r → Row (Value × Gu
   pub gives : next reply ≡ Ok (p.0, p.1.guest)
 
 pub replied_by : {p : Value × State} (t : Tree) (r : Request) (next : Reply r → Row (Value × Guest))
-    → ended t (Ok (asking r next)) ≡ Ok p → Replied t r next p
+    → row_on t (Ok (asking r next)) ≡ Ok p → Replied t r next p
 replied_by {p} t r next is = by (reply_of t r) refl is
   where
     by : (a : Result (Reply r) ErrorCode) → reply_of t r ≡ a → replied t r next a ≡ Ok p

@@ -10,26 +10,23 @@ use Rattle.wasi_p1.specs.Validity.{HasBytes}
 use Rattle.wasi_guest.specs.declared.answer.Answer.TheVariants as answers
 use Rattle.wasi_guest.specs.declared.answer.Value.{Value}
 use Rattle.wasi_guest.specs.declared.call.Call.{Call}
-use Rattle.wasi_p1.specs.CallParts.{NotMemory}
+use Rattle.wasi_p1.specs.CallParts.{WantsNoMemory}
 use Rattle.wasi_p1.specs.CallTurn.{NamesReadOnly}
-use Rattle.wasi_p1.specs.Guest.{Guest, node_in, nodes_of}
-use Rattle.wasi_p1.specs.Owners.{descriptors_named}
-use Rattle.wasi_p1.specs.Request.{Request, Reply, Path, Read, Write, SetTimes, reply_of, after, starts_at}
+use Rattle.wasi_p1.specs.Guest.{Guest, node_in, open_nodes}
+use Rattle.wasi_p1.specs.Request.{Request, Reply, Path, Read, Write, reply_of, after, starts_at}
 use Rattle.wasi_p1.specs.Row.{Row, Program, done, asking}
-use Rattle.wasi_p1.specs.Stems.{opened_through, stems_through, HasPerms}
-use Rattle.wasi_resolve.specs.AtPlace.{CreateDir, RemoveFile, RemoveDir, Symlink, ReadLink}
-use Rattle.wasi_resolve.specs.AtPlace as places
+use Rattle.wasi_p1.specs.Stems.{stems_through, HasPerms}
+use Rattle.wasi_resolve.specs.AtPlace.{ReadLink}
 use Rattle.wasi_resolve.proofs.Asking.{HasUtf8Target}
 use Rattle.wasi_resolve.specs.PathRequest.{PathRequest, OpenPath, LookPath, AtPlace, TimesPath, AtTwo, PathReply, path_gives}
+use Rattle.wasi_p1.specs.Rows.{descriptors_named, opened_through}
 
 -- ---- of each kind of request
 
 -- the nodes that an answer gives
 abbrev pub given_by : (r : Request) → Reply r → List ℕ
 given_by (Path p) found = path_gives p found
-given_by (Read f offset n) bytes = []
-given_by (Write f offset piece) count = []
-given_by (SetTimes n atime mtime) answer = []
+given_by r reply = []
 
 -- what the types of the calls that make it give of every request: a path is a text, as is that of a link, and what is
 -- written are bytes
@@ -42,35 +39,25 @@ AreTexts (AtTwo old old_text new new_text what) = IsUtf8 old_text × IsUtf8 new_
 
 abbrev pub MayBeAsked : Request → Type 0
 MayBeAsked (Path p) = AreTexts p
-MayBeAsked (Read f offset n) = Unit {0}
 MayBeAsked (Write f offset piece) = AreBytes piece
-MayBeAsked (SetTimes n atime mtime) = Unit {0}
+MayBeAsked r = Unit {0}
 
 -- a link's text are bytes
 abbrev pub PathGivesBytes : (p : PathRequest) → PathReply p → Type 0
-PathGivesBytes (OpenPath s text o follow directory) found = Unit {0}
-PathGivesBytes (LookPath s text follow) metadata = Unit {0}
-PathGivesBytes (AtPlace s text CreateDir) answer = Unit {0}
-PathGivesBytes (AtPlace s text RemoveFile) answer = Unit {0}
-PathGivesBytes (AtPlace s text RemoveDir) answer = Unit {0}
-PathGivesBytes (AtPlace s text (Symlink target)) answer = Unit {0}
 PathGivesBytes (AtPlace s text ReadLink) link = AreBytes link
-PathGivesBytes (AtPlace s text (places.SetTimes atime mtime)) answer = Unit {0}
-PathGivesBytes (TimesPath s text follow atime mtime) answer = Unit {0}
-PathGivesBytes (AtTwo old old_text new new_text what) answer = Unit {0}
+PathGivesBytes p found = Unit {0}
 
 -- what is read are bytes
 abbrev pub GivesBytes : (r : Request) → Reply r → Type 0
 GivesBytes (Path p) found = PathGivesBytes p found
 GivesBytes (Read f offset n) bytes = AreBytes bytes
-GivesBytes (Write f offset piece) count = Unit {0}
-GivesBytes (SetTimes n atime mtime) answer = Unit {0}
+GivesBytes r reply = Unit {0}
 
 -- ---- of an answer
 
 -- a node is a descriptor's
 abbrev pub Has : Guest → ℕ → Type 0
-Has g n = Contains (nodes_of g.places) n
+Has g n = Contains (open_nodes g.slots) n
 
 -- each descriptor's node was one before, or is given; and each has the permissions of the one from which it stems,
 -- where what was opened was opened through this one
@@ -79,9 +66,9 @@ pub record StaysNear (g : Guest) (through : Option ℕ) (given : List ℕ) (p : 
   pub perms : (n : ℕ) (perms : FsPerms) → HasPerms p.1 n perms
       → HasPerms g (stems_through through (answers.Ok p.0) n) perms
 
-abbrev pub KeepsPlaces : Guest → Option ℕ → List ℕ → Row (Value × Guest) → Type 0
-KeepsPlaces g through given (Ok p) = StaysNear g through given p
-KeepsPlaces g through given (Err e) = Unit {0}
+abbrev pub KeepsSlots : Guest → Option ℕ → List ℕ → Row (Value × Guest) → Type 0
+KeepsSlots g through given (Ok p) = StaysNear g through given p
+KeepsSlots g through given (Err e) = Unit {0}
 
 -- the memory after it are bytes, and what is handed in
 abbrev pub KeepsBytes : Row (Value × Guest) → Type 0
@@ -94,21 +81,21 @@ KeepsBytes (Err e) = Unit {0}
 pub record IsNamed (g : Guest) (call : Call) (n : ℕ) : Type 0 where
   pub fd : ℕ
   pub named : Contains (descriptors_named g.memory call) fd
-  pub node : Contains (node_in (slice_get g.places fd)) n
+  pub node : Contains (node_in (slice_get g.slots fd)) n
 
 pub record AsksNear (g : Guest) (call : Call) (r : Request) (next : Reply r → Row (Value × Guest)) : Type 0 where
   pub starts : (n : ℕ) → Contains (starts_at r) n → IsNamed g call n
-  pub places : (reply : Reply r) → KeepsPlaces g (opened_through call) (given_by r reply) (next reply)
+  pub slots : (reply : Reply r) → KeepsSlots g (opened_through call) (given_by r reply) (next reply)
   pub ends : (t : Tree) (reply : Reply r) → reply_of t r ≡ Ok reply → OnErr (next reply) (after t r ≡ t)
   pub permits : NamesReadOnly g call → (t : Tree) (reply : Reply r) → reply_of t r ≡ Ok reply → after t r ≡ t
   pub asked : HasBytes g → MayBeAsked r
   pub bytes : HasBytes g → (reply : Reply r) → GivesBytes r reply → KeepsBytes (next reply)
 
 pub record AnswersNear (g : Guest) (call : Call) (p : Value × Guest) : Type 0 where
-  pub places : StaysNear g (opened_through call) [] p
+  pub slots : StaysNear g (opened_through call) [] p
   pub bytes : HasBytes g → HasBytes p.1
 
 abbrev pub IsNear : Guest → Call → Row (Program (Value × Guest)) → Type 0
 IsNear g call (Ok (done p)) = AnswersNear g call p
 IsNear g call (Ok (asking r next)) = AsksNear g call r next
-IsNear g call (Err e) = NotMemory e
+IsNear g call (Err e) = WantsNoMemory e

@@ -9,11 +9,11 @@ use Rattle.wasi_host.specs.Meaning.{World, Handles}
 use Rattle.wasi_host.specs.declared.errors.ErrorCode.{ErrorCode}
 use Rattle.wasi_host.specs.declared.errors.HostError.{HostError}
 use Rattle.wasi_host.specs.declared.held.Held.{Held}
-use Rattle.wasi_p1.specs.Guest.{places_of}
+use Rattle.wasi_p1.specs.Guest.{guest_slots}
 use Rattle.wasi_p1.specs.Owners.{handle_in, handles, Got, Owned}
 use Rattle.wasi_p1.specs.Slots.{is_closed_slot, slot_of}
 use Rattle.wasi_p1.specs.declared.context.Slot.{Slot}
-use Rattle.wasi_p1.proofs.Placing.{places_stay}
+use Rattle.wasi_p1.proofs.GuestSlots.{guest_slots_stay}
 
 -- the descriptor of what was opened is in use
 pub slot_in_use : (descriptor : Descriptor) → is_closed_slot (slot_of descriptor) ≡ false
@@ -39,10 +39,10 @@ pub unopened_stays : {H told : Type 0} {live : Handles} (A : Type 0) (e : HostEr
     → Owned live (handles table)
     → (told → own ≡ None → (h : ℕ) → contains live h ≡ true → (world new).held h ≡ (world old).held h)
     → Refuses {A = A} own (Err e) old new
-    → told → places_of (world new).held table ≡ places_of (world old).held table
+    → told → guest_slots (world new).held table ≡ guest_slots (world old).held table
 unopened_stays A e world old new own table owned keeps refuses is = by own refl refuses
   where
     by : (o : Option ErrorCode) → own ≡ o → Refuses {A = A} o (Err e) old new
-        → places_of (world new).held table ≡ places_of (world old).held table
-    by None none free = places_stay table owned (keeps is none)
-    by (Some code) some refused = ap (λ h. places_of (world h).held table) refused.1
+        → guest_slots (world new).held table ≡ guest_slots (world old).held table
+    by None none free = guest_slots_stay table owned (keeps is none)
+    by (Some code) some refused = ap (λ h. guest_slots (world h).held table) refused.1

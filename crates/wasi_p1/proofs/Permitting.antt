@@ -1,6 +1,6 @@
 -- No call changes the tree that names a descriptor under read-only permissions; nor does a run of a guest that has only
 -- such directories and files.
-use Rattle.std.proofs.Common.{ℕ, ◌≡◌, ◌⊎◌, inl, inr, true, false, Bool, List, [], ◌∷◌, refl, ap, sym, ◌∙◌, subst, arith, slice_get, Option, Some, None, Result, Ok, Err}
+use Rattle.std.proofs.Common.{ℕ, ◌≡◌, ◌⊎◌, inl, inr, true, false, Bool, List, [], ◌∷◌, refl, ap, sym, ◌∙◌, subst, arith, slice_get, Option, Some, Result, Ok, Err}
 use Rattle.std.specs.Prelude.{Contains, MatchBool}
 use Rattle.wasi_fs.specs.declared.perms.FsPerms.{FsPerms}
 use Rattle.wasi_host.specs.Meaning.{World}
@@ -11,14 +11,14 @@ use Rattle.wasi_p1.specs.Front.{FueledCall}
 use Rattle.wasi_guest.specs.declared.answer.Value.{Value}
 use Rattle.wasi_resolve.specs.PathRequest.{PathRequest, OpenPath, LookPath, AtPlace, TimesPath, AtTwo, path_starts}
 use Rattle.wasi_p1.specs.CallTurn.{Turns, NamesReadOnly, in_world}
-use Rattle.wasi_p1.specs.Guest.{Guest, State, Place, closed, stream, directory, file, node_in, perms_in}
+use Rattle.wasi_p1.specs.Guest.{Guest, State, GuestSlot, directory, file, node_in, perms_in}
 use Rattle.wasi_p1.specs.ReadOnly.{IsReadOnlyGuest, ReadOnlyTurnsLeaveTheTree}
 use Rattle.wasi_p1.specs.Request.{Request, Path, Read, Write, SetTimes, starts_at}
 use Rattle.wasi_p1.specs.Row.{Row, Program, done, asking}
 use Rattle.wasi_p1.specs.Rows.{row, turn}
 use Rattle.wasi_p1.specs.Run.{Turned, Run, Played, Faulted, ends}
 use Rattle.wasi_p1.specs.declared.error.P1Error.{P1Error}
-use Rattle.wasi_p1.proofs.Alike.{ended}
+use Rattle.wasi_p1.proofs.Alike.{row_on}
 use Rattle.wasi_p1.proofs.Moving.{Moves, turn_moves, turned_moves, turned_by, over_tree, replied_by}
 use Rattle.wasi_p1.proofs.Near.{IsNear, IsNamed}
 use Rattle.wasi_p1.proofs.Nearness.{row_near}
@@ -36,7 +36,7 @@ leaves (Err e) keeps (inr (inr step)) = absurd step
 
 -- where its row answers it
 answer_keeps : (g : Guest) (call : Call) (t : Tree) (m : Row (Program (Value × Guest))) (p : Value × State)
-    → NamesReadOnly g call → IsNear g call m → ended t m ≡ Ok p → p.1.tree ≡ t
+    → NamesReadOnly g call → IsNear g call m → row_on t m ≡ Ok p → p.1.tree ≡ t
 answer_keeps g call t (Ok (done q)) p names near is = over_tree (Ok q) is
 answer_keeps g call t (Ok (asking r next)) p names near is =
     let did = replied_by t r next is in did.tree ∙ near.permits names t did.reply did.is
@@ -75,21 +75,19 @@ starts_somewhere (Write f offset piece) = (f.node, Contains-here f.node [])
 starts_somewhere (SetTimes n atime mtime) = (n, Contains-here n [])
 
 -- what has a node has permissions
-node_perms : (p : Option Place) (n : ℕ) → Contains (node_in p) n → (perms : FsPerms) × (perms_in p ≡ Some perms)
+node_perms : (p : Option GuestSlot) (n : ℕ) → Contains (node_in p) n → (perms : FsPerms) × (perms_in p ≡ Some perms)
 node_perms (Some (directory d)) n has = (d.perms, refl)
 node_perms (Some (file f)) n has = (f.perms, refl)
-node_perms (Some (stream s)) n has = absurd (omega (arith, has.1))
-node_perms (Some closed) n has = absurd (omega (arith, has.1))
-node_perms None n has = absurd (omega (arith, has.1))
+node_perms p n has = absurd (omega (arith, has.1))
 
 names_read_only : {g : Guest} {call : Call} {n : ℕ} → IsReadOnlyGuest g → IsNamed g call n → NamesReadOnly g call
 names_read_only {g} {n = n} only is =
-    let (perms, has) = node_perms (slice_get g.places is.fd) n is.node in
+    let (perms, has) = node_perms (slice_get g.slots is.fd) n is.node in
     record { fd = is.fd; named = is.named; perms = has ∙ ap Some (only is.fd perms has) }
 
 -- so the request of its call starts at one of them
 answer_leaves : (g : Guest) (call : Call) (t : Tree) (m : Row (Program (Value × Guest))) (p : Value × State)
-    → IsReadOnlyGuest g → IsNear g call m → ended t m ≡ Ok p → p.1.tree ≡ t
+    → IsReadOnlyGuest g → IsNear g call m → row_on t m ≡ Ok p → p.1.tree ≡ t
 answer_leaves g call t (Ok (done q)) p only near is = over_tree (Ok q) is
 answer_leaves g call t (Ok (asking r next)) p only near is =
     let (n, at) = starts_somewhere r in

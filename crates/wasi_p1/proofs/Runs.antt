@@ -10,7 +10,7 @@ use Rattle.wasi_p1.specs.Guest.{State, Guest}
 use Rattle.wasi_p1.specs.Rows.{turn}
 use Rattle.wasi_p1.specs.Turn.{IsTurn, ReachesHost, named_by}
 use Rattle.wasi_p1.specs.CallTurn.{Turns, Causes, in_world}
-use Rattle.wasi_p1.specs.Run.{Turned, Run, Spends, Played, Faulted, Gives, Allows, answer_of, answers_of, is_io, io_in, ios, ends, named, is_success, DidRun, StoodAt}
+use Rattle.wasi_p1.specs.Run.{Turned, Run, Spends, Played, Faulted, Gives, Allows, answer_of, answers_of, is_io_errno, io_in, ios, ends, named, is_success, DidRun, StoodAt}
 use Rattle.wasi_guest.specs.declared.answer.Answer.{Answer}
 use Rattle.wasi_guest.specs.declared.answer.Answer.TheVariants as answers
 use Rattle.wasi_guest.specs.declared.call.Call.{Call}
@@ -25,7 +25,7 @@ use Rattle.wasi_guest.specs.declared.answer.Value.{Value}
 
 -- ---- how many answers are `io`
 
-io_is : (e : ErrorNumber) → is_io e ≡ true → e ≡ Io
+io_is : (e : ErrorNumber) → is_io_errno e ≡ true → e ≡ Io
 io_is Io is = refl
 io_is e is = absurd (cc)
 
@@ -58,12 +58,12 @@ module _ (before : ℕ) {now after : ℕ} (k : ℕ) where
   io_more (Err (Exit status)) {a} is causes allows =
       let at : answers.Exit status ≡ a = (cc) in later_as (k + io_in a) (omega (arith, ap io_in at)) causes.later allows
   io_more (Err Memory) is causes allows = absurd (cc)
-  io_more (Err (Errno e)) {a} is causes allows = by (is_io e) refl
+  io_more (Err (Errno e)) {a} is causes allows = by (is_io_errno e) refl
     where
-      same : one_if (is_io e) ≡ io_in a
+      same : one_if (is_io_errno e) ≡ io_in a
       same = let at : answers.Errno e ≡ a = (cc) in ap io_in at
 
-      by : (b : Bool) → is_io e ≡ b → Allows before after (k + io_in a)
+      by : (b : Bool) → is_io_errno e ≡ b → Allows before after (k + io_in a)
       by true at =
           let one : k + 1 ≡ k + io_in a = omega (arith, same, ap one_if at) in
           subst (Allows before after) one (later_rose (causes.io (ap (λ x. Err (Errno x)) (io_is e at))) allows)

@@ -28,7 +28,7 @@ alike_as Seen' to from alike = record {
     limits = alike.trees.limits;
   };
   closed = record { under = λ d n name has is. to n (alike.closed.under d n name (from d has) is) };
-  places = λ n has. to n (alike.places n has);
+  slots = λ n has. to n (alike.slots n has);
 }
 
 -- what holds after calls that began in states that are alike

@@ -1,5 +1,5 @@
 -- What a told host's call does, as the request that it stands for.
-use Rattle.std.proofs.Common.{◌≡◌, inl, inr, ℕ, List, [], ◌++◌, Option, Some, None, Ok, Err, refl, sym, ap, subst, ◌∙◌, arith}
+use Rattle.std.proofs.Common.{◌≡◌, inl, inr, ℕ, List, [], ◌∷◌, ◌++◌, Some, None, Ok, Err, refl, sym, ap, subst, ◌∙◌, arith}
 use Rattle.std.specs.Prelude.{All, Contains}
 use Rattle.std.proofs.lemmas.List.Elements.{All-nil, Contains-append_cases}
 use Rattle.wasi_host.specs.Agree.{IsMade, OrMade, Touches}
@@ -105,31 +105,24 @@ asked_of_ok stands is stepped ends = record {
 
 -- ---- each kind
 
-refused_by : {B : Type 0} {refused : Option ErrorCode} (x : B) (code : ErrorCode) → refused ≡ Some code
-    → unless refused x ≡ Err code
-refused_by x code is = ap (λ o. unless o x) is
-
-free_by : {B : Type 0} {refused : Option ErrorCode} (x : B) → refused ≡ None → (y : B) × (unless refused x ≡ Ok y)
-free_by x is = (x, ap (λ o. unless o x) is)
-
 none_in : {n : ℕ} {P : Type 0} → Contains [] n → P
 none_in none = absurd (omega (arith, none.1))
 
-pub read_stands : (t : Tree) (f : Held) (offset n : ℕ) → Stands t (Read f offset n) (Pread f offset n)
-read_stands t f offset n = record {
-  steps = refl;
-  near = λ m has. root m has;
-  made = λ m none. none_in none;
-  refused = λ code is. refused_by _ code is;
-  free = λ is. free_by _ is;
+-- of one node, which makes none
+on_one_node : {t : Tree} {r : Request} {call : HostCall} (n : ℕ) (x : Reply r) → starts_at r ≡ n ∷ []
+    → found_by t call ≡ n ∷ [] → made_by t call ≡ [] → step t call ≡ after t r
+    → reply_of t r ≡ unless (refusal t call) x → Stands t r call
+on_one_node {t} n x starts found made steps replies = record {
+  steps = steps;
+  near = λ m has. subst (λ ns. Reached t ns m) (sym starts) (root m (subst (λ ns. Contains ns m) found has));
+  made = λ m has. none_in (subst (λ ns. Contains ns m) made has);
+  refused = λ code is. replies ∙ ap (λ o. unless o x) is;
+  free = λ is. (x, replies ∙ ap (λ o. unless o x) is);
 }
+
+pub read_stands : (t : Tree) (f : Held) (offset n : ℕ) → Stands t (Read f offset n) (Pread f offset n)
+read_stands t f offset n = on_one_node f.node _ refl refl refl refl refl
 
 pub write_stands : (t : Tree) (f : Held) (offset : ℕ) (piece : List ℕ)
     → Stands t (Write f offset piece) (Pwrite f offset piece)
-write_stands t f offset piece = record {
-  steps = refl;
-  near = λ m has. root m has;
-  made = λ m none. none_in none;
-  refused = λ code is. refused_by _ code is;
-  free = λ is. free_by _ is;
-}
+write_stands t f offset piece = on_one_node f.node _ refl refl refl refl refl

@@ -11,28 +11,28 @@ use Rattle.wasi_guest.specs.declared.errno.Errno.TheVariants as errnos
 use Rattle.wasi_host.specs.Tree.{Tree}
 use Rattle.wasi_p1.specs.Guest.{Guest, State}
 use Rattle.wasi_p1.specs.Row.{Row, Program, done, asking}
-use Rattle.wasi_p1.specs.Rows.{row, turn}
+use Rattle.wasi_p1.specs.Rows.{row, turn, opened_through}
 use Rattle.wasi_p1.specs.Run.{Turned, Run, Played, Faulted, Gives, answer_of, ends}
-use Rattle.wasi_p1.specs.Stems.{opened_through, stems_through, stems_from, stem_of, HasPerms}
+use Rattle.wasi_p1.specs.Stems.{stems_through, stems_from, stem_of, HasPerms}
 use Rattle.wasi_p1.specs.declared.error.P1Error.{P1Error}
 use Rattle.wasi_p1.specs.declared.error.P1Error.TheVariants.{Errno, Trap, Exit, Memory}
-use Rattle.wasi_p1.proofs.Alike.{ended}
+use Rattle.wasi_p1.proofs.Alike.{row_on}
 use Rattle.wasi_p1.proofs.Moving.{over_guest, replied_by, guest_still, turned_by}
-use Rattle.wasi_p1.proofs.Near.{IsNear, KeepsPlaces, given_by}
+use Rattle.wasi_p1.proofs.Near.{IsNear, KeepsSlots, given_by}
 use Rattle.wasi_p1.proofs.Nearness.{row_near}
 
 -- the descriptors after an answer stem from those before it
 abbrev Stem : Guest → Call → Answer → Guest → Type 0
 Stem g call answer g' = (n : ℕ) (perms : FsPerms) → HasPerms g' n perms → HasPerms g (stems_from call answer n) perms
 
-ended_stems : (g : Guest) (call : Call) (t : Tree) (m : Row (Program (Value × Guest))) (p : Value × State)
-    → IsNear g call m → ended t m ≡ Ok p → Stem g call (answers.Ok p.0) p.1.guest
-ended_stems g call t (Ok (done q)) p near is =
-    (subst (KeepsPlaces g (opened_through call) []) (over_guest t (Ok q) is) near.places).perms
-ended_stems g call t (Ok (asking r next)) p near is =
+row_stems : (g : Guest) (call : Call) (t : Tree) (m : Row (Program (Value × Guest))) (p : Value × State)
+    → IsNear g call m → row_on t m ≡ Ok p → Stem g call (answers.Ok p.0) p.1.guest
+row_stems g call t (Ok (done q)) p near is =
+    (subst (KeepsSlots g (opened_through call) []) (over_guest t (Ok q) is) near.slots).perms
+row_stems g call t (Ok (asking r next)) p near is =
     let did = replied_by t r next is in
-    (subst (KeepsPlaces g (opened_through call) (given_by r did.reply)) did.gives (near.places did.reply)).perms
-ended_stems g call t (Err e) p near is = absurd (cc)
+    (subst (KeepsSlots g (opened_through call) (given_by r did.reply)) did.gives (near.slots did.reply)).perms
+row_stems g call t (Err e) p near is = absurd (cc)
 
 -- where it isn't answered Ok each descriptor stems from itself
 itself : (through : Option ℕ) (e : P1Error) {answer : Answer} (n : ℕ) → answer_of (Err e) ≡ Some answer
@@ -53,7 +53,7 @@ turn_stems t (inl played) n perms has = by (turn t.before t.call) refl played
     by : (m : Row (Value × State)) → turn t.before t.call ≡ m → Gives m t.before t.answer t.after
         → HasPerms t.before.guest (stems_from t.call.call t.answer n) perms
     by (Ok p) is (answer, new) =
-        let stems = ended_stems t.before.guest t.call.call t.before.tree (row t.before.guest t.call) p
+        let stems = row_stems t.before.guest t.call.call t.before.tree (row t.before.guest t.call) p
         (row_near t.before.guest t.call) is in
         subst (λ a. HasPerms t.before.guest (stems_from t.call.call a n) perms) (sym answer)
         (stems n perms (subst (λ (s : State). HasPerms s.guest n perms) new has))

@@ -1,21 +1,23 @@
 -- From what the parts of a call give to what the call does.
 use Rattle.std.proofs.Common.{Result, ℕ, true, ◌+◌, slice_get, slice_set, List, Some, ◌≡◌, inl, inr, refl, ap, sym, ◌∙◌, subst, Bool, Ok, Err, length}
-use Rattle.std.specs.Prelude.{IsTrue, Contains}
+use Rattle.std.specs.Prelude.{IsTrue, IsErrAnd, Contains}
+use Rattle.std.proofs.lemmas.Result.{err_from_is_err_and}
 use Rattle.wasi_host.specs.Steps.{◌>>=◌}
 use Rattle.std.specs.FinSet.{contains}
 use Rattle.wasi_host.specs.Meaning.{World, Handles, Rose}
 use Rattle.wasi_host.specs.declared.held.Held.{Held}
 use Rattle.wasi_host.specs.declared.lookup.Lookup.{Lookup}
 use Rattle.wasi_p1.specs.Slots.{View}
-use Rattle.wasi_p1.specs.Guest.{Guest, places_of, guest_of, guest_by}
+use Rattle.wasi_p1.specs.Guest.{Guest, guest_slots, guest_of, guest_by}
 use Rattle.wasi_p1.specs.Request.{Request, Reply}
-use Rattle.wasi_p1.specs.Row.{Row, Program, give, done, asking, made_by}
+use Rattle.wasi_p1.specs.Row.{Row, Program, give, done, asking, made_of_reply}
 use Rattle.wasi_p1.specs.Front.{with_fuel, ask}
-use Rattle.wasi_p1.specs.Rows.{front, row, fuel_left, moved}
-use Rattle.wasi_p1.specs.Owners.{handles, Owned, descriptors_named, SlotsOfCall}
-use Rattle.wasi_p1.specs.CallParts.{Follows, IsReplied, Makes, NotMemory, Stays, open_file_of}
+use Rattle.wasi_p1.specs.Parts.{moved}
+use Rattle.wasi_p1.specs.Rows.{front, row, fuel_left, descriptors_named, may_want}
+use Rattle.wasi_p1.specs.Owners.{handles, Owned, SlotsOfCall}
+use Rattle.wasi_p1.specs.CallParts.{Follows, IsReplied, Makes, WantsNoMemory, Stays, open_file_of}
 use Rattle.wasi_p1.specs.Asked.{Does}
-use Rattle.wasi_p1.specs.CallTurn.{FollowsRow, Kept, Same, Quiet, AtFront, TakesTurn, may_want}
+use Rattle.wasi_p1.specs.CallTurn.{FollowsRow, Kept, Same, Quiet, AtFront, TakesTurn}
 use Rattle.wasi_guest.specs.declared.call.Call.{Call}
 use Rattle.wasi_p1.specs.declared.error.P1Error.{P1Error}
 use Rattle.wasi_guest.specs.declared.answer.Value.{Value}
@@ -27,7 +29,7 @@ use Rattle.wasi_host.specs.declared.errors.HostError.TheVariants.{Memory as Want
 use Rattle.wasi_p1.proofs.Near.{IsNear}
 use Rattle.wasi_p1.proofs.Nearness.{row_near}
 use Rattle.wasi_p1.proofs.Permitting.{turn_permits}
-use Rattle.wasi_p1.proofs.Placing.{places_stay, put_file_at}
+use Rattle.wasi_p1.proofs.GuestSlots.{guest_slots_stay, put_file_at}
 use Rattle.wasi_p1.proofs.Staying.{all_stay, put_stays}
 use Rattle.wasi_p1.proofs.Turns as turns
 
@@ -73,7 +75,7 @@ refused_at {H} {told} {world} {faults} {lookups} {inside} {view} {memory} {call}
     is : Err e ≡ row g (with_fuel inside.fuel call)
     is = row_same at
 
-    never : NotMemory e
+    never : WantsNoMemory e
     never = subst (IsNear g call) (sym is) (row_near g (with_fuel inside.fuel call))
 
 -- one before any fuel was taken
@@ -86,6 +88,18 @@ refused {told = told} {world = world} {faults = faults} {lookups = lookups} {ins
     subst (λ v. FollowsRow told world faults lookups view v memory memory call (Err e)) same (refused_at same at)
 
 pub ruleset refusals = (refused, refused_at)
+
+-- what is the guest's own stays, where nothing changed but the host and the fuel
+pub unchanged : {H : Type 0} {view : View H} {memory : List ℕ} {host : H} {fuel : ℕ}
+    → Kept view (record view { host = host; fuel = fuel }) memory memory
+unchanged = record { slots = refl; holdings = refl; memory = refl }
+
+-- a refusal by its error, as the exit of a `?` gives it
+pub on_err : {H : Type 0} {told : Bool} {world : H → World} {faults : H → ℕ} {lookups : H → List Lookup}
+    {old new : View H} {before after : List ℕ} {call : Call} {e : P1Error} {result : Result Value P1Error}
+    → IsErrAnd result (λ f. f ≡ e) → FollowsRow told world faults lookups old new before after call (Err e)
+    → FollowsRow told world faults lookups old new before after call result
+on_err {result = result} is follows = let error = err_from_is_err_and result is in rw (error.1, error.2) follows
 
 -- memory was wanted before anything was asked
 pub wanted : {H : Type 0} {told : Bool} {world : H → World} {faults : H → ℕ} {lookups : H → List Lookup}
@@ -113,19 +127,19 @@ wanted {H} {told} {world} {faults} {lookups} {view} {memory} {call} {left} may t
     front_wants (Ok (done p)) = (refl, (refl, refl))
     front_wants (Ok (asking r next)) = inl (Wanted, refl)
 
--- the places stay: for a host that is told, where the handles stand for the same afterwards
-abbrev pub PlacesStay : {H : Type 0} → Bool → (H → World) → View H → View H → Type 0
-PlacesStay told world old new =
-    IsTrue told → places_of (world new.host).held new.slots ≡ places_of (world old.host).held old.slots
+-- the guest's slots stay: for a host that is told, where the handles stand for the same afterwards
+abbrev pub GuestSlotsStay : {H : Type 0} → Bool → (H → World) → View H → View H → Type 0
+GuestSlotsStay told world old new =
+    IsTrue told → guest_slots (world new.host).held new.slots ≡ guest_slots (world old.host).held old.slots
 
 -- the guest after a call, by what the handles stood for before it
 abbrev guest_then : {H : Type 0} → (H → World) → View H → View H → List ℕ → Guest
 guest_then world old new after = guest_by (world old.host).held new after
 
 same_guest : {H : Type 0} {old new : View H} {before after : List ℕ} (world : H → World) → Kept old new before after
-    → places_of (world new.host).held new.slots ≡ places_of (world old.host).held old.slots
+    → guest_slots (world new.host).held new.slots ≡ guest_slots (world old.host).held old.slots
     → guest_of world new after ≡ guest_of world old before
-same_guest world kept places = rw (places, kept.holdings, kept.memory) refl
+same_guest world kept slots = rw (slots, kept.holdings, kept.memory) refl
 
 -- the row without the tree, and the turn over a host that tells
 abbrev AtHost : {H : Type 0} → (H → World) → (H → ℕ) → (H → List Lookup) → View H → View H → List ℕ → List ℕ
@@ -157,7 +171,7 @@ pub record Moved {H : Type 0} (old new : View H) (fd : ℕ) (file : FilePlace) (
 
 abbrev guest_moved : {H : Type 0} → (ℕ → Held) → View H → ℕ → FilePlace → ℕ → List ℕ → Guest
 guest_moved held old fd file n after = record (guest_by held old after) {
-  places = slice_set (places_of held old.slots) fd (moved (open_file_of held file) n);
+  slots = slice_set (guest_slots held old.slots) fd (moved (open_file_of held file) n);
 }
 
 module _ {H : Type 0} {told : Bool} {world : H → World} {faults : H → ℕ} {lookups : H → List Lookup}
@@ -191,19 +205,19 @@ module _ {H : Type 0} {told : Bool} {world : H → World} {faults : H → ℕ} {
       answer_follows size slots (left_same at)
       (subst (AtHost world faults lookups old new before after (Ok x)) is (refl, quiet)) (λ told.
       let still = stays told in
-      let placed = ap (λ places. Ok (done (x, record (guest_of world new after) { places = places }))) still.places in
+      let placed = ap (λ slots. Ok (done (x, record (guest_of world new after) { slots = slots }))) still.slots in
       turns.answered (placed ∙ is) still.tree still.touched)
 
   -- what follows of a request's reply, as a row's answer
   module _ {r : Request} {A : Type 0} (next : Reply r → Row A) (shown : Guest → A → Value × Guest)
-      (at : ask r (made_by r next (shown (guest_of world old before))) new.fuel
+      (at : ask r (made_of_reply r next (shown (guest_of world old before))) new.fuel
       ≡ front (guest_of world old before) call old.fuel) where
     -- the host refused, or failed, or wanted memory; or the row refused the reply
     pub does_err : {e : P1Error} → IsReplied r next (Err e) → (e ≡ Memory → IsTrue (may_want call))
-        → Kept old new before after → PlacesStay told world old new
+        → Kept old new before after → GuestSlotsStay told world old new
         → (IsTrue told → Did world faults old new r next (Err e))
         → FollowsRow told world faults lookups old new before after call (Err e)
-    does_err {e} replied wants kept places does = record {
+    does_err {e} replied wants kept slots does = record {
       size = ap length kept.memory;
       kept = kept;
       wants = λ want. wants (reason want);
@@ -222,9 +236,9 @@ module _ {H : Type 0} {told : Bool} {world : H → World} {faults : H → ℕ} {
 
         turn : IsTrue told → Turn world faults old new before after call (Err e)
         turn is = elim (does is) [
-          | inl asked ↦ turns.asked_err (row_same at) (same_guest world kept (places is)) asked
+          | inl asked ↦ turns.asked_err (row_same at) (same_guest world kept (slots is)) asked
           | inr (reply, asked, refused) ↦
-              turns.asked_then_err (row_same at) (same_guest world kept (places is)) asked (ap then refused)
+              turns.asked_then_err (row_same at) (same_guest world kept (slots is)) asked (ap then refused)
         ]
 
     -- the row answered the reply
@@ -249,7 +263,7 @@ module _ {H : Type 0} {told : Bool} {world : H → World} {faults : H → ℕ} {
           → Kept old new before after → (IsTrue told → Made world faults old new live r next (Err e))
           → FollowsRow told world faults lookups old new before after call (Err e)
       makes_err replied wants kept makes = does_err replied wants kept
-          (λ told. ap (places_of (world new.host).held) kept.slots ∙ places_stay old.slots owned (makes told).keeps)
+          (λ told. ap (guest_slots (world new.host).held) kept.slots ∙ guest_slots_stay old.slots owned (makes told).keeps)
           (λ told. (makes told).does)
 
       -- the descriptors stay
@@ -259,11 +273,11 @@ module _ {H : Type 0} {told : Bool} {world : H → World} {faults : H → ℕ} {
           → FollowsRow told world faults lookups old new before after call (Ok y)
       makes_ok {y} size follows shows same makes = does_ok size (all_stay same) follows shows (λ told.
           let made = makes told in
-          let stays : places_of (world new.host).held new.slots ≡ places_of (world old.host).held new.slots =
-          ap (places_of (world new.host).held) same ∙ places_stay old.slots owned made.keeps
-          ∙ ap (places_of (world old.host).held) (sym same) in (
+          let stays : guest_slots (world new.host).held new.slots ≡ guest_slots (world old.host).held new.slots =
+          ap (guest_slots (world new.host).held) same ∙ guest_slots_stay old.slots owned made.keeps
+          ∙ ap (guest_slots (world old.host).held) (sym same) in (
             made.does,
-            shows ∙ (λ i. (y, let g : Guest = record (guest_of world new after) { places = sym stays i } in g)),
+            shows ∙ (λ i. (y, let g : Guest = record (guest_of world new after) { slots = sym stays i } in g)),
           ))
 
       -- a file's descriptor was put back further on
@@ -277,11 +291,11 @@ module _ {H : Type 0} {told : Bool} {world : H → World} {faults : H → ℕ} {
           does_ok size (put_stays fd _ named was refl moved.slots) follows (shows ∙ again (world old.host).held refl refl) (λ told.
           let made = makes told in (
             made.does,
-            shows ∙ again (world new.host).held (made.keeps file.file.file held) (places_stay old.slots owned made.keeps),
+            shows ∙ again (world new.host).held (made.keeps file.file.file held) (guest_slots_stay old.slots owned made.keeps),
           ))
         where
           again : (stands : ℕ → Held) → stands file.file.file ≡ (world old.host).held file.file.file
-              → places_of stands old.slots ≡ places_of (world old.host).held old.slots
+              → guest_slots stands old.slots ≡ guest_slots (world old.host).held old.slots
               → ◌≡◌ {A = Value × Guest} (Number n, guest_moved (world old.host).held old fd file n after)
               (Number n, guest_by stands new after)
           again stands same kept =
@@ -290,7 +304,7 @@ module _ {H : Type 0} {told : Bool} {world : H → World} {faults : H → ℕ} {
               λ i. (
                 Number n,
                 record {
-                  places = sym placed i;
+                  slots = sym placed i;
                   memory = after;
                   holdings = sym moved.holdings i;
                 },
@@ -306,4 +320,4 @@ answered_at_once {told = told} {world = world} {faults = faults} {lookups = look
     {memory = memory} {call = call} {x = x} same at =
     subst (λ v. FollowsRow told world faults lookups v v memory memory call (Ok x)) same
     (answered at refl (all_stay refl) (record { failed = refl; looked = refl })
-    (λ told. record { tree = refl; touched = refl; places = refl }))
+    (λ told. record { tree = refl; touched = refl; slots = refl }))

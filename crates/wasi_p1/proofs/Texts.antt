@@ -1,10 +1,10 @@
 -- Texts, how many bytes they have, and writing them into a memory.
-use Rattle.std.proofs.Common.{ℕ, ◌+◌, ◌*◌, ◌^◌, ◌≡◌, ◌∙◌, ◌<◌, ◌≤◌, List, [], ◌∷◌, ◌++◌, map, take, drop, length, slice_index_or, refl, ap, sym, subst, arith, Ok, Err, append_assoc, length-append, length-take, length-drop}
+use Rattle.std.proofs.Common.{ℕ, ◌+◌, ◌*◌, ◌≡◌, ◌∙◌, ◌<◌, ◌≤◌, List, [], ◌∷◌, ◌++◌, map, take, drop, length, slice_index_or, refl, ap, sym, subst, arith, Ok, Err, append_assoc, length-append, length-take}
 use Rattle.std.specs.Int.{to_le_bytes, w32}
-use Rattle.std.proofs.lemmas.List.{map_more, drop_more, drop_all, take_all, take_at, drop_at, drop-drop}
+use Rattle.std.proofs.lemmas.List.{map_more, drop_more, drop_all, take_at, drop_at, drop-drop}
 use Rattle.std.proofs.lemmas.List.Sums.{sum_by_push, sum_by-cons}
 use Rattle.wasi_guest.specs.Range.{with_bytes}
-use Rattle.wasi_guest.proofs.Ranges.{with_bytes_length}
+use Rattle.wasi_guest.proofs.Ranges.{with_whole, with_bytes_length}
 use Rattle.wasi_p1.specs.Row.{Row}
 use Rattle.wasi_p1.specs.Services.{total_of, with_text, with_texts, with_unit}
 use Rattle.wasi_p1.specs.declared.error.P1Error.{P1Error}
@@ -18,14 +18,6 @@ total_more f xs i x within is =
 
 -- ---- writing
 
--- the bytes of a memory into which some were written
-written : (memory : List ℕ) (at : ℕ) (bytes : List ℕ) → at + length bytes ≤ length memory
-    → with_bytes memory at bytes ≡ take at memory ++ (bytes ++ drop (at + length bytes) memory)
-unfolding with_bytes
-written memory at bytes inside =
-    take_all (length memory) (take at memory ++ (bytes ++ drop (at + length bytes) memory))
-    (simp (length-append, length-take, length-drop) (omega arith))
-
 -- two writes, one behind the other, are one
 pub with_both : (memory : List ℕ) (at : ℕ) (xs ys : List ℕ) → at + (length xs + length ys) ≤ length memory
     → with_bytes (with_bytes memory at xs) (at + length xs) ys ≡ with_bytes memory at (xs ++ ys)
@@ -33,9 +25,9 @@ with_both memory at xs ys inside =
     let rest : List ℕ = drop (at + length xs) memory in
     let size : length (take at memory ++ xs) ≡ at + length xs = simp (length-append, length-take) (omega arith) in
     let first : with_bytes memory at xs ≡ (take at memory ++ xs) ++ rest =
-    written memory at xs (omega arith) ∙ sym (append_assoc (take at memory) xs rest) in
-    let second = written (with_bytes memory at xs) (at + length xs) ys (omega (arith, with_bytes_length memory at xs)) in
-    let whole = written memory at (xs ++ ys) (omega (arith, length-append xs ys)) in
+    with_whole memory at xs (omega arith) ∙ sym (append_assoc (take at memory) xs rest) in
+    let second = with_whole (with_bytes memory at xs) (at + length xs) ys (omega (arith, with_bytes_length memory at xs)) in
+    let whole = with_whole memory at (xs ++ ys) (omega (arith, length-append xs ys)) in
     let front : take (at + length xs) (with_bytes memory at xs) ≡ take at memory ++ xs =
     rw first (take_at (take at memory ++ xs) rest (at + length xs) size) in
     let over : drop (at + length xs) (with_bytes memory at xs) ≡ rest =
@@ -65,7 +57,6 @@ with_texts_length memory (text ∷ texts) place address =
 
 -- what is left to be written into a guest's memory fits, and gives the whole
 pub record Left (texts : List (List ℕ)) (place address : ℕ) (memory whole : List ℕ) : Type 0 where
-  pub small : length memory < 2 ^ 32
   pub list : place + 4 * length texts ≤ length memory
   pub bytes : address + total_of texts ≤ length memory
   pub gives : with_texts memory texts place address ≡ whole
@@ -87,7 +78,6 @@ unfolding with_texts
 one_less {text} {texts} {place} {address} {memory} left =
     let size = with_text_length memory text place address in
     record {
-      small = omega (arith, left.small, size);
       list = omega (arith, left.list, size);
       bytes = omega (arith, left.bytes, total_cons text texts, size);
       gives = left.gives;

@@ -7,11 +7,11 @@ use Rattle.wasi_host.specs.declared.errors.ErrorCode.{ErrorCode}
 use Rattle.wasi_p1.specs.Guest.{Guest, State}
 use Rattle.wasi_p1.specs.Request.{Request, Reply, reply_of, after}
 use Rattle.wasi_host.specs.Steps.{◌>>=◌}
-use Rattle.wasi_p1.specs.Row.{Row, Program, done, asking, from_host, Asks, starts, path_ends}
+use Rattle.wasi_p1.specs.Row.{Row, Program, done, asking, from_host, Asks, starts, request_ends}
 use Rattle.wasi_p1.specs.Rows.{row}
-use Rattle.wasi_p1.specs.Turn.{IsTurn, Refuses, Faults, Wants, StepTaken}
+use Rattle.wasi_p1.specs.Turn.{IsTurn, RowRefuses, Faults, Wants, StepTaken}
 use Rattle.wasi_p1.specs.CallTurn.{Turns, in_world}
-use Rattle.wasi_p1.specs.Asked.{Asked, Hidden, GivesOrElse, TreeAfter}
+use Rattle.wasi_p1.specs.Asked.{Asked, Hidden, GivesOrElse, TreeAfterRequest}
 use Rattle.wasi_guest.specs.declared.call.Call.{Call}
 use Rattle.wasi_p1.specs.Front.{FueledCall}
 use Rattle.wasi_guest.specs.declared.errno.Errno.TheVariants as errnos
@@ -20,14 +20,14 @@ use Rattle.wasi_p1.specs.declared.error.P1Error.TheVariants.{Errno, Memory}
 use Rattle.wasi_guest.specs.declared.answer.Value.{Value}
 use Rattle.wasi_p1.proofs.Near.{IsNear, AsksNear}
 use Rattle.wasi_host.proofs.Touching.{touches_same, no_ends}
-use Rattle.wasi_p1.proofs.Alike.{over, replied, ended}
+use Rattle.wasi_p1.proofs.Alike.{over, replied, row_on}
 use Rattle.wasi_p1.proofs.Nearness.{row_near}
 
 -- the turn of a row
 abbrev RowTurns : Type 0 → World → World → Guest → Guest → Row (Program (Value × Guest)) → Result Value P1Error → Type 0
 RowTurns rose w v g g' m result =
-    IsTurn rose (Asks m) (in_world w g) (in_world v g') result (ended w.tree m)
-    × Touches w.tree v.tree (starts m) (if is_ok result then path_ends w.tree m else []) w.touched v.touched
+    IsTurn rose (Asks m) (in_world w g) (in_world v g') result (row_on w.tree m)
+    × Touches w.tree v.tree (starts m) (if is_ok result then request_ends w.tree m else []) w.touched v.touched
 
 turns : {rose : Type 0} {w v : World} {g g' : Guest} {call : FueledCall} {result : Result Value P1Error}
     (m : Row (Program (Value × Guest)))
@@ -90,8 +90,8 @@ module _ (s s' : State) {call : Call} {r : Request} {next : Reply r → Row (Val
       (stepped hid.reply hid.answered hid.stepped (next hid.reply) refl)
 
   refused_here : (e : P1Error) (a : Result (Reply r) ErrorCode) → reply_of s.tree r ≡ a
-      → TreeAfter s.tree s'.tree r (Err e)
-      → Err e ≡ from_host a → Refuses s s' e (replied s.tree r next a)
+      → TreeAfterRequest s.tree s'.tree r (Err e)
+      → Err e ≡ from_host a → RowRefuses s s' e (replied s.tree r next a)
   refused_here e (Ok reply) at tree is = absurd (cc)
   refused_here e (Err code) at (inl tree) is = record {
     stays = same_state same tree;
@@ -99,16 +99,16 @@ module _ (s s' : State) {call : Call} {r : Request} {next : Reply r → Row (Val
   }
   refused_here e (Err code) at (inr hid) is = let answered = hid.1.answered in absurd (cc)
 
-  wanted : (e : P1Error) → TreeAfter s.tree s'.tree r (Err e) → e ≡ Memory → Wants s s' e
+  wanted : (e : P1Error) → TreeAfterRequest s.tree s'.tree r (Err e) → e ≡ Memory → Wants s s' e
   wanted e (inl tree) is = record { memory = is; stays = same_state same tree }
   wanted e (inr hid) is = let io = hid.0 in absurd (cc)
 
-  failed : {rose : Type 0} (e : P1Error) → TreeAfter s.tree s'.tree r (Err e) → e ≡ Errno errnos.Io → rose
+  failed : {rose : Type 0} (e : P1Error) → TreeAfterRequest s.tree s'.tree r (Err e) → e ≡ Errno errnos.Io → rose
       → Faults rose (Unit {0}) s s' e is_replied
   failed e (inl tree) is up = record { io = is; count = up; came = tt; state = inl (same_state same tree) }
   failed e (inr hid) is up = record { io = is; count = up; came = tt; state = hidden hid.1 }
 
-  err_turns : {rose : Type 0} (e : P1Error) → TreeAfter s.tree s'.tree r (Err e)
+  err_turns : {rose : Type 0} (e : P1Error) → TreeAfterRequest s.tree s'.tree r (Err e)
       → GivesOrElse rose (Err e) (from_host (reply_of s.tree r))
       → IsTurn rose (Unit {0}) s s' (Err e) is_replied
   err_turns e tree (inl is) = inl (refused_here e (reply_of s.tree r) refl tree is)

@@ -23,7 +23,7 @@ use Rattle.wasi_host.specs.Answer.{unless, link_text}
 use Rattle.wasi_host.specs.Refusal.{refusal}
 use Rattle.wasi_host.proofs.Chain.{free}
 use Rattle.wasi_resolve.specs.AtPlace.{PlaceCall, PlaceAnswer, CreateDir, RemoveFile, RemoveDir, Symlink, ReadLink, call_at, unrooted, answer_in, place_for, step_in}
-use Rattle.wasi_resolve.specs.AtPlace as places
+use Rattle.wasi_resolve.specs.AtPlace as at_place
 use Rattle.wasi_resolve.specs.AtTwo.{Places, places_for, asks_directory, call_at_two, answer_at_two, step_at_two}
 use Rattle.wasi_resolve.specs.Paths.{Opening, Place, opening, step_of, timed}
 use Rattle.wasi_resolve.specs.PathRequest.{PathRequest, OpenPath, LookPath, AtPlace, TimesPath, AtTwo, PathReply, answer_at, as_asked, times_through, path_reply, path_after}
@@ -36,7 +36,7 @@ use Rattle.wasi_p1.specs.Turn.{StepTaken}
 use Rattle.wasi_p1.specs.Validity.{IsValidState}
 use Rattle.wasi_p1.specs.declared.error.P1Error.{P1Error}
 use Rattle.wasi_host.proofs.Agreeing.{unless_value, below_or}
-use Rattle.wasi_p1.proofs.Alike.{ended}
+use Rattle.wasi_p1.proofs.Alike.{row_on}
 use Rattle.wasi_paths.specs.Parts.{has_root}
 use Rattle.wasi_host.specs.declared.errors.ErrorCode.TheVariants.{NotPermitted}
 use Rattle.wasi_p1.proofs.Bytes.{cut}
@@ -70,15 +70,6 @@ unrooted_is text {reply} = by (has_root text)
 -- a link's text are bytes
 path_gives_bytes : (t : Tree) (p : PathRequest) (reply : PathReply p) → IsValidTree t → path_reply t p ≡ Ok reply
     → PathGivesBytes p reply
-path_gives_bytes t (OpenPath s text o follow directory) reply valid is = tt
-path_gives_bytes t (LookPath s text follow) reply valid is = tt
-path_gives_bytes t (AtPlace s text CreateDir) reply valid is = tt
-path_gives_bytes t (AtPlace s text RemoveFile) reply valid is = tt
-path_gives_bytes t (AtPlace s text RemoveDir) reply valid is = tt
-path_gives_bytes t (AtPlace s text (Symlink target)) reply valid is = tt
-path_gives_bytes t (AtPlace s text (places.SetTimes atime mtime)) reply valid is = tt
-path_gives_bytes t (TimesPath s text follow atime mtime) reply valid is = tt
-path_gives_bytes t (AtTwo old old_text new new_text what) reply valid is = tt
 path_gives_bytes t (AtPlace s text ReadLink) reply valid is = by (place_for t s text ReadLink) is
   where
     given : (p : Place) (o : Option ErrorCode)
@@ -90,14 +81,14 @@ path_gives_bytes t (AtPlace s text ReadLink) reply valid is = by (place_for t s 
     by : (m : Result Place ErrorCode) → (m >>= answer_in t ReadLink) ≡ Ok reply → AreBytes reply
     by (Ok p) same = given p (refusal t (call_at ReadLink p)) same
     by (Err code) same = absurd (cc)
+path_gives_bytes t p reply valid is = tt
 
 gives_bytes : (t : Tree) (r : Request) (reply : Reply r) → IsValidTree t → reply_of t r ≡ Ok reply → GivesBytes r reply
 gives_bytes t (Path p) reply valid is = path_gives_bytes t p reply valid is
 gives_bytes t (Read f offset n) bytes valid is =
     let whole = content_bytes t f.node valid in
     subst AreBytes (unless_value _ is) (cut n _ (cut offset (bytes_of (node_at t f.node).content) whole).1).0
-gives_bytes t (Write f offset piece) count valid is = tt
-gives_bytes t (SetTimes n atime mtime) answer valid is = tt
+gives_bytes t r reply valid is = tt
 
 -- ---- a request
 
@@ -108,7 +99,7 @@ place_free t CreateDir p is = free _ _ _ is
 place_free t RemoveFile p is = free _ _ _ is
 place_free t RemoveDir p is = free _ _ _ is
 place_free t (Symlink target) p is = free _ _ _ is
-place_free t (places.SetTimes atime mtime) p is = free _ _ _ is
+place_free t (at_place.SetTimes atime mtime) p is = free _ _ _ is
 place_free t ReadLink p is = by (refusal t (call_at ReadLink p)) is
   where
     by : (o : Option ErrorCode) {reply : List ℕ} → (unless o (link_text t p.directory p.name) >>= unrooted) ≡ Ok reply
@@ -155,7 +146,7 @@ path_valid t (TimesPath s text true atime mtime) valid utf8 answered = by (timed
     by (Ok held) = times_valid t held.node atime mtime valid
     by (Err code) = valid
 path_valid t (TimesPath s text false atime mtime) valid utf8 answered =
-    place_valid t s text (places.SetTimes atime mtime) valid utf8 tt answered
+    place_valid t s text (at_place.SetTimes atime mtime) valid utf8 tt answered
 path_valid t (AtTwo old old_text new new_text what) {reply} valid texts answered =
     by (places_for t old old_text new new_text what) refl answered
   where
@@ -178,32 +169,32 @@ request_valid t (SetTimes n atime mtime) valid may is = times_valid t n atime mt
 
 -- ---- a turn
 
-ended_valid : (s : State) (call : Call) (m : Row (Program (Value × Guest))) (p : Value × State) → IsValidState s
-    → IsNear s.guest call m → ended s.tree m ≡ Ok p → IsValidState p.1
-ended_valid s call (Ok (done q)) p valid near is = record {
+row_valid : (s : State) (call : Call) (m : Row (Program (Value × Guest))) (p : Value × State) → IsValidState s
+    → IsNear s.guest call m → row_on s.tree m ≡ Ok p → IsValidState p.1
+row_valid s call (Ok (done q)) p valid near is = record {
   tree = subst IsValidTree (sym (over_tree (Ok q) is)) valid.tree;
   bytes = subst KeepsBytes (over_guest s.tree (Ok q) is) (near.bytes valid.bytes);
 }
-ended_valid s call (Ok (asking r next)) p valid near is =
+row_valid s call (Ok (asking r next)) p valid near is =
     let did = replied_by s.tree r next is in
     let stepped = request_valid s.tree r valid.tree (near.asked valid.bytes) did.is in
     let read = gives_bytes s.tree r did.reply valid.tree did.is in record {
       tree = subst IsValidTree (sym did.tree) stepped;
       bytes = subst KeepsBytes did.gives (near.bytes valid.bytes did.reply read);
     }
-ended_valid s call (Err e) p valid near is = absurd (cc)
+row_valid s call (Err e) p valid near is = absurd (cc)
 
 -- to whatever state it leads
 pub moved_valid : (s s' : State) (call : FueledCall) → IsValidState s → Moves s s' (turn s call) → IsValidState s'
 moved_valid s s' call valid moves = elim moves [
   | inl same ↦ subst IsValidState (sym same) valid
-  | inr (inl given) ↦ ended_valid s call.call (row s.guest call) _ valid (row_near s.guest call) given.1
+  | inr (inl given) ↦ row_valid s call.call (row s.guest call) _ valid (row_near s.guest call) given.1
   | inr (inr step) ↦ by (turn s call) refl step
 ]
   where
     by : (m : Row (Value × State)) → turn s call ≡ m → StepTaken s s' m → IsValidState s'
     by (Ok p) is step =
-        let after = ended_valid s call.call (row s.guest call) p valid (row_near s.guest call) is in
+        let after = row_valid s call.call (row s.guest call) p valid (row_near s.guest call) is in
         subst IsValidState (sym step) (record { tree = after.tree; bytes = valid.bytes })
     by (Err e) is step = absurd step
 

@@ -14,8 +14,8 @@ use Rattle.wasi_guest.specs.declared.answer.TrapKind.{TrapKind}
 use Rattle.wasi_host.specs.declared.errors.ErrorCode.{ErrorCode}
 use Rattle.wasi_guest.specs.declared.errno.Errno.{Errno as ErrorNumber}
 use Rattle.wasi_guest.specs.declared.errno.Errno.TheVariants as errnos
-use Rattle.wasi_p1.specs.CallParts.{NotMemory, is_failure}
-use Rattle.wasi_p1.specs.Guest.{Place, closed, stream, directory, file}
+use Rattle.wasi_p1.specs.CallParts.{WantsNoMemory, is_failure}
+use Rattle.wasi_p1.specs.Guest.{GuestSlot, stream, directory, file}
 use Rattle.wasi_p1.specs.NewTimes.{time_of, new_time, times_asked}
 use Rattle.wasi_p1.specs.RawFlags.{or_inval, open_how, follow_asked}
 use Rattle.wasi_p1.specs.Row.{Row}
@@ -34,19 +34,19 @@ use Rattle.wasi_p1.specs.declared.error.P1Error.TheVariants.{Errno, Trap, Exit}
 
 abbrev pub Never : {A : Type 0} → Row A → Type 0
 Never (Ok x) = Unit {0}
-Never (Err e) = NotMemory e
+Never (Err e) = WantsNoMemory e
 
-pub number : {e : ErrorNumber} → NotMemory (Errno e)
+pub number : {e : ErrorNumber} → WantsNoMemory (Errno e)
 number is = absurd (cc)
 
-trapped : {kind : TrapKind} → NotMemory (Trap kind)
+trapped : {kind : TrapKind} → WantsNoMemory (Trap kind)
 trapped is = absurd (cc)
 
 after : {A B : Type 0} (m : Row A) (next : A → Row B) → Never m → ((x : A) → Never (next x)) → Never (m >>= next)
 after (Ok x) next first then = then x
 after (Err e) next first then = first
 
-when : {A : Type 0} {e : P1Error} (b : Bool) (x : A) → NotMemory e → Never (cond b (Ok x) (Err e))
+when : {A : Type 0} {e : P1Error} (b : Bool) (x : A) → WantsNoMemory e → Never (cond b (Ok x) (Err e))
 when true x other = tt
 when false x other = other
 
@@ -56,20 +56,14 @@ range_never memory at n = when (in_memory memory at n) _ trapped
 -- nor is one the failure of a host, where something isn't read from memory
 pub fault_never : (e : GuestError) → is_failure (fault_of e) ≡ false
 fault_never guests.PtrOverflow = refl
-fault_never guests.PtrOutOfBounds = refl
-fault_never guests.PtrNotAligned = refl
-fault_never guests.InvalidUtf8 = refl
-fault_never guests.InvalidFlagValue = refl
-fault_never guests.InvalidEnumValue = refl
+fault_never e = refl
 
 pub guest_never : {A : Type 0} (found : Found A) → Never (from_guest found)
 guest_never (Ok x) = tt
-guest_never (Err guests.PtrOverflow) = trapped
-guest_never (Err guests.PtrOutOfBounds) = trapped
-guest_never (Err guests.PtrNotAligned) = trapped
 guest_never (Err guests.InvalidUtf8) = number
 guest_never (Err guests.InvalidFlagValue) = number
 guest_never (Err guests.InvalidEnumValue) = number
+guest_never (Err e) = trapped
 
 pub inval_never : (flags : Option ℕ) → Never (or_inval flags)
 inval_never (Some set) = tt
@@ -100,33 +94,24 @@ write_never perms = by (is_read_only perms)
     by true = number
     by false = tt
 
-pub live_never : (p : Option Place) → Never (live_in p)
+pub live_never : (p : Option GuestSlot) → Never (live_in p)
 live_never (Some (directory d)) = tt
 live_never (Some (file f)) = tt
 live_never (Some (stream s)) = tt
-live_never (Some closed) = number
-live_never None = number
+live_never p = number
 
-pub directory_never : (p : Option Place) → Never (directory_in p)
+pub directory_never : (p : Option GuestSlot) → Never (directory_in p)
 directory_never (Some (directory d)) = tt
-directory_never (Some (file f)) = number
-directory_never (Some (stream s)) = number
-directory_never (Some closed) = number
-directory_never None = number
+directory_never p = number
 
-pub start_never : (p : Option Place) → Never (start_in p)
+pub start_never : (p : Option GuestSlot) → Never (start_in p)
 start_never (Some (directory d)) = tt
-start_never (Some (file f)) = number
-start_never (Some (stream s)) = number
-start_never (Some closed) = number
-start_never None = number
+start_never p = number
 
-pub node_never : (p : Option Place) → Never (open_node_in p)
+pub node_never : (p : Option GuestSlot) → Never (open_node_in p)
 node_never (Some (directory d)) = tt
 node_never (Some (file f)) = tt
-node_never (Some (stream s)) = number
-node_never (Some closed) = number
-node_never None = number
+node_never p = number
 
 time_never : (wall : WallDatetime) (n : ℕ) (set now : Bool) → Never (new_time wall n set now)
 time_never wall n true true = number
@@ -142,23 +127,16 @@ times_never wall atim mtim fst_flags =
     after (new_time wall atim (has set flag.atim) (has set flag.atim_now)) _ (time_never wall atim _ _) (λ atime.
     after (new_time wall mtim (has set flag.mtim) (has set flag.mtim_now)) _ (time_never wall mtim _ _) (λ mtime. tt)))
 
-pub source_never : (p : Option Place) → Never (source_in p)
-source_never (Some (directory d)) = number
+pub source_never : (p : Option GuestSlot) → Never (source_in p)
 source_never (Some (file f)) = tt
 source_never (Some (stream streams.Input)) = tt
-source_never (Some (stream streams.Output)) = number
-source_never (Some (stream streams.Error)) = number
-source_never (Some closed) = number
-source_never None = number
+source_never p = number
 
-pub sink_never : (p : Option Place) → Never (sink_in p)
-sink_never (Some (directory d)) = number
+pub sink_never : (p : Option GuestSlot) → Never (sink_in p)
 sink_never (Some (file f)) = tt
-sink_never (Some (stream streams.Input)) = number
 sink_never (Some (stream streams.Output)) = tt
 sink_never (Some (stream streams.Error)) = tt
-sink_never (Some closed) = number
-sink_never None = number
+sink_never p = number
 
 -- ---- what needs no tree
 
@@ -205,8 +183,7 @@ texts_never memory texts at buf = by (length texts == 0)
 moment_never : (wall : WallDatetime) (monotonic : ℕ) (clock : Clockid) → Never (moment_of wall monotonic clock)
 moment_never wall monotonic clocks.Realtime = when (nat_lt (wall.seconds * 10 ^ 9 + wall.nanoseconds) (2 ^ 64)) _ number
 moment_never wall monotonic clocks.Monotonic = tt
-moment_never wall monotonic clocks.ProcessCputimeId = number
-moment_never wall monotonic clocks.ThreadCputimeId = number
+moment_never wall monotonic clock = number
 
 unknown_never : (clock : Option Clockid) → Never (or_unknown clock)
 unknown_never (Some clock) = tt
@@ -222,10 +199,10 @@ unfolding clock_time
 clock_time_never stock id = after (or_unknown (clockid_of id)) _ (unknown_never (clockid_of id))
     (moment_never stock.wall stock.monotonic)
 
-pub exit_never : (status : ℕ) → NotMemory (exit_with status)
+pub exit_never : (status : ℕ) → WantsNoMemory (exit_with status)
 exit_never status = by (nat_le 126 status)
   where
-    by : (b : Bool) → NotMemory (cond b (Trap ExitStatus) (Exit status))
+    by : (b : Bool) → WantsNoMemory (cond b (Trap ExitStatus) (Exit status))
     by true = trapped
     by false = λ is. absurd (cc)
 

@@ -11,10 +11,9 @@ use Rattle.wasi_p1.specs.Parts.{Sink, output, into, sink_in, range, may_write, h
 use Rattle.wasi_p1.specs.Front.{charged_buffer}
 use Rattle.wasi_p1.specs.Rows.{fd_write, write_to}
 use Rattle.wasi_p1.specs.declared.holdings.Output.{Output}
-use Rattle.wasi_p1.proofs.RowFronts.{fd_write_is}
 use Rattle.wasi_p1.specs.Writing.{WritesWhole, written_to}
 use Rattle.wasi_host.proofs.Agreeing.{unless_value}
-use Rattle.wasi_p1.proofs.Alike.{ended}
+use Rattle.wasi_p1.proofs.Alike.{row_on}
 use Rattle.wasi_p1.proofs.Bytes.{range_is}
 use Rattle.wasi_p1.proofs.Moving.{gave_buffer, gave, replied_by}
 
@@ -27,17 +26,17 @@ number_is {count} {x} {g} {g'} is =
 
 -- a row's answer is the answer and the state after it
 state_is : {t : Tree} {x y : Value} {g : Guest} {s' : State}
-    → ended t (Ok (done (y, g))) ≡ Ok (x, s') → (x ≡ y) × (s' ≡ record { tree = t; guest = g })
+    → row_on t (Ok (done (y, g))) ≡ Ok (x, s') → (x ≡ y) × (s' ≡ record { tree = t; guest = g })
 state_is {t} {x} {y} {g} {s'} is =
     let same : ◌≡◌ {A = Value × State} (y, record { tree = t; guest = g }) (x, s') = (cc) in
     (ap (λ (p : Value × State). p.0) (sym same), ap (λ (p : Value × State). p.1) (sym same))
 
 pub writes_whole : (s s' : State) (fuel fd iovs n : ℕ) (x : Value)
-    → ended s.tree (fd_write s.guest fd iovs n fuel).0 ≡ Ok (x, s') → WritesWhole s s' fd iovs n x
+    → row_on s.tree (fd_write s.guest fd iovs n fuel).0 ≡ Ok (x, s') → WritesWhole s s' fd iovs n x
 unfolding fd_write
 writes_whole s s' fuel fd iovs n x is =
     let (buffer, left, found, one) = gave_buffer s.tree s.guest.memory iovs n _ fuel is in
-    let (sink, named, two) = gave s.tree (sink_in (slice_get s.guest.places fd)) _ left one in
+    let (sink, named, two) = gave s.tree (sink_in (slice_get s.guest.slots fd)) _ left one in
     let (piece, inside, three) = gave s.tree (range s.guest.memory buffer.buf buffer.buf_len) _ left two in
     let part = range_is s.guest.memory buffer.buf buffer.buf_len inside in
     let put = puts buffer left piece part.long sink three in record {
@@ -50,7 +49,7 @@ writes_whole s s' fuel fd iovs n x is =
     }
   where
     puts : (buffer : Iovec) (left : ℕ) (piece : List ℕ) → length piece ≡ buffer.buf_len → (sink : Sink)
-        → ended s.tree (write_to s.guest fd piece sink left).0 ≡ Ok (x, s')
+        → row_on s.tree (write_to s.guest fd sink piece left).0 ≡ Ok (x, s')
         → (x ≡ Number buffer.buf_len) × (s' ≡ written_to s fd piece sink)
     puts buffer left piece long (output o) is =
         let (answered, after) = state_is is in (answered ∙ ap (λ k. Number k) long, after)
@@ -63,15 +62,16 @@ writes_whole s s' fuel fd iovs n x is =
           (λ i. record {
             tree = did.tree i;
             guest = (gives.1 ∙ ap (λ k. let g : Guest = record s.guest {
-              places = slice_set s.guest.places fd (moved f k);
+              slots = slice_set s.guest.slots fd (moved f k);
             } in g) whole) i;
           }),
         )
 
 -- and what is written to an output is put so
 pub output_whole : (s : State) (fuel fd iovs n : ℕ) {left : ℕ} {buffer : Iovec} {o : Output} {piece : List ℕ}
-    → (Ok buffer, left) ≡ charged_buffer s.guest.memory iovs n fuel → Ok (output o) ≡ sink_in (slice_get s.guest.places fd)
+    → (Ok buffer, left) ≡ charged_buffer s.guest.memory iovs n fuel → Ok (output o) ≡ sink_in (slice_get s.guest.slots fd)
     → Ok piece ≡ range s.guest.memory buffer.buf buffer.buf_len
     → WritesWhole s (written_to s fd piece (output o)) fd iovs n (Number (length piece))
+unfolding fd_write
 output_whole s fuel fd iovs n found within inside =
-    writes_whole s _ fuel fd iovs n _ (rw (← fd_write_is s.guest fd iovs n fuel found within inside) refl)
+    writes_whole s _ fuel fd iovs n _ (rw (← found, ← within, ← inside) refl)

@@ -19,13 +19,13 @@ pub record Hidden (t t' : Tree) (r : Request) : Type 0 where
   pub stepped : t' ≡ after t r
 
 -- the tree after a request: a fault may hide its step
-abbrev pub TreeAfter : Tree → Tree → (r : Request) → Row (Reply r) → Type 0
-TreeAfter t t' r (Ok reply) = t' ≡ after t r
-TreeAfter t t' r (Err e) = (t' ≡ t) ⊎ ((e ≡ Errno errnos.Io) × Hidden t t' r)
+abbrev pub TreeAfterRequest : Tree → Tree → (r : Request) → Row (Reply r) → Type 0
+TreeAfterRequest t t' r (Ok reply) = t' ≡ after t r
+TreeAfterRequest t t' r (Err e) = (t' ≡ t) ⊎ ((e ≡ Errno errnos.Io) × Hidden t t' r)
 
 pub record Asked (rose : Type 0) (w v : World) (r : Request) (result : Row (Reply r)) : Type 0 where
   pub reply : GivesOrElse rose result (from_host (reply_of w.tree r))
-  pub tree : TreeAfter w.tree v.tree r result
+  pub tree : TreeAfterRequest w.tree v.tree r result
   pub touched : Touches w.tree v.tree (starts_at r) (if is_ok result then ends_at w.tree r else []) w.touched v.touched
 
 -- a request was answered, and this came of its reply

@@ -13,10 +13,10 @@ use Rattle.wasi_p1.specs.Asked.{Does}
 use Rattle.wasi_p1.specs.Errnos.{errno_of, error_of}
 use Rattle.wasi_p1.specs.Request.{Request, Reply, MayReply, Path, Read, Write}
 use Rattle.wasi_p1.specs.Row.{Row, give}
-use Rattle.wasi_p1.specs.Rows.{OpenNode, opened_among, Source, input, from, Sink, output, into}
+use Rattle.wasi_p1.specs.Parts.{OpenNode, opened_among, Source, input, from, Sink, output, into}
 use Rattle.wasi_guest.specs.Range.{with_bytes}
 use Rattle.wasi_guest.specs.declared.errno.Errno.TheVariants as errnos
-use Rattle.wasi_p1.specs.Guest.{OpenDirectory, OpenFile, Place, places_of, directory_by, file_by}
+use Rattle.wasi_p1.specs.Guest.{OpenDirectory, OpenFile, GuestSlot, guest_slots, directory_by, file_by}
 use Rattle.wasi_p1.specs.declared.error.P1Error.{P1Error}
 use Rattle.wasi_p1.specs.declared.error.P1Error.TheVariants.{Errno, Memory}
 use Rattle.wasi_p1.specs.declared.context.Slot.{Slot}
@@ -56,7 +56,7 @@ with_after (Ok x) after = Ok (x, after)
 with_after (Err e) after = Err e
 
 -- an open into the descriptors
-abbrev pub OpensInto : Type 0 → World → World → OpenDirectory → List ℕ → OpenHow → List Place → List Place → Row ℕ
+abbrev pub OpensInto : Type 0 → World → World → OpenDirectory → List ℕ → OpenHow → List GuestSlot → List GuestSlot → Row ℕ
     → Type 0
 OpensInto rose w v d text how before after result =
     Does rose w v (Path (opens d.node text how)) (opened_among before d.perms (mode_of how)) (with_after result after)
@@ -110,8 +110,8 @@ IsReplied r next (Ok x) = Follows r next (Ok x)
 IsReplied r next (Err e) = IsFromHost e ⊎ Follows r next (Err e)
 
 -- another refusal than want of memory
-abbrev pub NotMemory : P1Error → Type 0
-NotMemory e = e ≡ Memory → ⊥
+abbrev pub WantsNoMemory : P1Error → Type 0
+WantsNoMemory e = e ≡ Memory → ⊥
 
 -- whether a refusal is the failure of a host
 abbrev pub is_failure : P1Error → Bool
@@ -135,4 +135,4 @@ pub record Rests (live live' : Handles) (w v : World) : Type 0 where
 pub record Stays (w v : World) (table : List Slot) : Type 0 where
   pub tree : v.tree ≡ w.tree
   pub touched : v.touched ≡ w.touched
-  pub places : places_of v.held table ≡ places_of w.held table
+  pub slots : guest_slots v.held table ≡ guest_slots w.held table

@@ -1,19 +1,18 @@
 -- What a call of the context does.
-use Rattle.std.specs.Prelude.{ℕ, ◌≡◌, ◌≤◌, ◌⊎◌, Bool, true, false, IsTrue, List, [], length, slice_get, Contains, Some, Result, Ok, Err, OnErr, is_ok, if◌then◌else◌}
+use Rattle.std.specs.Prelude.{ℕ, ◌≡◌, ◌≤◌, ◌⊎◌, Bool, IsTrue, List, [], length, slice_get, Contains, Some, Result, Ok, Err, OnErr, is_ok, if◌then◌else◌}
 use Rattle.wasi_host.specs.Agree.{Touches}
 use Rattle.wasi_fs.specs.declared.perms.FsPerms.TheVariants.{ReadOnly}
 use Rattle.wasi_host.specs.Meaning.{World, Handles, Rose}
 use Rattle.wasi_host.specs.declared.lookup.Lookup.{Lookup}
 use Rattle.wasi_p1.specs.Slots.{View}
-use Rattle.wasi_p1.specs.Owners.{handles, unowned, descriptors_named, CallTraced, SlotsOfCall}
+use Rattle.wasi_p1.specs.Owners.{handles, unowned, CallTraced, SlotsOfCall}
 use Rattle.wasi_p1.specs.CallParts.{IsReplied, with_after}
 use Rattle.wasi_p1.specs.Guest.{Guest, State, perms_in, guest_of, guest_by}
 use Rattle.wasi_p1.specs.Row.{Row, Program, done, asking}
 use Rattle.wasi_p1.specs.Front.{FueledCall, with_fuel}
-use Rattle.wasi_p1.specs.Rows.{row, turn, fuel_left}
+use Rattle.wasi_p1.specs.Rows.{row, turn, fuel_left, descriptors_named, may_want}
 use Rattle.wasi_p1.specs.Turn.{IsTurn, ReachesHost, named_by, roots_of}
 use Rattle.wasi_guest.specs.declared.call.Call.{Call}
-use Rattle.wasi_guest.specs.declared.call.Call.TheVariants.{ArgsGet, ArgsSizesGet, ClockResGet, ClockTimeGet, EnvironGet, EnvironSizesGet, FdClose, FdFilestatSetTimes, FdRead, FdWrite, PathCreateDirectory, PathFilestatGet, PathFilestatSetTimes, PathLink, PathOpen, PathReadlink, PathRemoveDirectory, PathRename, PathSymlink, PathUnlinkFile, ProcExit, ProcRaise, RandomGet, SchedYield, SockAccept, SockRecv, SockSend, SockShutdown}
 use Rattle.wasi_guest.specs.declared.errno.Errno.TheVariants.{Io}
 use Rattle.wasi_p1.specs.declared.error.P1Error.{P1Error}
 use Rattle.wasi_p1.specs.declared.error.P1Error.TheVariants.{Errno, Memory}
@@ -82,38 +81,7 @@ AtFront same quiet g' result (Ok (asking r next)) = IsReplied r next (with_after
 pub record NamesReadOnly (g : Guest) (call : Call) : Type 0 where
   pub fd : ℕ
   pub named : Contains (descriptors_named g.memory call) fd
-  pub perms : perms_in (slice_get g.places fd) ≡ Some ReadOnly
-
--- the calls that take memory; the others are never answered that it was wanted
-abbrev pub may_want : Call → Bool
-may_want (ArgsGet argv argv_buf) = false
-may_want ArgsSizesGet = false
-may_want (EnvironGet environ environ_buf) = false
-may_want EnvironSizesGet = false
-may_want (ClockResGet id) = false
-may_want (ClockTimeGet id precision) = false
-may_want (FdClose fd) = false
-may_want (FdFilestatSetTimes fd atim mtim fst_flags) = false
-may_want (FdRead fd iovs iovs_len) = false
-may_want (FdWrite fd iovs iovs_len) = true
-may_want (PathCreateDirectory fd path path_len) = true
-may_want (PathFilestatGet fd flags path path_len) = true
-may_want (PathFilestatSetTimes fd flags path path_len atim mtim fst_flags) = true
-may_want (PathLink old_fd old_flags old_path old_path_len new_fd new_path new_path_len) = true
-may_want (PathOpen fd dirflags path path_len oflags base inheriting fdflags) = true
-may_want (PathReadlink fd path path_len buf buf_len) = true
-may_want (PathRemoveDirectory fd path path_len) = true
-may_want (PathUnlinkFile fd path path_len) = true
-may_want (PathRename old_fd old_path old_path_len new_fd new_path new_path_len) = true
-may_want (PathSymlink old_path old_path_len fd new_path new_path_len) = true
-may_want (ProcExit status) = false
-may_want (ProcRaise signal) = false
-may_want (RandomGet buf buf_len) = false
-may_want SchedYield = false
-may_want (SockAccept fd flags) = false
-may_want (SockRecv fd iovs iovs_len ri_flags) = false
-may_want (SockSend fd iovs iovs_len si_flags) = false
-may_want (SockShutdown fd how) = false
+  pub perms : perms_in (slice_get g.slots fd) ≡ Some ReadOnly
 
 -- What a call does to its guest, by its row. Over every host: what the row says without the tree, where each handle
 -- stands for what it stood for before the call; only an answered call changes what is the guest's own; descriptors stay

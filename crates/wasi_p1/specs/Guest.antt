@@ -28,16 +28,16 @@ pub record OpenFile : Type 0 where
   pub open_mode : OpenMode
   pub position : ℕ
 
--- what a descriptor number stands for
-pub data Place : Type 0 where
-  closed : Place
-  stream : StandardStream → Place
-  directory : OpenDirectory → Place
-  file : OpenFile → Place
+-- what a descriptor number stands for to the guest: a slot without its handle
+pub data GuestSlot : Type 0 where
+  closed : GuestSlot
+  stream : StandardStream → GuestSlot
+  directory : OpenDirectory → GuestSlot
+  file : OpenFile → GuestSlot
 
 -- all of the state but the tree
 pub record Guest : Type 0 where
-  pub places : List Place
+  pub slots : List GuestSlot
   pub memory : List ℕ
   pub holdings : Stock
 
@@ -59,20 +59,20 @@ file_by held f position = record {
 }
 
 -- a descriptor so
-abbrev pub place_of : (ℕ → Held) → Slot → Place
-place_of held slots.Closed = closed
-place_of held (slots.Stream s) = stream s
-place_of held (slots.Directory dir) = directory (directory_by (held dir.dir) dir)
-place_of held (slots.File f position) = file (file_by (held f.file) f position)
+abbrev pub guest_slot : (ℕ → Held) → Slot → GuestSlot
+guest_slot held slots.Closed = closed
+guest_slot held (slots.Stream s) = stream s
+guest_slot held (slots.Directory dir) = directory (directory_by (held dir.dir) dir)
+guest_slot held (slots.File f position) = file (file_by (held f.file) f position)
 
 -- the descriptors without their handles
-abbrev pub places_of : (ℕ → Held) → List Slot → List Place
-places_of held table = map (place_of held) table
+abbrev pub guest_slots : (ℕ → Held) → List Slot → List GuestSlot
+guest_slots held table = map (guest_slot held) table
 
 -- the guest of a context and a memory, where the handles stand for these
 abbrev pub guest_by : {H : Type 0} → (ℕ → Held) → View H → List ℕ → Guest
 guest_by held context memory = record {
-  places = places_of held context.slots;
+  slots = guest_slots held context.slots;
   memory = memory;
   holdings = context.holdings;
 }
@@ -84,35 +84,29 @@ guest_of world context memory = guest_by (world context.host).held context memor
 abbrev pub state_of : {H : Type 0} → (H → World) → View H → List ℕ → State
 state_of world context memory = record { tree = (world context.host).tree; guest = guest_of world context memory }
 
-abbrev pub is_closed : Place → Bool
+abbrev pub is_closed : GuestSlot → Bool
 is_closed closed = true
-is_closed (stream s) = false
-is_closed (directory d) = false
-is_closed (file f) = false
+is_closed slot = false
 
 -- the number of a new descriptor: the largest closed one, else the next unused one
-abbrev pub new_number : List Place → ℕ
-new_number places = free_number is_closed places
+abbrev pub new_number : List GuestSlot → ℕ
+new_number slots = free_number is_closed slots
 
 -- the new descriptor stands under its number
-abbrev pub with_place : List Place → Place → List Place
-with_place places place = with_new is_closed places place
+abbrev pub with_guest_slot : List GuestSlot → GuestSlot → List GuestSlot
+with_guest_slot slots slot = with_new is_closed slots slot
 
 -- the permissions of a descriptor; a stream has none
-abbrev pub perms_in : Option Place → Option FsPerms
+abbrev pub perms_in : Option GuestSlot → Option FsPerms
 perms_in (Some (directory d)) = Some d.perms
 perms_in (Some (file f)) = Some f.perms
-perms_in (Some (stream s)) = None
-perms_in (Some closed) = None
-perms_in None = None
+perms_in slot = None
 
-abbrev pub node_in : Option Place → List ℕ
+abbrev pub node_in : Option GuestSlot → List ℕ
 node_in (Some (directory d)) = d.node ∷ []
 node_in (Some (file f)) = f.node ∷ []
-node_in (Some (stream s)) = []
-node_in (Some closed) = []
-node_in None = []
+node_in slot = []
 
 -- the nodes of the directories and files among descriptors
-abbrev pub nodes_of : List Place → List ℕ
-nodes_of places = flat_map (λ place. node_in (Some place)) places
+abbrev pub open_nodes : List GuestSlot → List ℕ
+open_nodes slots = flat_map (λ slot. node_in (Some slot)) slots

@@ -16,6 +16,7 @@ pub mod Services
 pub mod Rows
 pub mod Turn
 pub mod CallTurn
+pub mod Method
 pub mod Run
 pub mod Reach
 pub mod StatesAgree

@@ -1,5 +1,5 @@
 -- Which handles are the descriptors' own.
-use Rattle.std.specs.Prelude.{ℕ, ◌≤◌, ◌==◌, ◌≡◌, Bool, true, false, List, [], ◌∷◌, map, slice_get, sum_by, Contains, Option, Some, None, option_to_list}
+use Rattle.std.specs.Prelude.{ℕ, ◌≤◌, ◌==◌, ◌≡◌, Bool, true, false, List, map, slice_get, sum_by, Contains, Option, Some, None, option_to_list}
 use Rattle.std.specs.List.{flat_map}
 use Rattle.std.specs.FinSet.{contains, insert, remove, retain}
 use Rattle.wasi_host.specs.Meaning.{Handles}
@@ -9,14 +9,13 @@ use Rattle.wasi_p1.specs.Slots.{is_closed_slot}
 use Rattle.wasi_p1.specs.declared.context.Slot.{Slot}
 use Rattle.wasi_p1.specs.declared.context.Slot.TheVariants as slots
 use Rattle.wasi_guest.specs.declared.call.Call.{Call}
-use Rattle.wasi_guest.specs.declared.call.Call.TheVariants.{ArgsGet, ArgsSizesGet, ClockResGet, ClockTimeGet, EnvironGet, EnvironSizesGet, FdClose, FdFilestatSetTimes, FdRead, FdWrite, PathCreateDirectory, PathFilestatGet, PathFilestatSetTimes, PathLink, PathOpen, PathReadlink, PathRemoveDirectory, PathRename, PathSymlink, PathUnlinkFile, ProcExit, ProcRaise, RandomGet, SchedYield, SockAccept, SockRecv, SockSend, SockShutdown}
+use Rattle.wasi_p1.specs.Rows.{descriptors_named, closed_by}
 
 -- the handle of a descriptor
 abbrev pub handle_in : Slot → Option ℕ
-handle_in slots.Closed = None
-handle_in (slots.Stream s) = None
 handle_in (slots.Directory dir) = Some dir.dir
 handle_in (slots.File f position) = Some f.file
+handle_in slot = None
 
 -- the handles of the descriptors, each under its number
 unfoldable pub handles : List Slot → List (Option ℕ)
@@ -61,44 +60,6 @@ without live (Some h) = remove live h
 pub record Owns (live live' : Handles) (os os' : List (Option ℕ)) : Type 0 where
   pub owned : Owned live' os'
   pub others : unowned live' os' ≡ unowned live os
-
--- the numbers of the descriptors that a call names, in its arguments or in guest memory
-abbrev pub descriptors_named : List ℕ → Call → List ℕ
-descriptors_named memory (ArgsGet argv argv_buf) = []
-descriptors_named memory ArgsSizesGet = []
-descriptors_named memory (EnvironGet environ environ_buf) = []
-descriptors_named memory EnvironSizesGet = []
-descriptors_named memory (ClockResGet id) = []
-descriptors_named memory (ClockTimeGet id precision) = []
-descriptors_named memory (FdClose fd) = fd ∷ []
-descriptors_named memory (FdFilestatSetTimes fd atim mtim fst_flags) = fd ∷ []
-descriptors_named memory (FdRead fd iovs iovs_len) = fd ∷ []
-descriptors_named memory (FdWrite fd iovs iovs_len) = fd ∷ []
-descriptors_named memory (PathCreateDirectory fd path path_len) = fd ∷ []
-descriptors_named memory (PathFilestatGet fd flags path path_len) = fd ∷ []
-descriptors_named memory (PathFilestatSetTimes fd flags path path_len atim mtim fst_flags) = fd ∷ []
-descriptors_named memory (PathLink old_fd old_flags old_path old_path_len new_fd new_path new_path_len) =
-    old_fd ∷ new_fd ∷ []
-descriptors_named memory (PathOpen fd dirflags path path_len oflags base inheriting fdflags) = fd ∷ []
-descriptors_named memory (PathReadlink fd path path_len buf buf_len) = fd ∷ []
-descriptors_named memory (PathRemoveDirectory fd path path_len) = fd ∷ []
-descriptors_named memory (PathUnlinkFile fd path path_len) = fd ∷ []
-descriptors_named memory (PathRename old_fd old_path old_path_len new_fd new_path new_path_len) =
-    old_fd ∷ new_fd ∷ []
-descriptors_named memory (PathSymlink old_path old_path_len fd new_path new_path_len) = fd ∷ []
-descriptors_named memory (ProcExit status) = []
-descriptors_named memory (ProcRaise signal) = []
-descriptors_named memory (RandomGet buf buf_len) = []
-descriptors_named memory SchedYield = []
-descriptors_named memory (SockAccept fd flags) = fd ∷ []
-descriptors_named memory (SockRecv fd iovs iovs_len ri_flags) = fd ∷ []
-descriptors_named memory (SockSend fd iovs iovs_len si_flags) = fd ∷ []
-descriptors_named memory (SockShutdown fd how) = fd ∷ []
-
--- the numbers of the descriptors that a call closes
-abbrev pub closed_by : Call → List ℕ
-closed_by (FdClose fd) = fd ∷ []
-closed_by call = []
 
 -- the handles of the descriptors of these numbers
 abbrev pub under : List (Option ℕ) → List ℕ → List (Option ℕ)

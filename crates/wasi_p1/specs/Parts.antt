@@ -17,7 +17,7 @@ use Rattle.wasi_guest.specs.declared.answer.TrapKind.TheVariants.{Pointer}
 use Rattle.wasi_guest.specs.declared.answer.Value.{Value}
 use Rattle.wasi_guest.specs.declared.answer.Value.TheVariants.{Number, Filestat}
 use Rattle.wasi_p1.specs.Filestats.{stat_both, filestat_in}
-use Rattle.wasi_p1.specs.Guest.{Guest, Place, closed, stream, directory, file, OpenDirectory, OpenFile, new_number, with_place}
+use Rattle.wasi_p1.specs.Guest.{Guest, GuestSlot, closed, stream, directory, file, OpenDirectory, OpenFile, new_number, with_guest_slot}
 use Rattle.wasi_p1.specs.Row.{Row, give, from_host}
 use Rattle.wasi_p1.specs.declared.context.Stream.TheVariants as streams
 use Rattle.wasi_p1.specs.declared.holdings.Output.{Output}
@@ -45,7 +45,7 @@ from_guest (Ok x) = Ok x
 from_guest (Err e) = Err (fault_of e)
 
 -- what a live number stands for
-abbrev pub live_in : Option Place → Row Place
+abbrev pub live_in : Option GuestSlot → Row GuestSlot
 live_in (Some (directory d)) = Ok (directory d)
 live_in (Some (file f)) = Ok (file f)
 live_in (Some (stream s)) = Ok (stream s)
@@ -53,7 +53,7 @@ live_in (Some closed) = Err (Errno errnos.Badf)
 live_in None = Err (Errno errnos.Badf)
 
 -- the directory that a number stands for
-abbrev pub directory_in : Option Place → Row OpenDirectory
+abbrev pub directory_in : Option GuestSlot → Row OpenDirectory
 directory_in (Some (directory d)) = Ok d
 directory_in (Some (file f)) = Err (Errno errnos.Notdir)
 directory_in (Some (stream s)) = Err (Errno errnos.Badf)
@@ -65,7 +65,7 @@ pub data Source : Type 0 where
   input : Source
   from : OpenFile → Source
 
-abbrev pub source_in : Option Place → Row Source
+abbrev pub source_in : Option GuestSlot → Row Source
 source_in (Some (file f)) = Ok (from f)
 source_in (Some (stream streams.Input)) = Ok input
 source_in (Some (stream streams.Output)) = Err (Errno errnos.Badf)
@@ -79,7 +79,7 @@ pub data Sink : Type 0 where
   output : Output → Sink
   into : OpenFile → Sink
 
-abbrev pub sink_in : Option Place → Row Sink
+abbrev pub sink_in : Option GuestSlot → Row Sink
 sink_in (Some (file f)) = Ok (into f)
 sink_in (Some (stream streams.Output)) = Ok (output outputs.Stdout)
 sink_in (Some (stream streams.Error)) = Ok (output outputs.Stderr)
@@ -94,7 +94,7 @@ pub record OpenNode : Type 0 where
   pub perms : FsPerms
 
 -- what a number stands for that is a directory's or file's
-abbrev pub open_node_in : Option Place → Row OpenNode
+abbrev pub open_node_in : Option GuestSlot → Row OpenNode
 open_node_in (Some (directory d)) = Ok (record { node = d.node; perms = d.perms })
 open_node_in (Some (file f)) = Ok (record { node = f.node; perms = f.perms })
 open_node_in (Some (stream s)) = Err (Errno errnos.Badf)
@@ -102,7 +102,7 @@ open_node_in (Some closed) = Err (Errno errnos.Badf)
 open_node_in None = Err (Errno errnos.Badf)
 
 -- the directory from which a path starts
-abbrev pub start_in : Option Place → Row OpenDirectory
+abbrev pub start_in : Option GuestSlot → Row OpenDirectory
 start_in (Some (directory d)) = Ok d
 start_in (Some (file f)) = Err (Errno errnos.Badf)
 start_in (Some (stream s)) = Err (Errno errnos.Badf)
@@ -115,8 +115,8 @@ permit own = from_host (unless own tt)
 
 -- the descriptor of what was opened, for this, with the permissions of its directory: a directory's, or a file's at its
 -- start
-abbrev pub new_place : FsPerms → OpenMode → Opened → Place
-new_place perms mode found =
+abbrev pub new_guest_slot : FsPerms → OpenMode → Opened → GuestSlot
+new_guest_slot perms mode found =
     if found.is_dir
     then directory (record { node = found.held.node; perms = perms; open_mode = mode })
     else file (record {
@@ -128,9 +128,9 @@ new_place perms mode found =
     })
 
 -- the number of the new descriptor, and the descriptors with it
-abbrev pub opened_among : List Place → FsPerms → OpenMode → Opened → Row (ℕ × List Place)
-opened_among places perms mode found =
-    give (new_number places, with_place places (new_place perms mode found))
+abbrev pub opened_among : List GuestSlot → FsPerms → OpenMode → Opened → Row (ℕ × List GuestSlot)
+opened_among slots perms mode found =
+    give (new_number slots, with_guest_slot slots (new_guest_slot perms mode found))
 
 -- a text, as far as a buffer takes it
 abbrev pub text_to : List ℕ → ℕ → List ℕ → Row (ℕ × List ℕ)
@@ -146,7 +146,7 @@ unfoldable pub may_write : FsPerms → Row (Unit {0})
 may_write perms = if is_read_only perms then Err (Errno errnos.Badf) else Ok tt
 
 -- a file's descriptor further on
-abbrev pub moved : OpenFile → ℕ → Place
+abbrev pub moved : OpenFile → ℕ → GuestSlot
 moved f n = file (record f { position = f.position + n })
 
 -- ---- what is made of a reply
@@ -154,7 +154,7 @@ moved f n = file (record f { position = f.position + n })
 -- the number of the new descriptor
 abbrev pub opened_in : Guest → FsPerms → OpenMode → Opened → Row (Value × Guest)
 opened_in g perms mode found =
-    opened_among g.places perms mode found >>= (λ new. give (Number new.0, record g { places = new.1 }))
+    opened_among g.slots perms mode found >>= (λ new. give (Number new.0, record g { slots = new.1 }))
 
 -- how many bytes of a link's text were put into a buffer
 abbrev pub link_into : Guest → ℕ → List ℕ → Row (Value × Guest)

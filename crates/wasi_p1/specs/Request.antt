@@ -42,7 +42,7 @@ abbrev pub MayReply : (r : Request) → Reply r → Type 0
 MayReply (Path p) found = MayFind p found
 MayReply (Read f offset n) bytes = length bytes ≤ n
 MayReply (Write f offset piece) count = (count ≤ length piece) × (0 < length piece → 0 < count)
-MayReply (SetTimes n atime mtime) answer = Unit {0}
+MayReply r reply = Unit {0}
 
 -- the tree after a request that is answered: at most one step
 abbrev pub after : Tree → Request → Tree
@@ -68,6 +68,4 @@ starts_at (SetTimes n atime mtime) = n ∷ []
 -- the nodes at which the paths of a request end
 abbrev pub ends_at : Tree → Request → List ℕ
 ends_at t (Path p) = path_ends t p
-ends_at t (Read f offset n) = []
-ends_at t (Write f offset piece) = []
-ends_at t (SetTimes n atime mtime) = []
+ends_at t r = []

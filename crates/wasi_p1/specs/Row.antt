@@ -38,16 +38,16 @@ run_on t (done x) = Ok (x, t)
 run_on t (asking r next) = beside (after t r) (from_host (reply_of t r) >>= next)
 
 -- what is made of a reply, as an answer
-abbrev pub made_by : {A : Type 0} (r : Request) → (Reply r → Row A) → (A → Value × Guest) → Reply r → Row (Value × Guest)
-made_by r next shown reply = next reply >>= (λ x. give (shown x))
+abbrev pub made_of_reply : {A : Type 0} (r : Request) → (Reply r → Row A) → (A → Value × Guest) → Reply r → Row (Value × Guest)
+made_of_reply r next shown reply = next reply >>= (λ x. give (shown x))
 
 -- an answer and a guest, beside the tree after them
 abbrev pub with_tree : (Value × Guest) × Tree → Value × State
 with_tree p = (p.0.0, record { tree = p.1; guest = p.0.1 })
 
 -- a row over a tree
-abbrev pub ended : Tree → Row (Program (Value × Guest)) → Row (Value × State)
-ended t m = m >>= run_on t >>= (λ p. give (with_tree p))
+abbrev pub row_on : Tree → Row (Program (Value × Guest)) → Row (Value × State)
+row_on t m = m >>= run_on t >>= (λ p. give (with_tree p))
 
 -- no refusal stands before the request
 abbrev pub Asks : {A : Type 0} → Row (Program A) → Type 0
@@ -62,7 +62,7 @@ starts (Ok (done x)) = []
 starts (Err e) = []
 
 -- where the path of its request ends
-abbrev pub path_ends : {A : Type 0} → Tree → Row (Program A) → List ℕ
-path_ends t (Ok (asking r next)) = ends_at t r
-path_ends t (Ok (done x)) = []
-path_ends t (Err e) = []
+abbrev pub request_ends : {A : Type 0} → Tree → Row (Program A) → List ℕ
+request_ends t (Ok (asking r next)) = ends_at t r
+request_ends t (Ok (done x)) = []
+request_ends t (Err e) = []

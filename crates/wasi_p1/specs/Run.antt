@@ -82,13 +82,13 @@ abbrev pub Allows : ℕ → ℕ → ℕ → Type 0
 Allows before now k = (before + k ≤ now) ⊎ (2 ^ 64 - 1 ≤ now)
 
 -- how many answers are `io`
-abbrev pub is_io : ErrorNumber → Bool
-is_io Io = true
-is_io e = false
+abbrev pub is_io_errno : ErrorNumber → Bool
+is_io_errno Io = true
+is_io_errno e = false
 
 abbrev pub io_in : Answer → ℕ
 io_in (answers.Ok x) = 0
-io_in (answers.Errno e) = one_if (is_io e)
+io_in (answers.Errno e) = one_if (is_io_errno e)
 io_in (answers.Trap kind) = 0
 io_in (answers.Exit status) = 0
 

@@ -38,16 +38,13 @@ first_slots preopens = Stream Input ∷ Stream Output ∷ Stream Error ∷ map g
 
 abbrev pub is_closed_slot : Slot → Bool
 is_closed_slot Closed = true
-is_closed_slot (Stream stream) = false
-is_closed_slot (Directory dir) = false
-is_closed_slot (File f position) = false
+is_closed_slot slot = false
 
 -- what a directory's or file's slot stands for
 abbrev pub descriptor_in : Slot → Option Descriptor
-descriptor_in Closed = None
-descriptor_in (Stream stream) = None
 descriptor_in (Directory dir) = Some (descriptors.Dir dir)
 descriptor_in (File f position) = Some (descriptors.File f)
+descriptor_in slot = None
 
 -- the descriptor of what was opened, a file's at its start
 abbrev pub slot_of : Descriptor → Slot

@@ -2,7 +2,7 @@
 use Rattle.std.specs.Prelude.{ℕ, ◌≡◌, ◌≤◌, List, Contains, Ok, Err}
 use Rattle.wasi_host.specs.Agree.{AgreeOn, IsClosed, OrMade}
 use Rattle.wasi_host.specs.Tree.{next_of}
-use Rattle.wasi_p1.specs.Guest.{State, nodes_of}
+use Rattle.wasi_p1.specs.Guest.{State, open_nodes}
 use Rattle.wasi_p1.specs.Row.{Row}
 use Rattle.wasi_p1.specs.Rows.{turn}
 use Rattle.wasi_p1.specs.Reach.{Inside}
@@ -15,7 +15,7 @@ pub record Alike (Seen : ℕ → Type 0) (s s' : State) : Type 0 where
   pub guest : s.guest ≡ s'.guest
   pub trees : AgreeOn Seen s.tree s'.tree
   pub closed : IsClosed Seen s.tree
-  pub places : (n : ℕ) → Contains (nodes_of s.guest.places) n → Seen n
+  pub slots : (n : ℕ) → Contains (open_nodes s.guest.slots) n → Seen n
 
 -- two rows with the same answer, and states after them that are alike
 abbrev pub AnswerAlike : (ℕ → Type 0) → State → Row (Value × State) → Row (Value × State) → Type 0

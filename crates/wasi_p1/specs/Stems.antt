@@ -1,19 +1,14 @@
 -- From which descriptor another stems.
-use Rattle.std.specs.Prelude.{ℕ, ◌==◌, ◌≡◌, List, [], ◌∷◌, slice_get, Option, Some, None, if◌then◌else◌}
+use Rattle.std.specs.Prelude.{ℕ, ◌==◌, ◌≡◌, List, [], ◌∷◌, slice_get, Option, Some, if◌then◌else◌}
 use Rattle.wasi_fs.specs.declared.perms.FsPerms.{FsPerms}
 use Rattle.wasi_guest.specs.declared.answer.Answer.{Answer}
 use Rattle.wasi_guest.specs.declared.answer.Answer.TheVariants as answers
 use Rattle.wasi_guest.specs.declared.answer.Value.TheVariants.{Number}
 use Rattle.wasi_guest.specs.declared.call.Call.{Call}
 use Rattle.wasi_p1.specs.Front.{FueledCall}
-use Rattle.wasi_guest.specs.declared.call.Call.TheVariants.{PathOpen}
+use Rattle.wasi_p1.specs.Rows.{opened_through}
 use Rattle.wasi_p1.specs.Guest.{Guest, State, perms_in}
 use Rattle.wasi_p1.specs.Run.{Turned, Run}
-
--- the directory through which a call opens a descriptor
-abbrev pub opened_through : Call → Option ℕ
-opened_through (PathOpen fd dirflags path path_len oflags base inheriting fdflags) = Some fd
-opened_through call = None
 
 abbrev pub stems_through : Option ℕ → Answer → ℕ → ℕ
 stems_through (Some fd) (answers.Ok (Number new)) n = if n == new then fd else n
@@ -31,7 +26,7 @@ stem_of (t ∷ turns) n = stems_from t.call.call t.answer (stem_of turns n)
 
 -- a number stands for a directory or file under these permissions
 abbrev pub HasPerms : Guest → ℕ → FsPerms → Type 0
-HasPerms g n perms = perms_in (slice_get g.places n) ≡ Some perms
+HasPerms g n perms = perms_in (slice_get g.slots n) ≡ Some perms
 
 -- each descriptor has the permissions of the one before the run from which it stems; so all that is opened below a
 -- directory that the guest is given has its permissions, for good

@@ -1,7 +1,7 @@
 -- What a call did, against its row.
 use Rattle.std.specs.Prelude.{ℕ, List, ◌≡◌, ◌⊎◌, Result, Ok, Err}
 use Rattle.wasi_p1.specs.Guest.{State}
-use Rattle.wasi_p1.specs.Row.{Row, Asks, starts, path_ends}
+use Rattle.wasi_p1.specs.Row.{Row, Asks, starts, request_ends}
 use Rattle.wasi_p1.specs.Rows.{row}
 use Rattle.wasi_p1.specs.Front.{FueledCall}
 use Rattle.wasi_guest.specs.declared.errno.Errno.TheVariants as errnos
@@ -10,7 +10,7 @@ use Rattle.wasi_p1.specs.declared.error.P1Error.TheVariants.{Errno, Memory}
 use Rattle.wasi_guest.specs.declared.answer.Value.{Value}
 
 -- the answer is the row's first refusal, and the state stays
-pub record Refuses (before after : State) (e : P1Error) (row : Row (Value × State)) : Type 0 where
+pub record RowRefuses (before after : State) (e : P1Error) (row : Row (Value × State)) : Type 0 where
   pub stays : after ≡ before
   pub row_is : row ≡ Err e
 
@@ -36,7 +36,7 @@ pub record Faults (rose reaches : Type 0) (before after : State) (e : P1Error)
 abbrev pub IsTurn : Type 0 → Type 0 → State → State → Result Value P1Error → Row (Value × State) → Type 0
 IsTurn rose reaches before after (Ok x) row = row ≡ Ok (x, after)
 IsTurn rose reaches before after (Err e) row =
-    Refuses before after e row ⊎ (Wants before after e ⊎ Faults rose reaches before after e row)
+    RowRefuses before after e row ⊎ (Wants before after e ⊎ Faults rose reaches before after e row)
 
 -- no refusal of the row stands before its request
 abbrev pub ReachesHost : State → FueledCall → Type 0
@@ -44,7 +44,7 @@ ReachesHost s call = Asks (row s.guest call)
 
 -- the nodes at which the paths of a call end
 abbrev pub named_by : State → FueledCall → List ℕ
-named_by s call = path_ends s.tree (row s.guest call)
+named_by s call = request_ends s.tree (row s.guest call)
 
 -- the nodes from which a call reads or changes the tree
 abbrev pub roots_of : State → FueledCall → List ℕ

@@ -6,7 +6,7 @@ ghost use Rattle.wasi_host.specs.Meaning.{HasCause, Rose};
 ghost use Rattle.wasi_host.specs.Lineage.{Traced, Only, Nothing};
 ghost use Rattle.wasi_p1.specs.CallTurn.{Causes};
 ghost use Rattle.wasi_p1.specs.Owners.{handle_in, handles, without, Owned, Owns, SlotsTraced, SlotsStay};
-ghost use Rattle.wasi_p1.specs.Guest.{place_of, places_of};
+ghost use Rattle.wasi_p1.specs.Guest.{guest_slot, guest_slots};
 ghost use Rattle.wasi_resolve.specs.PathRequest.{meant_by};
 ghost use Rattle.wasi_resolve.specs.Resolved.{Resolved};
 ghost use Rattle.wasi_p1.specs.Request.{Path, Read, Write};
@@ -17,7 +17,7 @@ ghost use Rattle.wasi_p1.specs.Front.{charge, charged_text, charged_buffer};
 ghost use Rattle.wasi_p1.specs.Parts.{range, live_in, directory_in, start_in, source_in, sink_in, open_node_in, may_write, opened_among, text_to};
 ghost use Rattle.wasi_p1.specs.Slots.{is_closed_slot, slot_of, descriptor_in};
 ghost use Rattle.wasi_guest.specs.Range.{IsInMemory};
-ghost use Rattle.wasi_p1.specs.CallParts.{open_directory_of, source_of, sink_of, file_slot, OfSource, OfSink, open_node_of, Refused, ReadsInto, WritesPiece, OpensInto, filled_at, with_after, Rests, Stays, IsLive, IsReplied, NotMemory, is_failure};
+ghost use Rattle.wasi_p1.specs.CallParts.{open_directory_of, source_of, sink_of, file_slot, OfSource, OfSink, open_node_of, Refused, ReadsInto, WritesPiece, OpensInto, filled_at, with_after, Rests, Stays, IsLive, IsReplied, WantsNoMemory, is_failure};
 ghost use Rattle.wasi_p1.specs.Row.{give};
 
 use crate::context::{Slot, Stream};
@@ -28,15 +28,15 @@ use crate::holdings::Output;
 use crate::open_with::OpenWith;
 use std::alloc::Global;
 use wasi_fs::{Descriptor, Dir, File, FsPerms, PathFlags};
-use wasi_guest::{Errno, GuestMemory, Iovec, TrapKind};
+use wasi_guest::{Errno, Iovec, TrapKind, first_buffer, slice_at, text_in, write_bytes};
 use wasi_host::{Handle, Host, HostError};
 
 /// The bytes of a range of memory, or the trap.
-pub fn bytes_at(memory: &GuestMemory, ptr: u32, n: u32) -> Result<&[u8], P1Error>
+pub fn bytes_at(memory: &[u8], ptr: u32, n: u32) -> Result<&[u8], P1Error>
     ensures row { result_map_both (λ bytes. bytes.now) (λ e. e) result ≡ range memory.now ptr n }
     ensures inside { OnOk result (IsInMemory memory.now ptr n) }
 {
-    let Some(bytes) = memory.slice(ptr, n) else {
+    let Some(bytes) = slice_at(memory, ptr, n) else {
         return Err(P1Error::Trap(TrapKind::Pointer));
     };
     Ok(bytes)
@@ -57,27 +57,22 @@ fn charge(fuel: &mut u64, n: u64) -> Result<(), P1Error>
 
 /// The text in a range of memory, which takes as much fuel as it has bytes.
 #[tactic(auto, using(crate::proofs::Wanting::fault_never), unfolding(crate::specs::Front::charged_text))]
-pub fn text_at<'m>(
-    memory: &'m GuestMemory,
-    fuel: &mut u64,
-    ptr: u32,
-    n: u32,
-) -> Result<&'m str, P1Error>
+pub fn text_at<'m>(memory: &'m [u8], fuel: &mut u64, ptr: u32, n: u32) -> Result<&'m str, P1Error>
     ensures row { (result_map_both (λ text. text.now) (λ e. e) result, fuel.new)
         ≡ charged_text memory.now ptr n fuel.old }
     ensures refusal { IfErr result (λ e. is_failure e ≡ false) }
 {
     charge(fuel, n as u64)?;
-    Ok(memory.text(ptr, n)?)
+    Ok(text_in(memory, ptr, n)?)
 }
 
 /// What a live number stands for.
-#[tactic(auto, using(crate::proofs::PlaceRules::places))]
+#[tactic(auto, using(crate::proofs::SlotRules::slots))]
 pub fn live_at<H: Host>(host: &H, descriptors: &Descriptors, fd: u32) -> Result<Slot, P1Error>
     ensures is { IfOk result (λ slot. slice_get descriptors.now.slots fd ≡ Some slot) }
     ensures in_use { IfOk result (λ slot. is_closed_slot slot ≡ false) }
-    ensures row { result_map_both (place_of (H.world host.now).held) (λ e. e) result
-        ≡ live_in (slice_get (places_of (H.world host.now).held descriptors.now.slots) fd) }
+    ensures row { result_map_both (guest_slot (H.world host.now).held) (λ e. e) result
+        ≡ live_in (slice_get (guest_slots (H.world host.now).held descriptors.now.slots) fd) }
 {
     let Some(slot) = descriptors.get(fd) else {
         return Err(P1Error::Errno(Errno::Badf));
@@ -89,13 +84,13 @@ pub fn live_at<H: Host>(host: &H, descriptors: &Descriptors, fd: u32) -> Result<
 }
 
 /// The directory that a path is opened from: Badf where the number isn't a directory's or file's, Notdir of a file.
-#[tactic(auto, using(crate::proofs::PlaceRules::places))]
+#[tactic(auto, using(crate::proofs::SlotRules::slots))]
 pub fn directory_at<H: Host>(host: &H, descriptors: &Descriptors, fd: u32) -> Result<Dir, P1Error>
     requires owned { Owned (H.live host.now) (handles descriptors.now.slots) }
     ensures live { IfOk result (λ dir. contains (H.live host.now) dir.dir ≡ true) }
     ensures is { IfOk result (λ dir. slice_get descriptors.now.slots fd ≡ Some (Slot.Directory dir)) }
     ensures row { result_map_both (open_directory_of (H.world host.now).held) (λ e. e) result
-        ≡ directory_in (slice_get (places_of (H.world host.now).held descriptors.now.slots) fd) }
+        ≡ directory_in (slice_get (guest_slots (H.world host.now).held descriptors.now.slots) fd) }
 {
     let Some(slot) = descriptors.get(fd) else {
         return Err(P1Error::Errno(Errno::Badf));
@@ -109,13 +104,13 @@ pub fn directory_at<H: Host>(host: &H, descriptors: &Descriptors, fd: u32) -> Re
 }
 
 /// The directory from which a path starts: Badf where the number isn't a directory's.
-#[tactic(auto, using(crate::proofs::PlaceRules::places))]
+#[tactic(auto, using(crate::proofs::SlotRules::slots))]
 pub fn start_at<H: Host>(host: &H, descriptors: &Descriptors, fd: u32) -> Result<Dir, P1Error>
     requires owned { Owned (H.live host.now) (handles descriptors.now.slots) }
     ensures live { IfOk result (λ dir. contains (H.live host.now) dir.dir ≡ true) }
     ensures is { IfOk result (λ dir. slice_get descriptors.now.slots fd ≡ Some (Slot.Directory dir)) }
     ensures row { result_map_both (open_directory_of (H.world host.now).held) (λ e. e) result
-        ≡ start_in (slice_get (places_of (H.world host.now).held descriptors.now.slots) fd) }
+        ≡ start_in (slice_get (guest_slots (H.world host.now).held descriptors.now.slots) fd) }
 {
     let Some(slot) = descriptors.get(fd) else {
         return Err(P1Error::Errno(Errno::Badf));
@@ -129,7 +124,7 @@ pub fn start_at<H: Host>(host: &H, descriptors: &Descriptors, fd: u32) -> Result
 }
 
 /// The descriptor of a directory's or file's number: Badf of any other.
-#[tactic(auto, using(crate::proofs::PlaceRules::places))]
+#[tactic(auto, using(crate::proofs::SlotRules::slots))]
 pub fn descriptor_at<H: Host>(
     host: &H,
     descriptors: &Descriptors,
@@ -140,7 +135,7 @@ pub fn descriptor_at<H: Host>(
     ensures is { IfOk result (λ descriptor. option_map descriptor_in (slice_get descriptors.now.slots fd)
         ≡ Some (Some descriptor)) }
     ensures row { result_map_both (open_node_of (H.world host.now).held) (λ e. e) result
-        ≡ open_node_in (slice_get (places_of (H.world host.now).held descriptors.now.slots) fd) }
+        ≡ open_node_in (slice_get (guest_slots (H.world host.now).held descriptors.now.slots) fd) }
 {
     let Some(slot) = descriptors.get(fd) else {
         return Err(P1Error::Errno(Errno::Badf));
@@ -168,13 +163,13 @@ pub enum Source {
 }
 
 /// What is read by a number: Badf where that is neither a file's nor the standard input's.
-#[tactic(auto, using(crate::proofs::PlaceRules::places))]
+#[tactic(auto, using(crate::proofs::SlotRules::slots))]
 pub fn source_at<H: Host>(host: &H, descriptors: &Descriptors, fd: u32) -> Result<Source, P1Error>
     requires owned { Owned (H.live host.now) (handles descriptors.now.slots) }
     ensures live { IfOk result (OfSource (λ file. contains (H.live host.now) file.file.file ≡ true)) }
     ensures is { IfOk result (OfSource (λ file. slice_get descriptors.now.slots fd ≡ Some (file_slot file))) }
     ensures row { result_map_both (source_of (H.world host.now).held) (λ e. e) result
-        ≡ source_in (slice_get (places_of (H.world host.now).held descriptors.now.slots) fd) }
+        ≡ source_in (slice_get (guest_slots (H.world host.now).held descriptors.now.slots) fd) }
 {
     let Some(slot) = descriptors.get(fd) else {
         return Err(P1Error::Errno(Errno::Badf));
@@ -197,13 +192,13 @@ pub enum Sink {
 }
 
 /// What is written by a number: Badf where that is neither a file's nor an output's.
-#[tactic(auto, using(crate::proofs::PlaceRules::places))]
+#[tactic(auto, using(crate::proofs::SlotRules::slots))]
 pub fn sink_at<H: Host>(host: &H, descriptors: &Descriptors, fd: u32) -> Result<Sink, P1Error>
     requires owned { Owned (H.live host.now) (handles descriptors.now.slots) }
     ensures live { IfOk result (OfSink (λ file. contains (H.live host.now) file.file.file ≡ true)) }
     ensures is { IfOk result (OfSink (λ file. slice_get descriptors.now.slots fd ≡ Some (file_slot file))) }
     ensures row { result_map_both (sink_of (H.world host.now).held) (λ e. e) result
-        ≡ sink_in (slice_get (places_of (H.world host.now).held descriptors.now.slots) fd) }
+        ≡ sink_in (slice_get (guest_slots (H.world host.now).held descriptors.now.slots) fd) }
 {
     let Some(slot) = descriptors.get(fd) else {
         return Err(P1Error::Errno(Errno::Badf));
@@ -221,23 +216,18 @@ pub fn sink_at<H: Host>(host: &H, descriptors: &Descriptors, fd: u32) -> Result<
 /// The first buffer that has bytes, of so many records at an address. Where none has any it is an empty one at 0. The
 /// records take as much fuel as they have bytes, before they are read, and then the buffer does.
 #[tactic(auto, using(crate::proofs::Wanting::fault_never), unfolding(crate::specs::Front::charged_buffer))]
-pub fn buffer_at(
-    memory: &GuestMemory,
-    fuel: &mut u64,
-    iovs: u32,
-    iovs_len: u32,
-) -> Result<Iovec, P1Error>
+pub fn buffer_at(memory: &[u8], fuel: &mut u64, iovs: u32, iovs_len: u32) -> Result<Iovec, P1Error>
     ensures row { (result, fuel.new) ≡ charged_buffer memory.now iovs iovs_len fuel.old }
     ensures refusal { IfErr result (λ e. is_failure e ≡ false) }
 {
     charge(fuel, 8 * iovs_len as u64)?;
-    let buffer = memory.first_buffer(iovs, iovs_len)?;
+    let buffer = first_buffer(memory, iovs, iovs_len)?;
     charge(fuel, buffer.buf_len as u64)?;
     Ok(buffer)
 }
 
 /// Whether a file may be written that was opened under these permissions.
-#[tactic(auto, unfolding(crate::specs::Rows::may_write))]
+#[tactic(auto, unfolding(crate::specs::Parts::may_write))]
 pub fn check_write(perms: FsPerms) -> Result<(), P1Error>
     ensures row { result ≡ may_write perms }
     ensures refusal { IfErr result (λ e. is_failure e ≡ false) }
@@ -262,7 +252,7 @@ fn slot_of(descriptor: Descriptor) -> Slot
 #[tactic(auto, using(wasi_host::proofs::Chain::live_rules))]
 pub fn read_into<H: Host>(
     host: &mut H,
-    memory: &mut GuestMemory,
+    memory: &mut [u8],
     file: Handle,
     position: u64,
     buffer: Iovec,
@@ -273,7 +263,7 @@ pub fn read_into<H: Host>(
     ensures cause { Causes (H.faults host.old) (H.faults host.new) result }
     ensures live { H.live host.new ≡ H.live host.old }
     ensures logged { H.lookups host.new ≡ H.lookups host.old }
-    ensures never_wants { IfErr result NotMemory }
+    ensures never_wants { IfErr result WantsNoMemory }
     ensures fits { IfOk result (λ n. position + n < 2 ^ 64) }
     ensures same { OnErr result (memory.new ≡ memory.old) }
 
@@ -284,7 +274,8 @@ pub fn read_into<H: Host>(
         (H.world host.old) (H.world host.new) ((H.world host.old).held file) position buffer.buf buffer.buf_len
         memory.old memory.new result }
 {
-    let part = memory.range_mut(buffer.buf, buffer.buf_len);
+    let at = buffer.buf as usize;
+    let part = &mut memory[at..at + buffer.buf_len as usize];
     let count = host.pread(file, part, position)?;
     Ok(count as u32)
 }
@@ -351,23 +342,23 @@ pub fn open_into<H: Host>(
 
     // The row, over every host and over one that tells its world.
     ensures permit { Refused (may_open (how_of with.path_flags with.open_flags with.flags) dir.perms)
-        (with_after result (places_of (H.world host.old).held descriptors.new.slots)) host.old host.new }
+        (with_after result (guest_slots (H.world host.old).held descriptors.new.slots)) host.old host.new }
     ensures front { may_open (how_of with.path_flags with.open_flags with.flags) dir.perms ≡ None → IsReplied
         (Path (opens ((H.world host.old).held dir.dir).node text.now
         (how_of with.path_flags with.open_flags with.flags)))
-        (opened_among (places_of (H.world host.old).held descriptors.old.slots) dir.perms
+        (opened_among (guest_slots (H.world host.old).held descriptors.old.slots) dir.perms
         (mode_of (how_of with.path_flags with.open_flags with.flags)))
-        (with_after result (places_of (H.world host.old).held descriptors.new.slots)) }
+        (with_after result (guest_slots (H.world host.old).held descriptors.new.slots)) }
     ensures stays { IsTrue H.told → OnErr result
-        (places_of (H.world host.new).held descriptors.new.slots
-        ≡ places_of (H.world host.old).held descriptors.old.slots) }
+        (guest_slots (H.world host.new).held descriptors.new.slots
+        ≡ guest_slots (H.world host.old).held descriptors.old.slots) }
     ensures told { IsTrue H.told → may_open (how_of with.path_flags with.open_flags with.flags) dir.perms ≡ None
         → OpensInto (Rose (H.faults host.old) (H.faults host.new))
         (H.world host.old) (H.world host.new)
         (open_directory_of (H.world host.old).held dir) text.now
         (how_of with.path_flags with.open_flags with.flags)
-        (places_of (H.world host.old).held descriptors.old.slots)
-        (places_of (H.world host.new).held descriptors.new.slots) result }
+        (guest_slots (H.world host.old).held descriptors.old.slots)
+        (guest_slots (H.world host.new).held descriptors.new.slots) result }
 {
     descriptors.reserve()?;
     let descriptor = dir.open_at(
@@ -382,23 +373,18 @@ pub fn open_into<H: Host>(
 }
 
 /// Puts bytes into the front of a buffer in memory, as many as it takes, and gives how many.
-pub fn write_front(
-    memory: &mut GuestMemory,
-    buf: u32,
-    buf_len: u32,
-    bytes: &[u8],
-) -> Result<u32, P1Error>
+pub fn write_front(memory: &mut [u8], buf: u32, buf_len: u32, bytes: &[u8]) -> Result<u32, P1Error>
     ensures size { length memory.new ≡ length memory.old }
     ensures same { OnErr result (memory.new ≡ memory.old) }
     ensures refusal { IfErr result (λ e. is_failure e ≡ false) }
-    ensures never_wants { IfErr result NotMemory }
+    ensures never_wants { IfErr result WantsNoMemory }
     ensures row { with_after result memory.new ≡ text_to memory.old buf (take buf_len bytes.now) }
 {
     let n = (buf_len as usize).min(bytes.len());
+    let part = &bytes[..n];
     let n = n as u32;
     bytes_at(memory, buf, n)?;
-    let part = memory.range_mut(buf, n);
-    part.copy_from_slice(&bytes[..n as usize]);
+    write_bytes(memory, buf as usize, part);
     Ok(n)
 }
 

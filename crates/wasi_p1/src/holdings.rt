@@ -6,14 +6,16 @@ ghost use Rattle.std.specs.String.{string_bytes};
 ghost use Rattle.std.specs.Result.{result_map_both};
 ghost use Rattle.wasi_p1.specs.Services.{next_input, input_into, written, sizes_of, texts_at, with_text, with_texts, with_unit, total_of, clock_res, clock_time, moment_of, nanoseconds_of, random_bytes, random_taken};
 ghost use Rattle.wasi_p1.specs.Stock.{first_stock, env_text};
-ghost use Rattle.wasi_guest.specs.Range.{IsInMemory, in_memory};
+ghost use Rattle.std.specs.Int.{to_le_bytes, w32};
+ghost use Rattle.wasi_guest.specs.Range.{IsInMemory, in_memory, with_bytes};
 ghost use Rattle.wasi_guest.specs.Services.{env_pair, handed};
 
 use crate::error::P1Error;
+use crate::raw_numbers::INVALID;
 use std::alloc::{AllocError, Global};
 use std::marker::Model;
 use wasi_guest::{
-    Clockid, EnvPair, Errno, GuestMemory, Iovec, Services, TrapKind, Value, WallDatetime,
+    Clockid, EnvPair, Errno, Iovec, Services, TrapKind, Value, WallDatetime, write_bytes,
 };
 
 /// What a guest was handed in, as far as that is left, and what it has written to the two outputs.
@@ -164,9 +166,7 @@ impl Holdings {
         ensures row { result ≡ clock_res self.now id }
         ensures refusal { IfErr result (λ e. is_failure e ≡ false) }
     {
-        let Some(clock) = Clockid::from_number(id) else {
-            return Err(P1Error::Errno(Errno::Inval));
-        };
+        let clock = Clockid::from_number(id).ok_or(INVALID)?;
         moment_of(self.wall_resolution, self.monotonic_resolution, clock)
     }
 
@@ -176,9 +176,7 @@ impl Holdings {
         ensures row { result ≡ clock_time self.now id }
         ensures refusal { IfErr result (λ e. is_failure e ≡ false) }
     {
-        let Some(clock) = Clockid::from_number(id) else {
-            return Err(P1Error::Errno(Errno::Inval));
-        };
+        let clock = Clockid::from_number(id).ok_or(INVALID)?;
         moment_of(self.wall, self.monotonic, clock)
     }
 }
@@ -210,7 +208,7 @@ impl Holdings {
     /// Reads the next bytes of the standard input into a buffer in memory, as many as it takes, and gives how many: 0
     /// where none are left. Refusal: Intr of an empty buffer where there are some.
     #[tactic(auto, unfolding(crate::specs::Services::input_into))]
-    pub fn read_input(&mut self, memory: &mut GuestMemory, buffer: Iovec) -> Result<u32, P1Error>
+    pub fn read_input(&mut self, memory: &mut [u8], buffer: Iovec) -> Result<u32, P1Error>
         requires inside { IsInMemory memory.old buffer.buf buffer.buf_len }
         ensures size { length memory.new ≡ length memory.old }
         ensures same { OnErr result (memory.new ≡ memory.old) }
@@ -220,7 +218,7 @@ impl Holdings {
     {
         let bytes = next_input(&self.stdin[self.read..], buffer.buf_len)?;
         let n = bytes.len();
-        memory.write(buffer.buf, bytes);
+        write_bytes(memory, buffer.buf as usize, bytes);
         self.read += n;
         Ok(n as u32)
     }
@@ -241,7 +239,7 @@ impl Holdings {
     /// Writes the arguments into memory from `buf` on, each with a zero behind it, and their addresses from `at` on, in
     /// four little-endian bytes each. Where there are any: trap Pointer where `at` is no multiple of 4, or one of the
     /// two ranges leaves the memory. Nothing is written then.
-    pub fn args_into(&self, memory: &mut GuestMemory, at: u32, buf: u32) -> Result<(), P1Error>
+    pub fn args_into(&self, memory: &mut [u8], at: u32, buf: u32) -> Result<(), P1Error>
         ensures size { length memory.new ≡ length memory.old }
         ensures same { OnErr result (memory.new ≡ memory.old) }
         ensures refusal { IfErr result (λ e. is_failure e ≡ false) }
@@ -251,7 +249,7 @@ impl Holdings {
     }
 
     /// The same of the variables of the environment, each a text with `=` behind its key.
-    pub fn environ_into(&self, memory: &mut GuestMemory, at: u32, buf: u32) -> Result<(), P1Error>
+    pub fn environ_into(&self, memory: &mut [u8], at: u32, buf: u32) -> Result<(), P1Error>
         ensures size { length memory.new ≡ length memory.old }
         ensures same { OnErr result (memory.new ≡ memory.old) }
         ensures refusal { IfErr result (λ e. is_failure e ≡ false) }
@@ -300,7 +298,7 @@ fn place_after(place: usize, count: usize) -> usize
 /// Writes texts into memory, each with a zero behind it, and their addresses. Where there are any: trap Pointer where
 /// there is no room for them.
 #[tactic(auto, unfolding(crate::specs::Services::texts_at))]
-fn texts_into(memory: &mut GuestMemory, texts: &[String], at: u32, buf: u32) -> Result<(), P1Error>
+fn texts_into(memory: &mut [u8], texts: &[String], at: u32, buf: u32) -> Result<(), P1Error>
     ensures size { length memory.new ≡ length memory.old }
     ensures same { OnErr result (memory.new ≡ memory.old) }
     ensures refusal { IfErr result (λ e. is_failure e ≡ false) }
@@ -313,15 +311,14 @@ fn texts_into(memory: &mut GuestMemory, texts: &[String], at: u32, buf: u32) -> 
     if !has_room(memory, texts, at, buf) {
         return Err(P1Error::Trap(TrapKind::Pointer));
     }
-    put_texts(memory, texts, at, buf);
+    put_texts(memory, texts, at as usize, buf as usize);
     Ok(())
 }
 
 /// Whether memory has room for the addresses of texts, from a multiple of 4 on, and for the texts.
-fn has_room(memory: &GuestMemory, texts: &[String], at: u32, buf: u32) -> bool
+fn has_room(memory: &[u8], texts: &[String], at: u32, buf: u32) -> bool
     ensures room { result ≡ (at % 4 == 0) && (in_memory memory.now at (4 * length texts.now)
         && in_memory memory.now buf (total_of (map string_bytes texts.now))) }
-    ensures small { length memory.now < 2 ^ 32 }
 {
     let size = memory.len() as u64;
     let list = 4 * texts.len() as u64;
@@ -330,8 +327,7 @@ fn has_room(memory: &GuestMemory, texts: &[String], at: u32, buf: u32) -> bool
 }
 
 /// Writes texts from one address on, each with a zero behind it, and their addresses from another on.
-fn put_texts(memory: &mut GuestMemory, texts: &[String], at: u32, buf: u32)
-    requires small { length memory.old < 2 ^ 32 }
+fn put_texts(memory: &mut [u8], texts: &[String], at: usize, buf: usize)
     requires list { IsInMemory memory.old at (4 * length texts.now) }
     requires bytes { IsInMemory memory.old buf (total_of (map string_bytes texts.now)) }
     ensures size { length memory.new ≡ length memory.old }
@@ -347,18 +343,27 @@ fn put_texts(memory: &mut GuestMemory, texts: &[String], at: u32, buf: u32)
 
 /// Writes a text to an address, with a zero behind it, and that address to a place. Gives the address behind it all.
 #[tactic(auto, using(crate::proofs::Texts::with_both, wasi_guest::proofs::Ranges::with_bytes_length))]
-fn put_text(memory: &mut GuestMemory, text: &str, place: u32, address: u32) -> u32
-    requires small { length memory.old < 2 ^ 32 }
+fn put_text(memory: &mut [u8], text: &str, place: usize, address: usize) -> usize
     requires list { IsInMemory memory.old place 4 }
     requires bytes { IsInMemory memory.old address (length text.now + 1) }
     ensures next { result ≡ address + length text.now + 1 }
     ensures written { memory.new ≡ with_text memory.old text.now place address }
 {
-    memory.write(place, &address.to_le_bytes());
-    memory.write(address, text.as_bytes());
-    let end = address + text.len() as u32;
-    memory.write(end, &[0]);
+    put_address(memory, place, address);
+    write_bytes(memory, address, text.as_bytes());
+    let end = address + text.len();
+    write_bytes(memory, end, &[0]);
     end + 1
+}
+
+/// Writes an address to a place: the low four bytes of it, in little-endian order.
+fn put_address(memory: &mut [u8], place: usize, address: usize)
+    requires { IsInMemory memory.old place 4 }
+    ensures written { memory.new ≡ with_bytes memory.old place (to_le_bytes w32 address) }
+    ensures size { length memory.new ≡ length memory.old }
+{
+    let digits = (address as u64).to_le_bytes();
+    write_bytes(memory, place, &digits[..4]);
 }
 
 /// In nanoseconds: Overflow of what 64 bits don't hold.

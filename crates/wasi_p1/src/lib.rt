@@ -3,6 +3,7 @@
 #![tactic(auto)]
 
 mod call_parts;
+mod calls;
 mod context;
 mod descriptors;
 mod error;
@@ -13,7 +14,6 @@ mod new_times;
 mod open_with;
 mod raw_numbers;
 mod run;
-mod service_calls;
 
 pub use context::{CtxRefused, Ended, FUEL, P1Preopen, Slot, Stream, WasiP1Ctx};
 pub use error::P1Error;

@@ -4,11 +4,10 @@ ghost use Rattle.wasi_p1.specs.CallParts.{is_failure};
 ghost use Rattle.wasi_p1.specs.NewTimes.{time_after, time_of, new_time, times_asked};
 
 use crate::error::P1Error;
+use crate::raw_numbers::INVALID;
 use bitflags::Flags;
 use wasi_guest::{Errno, FstFlags, WallDatetime};
 use wasi_host::{NANOSECONDS, SystemTime};
-
-const INVALID: P1Error = P1Error::Errno(Errno::Inval);
 
 /// The times that are to be set: of the last read, and of the last change. One that isn't given stays.
 #[derive(Clone, Copy, Debug, PartialEq, Eq)]

@@ -13,11 +13,10 @@ ghost use Rattle.wasi_p1.specs.RawFlags.{open_how, follow_asked};
 ghost use Rattle.wasi_p1.specs.CallParts.{is_failure};
 
 use crate::error::P1Error;
+use crate::raw_numbers::INVALID;
 use bitflags::Flags;
 use wasi_fs::{DescriptorFlags, OpenFlags, PathFlags};
-use wasi_guest::{Errno, FdFlags, LookupFlags, OFlags, Rights};
-
-const UNKNOWN: P1Error = P1Error::Errno(Errno::Inval);
+use wasi_guest::{FdFlags, LookupFlags, OFlags, Rights};
 
 /// What the flags and rights of `path_open` ask for, as the flags of an open below a directory.
 #[derive(Clone, Copy, Debug, PartialEq, Eq)]
@@ -42,11 +41,11 @@ impl OpenWith {
             ≡ open_how dirflags oflags base inheriting fdflags }
         ensures refusal { IfErr result (λ e. is_failure e ≡ false) }
     {
-        let lookups = LookupFlags::from_bits(dirflags).ok_or(UNKNOWN)?;
-        let oflags = OFlags::from_bits(oflags).ok_or(UNKNOWN)?;
-        let rights = Rights::from_bits(base).ok_or(UNKNOWN)?;
-        Rights::from_bits(inheriting).ok_or(UNKNOWN)?;
-        let fdflags = FdFlags::from_bits(fdflags).ok_or(UNKNOWN)?;
+        let lookups = LookupFlags::from_bits(dirflags).ok_or(INVALID)?;
+        let oflags = OFlags::from_bits(oflags).ok_or(INVALID)?;
+        let rights = Rights::from_bits(base).ok_or(INVALID)?;
+        Rights::from_bits(inheriting).ok_or(INVALID)?;
+        let fdflags = FdFlags::from_bits(fdflags).ok_or(INVALID)?;
         Ok(OpenWith {
             path_flags: path_flags(lookups),
             open_flags: open_flags(oflags),
@@ -61,7 +60,7 @@ pub fn path_flags_of(flags: u32) -> Result<PathFlags, P1Error>
     ensures row { result_map_both is_followed (λ e. e) result ≡ follow_asked flags }
     ensures refusal { IfErr result (λ e. is_failure e ≡ false) }
 {
-    let lookups = LookupFlags::from_bits(flags).ok_or(UNKNOWN)?;
+    let lookups = LookupFlags::from_bits(flags).ok_or(INVALID)?;
     Ok(path_flags(lookups))
 }
 

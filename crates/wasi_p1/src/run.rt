@@ -1,7 +1,8 @@
 //! A list of calls, one after another.
 ghost use Rattle.std.specs.Prelude.{◌≡◌, ◌≤◌, length, map, IsTrue, IfOk, IfErr};
 ghost use Rattle.wasi_p1.specs.Front.{with_fuel};
-ghost use Rattle.wasi_p1.specs.CallTurn.{Causes, OthersStay, Looks, FollowsRow, TakesTurn};
+ghost use Rattle.wasi_p1.specs.CallTurn.{OthersStay, TakesTurn};
+ghost use Rattle.wasi_p1.specs.Method.{StaysInBounds, DoesItsRow};
 ghost use Rattle.wasi_host.specs.Meaning.{Rose};
 ghost use Rattle.wasi_p1.specs.Guest.{State, state_of};
 ghost use Rattle.wasi_p1.specs.Run.{AnswersEach, answer_of, ends, ios, Allows, answered_in, DidRun, StoodAt};
@@ -12,7 +13,7 @@ ghost use Rattle.wasi_p1.specs.Validity.{IsValidState};
 use crate::context::WasiP1Ctx;
 use crate::error::P1Error;
 use std::alloc::Global;
-use wasi_guest::{Answer, Answers, Call, GuestMemory, Value};
+use wasi_guest::{Answer, Answers, Call, Value};
 use wasi_host::Host;
 
 /// Why a run wasn't finished.
@@ -45,14 +46,11 @@ fn ends_run(answer: Answer) -> bool
 /// One call of the context, by the method of its name, with its arguments in the order of `wasi_snapshot_preview1`.
 pub fn call<H: Host>(
     context: &mut WasiP1Ctx<H>,
-    memory: &mut GuestMemory,
+    memory: &mut [u8],
     call: Call,
 ) -> Result<Value, P1Error>
-    ensures cause { Causes (H.faults context.old.host) (H.faults context.new.host) result }
-    ensures handles { OthersStay H.live context.old context.new }
-    ensures lineage { Looks H.lookups context.old context.new memory.old call }
-    ensures turn { FollowsRow H.told H.world H.faults H.lookups context.old context.new memory.old memory.new call
-        result }
+    ensures bounds { StaysInBounds H.Host context.old context.new memory.old call result }
+    ensures turn { DoesItsRow H.Host context.old context.new memory.old memory.new call result }
 {
     match call {
         Call::ArgsGet { argv, argv_buf } => context.args_get(memory, argv, argv_buf),
@@ -183,14 +181,12 @@ pub fn call<H: Host>(
 /// One call of the context with this fuel.
 fn call_with<H: Host>(
     context: &mut WasiP1Ctx<H>,
-    memory: &mut GuestMemory,
+    memory: &mut [u8],
     fuel: u64,
     one: Call,
 ) -> Result<Value, P1Error>
     ensures size { length memory.new ≡ length memory.old }
-    ensures cause { Causes (H.faults context.old.host) (H.faults context.new.host) result }
-    ensures handles { OthersStay H.live context.old context.new }
-    ensures lineage { Looks H.lookups context.old context.new memory.old one }
+    ensures bounds { StaysInBounds H.Host context.old context.new memory.old one result }
     ensures slots { SlotsOfCall context.old.slots context.new.slots memory.old one }
     ensures turn { IsTrue H.told → TakesTurn H.world (Rose (H.faults context.old.host) (H.faults context.new.host))
         context.old context.new memory.old memory.new (with_fuel fuel one) result }
@@ -205,7 +201,7 @@ fn call_with<H: Host>(
 pub fn run_calls<H: Host>(
     alloc: Global,
     context: &mut WasiP1Ctx<H>,
-    memory: &mut GuestMemory,
+    memory: &mut [u8],
     fuel: u64,
     calls: &Vec<Call>,
 ) -> Result<Answers, RunError>

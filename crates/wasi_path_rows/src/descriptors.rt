@@ -3,24 +3,19 @@ ghost use Rattle.std.specs.Prelude.{◌≡◌, true};
 ghost use Rattle.std.specs.FinSet.{contains};
 ghost use Rattle.wasi_fs.specs.Calls.{handle_of};
 
-use std::alloc::{AllocError, Global};
+use std::alloc::Global;
 use wasi_fs::{Descriptor, DescriptorFlags, Dir, Flags, FsPerms, OpenFlags, OpenMode, PathFlags};
 use wasi_host::{Handle, Host};
-use wasi_table::{done, refused, time_of, told, word};
+use wasi_table::{Asked, Told, done, refused, time_of, told, word};
 
 /// `ATIME MTIME`: sets the times of the directory itself.
-pub fn set_own_times<H: Host>(
-    alloc: Global,
-    host: &mut H,
-    root: Handle,
-    rest: &str,
-) -> Result<String, AllocError>
+pub fn set_own_times<H: Host>(host: &mut H, root: Handle, asked: &Asked<'_>) -> Told
     requires { contains (H.live host.old) root ≡ true }
 {
-    let (atime, mtime) = word(rest);
+    let (atime, mtime) = word(asked.rest);
     let dir = Dir::new(root, FsPerms::ReadWrite, OpenMode::READ);
     let set = Descriptor::Dir(dir).set_times(host, time_of(atime), time_of(mtime));
-    done(alloc, set)
+    done(asked.alloc, set)
 }
 
 fn bits(word: &str) -> usize {
@@ -29,16 +24,11 @@ fn bits(word: &str) -> usize {
 
 /// `PERMISSIONS PATH_FLAGS PATH OPEN_FLAGS FLAGS`.
 #[tactic(auto, using(wasi_host::proofs::Chain::live_rules))]
-pub fn opened<H: Host>(
-    alloc: Global,
-    host: &mut H,
-    root: Handle,
-    what: &str,
-    text: &str,
-) -> Result<String, AllocError>
+pub fn opened<H: Host>(host: &mut H, root: Handle, asked: &Asked<'_>) -> Told
     requires { contains (H.live host.old) root ≡ true }
 {
-    let (perms, rest) = word(text);
+    let alloc = asked.alloc;
+    let (perms, rest) = word(asked.rest);
     let (path_flags, rest) = word(rest);
     let (path, rest) = word(rest);
     let (open_flags, flags) = word(rest);
@@ -53,7 +43,7 @@ pub fn opened<H: Host>(
     let flags = DescriptorFlags::from_bits_retain(bits(flags));
     match dir.open_at(alloc, host, path_flags, path, open_flags, flags) {
         Ok(descriptor) => {
-            if what == "use_at" {
+            if asked.what == "use_at" {
                 return told_use(alloc, host, &descriptor);
             }
             told_opened(alloc, host, &Descriptor::Dir(dir), &descriptor)
@@ -79,12 +69,7 @@ fn mode_of(descriptor: &Descriptor) -> OpenMode {
 }
 
 /// Its mode, what is said of it, its kind, its hash, and whether it is the node of `root`.
-fn told_opened<H: Host>(
-    alloc: Global,
-    host: &mut H,
-    root: &Descriptor,
-    opened: &Descriptor,
-) -> Result<String, AllocError>
+fn told_opened<H: Host>(alloc: Global, host: &mut H, root: &Descriptor, opened: &Descriptor) -> Told
     requires root { contains (H.live host.old) (handle_of root.now) ≡ true }
     requires opened { contains (H.live host.old) (handle_of opened.now) ≡ true }
 {
@@ -97,7 +82,7 @@ fn told_opened<H: Host>(
 }
 
 /// Its mode, whether it can be read and written, and its size.
-fn told_use<H: Host>(alloc: Global, host: &mut H, opened: &Descriptor) -> Result<String, AllocError>
+fn told_use<H: Host>(alloc: Global, host: &mut H, opened: &Descriptor) -> Told
     requires { contains (H.live host.old) (handle_of opened.now) ≡ true }
 {
     let mode = mode_of(opened);

@@ -2,26 +2,23 @@
 ghost use Rattle.std.specs.Prelude.{◌≡◌, true};
 ghost use Rattle.std.specs.FinSet.{contains};
 
-use std::alloc::{AllocError, Global};
+use std::alloc::Global;
 use wasi_host::{FollowSymlinks, Handle, Host, HostError, OpenOptions};
 use wasi_resolve::{
     MaybeOwned, create_dir, hard_link, open, open_dir, open_parent, read_dir, read_link,
     remove_dir, remove_file, rename, set_times, set_times_nofollow, stat, symlink,
 };
-use wasi_table::{answered, done, refused, time_of, told, told_node, told_times, unknown, word};
+use wasi_table::{
+    Asked, Told, answered, done, refused, time_of, told, told_node, told_times, unknown, word,
+};
 
 /// `CALL PATH ARGUMENTS`.
-pub fn path_call<H: Host>(
-    alloc: Global,
-    host: &mut H,
-    start: Handle,
-    text: &str,
-) -> Result<String, AllocError>
+pub fn path_call<H: Host>(host: &mut H, start: Handle, asked: &Asked<'_>) -> Told
     requires { contains (H.live host.old) start ≡ true }
 {
-    let (what, rest) = word(text);
-    let (path, rest) = word(rest);
-    match what {
+    let alloc = asked.alloc;
+    let (path, rest) = word(asked.rest);
+    match asked.what {
         "create_dir" => done(alloc, create_dir(alloc, host, start, path)),
         "remove_file" => done(alloc, remove_file(alloc, host, start, path)),
         "remove_dir" => done(alloc, remove_dir(alloc, host, start, path)),
@@ -39,7 +36,7 @@ pub fn path_call<H: Host>(
             done(alloc, set)
         }
         "file" => done(alloc, make_file(alloc, host, start, path, rest)),
-        _ => look(alloc, host, start, what, path),
+        _ => look(host, start, asked),
     }
 }
 
@@ -61,18 +58,14 @@ fn make_file<H: Host>(
     Ok(())
 }
 
-fn look<H: Host>(
-    alloc: Global,
-    host: &mut H,
-    start: Handle,
-    what: &str,
-    path: &str,
-) -> Result<String, AllocError>
+fn look<H: Host>(host: &mut H, start: Handle, asked: &Asked<'_>) -> Told
     requires { contains (H.live host.old) start ≡ true }
 {
     use FollowSymlinks::{No, Yes};
 
-    match what {
+    let alloc = asked.alloc;
+    let path = word(asked.rest).0;
+    match asked.what {
         "stat" => told_node(alloc, stat(alloc, host, start, path, No)),
         "stat_followed" => told_node(alloc, stat(alloc, host, start, path, Yes)),
         "times" => told_times(alloc, stat(alloc, host, start, path, No)),

@@ -2,7 +2,7 @@
 use crate::dirs::dir_call;
 use crate::paths::path_call;
 use std::alloc::{AllocError, Global};
-use wasi_table::{Answering, told, unknown, word};
+use wasi_table::{Answering, Asked, Told, told, unknown};
 use wasi_tree::{Limits, MemTree, NewContent, NewNode, TreeError};
 
 /// An empty directory, where no node has a number above the last one.
@@ -34,7 +34,7 @@ impl PathRows {
     }
 
     /// `LAST`: takes an empty directory.
-    fn begin(&mut self, alloc: Global, last: u16) -> Result<String, AllocError> {
+    fn begin(&mut self, alloc: Global, last: u16) -> Told {
         match empty_tree(alloc, last) {
             Ok(tree) => {
                 self.tree = tree;
@@ -46,29 +46,25 @@ impl PathRows {
 }
 
 impl Answering for PathRows {
-    fn answer(&mut self, alloc: Global, asked: &str) -> Result<String, AllocError> {
-        let (what, rest) = word(asked);
-        match what {
-            "new" => self.begin(alloc, rest.parse::<u16>().unwrap_or(0)),
-            _ => ask_root(alloc, &mut self.tree, what, rest),
+    fn answer(&mut self, alloc: Global, line: &str) -> Told {
+        let asked = Asked::of(alloc, line);
+        match asked.what {
+            "new" => self.begin(alloc, asked.rest.parse::<u16>().unwrap_or(0)),
+            _ => ask_root(&mut self.tree, &asked),
         }
     }
 }
 
 /// What is asked by a handle of node 0.
 #[tactic(auto, using(wasi_tree::proofs::SlotLemmas::slot_rules))]
-fn ask_root(
-    alloc: Global,
-    tree: &mut MemTree,
-    what: &str,
-    rest: &str,
-) -> Result<String, AllocError> {
+fn ask_root(tree: &mut MemTree, asked: &Asked<'_>) -> Told {
     let Ok(root) = tree.handle(0) else {
         return Err(AllocError);
     };
-    match what {
-        "path" => path_call(alloc, tree, root, rest),
-        "dir" => dir_call(alloc, tree, root, rest),
-        _ => unknown(alloc),
+    let one = Asked::of(asked.alloc, asked.rest);
+    match asked.what {
+        "path" => path_call(tree, root, &one),
+        "dir" => dir_call(tree, root, &one),
+        _ => unknown(asked.alloc),
     }
 }

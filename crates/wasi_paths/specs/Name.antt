@@ -1,3 +1,4 @@
+-- A name in a directory, as contracts see it.
 use Rattle.std.specs.Prelude.{ℕ, List}
 use Rattle.wasi_paths.specs.declared.name.Name.{Name}
 

@@ -1,5 +1,5 @@
 -- From the walk to what its callers mean.
-use Rattle.std.proofs.Common.{◌≡◌, inl, inr, ℕ, true, List, [], ◌∷◌, Result, Ok, Err, refl, sym, ap, subst, ◌∙◌, arith}
+use Rattle.std.proofs.Common.{◌≡◌, inl, inr, ℕ, true, List, [], ◌∷◌, Option, Some, None, Result, Ok, Err, refl, sym, ap, subst, ◌∙◌, arith}
 use Rattle.std.specs.Prelude.{is_ok}
 use Rattle.std.specs.FinSet.{contains, insert, members}
 use Rattle.std.proofs.lemmas.Bool.Decides.{nat_tests}
@@ -23,8 +23,8 @@ use Rattle.wasi_resolve.specs.Paths.{opening, looked}
 use Rattle.wasi_resolve.specs.Resolved.{Meant, Resolved, TreeAfter}
 use Rattle.wasi_resolve.specs.Meanings.{follows, opens_at, looks_at}
 use Rattle.wasi_resolve.specs.Stack.{Stands, Among}
-use Rattle.wasi_resolve.specs.Finding.{LiveFound, StandsFound}
-use Rattle.wasi_resolve.specs.WalkSteps.{Stayed, Sight, Opened, Seen, meant_at, shown_found}
+use Rattle.wasi_resolve.specs.Finding.{handle_found, LiveWith, StandsWith}
+use Rattle.wasi_resolve.specs.WalkSteps.{WorldStays, Sight, HandleFor, Seen, meant_at, shown_found}
 use Rattle.wasi_resolve.specs.declared.found.Found.{Found}
 use Rattle.wasi_resolve.specs.declared.found.Found.TheVariants as found
 use Rattle.wasi_host.proofs.Touching.{none_in}
@@ -34,28 +34,23 @@ use Rattle.wasi_resolve.proofs.Ending.{mapped}
 -- ---- the stack is closed
 
 -- what is live once the stack is closed
-abbrev pub after_found : Handles → Result Found HostError → Handles
-after_found first (Ok (found.Handle h)) = insert first h
-after_found first (Ok (found.Metadata metadata)) = first
-after_found first (Err e) = first
+abbrev pub with_got : Handles → Option ℕ → Handles
+with_got first (Some h) = insert first h
+with_got first None = first
 
-pub stands_all : (first now : Handles) (start : ℕ) (stack : List ℕ) (r : Result Found HostError)
-    → StandsFound first now start stack r
-    → Stands (after_found first r) now start stack
-stands_all first now start stack (Ok (found.Handle h)) stands = stands.1
-stands_all first now start stack (Ok (found.Metadata metadata)) stands = stands
-stands_all first now start stack (Err e) stands = stands
+pub stands_all : (first now : Handles) (start : ℕ) (stack : List ℕ) (got : Option ℕ)
+    → StandsWith first now start stack got → Stands (with_got first got) now start stack
+stands_all first now start stack (Some h) stands = stands.1
+stands_all first now start stack None stands = stands
 
-pub live_after : (first now new : Handles) (start : ℕ) (stack : List ℕ) (r : Result Found HostError)
-    → StandsFound first now start stack r → new ≡ after_found first r
-    → LiveFound first r new
-live_after first now new start stack (Ok (found.Handle h)) stands is = (stands.0, is)
-live_after first now new start stack (Ok (found.Metadata metadata)) stands is = is
-live_after first now new start stack (Err e) stands is = is
+pub live_after : (first now new : Handles) (start : ℕ) (stack : List ℕ) (got : Option ℕ)
+    → StandsWith first now start stack got → new ≡ with_got first got → LiveWith first got new
+live_after first now new start stack (Some h) stands is = (stands.0, is)
+live_after first now new start stack None stands is = is
 
 less : {first all : Handles} {u z : World} → ((q : ℕ) → contains first q ≡ true → contains all q ≡ true)
-    → Stayed all u z
-    → Stayed first u z
+    → WorldStays all u z
+    → WorldStays first u z
 less within stayed =
     record { tree = stayed.tree; touched = stayed.touched; keeps = λ q is. stayed.keeps q (within q is) }
 
@@ -71,10 +66,10 @@ reshown same resolved = record {
 }
 
 pub closed_resolved : {first : Handles} {w u z : World} {m : Meant Sight} (r : Result Found HostError)
-    → Resolved first w u m (shown_found u.held) r → Stayed (after_found first r) u z
+    → Resolved first w u m (shown_found u.held) r → WorldStays (with_got first (handle_found r)) u z
     → Resolved first w z m (shown_found z.held) r
 closed_resolved {first} {u = u} {z = z} (Ok (found.Handle h)) resolved stayed =
-    reshown (ap Opened (sym (stayed.keeps h (grind (arith, members, nat_tests)))))
+    reshown (ap HandleFor (sym (stayed.keeps h (grind (arith, members, nat_tests)))))
     (resolved_stay resolved (less (still_live first h refl) stayed))
 closed_resolved (Ok (found.Metadata metadata)) resolved stayed = reshown refl (resolved_stay resolved stayed)
 closed_resolved (Err e) resolved stayed =
@@ -140,7 +135,7 @@ unmapped_err {A} {A'} f {w = w} {u = u} m shown e resolved = record {
   keeps = resolved.keeps;
 }
 
-one_opened : (x y : Held) → Opened x ≡ Opened y → x ≡ y
+one_opened : (x y : Held) → HandleFor x ≡ HandleFor y → x ≡ y
 one_opened x y is = (cc)
 
 one_seen : (x y : Metadata) → Seen x ≡ Seen y → x ≡ y
@@ -148,7 +143,7 @@ one_seen x y is = (cc)
 
 -- an open
 open_is : (t : Tree) (s : ℕ) (text : List ℕ) (o : Options)
-    → meant_at t (Open o) s (walk t s text (Open o) (follows o.follow)).outcome ≡ mapped Opened (opens_at t s text o)
+    → meant_at t (Open o) s (walk t s text (Open o) (follows o.follow)).outcome ≡ mapped HandleFor (opens_at t s text o)
 unfolding opening
 open_is t s text o = refl
 
@@ -158,7 +153,7 @@ module _ {live : Handles} {w u : World} (s : ℕ) (text : List ℕ) (o : Options
       (shown_found u.held) (Ok (found.Handle h))
       → Resolved live w u (opens_at w.tree s text o) u.held (Ok h)
   opened_ok h resolved =
-      unmapped_ok Opened one_opened (opens_at w.tree s text o) u.held h refl
+      unmapped_ok HandleFor one_opened (opens_at w.tree s text o) u.held h refl
       (subst (λ m. Resolved live w u m (shown_found u.held) (Ok (found.Handle h))) (open_is w.tree s text o) resolved)
 
   pub opened_err : (e : HostError)
@@ -166,7 +161,7 @@ module _ {live : Handles} {w u : World} (s : ℕ) (text : List ℕ) (o : Options
       (shown_found u.held) (Err e)
       → Resolved live w u (opens_at w.tree s text o) u.held (Err e)
   opened_err e resolved =
-      unmapped_err Opened (opens_at w.tree s text o) u.held e
+      unmapped_err HandleFor (opens_at w.tree s text o) u.held e
       (subst (λ m. Resolved live w u m (shown_found u.held) (Err e)) (open_is w.tree s text o) resolved)
 
 -- a look

@@ -11,7 +11,8 @@ use Rattle.wasi_host.specs.declared.errors.HostError.{HostError}
 use Rattle.wasi_host.specs.declared.errors.HostError.TheVariants.{Code}
 use Rattle.wasi_paths.specs.Parts.{Component, ParentDir}
 use Rattle.wasi_resolve.specs.Stack.{Stands, nodes_under}
-use Rattle.wasi_resolve.specs.WalkSteps.{Looks, Walked, IsFault, IsRefused, GoesOn, Fails, AreReached}
+use Rattle.wasi_resolve.specs.Ways.{Begin, begin, origin, way}
+use Rattle.wasi_resolve.specs.WalkSteps.{OnlyLooks, Walked, IsFault, IsRefused, GoesOn, Fails, AreReached}
 use Rattle.wasi_resolve.proofs.Calls.{call_ok, call_err, close_stays, looks_of, looks_then, looks_stay, same_live}
 use Rattle.wasi_resolve.proofs.Stacks.{first_live, popped_stands, was_live, nodes_push, nodes_kept}
 use Rattle.wasi_resolve.proofs.Legs.{same_here, same_nodes, top_refused, up_same, up_refused}
@@ -21,22 +22,23 @@ no_items [] is = refl
 no_items (h ∷ items) is = absurd (omega arith)
 
 -- a part at which the walk fails at once
-pub fails_here : {first : Handles} {w v u : World} {start : ℕ} {before : List ℕ} {e : HostError} (part : Component)
+pub fails_here : {b : Begin} {v u : World} {before after : List ℕ} {e : HostError} (part : Component)
     (rest : List Component)
-    → Looks first w u ((w.held start).node ∷ [])
-    → IsFault e ⊎ IsRefused w.tree (w.held start).node (part ∷ rest) (nodes_under v.held before) e
-    → Fails first w v u start (part ∷ rest) before rest e
-fails_here {w = w} {v = v} {start = start} {before = before} part rest looks refused = record {
+    → OnlyLooks b.live b.world u (origin b ∷ [])
+    → IsFault e ⊎ IsRefused b.world.tree (origin b) (part ∷ rest) (nodes_under v.held before) e
+    → Fails b (way v before (part ∷ rest)) (way u after rest) e
+fails_here {b} {v = v} {before = before} part rest looks refused = record {
   looks = looks;
   part = part;
   nodes = nodes_under v.held before;
-  same = same_here w.tree (w.held start).node (part ∷ rest) (nodes_under v.held before);
+  same = same_here b.world.tree (origin b) (part ∷ rest) (nodes_under v.held before);
   refused = refused;
 }
 
 -- there is nothing to leave
-pub leaves_top : {first : Handles} {w v : World} {start : ℕ} {stack : List ℕ} (rest : List Component) → length stack ≡ 0
-    → Walked first w v start stack → Fails first w v v start (ParentDir ∷ rest) stack rest (Code NotPermitted)
+pub leaves_top : {first : Handles} {w v : World} {start : ℕ} {stack after : List ℕ} (rest : List Component)
+    → length stack ≡ 0 → Walked first w v start stack
+    → Fails (begin first w start) (way v stack (ParentDir ∷ rest)) (way v after rest) (Code NotPermitted)
 leaves_top {w = w} {v = v} {start = start} {stack = stack} rest none walked =
     fails_here ParentDir rest walked.looks (inr (top_refused w.tree (w.held start).node rest (ap
     (nodes_under v.held) (no_items stack none))))
@@ -55,7 +57,7 @@ module _ {first old mid new : Handles} {w v a z : World} {start : ℕ} {stack : 
   under_stands : Stands first new start under
   under_stands = popped_stands under here stands popped still closed
 
-  after : Looks old v a ((v.held here).node ∷ []) → Looks first w z ((w.held start).node ∷ [])
+  after : OnlyLooks old v a ((v.held here).node ∷ []) → OnlyLooks first w z ((w.held start).node ∷ [])
   after looks =
       looks_stay (looks_then walked.looks near.0 (first_live stands) looks)
       (close_stays shut (λ q is. (same_live still q (first_live stands q is), first_live under_stands q is)))
@@ -67,7 +69,7 @@ module _ {first old mid new : Handles} {w v a z : World} {start : ℕ} {stack : 
         let before : contains old q ≡ true = same_live (sym still) q between in
         shut.keeps q between is ∙ asked.keeps q before between)
 
-    pub leaves_ok : GoesOn first w v z start (ParentDir ∷ rest) stack rest under
+    pub leaves_ok : GoesOn (begin first w start) (way v stack (ParentDir ∷ rest)) (way z under rest)
     leaves_ok = record {
       walked = record {
         looks =
@@ -90,7 +92,7 @@ module _ {first old mid new : Handles} {w v a z : World} {start : ℕ} {stack : 
       (nodes_under v.held under) code nodes_are means)
 
   pub leaves_err : (code : ErrorCode) → Told old mid v a (Access (v.held here).node) (λ u. u) (hosted (Err code))
-      → Fails first w v z start (ParentDir ∷ rest) stack rest (Code code)
+      → Fails (begin first w start) (way v stack (ParentDir ∷ rest)) (way z under rest) (Code code)
   leaves_err code asked =
       fails_here ParentDir rest
       (after (looks_of (Err (Code code)) (λ is. refl) (call_err {call =

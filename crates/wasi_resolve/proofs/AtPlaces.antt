@@ -20,13 +20,13 @@ use Rattle.wasi_host.specs.declared.errors.HostError.{HostError}
 use Rattle.wasi_host.specs.declared.errors.HostError.TheVariants.{Code}
 use Rattle.wasi_host.proofs.Chain.{remove-insert}
 use Rattle.wasi_host.proofs.Leaving.{Leaves, named_in, same_leaves, node_made_leaves, dropped_leaves, times_if_leaves, made_next, fewer_names, gone_names, next_of-dropped_step}
-use Rattle.wasi_host.proofs.Tracing.{traced_kept, traced_last}
+use Rattle.wasi_host.proofs.Tracing.{traced_same, traced_kept, traced_last}
 use Rattle.wasi_resolve.specs.Laws.{From, GivesIn}
-use Rattle.wasi_resolve.specs.Paths.{Place}
+use Rattle.wasi_resolve.specs.Paths.{Place, place}
 use Rattle.wasi_resolve.specs.Resolved.{Resolved}
 use Rattle.wasi_resolve.specs.Parents.{directory_of, places_at, released, shown_place, GotIn, LiveIn}
-use Rattle.wasi_resolve.specs.AtPlace.{PlaceCall, CreateDir, RemoveFile, RemoveDir, Symlink, ReadLink, SetTimes, PlaceAnswer, call_at, unrooted, place_text, ends_in, done_in, does_at}
-use Rattle.wasi_resolve.specs.WalkSteps.{Stayed}
+use Rattle.wasi_resolve.specs.AtPlace.{PlaceCall, CreateDir, RemoveFile, RemoveDir, Symlink, ReadLink, SetTimes, PlaceAnswer, call_at, unrooted, answer_in, ends_in, done_in}
+use Rattle.wasi_resolve.specs.WalkSteps.{WorldStays}
 use Rattle.wasi_resolve.specs.declared.parent.MaybeOwned.{MaybeOwned}
 use Rattle.wasi_resolve.specs.declared.parent.MaybeOwned.TheVariants.{Borrowed, Owned}
 use Rattle.wasi_resolve.specs.declared.parent.Parent.{Parent}
@@ -159,17 +159,17 @@ call_done {w = w} c p {shown} (Err e) same told =
 -- ---- the directory is closed
 
 pub closed_stays : {live new : Handles} {w v : World} (h : ℕ) → new ≡ remove live h
-    → Told live new w v Close (λ unit. unit) answered → Stayed (remove live h) w v
+    → Told live new w v Close (λ unit. unit) answered → WorldStays (remove live h) w v
 closed_stays {live} h closed told =
     close_stays told (λ q is.
     let still = subst (λ l. contains l q ≡ true) (sym closed) is in (was_live live h closed q still, still))
 
 -- one that a part opened
 pub got_closed : {old mid live new : Handles} {w v : World} (h : ℕ) → (contains old h ≡ false) × (mid ≡ insert old h)
-    → live ≡ mid → new ≡ remove live h → Told live new w v Close (λ unit. unit) answered → Stayed old w v
+    → live ≡ mid → new ≡ remove live h → Told live new w v Close (λ unit. unit) answered → WorldStays old w v
 got_closed {old} {live = live} {w = w} {v = v} h got same closed told =
     let back : remove live h ≡ old = ap (λ l. remove l h) (same ∙ got.1) ∙ remove-insert old h got.0 in
-    subst (λ l. Stayed l w v) back (closed_stays h closed told)
+    subst (λ l. WorldStays l w v) back (closed_stays h closed told)
 
 -- what is live without it was live
 pub released_live : (live : Handles) (d : MaybeOwned) (q : ℕ) → contains (released live d) q ≡ true
@@ -181,18 +181,25 @@ released_live live (Owned h) q is = was_live live h refl q is
 
 module _ {A : Type 0} {first : Handles} {w v : World} (s : ℕ) (text : List ℕ) (c : PlaceCall)
     {shown : A → PlaceAnswer c} where
+  -- no place was found
+  pub not_placed : (e : HostError) → Resolved first w v (places_at w.tree s text) (shown_place v.held) (Err e)
+      → Resolved first w v (done_in w.tree s (place w.tree s text) c) shown (Err e)
+  not_placed e refused =
+      resolved_err (done_in w.tree s (place w.tree s text) c) shown e refl
+      (means_then (place w.tree s text) (answer_in w.tree c) e refused.answer) (looks_of (Err e) (λ is. refl) refused)
+
   -- A place was found, its call made, and its directory closed. The directory is reached from the start.
   pub done_at_place : {mid : Handles} {u z : World} {r : Result A HostError} (p : Parent)
       → released mid p.directory ≡ first
-      → Resolved first w v (places_at w.tree s (place_text c text)) (shown_place v.held) (Ok p)
+      → Resolved first w v (places_at w.tree s text) (shown_place v.held) (Ok p)
       → Resolved mid v u (done_in v.tree (v.held (directory_of p.directory)).node (Ok (shown_place v.held p)) c) shown r
-      → Stayed (released mid p.directory) u z
-      → Resolved first w z (does_at w.tree s text c) shown r
+      → WorldStays (released mid p.directory) u z
+      → Resolved first w z (done_in w.tree s (place w.tree s text) c) shown r
   done_at_place {mid = mid} {u = u} {z = z} {r = r} p closes placed done closed =
       let looks = looks_of (Ok p) (λ is. refl) placed in
       let near : From w.tree s (v.held (directory_of p.directory)).node =
       subst (GivesIn (From w.tree s) (λ (at : Place). at.directory)) placed.answer
-      (paths_stay_in_reach w.tree s (place_text c text)).places in
+      (paths_stay_in_reach w.tree s text).places in
       let at : Resolved first w u (done_in v.tree s (Ok (shown_place v.held p)) c) shown r =
       resolved_then looks near
       (λ q is. released_live mid p.directory q (subst (λ l. contains l q ≡ true) (sym closes) is)) refl done in
@@ -200,7 +207,7 @@ module _ {A : Type 0} {first : Handles} {w v : World} (s : ℕ) (text : List ℕ
       subst (λ t. Resolved first w u (done_in t s (Ok (shown_place v.held p)) c) shown r) looks.tree at in
       resolved_stay
       (subst (λ q. Resolved first w u (done_in w.tree s q c) shown r) (sym placed.answer) there)
-      (subst (λ l. Stayed l u z) closes closed)
+      (subst (λ l. WorldStays l u z) closes closed)
 
 -- ---- where the look-ups begin
 
@@ -210,15 +217,16 @@ pub begins_at : (start : ℕ) (first mid : Handles) (d : MaybeOwned) → LiveIn 
 begins_at start first mid (Borrowed q) live h is = inl (is ∙ live.0)
 begins_at start first mid (Owned q) live h is = inr is
 
--- at a place's directory
-pub traced_at_place : {start : ℕ} {a b d : List Lookup} (p : Parent) (first mid : Handles)
+-- at a place's directory, which is closed then
+pub traced_at_place : {start : ℕ} {a b d d' : List Lookup} (p : Parent) (first mid : Handles)
     → LiveIn start first p.directory mid
     → Traced (Only start) Nothing (GotIn p.directory) a b
-    → Traced (Only (directory_of p.directory)) Nothing Nothing b d
-    → Traced (Only start) Nothing Nothing a d
-traced_at_place {start} p first mid live opened called =
-    traced_last (begins_at start first mid p.directory live)
-    (traced_kept (Only start) (λ h. (h ≡ start) ⊎ GotIn p.directory h) (λ h has. has) opened) called
+    → Traced (Only (directory_of p.directory)) Nothing Nothing b d → d' ≡ d
+    → Traced (Only start) Nothing Nothing a d'
+traced_at_place {start} p first mid live opened called closed =
+    traced_same _ closed
+    (traced_last (begins_at start first mid p.directory live)
+    (traced_kept (Only start) (λ h. (h ≡ start) ⊎ GotIn p.directory h) (λ h has. has) opened) called)
 
 -- ---- a link's text, where it has no root
 

@@ -19,7 +19,7 @@ use Rattle.wasi_host.specs.declared.errors.HostError.{HostError}
 use Rattle.wasi_host.specs.declared.errors.HostError.TheVariants.{Code, Memory}
 use Rattle.wasi_host.proofs.Leaving.{LeavesFor, added_near, renamed_near, next_of-moved, next_of-dropped_step}
 use Rattle.wasi_host.proofs.Touching.{reached_through, same_node}
-use Rattle.wasi_host.proofs.Tracing.{traced_given, traced_kept, traced_last, traced_then}
+use Rattle.wasi_host.proofs.Tracing.{traced_same, traced_given, traced_kept, traced_last, traced_then}
 use Rattle.wasi_host.specs.declared.held.Held.{Held}
 use Rattle.wasi_paths.specs.Name.{name_bytes}
 use Rattle.wasi_resolve.specs.Laws.{From, GivesIn}
@@ -30,7 +30,7 @@ use Rattle.wasi_resolve.specs.Parents.{directory_of, places_at, released, shown_
 use Rattle.wasi_resolve.specs.AtPlace.{ends_in}
 use Rattle.wasi_resolve.specs.AtTwo.{TwoPlaceCall, HardLink, Rename, Places, places_in, call_at_two, answer_at_two, step_at_two, ends_at_two}
 use Rattle.wasi_resolve.specs.TwoParents.{shown_places, both_at, both_released}
-use Rattle.wasi_resolve.specs.WalkSteps.{Looks, Stayed}
+use Rattle.wasi_resolve.specs.WalkSteps.{OnlyLooks, WorldStays}
 use Rattle.wasi_resolve.specs.declared.at_two.TwoParents.{TwoParents}
 use Rattle.wasi_resolve.specs.declared.parent.MaybeOwned.{MaybeOwned}
 use Rattle.wasi_resolve.specs.declared.parent.MaybeOwned.TheVariants.{Borrowed, Owned}
@@ -161,15 +161,15 @@ both_live : (live : Handles) (first second : MaybeOwned) (q : ℕ) → contains 
 both_live live first second q is = released_live live second q (released_live (released live second) first q is)
 
 pub both_stay : (live : Handles) {mid : Handles} {w v u : World} (first second : MaybeOwned) → mid ≡ released live second
-    → Stayed (released live second) w v → Stayed (released mid first) v u
-    → Stayed (both_released live first second) w u
+    → WorldStays (released live second) w v → WorldStays (released mid first) v u
+    → WorldStays (both_released live first second) w u
 both_stay live {w = w} {v = v} {u = u} first second is one other =
-    let less : Stayed (both_released live first second) w v = record {
+    let less : WorldStays (both_released live first second) w v = record {
       tree = one.tree;
       touched = one.touched;
       keeps = λ q has. one.keeps q (released_live (released live second) first q has);
     } in
-    stayed_then less (subst (λ l. Stayed (released l first) v u) is other)
+    stayed_then less (subst (λ l. WorldStays (released l first) v u) is other)
 
 -- ---- both places
 
@@ -201,7 +201,7 @@ lives_on start first mid (Borrowed h) live q is = same_live live.1 q is
 lives_on start first mid (Owned h) live q is = still_live first h live.1 q is
 
 module _ {first : Handles} {w v : World} (s : ℕ) (text : List ℕ) (e : ℕ) (new_text : List ℕ) where
-  from_old : Looks first w v (s ∷ []) → Looks first w v (s ∷ e ∷ [])
+  from_old : OnlyLooks first w v (s ∷ []) → OnlyLooks first w v (s ∷ e ∷ [])
   from_old looks = looks_through (looks_none first w (s ∷ e ∷ [])) (old_start s e) (λ h is. is) looks
 
   -- the old place is refused
@@ -216,7 +216,7 @@ module _ {first : Handles} {w v : World} (s : ℕ) (text : List ℕ) (e : ℕ) (
 -- The old place is found, and the new one is looked for from a start that was live before.
 module _ {first : Handles} {w v : World} (s : ℕ) (text : List ℕ) (p : Parent)
     (placed : Resolved first w v (places_at w.tree s text) (shown_place v.held) (Ok p)) where
-  so_far : Looks first w v (s ∷ [])
+  so_far : OnlyLooks first w v (s ∷ [])
   so_far = looks_of (Ok p) (λ is. refl) placed
 
   module _ (new : ℕ) (new_text : List ℕ) (is_live : contains first new ≡ true) where
@@ -235,14 +235,14 @@ module _ {first : Handles} {w v : World} (s : ℕ) (text : List ℕ) (p : Parent
           (subst (λ h. Resolved mid v u (places_at v.tree h.node new_text) (shown_place u.held) r)
           (so_far.keeps new is_live) second)
 
-      both_looks : (start : ℕ) → LiveIn start first p.directory mid → Looks first w u (s ∷ e ∷ [])
+      both_looks : (start : ℕ) → LiveIn start first p.directory mid → OnlyLooks first w u (s ∷ e ∷ [])
       both_looks start live =
           looks_through (from_old s text e new_text so_far) (new_start s e) (lives_on start first mid p.directory live)
           (looks_of r (λ is. sym so_far.tree) same_second)
 
     -- it is refused, and the old one's directory is closed
     pub new_refused : {mid : Handles} {u z : World} (start : ℕ) → LiveIn start first p.directory mid → (x : HostError)
-        → Resolved mid v u (places_at v.tree (v.held new).node new_text) (shown_place u.held) (Err x) → Stayed first u z
+        → Resolved mid v u (places_at v.tree (v.held new).node new_text) (shown_place u.held) (Err x) → WorldStays first u z
         → Resolved first w z (both_at w.tree s text e new_text) (shown_places z.held) (Err x)
     new_refused {z = z} start live x refused closed =
         let means : MeansErr (first_then (Ok (shown_place v.held p)) new_place) x =
@@ -302,7 +302,7 @@ module _ {first : Handles} {w v : World} (s : ℕ) (text : List ℕ) (e : ℕ) (
       (what : TwoPlaceCall) (requires_dir : Bool)
       → both_released mid p.old.directory p.new.directory ≡ first
       → Resolved mid v u (done_at_both v.tree directories (Ok places) what requires_dir) shown r
-      → Stayed (both_released mid p.old.directory p.new.directory) u z
+      → WorldStays (both_released mid p.old.directory p.new.directory) u z
       → Resolved first w z (done_at_both w.tree (s ∷ e ∷ []) (places_in w.tree s text e new_text) what requires_dir)
       shown r
   done_at_two {mid = mid} {u = u} {z = z} {r = r} {shown = shown} what requires_dir closes done closed =
@@ -316,7 +316,7 @@ module _ {first : Handles} {w v : World} (s : ℕ) (text : List ℕ) (e : ℕ) (
       resolved_stay
       (subst (λ x. Resolved first w u (done_at_both w.tree (s ∷ e ∷ []) x what requires_dir) shown r)
       (sym placed.answer) there)
-      (subst (λ l. Stayed l u z) closes closed)
+      (subst (λ l. WorldStays l u z) closes closed)
 
 -- ---- where the look-ups begin
 
@@ -356,12 +356,19 @@ module _ {old new : ℕ} {a b c : List Lookup} where
         | inr got ↦ inr got
       ]
 
+-- the call is made at both places, whose directories are closed then
+pub traced_at_two : {starts found : ℕ → Type 0} {a b c d : List Lookup} → Traced starts starts found a b
+    → Traced found Nothing Nothing b c → d ≡ c → Traced starts Nothing Nothing a d
+traced_at_two first second closed = traced_same _ closed (traced_last (λ h has. has) first second)
+
 -- ---- how many look-ups
 
--- a call at two places looks twice, and reads no link
-pub two_reads : {A : Type 0} {before now : List Lookup} (kind : LookKind) (old new : ℕ) (r : Result A HostError)
-    → links_read (both_looked kind old new) ≡ 0 → Logged before (both_looked kind old new) r now → FewReads 2 0 before now
-two_reads {A = A} {before = before} {now = now} kind old new r none logged = by r logged
+-- a call at two places looks twice, and reads no link; the closes behind it look nothing up
+pub two_reads : {A : Type 0} {before now last : List Lookup} (kind : LookKind) (old new : ℕ) (r : Result A HostError)
+    → links_read (both_looked kind old new) ≡ 0 → Logged before (both_looked kind old new) r now → last ≡ now
+    → FewReads 2 0 before last
+two_reads {A = A} {before = before} {now = now} kind old new r none logged closed =
+    subst (FewReads 2 0 before) (sym closed) (by r logged)
   where
     both : now ≡ before ++ both_looked kind old new → FewReads 2 0 before now
     both adds = record {

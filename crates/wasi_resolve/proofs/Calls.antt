@@ -18,7 +18,7 @@ use Rattle.wasi_host.specs.declared.errors.ErrorCode.TheVariants.{Io}
 use Rattle.wasi_host.specs.declared.errors.HostError.{HostError}
 use Rattle.wasi_host.specs.declared.errors.HostError.TheVariants.{Code, Memory}
 use Rattle.wasi_resolve.specs.Resolved.{Meant, Resolved, TreeAfter}
-use Rattle.wasi_resolve.specs.WalkSteps.{Looks, Stayed, IsFault}
+use Rattle.wasi_resolve.specs.WalkSteps.{OnlyLooks, WorldStays, IsFault}
 use Rattle.wasi_host.proofs.Touching.{touches_with, touches_same, no_ends, touches_through, same_node, found_near, made_new}
 use Rattle.wasi_host.proofs.Leaving.{starts_of}
 
@@ -124,7 +124,7 @@ same_live same q live = subst (λ s. contains s q ≡ true) (sym same) live
 -- the handle is closed
 pub close_stays : {live old new : Handles} {w v : World} → Told old new w v Close (λ unit. unit) answered
     → ((q : ℕ) → contains live q ≡ true → (contains old q ≡ true) × (contains new q ≡ true))
-    → Stayed live w v
+    → WorldStays live w v
 close_stays told within = record {
   tree = told.after.tree;
   touched = told.after.touched;
@@ -142,7 +142,7 @@ tree_same meant shown (Err (Code Io)) leaves means after = elim after [ inl same
 tree_same meant shown (Err (Code code)) leaves means after = after
 
 pub looks_still : {A B : Type 0} {live : Handles} {w v : World} {m : Meant B} {shown : A → B} {r : Result A HostError}
-    → v.tree ≡ w.tree → Resolved live w v m shown r → Looks live w v m.starts
+    → v.tree ≡ w.tree → Resolved live w v m shown r → OnlyLooks live w v m.starts
 looks_still {w = w} {v = v} {m = m} same resolved = record {
   tree = same;
   touched = subst (λ t. Touches w.tree t m.starts [] w.touched v.touched) same (no_ends resolved.touched);
@@ -150,13 +150,13 @@ looks_still {w = w} {v = v} {m = m} same resolved = record {
 }
 
 pub looks_of : {A B : Type 0} {live : Handles} {w v : World} {m : Meant B} {shown : A → B} (r : Result A HostError)
-    → (is_ok m.answer ≡ true → m.stepped ≡ w.tree) → Resolved live w v m shown r → Looks live w v m.starts
+    → (is_ok m.answer ≡ true → m.stepped ≡ w.tree) → Resolved live w v m shown r → OnlyLooks live w v m.starts
 looks_of {m = m} {shown = shown} r leaves resolved =
     looks_still (tree_same m.answer shown r leaves resolved.answer resolved.tree) resolved
 
 -- a refusal, or a failure, of what left the tree
 pub resolved_err : {A B : Type 0} {live : Handles} {w v : World} {starts : List ℕ} (m : Meant B) (shown : A → B)
-    (e : HostError) → m.starts ≡ starts → MeansErr m.answer e → Looks live w v starts
+    (e : HostError) → m.starts ≡ starts → MeansErr m.answer e → OnlyLooks live w v starts
     → Resolved live w v m shown (Err e)
 resolved_err {A} {w = w} {v = v} m shown e at means looks = record {
   answer = means;
@@ -173,7 +173,7 @@ resolved_err {A} {w = w} {v = v} m shown e at means looks = record {
 
 -- an answer of what leaves the tree, of which nothing need be touched
 pub found_ok : {A B : Type 0} {live : Handles} {w v : World} {starts : List ℕ} {meant : Result B ErrorCode}
-    (shown : A → B) (a : A) → meant ≡ Ok (shown a) → Looks live w v starts
+    (shown : A → B) (a : A) → meant ≡ Ok (shown a) → OnlyLooks live w v starts
     → Resolved live w v (record { starts = starts; answer = meant; stepped = w.tree; ends = [] }) shown (Ok a)
 found_ok {w = w} {v = v} {starts = starts} shown a means looks = record {
   answer = means;
@@ -206,10 +206,10 @@ one_near : {t : Tree} {roots : List ℕ} {d : ℕ} → Reached t roots d → (n 
 one_near {t} {roots} to n has = subst (Reached t roots) (sym (same_node has)) to
 
 -- from nodes that are reached
-module _ {first live : Handles} {w v u : World} {starts ds : List ℕ} (so_far : Looks first w v starts)
+module _ {first live : Handles} {w v u : World} {starts ds : List ℕ} (so_far : OnlyLooks first w v starts)
     (near : (d : ℕ) → Contains ds d → Reached w.tree starts d)
     (within : (h : ℕ) → contains first h ≡ true → contains live h ≡ true) where
-  pub looks_through : Looks live v u ds → Looks first w u starts
+  pub looks_through : OnlyLooks live v u ds → OnlyLooks first w u starts
   looks_through next = record {
     tree = next.tree ∙ so_far.tree;
     touched =
@@ -233,18 +233,18 @@ module _ {first live : Handles} {w v u : World} {starts ds : List ℕ} (so_far :
   }
 
 -- from one node that is reached
-module _ {first live : Handles} {w v u : World} {s d : ℕ} (so_far : Looks first w v (s ∷ [])) (near : Reached w.tree
+module _ {first live : Handles} {w v u : World} {s d : ℕ} (so_far : OnlyLooks first w v (s ∷ [])) (near : Reached w.tree
     (s ∷ []) d)
     (within : (h : ℕ) → contains first h ≡ true → contains live h ≡ true) where
-  pub looks_then : Looks live v u (d ∷ []) → Looks first w u (s ∷ [])
+  pub looks_then : OnlyLooks live v u (d ∷ []) → OnlyLooks first w u (s ∷ [])
   looks_then next = looks_through so_far (one_near near) within next
 
   pub resolved_then : {A B : Type 0} {m : Meant B} {shown : A → B} {r : Result A HostError} → m.starts ≡ d ∷ []
       → Resolved live v u m shown r → Resolved first w u (record m { starts = s ∷ [] }) shown r
   resolved_then at next = resolved_through so_far (one_near near) within at next
 
-pub looks_stay : {first : Handles} {w v u : World} {starts : List ℕ} → Looks first w v starts → Stayed first v u
-    → Looks first w u starts
+pub looks_stay : {first : Handles} {w v u : World} {starts : List ℕ} → OnlyLooks first w v starts → WorldStays first v u
+    → OnlyLooks first w u starts
 looks_stay {w = w} {starts = starts} looks stayed = record {
   tree = stayed.tree ∙ looks.tree;
   touched = subst (Touches w.tree w.tree starts [] w.touched) (sym stayed.touched) looks.touched;
@@ -253,7 +253,7 @@ looks_stay {w = w} {starts = starts} looks stayed = record {
 
 pub resolved_stay : {A B : Type 0} {first : Handles} {w v u : World} {m : Meant B} {shown : A
     → B} {r : Result A HostError}
-    → Resolved first w v m shown r → Stayed first v u → Resolved first w u m shown r
+    → Resolved first w v m shown r → WorldStays first v u → Resolved first w u m shown r
 resolved_stay {w = w} {v = v} {u = u} {m = m} {r = r} resolved stayed = record {
   answer = resolved.answer;
   tree = subst (λ t. TreeAfter w.tree m.stepped t m.answer r) (sym stayed.tree) resolved.tree;
@@ -266,15 +266,15 @@ resolved_stay {w = w} {v = v} {u = u} {m = m} {r = r} resolved stayed = record {
 }
 
 -- nothing was asked
-pub looks_none : (first : Handles) (w : World) (starts : List ℕ) → Looks first w w starts
+pub looks_none : (first : Handles) (w : World) (starts : List ℕ) → OnlyLooks first w w starts
 looks_none first w starts = record { tree = refl; touched = touches_same refl; keeps = λ h is. refl }
 
-pub stayed_then : {live : Handles} {w v u : World} → Stayed live w v → Stayed live v u → Stayed live w u
+pub stayed_then : {live : Handles} {w v u : World} → WorldStays live w v → WorldStays live v u → WorldStays live w u
 stayed_then first second = record {
   tree = second.tree ∙ first.tree;
   touched = second.touched ∙ first.touched;
   keeps = λ h is. second.keeps h is ∙ first.keeps h is;
 }
 
-pub stayed_none : (live : Handles) (w : World) → Stayed live w w
+pub stayed_none : (live : Handles) (w : World) → WorldStays live w w
 stayed_none live w = record { tree = refl; touched = refl; keeps = λ h is. refl }

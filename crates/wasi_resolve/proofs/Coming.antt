@@ -12,11 +12,12 @@ use Rattle.wasi_resolve.specs.Walk.{Aim, Outcome, Stop, Leg, Ended, Linked, adds
 use Rattle.wasi_resolve.specs.ByNodes.{leg_nodes, walk_nodes}
 use Rattle.wasi_resolve.specs.Resolved.{Resolved}
 use Rattle.wasi_resolve.specs.Stack.{nodes_under}
-use Rattle.wasi_resolve.specs.WalkSteps.{Walked, ReachesLink, ReachFails, EndsPast, LinkPast, FailsPast, Comes, whole_walk, meant_at, shown_found, taken_by, leg_looks}
+use Rattle.wasi_resolve.specs.Ways.{Begin, begin, origin, Course, Way, way, way_nodes, leg_from}
+use Rattle.wasi_resolve.specs.WalkSteps.{Walked, ReachesLink, ReachFails, EndsPast, LinkPast, FailsPast, Comes, whole_walk, whole_from, meant_at, shown_found, taken_by, leg_looks}
 use Rattle.wasi_resolve.specs.declared.found.Found.{Found}
-use Rattle.wasi_resolve.proofs.Calls.{resolved_err, fault_means, looks_none}
+use Rattle.wasi_resolve.proofs.Calls.{looks_none}
 use Rattle.wasi_resolve.proofs.Legs.{TakesMore, taken_most, takes_more}
-use Rattle.wasi_resolve.proofs.Reaching.{start_is, stop_resolved}
+use Rattle.wasi_resolve.proofs.Reaching.{stop_resolved, fault_resolved}
 use Rattle.wasi_resolve.proofs.Simulation.{walk-by_nodes}
 
 -- ---- by nodes
@@ -137,23 +138,20 @@ walk_empty t s text aim follow none =
 -- ---- a turn
 
 -- how far the walk has come: with so many links that may still be read, it ends as the whole does
-pub record SoFar (first : Handles) (w v0 v : World) (start : ℕ) (aim : Aim) (follow slash : Bool)
-    (parts : List Component)
-    (before : List ℕ) (links : ℕ) (slash_now : Bool) (left : List Component) (stack : List ℕ)
+pub record SoFar (b : Begin) (k : Course) (a : Way) (links : ℕ) (slash : Bool) (c : Way)
     (old now : List Lookup) : Type 0 where
-  pub walked : Walked first w v start stack
+  pub walked : Walked b.live b.world c.world b.start c.stack
   pub taken : ℕ
   pub read : ℕ
-  pub same : SameEnd read (whole_walk w.tree (w.held start).node aim follow slash parts (nodes_under v0.held before))
-      (walk_nodes w.tree (w.held start).node aim follow links slash_now taken left (nodes_under v.held stack))
+  pub same : SameEnd read (whole_from b k a)
+      (walk_nodes b.world.tree (origin b) k.aim k.follow links slash taken c.left (way_nodes c))
   pub few : length now ≤ length old + taken + 2 * read
 
-pub so_starts : {first : Handles} {w v : World} {start : ℕ} {stack : List ℕ} (aim : Aim) (follow slash : Bool)
-    (parts : List Component)
+pub so_starts : {first : Handles} {w v : World} {start : ℕ} {stack : List ℕ} (k : Course) (parts : List Component)
     (old : List Lookup) → Walked first w v start stack
-    → SoFar first w v v start aim follow slash parts stack 40 slash parts stack old old
+    → SoFar (begin first w start) k (way v stack parts) 40 k.slash (way v stack parts) old old
 unfolding whole_walk
-so_starts aim follow slash parts old walked = record {
+so_starts k parts old walked = record {
   walked = walked;
   taken = 0;
   read = 0;
@@ -161,57 +159,52 @@ so_starts aim follow slash parts old walked = record {
   few = omega arith;
 }
 
-module _ {first : Handles} {w v0 v : World} {start : ℕ} {aim : Aim} {follow slash : Bool} {parts : List Component}
-    {before : List ℕ}
-    {slash_now : Bool} {left : List Component} {stack : List ℕ} {old mid : List Lookup} where
-  pub so_turns : {now : ℕ} (links : ℕ) {u : World} {left' : List Component} {after : List ℕ} {new : List Lookup}
-      {slash' : Bool}
-      (so : SoFar first w v0 v start aim follow slash parts before now slash_now left stack old mid) → now ≡ suc links
-      → LinkPast first w v u start aim follow slash_now so.taken left stack left' after mid new slash'
-      → SoFar first w v0 u start aim follow slash parts before links slash' left' after old new
-  so_turns links {u} {left'} {after} {new} {slash'} so at past =
+-- from here on, with another slash
+abbrev pub with_slash : Course → Bool → Course
+with_slash k slash = record k { slash = slash }
+
+-- the walk from here, with so many links that may still be read
+abbrev rest_of : Begin → Course → Way → ℕ → ℕ → Walk
+rest_of b k c links m = walk_nodes b.world.tree (origin b) k.aim k.follow links k.slash m c.left (way_nodes c)
+
+module _ {b : Begin} {k : Course} {a c : Way} {slash_now : Bool} {old mid : List Lookup} where
+  pub so_turns : {now : ℕ} (links : ℕ) {d : Way} {new : List Lookup} {slash' : Bool}
+      (so : SoFar b k a now slash_now c old mid) → now ≡ suc links
+      → LinkPast b (with_slash k slash_now) so.taken c d mid new slash' → SoFar b k a links slash' d old new
+  so_turns links {d} {new} {slash'} so at past =
       let turned =
-      walk_turned w.tree (w.held start).node aim follow links slash_now so.taken past.taken left past.behind
-      (nodes_under v.held stack) (nodes_under u.held after) past.text past.linked in
-      let same : walk_nodes w.tree (w.held start).node aim follow links
-      (slash_now || adds_slash past.text past.behind) past.taken (texts.parts past.text ++ past.behind)
-      (nodes_under u.held after)
-      ≡ walk_nodes w.tree (w.held start).node aim follow links slash' past.taken left' (nodes_under u.held after) =
-      ap (λ b. walk_nodes w.tree (w.held start).node aim follow links b past.taken
-      (texts.parts past.text ++ past.behind) (nodes_under u.held after)) (sym past.now)
-      ∙ ap (λ l. walk_nodes w.tree (w.held start).node aim follow links slash' past.taken l
-      (nodes_under u.held after)) (sym past.put) in
+      walk_turned b.world.tree (origin b) k.aim k.follow links slash_now so.taken past.taken c.left past.behind
+      (way_nodes c) (way_nodes d) past.text past.linked in
+      let same : walk_nodes b.world.tree (origin b) k.aim k.follow links
+      (slash_now || adds_slash past.text past.behind) past.taken (texts.parts past.text ++ past.behind) (way_nodes d)
+      ≡ walk_nodes b.world.tree (origin b) k.aim k.follow links slash' past.taken d.left (way_nodes d) =
+      ap (λ x. walk_nodes b.world.tree (origin b) k.aim k.follow links x past.taken
+      (texts.parts past.text ++ past.behind) (way_nodes d)) (sym past.now)
+      ∙ ap (λ l. walk_nodes b.world.tree (origin b) k.aim k.follow links slash' past.taken l (way_nodes d)) (sym past.put) in
       record {
         walked = past.walked;
         taken = past.taken;
         read = so.read + 1;
         same = record {
           outcome =
-              so.same.outcome ∙ ap (λ k. (walk_nodes w.tree (w.held start).node aim follow k slash_now so.taken left
-              (nodes_under v.held stack)).outcome) at ∙ turned.outcome ∙ ap (λ x. x.outcome) same;
-          parts =
-              so.same.parts ∙ ap (λ k. (walk_nodes w.tree (w.held start).node aim follow k slash_now so.taken left
-              (nodes_under v.held stack)).parts) at ∙ turned.parts ∙ ap (λ x. x.parts) same;
+              so.same.outcome ∙ ap (λ n. (rest_of b (with_slash k slash_now) c n so.taken).outcome) at ∙ turned.outcome ∙ ap (λ x. x.outcome) same;
+          parts = so.same.parts ∙ ap (λ n. (rest_of b (with_slash k slash_now) c n so.taken).parts) at ∙ turned.parts ∙ ap (λ x. x.parts) same;
           links =
-              let here =
-              ap (λ k. (walk_nodes w.tree (w.held start).node aim follow k slash_now so.taken left
-              (nodes_under v.held stack)).links) at in
+              let here = ap (λ n. (rest_of b (with_slash k slash_now) c n so.taken).links) at in
               omega (arith, so.same.links, here, turned.links, ap (λ x. x.links) same);
         };
         few = omega (arith, so.few, past.few);
       }
 
-  pub so_ends : {links : ℕ} {u : World} {new : List Lookup} (r : Result Found HostError)
-      (so : SoFar first w v0 v start aim follow slash parts before links slash_now left stack old mid)
-      → EndsPast first w v u start aim follow slash_now so.taken left stack mid new r
-      → Comes first w v0 u start aim follow slash parts before old new r
-  so_ends {links} {u} r so ends =
+  pub so_ends : {links : ℕ} {d : Way} {new : List Lookup} (r : Result Found HostError)
+      (so : SoFar b k a links slash_now c old mid) → EndsPast b (with_slash k slash_now) so.taken c d mid new r → Comes b k a d old new r
+  so_ends {links} {d} r so ends =
       let is =
-      walk_ended w.tree (w.held start).node aim follow links slash_now so.taken ends.taken left
-      (nodes_under v.held stack) ends.outcome ends.ends in
+      walk_ended b.world.tree (origin b) k.aim k.follow links slash_now so.taken ends.taken c.left
+      (way_nodes c) ends.outcome ends.ends in
       record {
         resolved =
-            subst (λ o. Resolved first w u (meant_at w.tree aim (w.held start).node o) (shown_found u.held) r)
+            subst (λ o. Resolved b.live b.world d.world (meant_at b.world.tree k.aim (origin b) o) (shown_found d.world.held) r)
             (sym (so.same.outcome ∙ ap (λ x. x.outcome) is)) ends.resolved;
         bound =
             let number = so.same.parts ∙ ap (λ x. x.parts) is in
@@ -219,60 +212,45 @@ module _ {first : Handles} {w v0 v : World} {start : ℕ} {aim : Aim} {follow sl
       }
 
   -- the host fails, or memory is wanted, while a link may be read
-  pub so_fails : {now : ℕ} (links : ℕ) {u : World} {new : List Lookup} (e : HostError)
-      (so : SoFar first w v0 v start aim follow slash parts before now slash_now left stack old mid) → now ≡ suc links
-      → FailsPast first w v u start aim follow slash_now so.taken left stack mid new e
-      → Comes first w v0 u start aim follow slash parts before old new (Err e)
-  so_fails links {u} e so at fails = record {
-    resolved =
-        resolved_err (meant_at w.tree aim (w.held start).node _) (shown_found u.held) e (start_is w.tree aim
-        (w.held start).node _)
-        (fault_means _ fails.fault) fails.looks;
+  pub so_fails : {now : ℕ} (links : ℕ) {d : Way} {new : List Lookup} (e : HostError)
+      (so : SoFar b k a now slash_now c old mid) → now ≡ suc links
+      → FailsPast b (with_slash k slash_now) so.taken c d mid new e → Comes b k a d old new (Err e)
+  so_fails links e so at fails = record {
+    resolved = fault_resolved k.aim _ fails.fault fails.looks;
     bound =
-        let s = (w.held start).node in
-        let here =
-        ap (λ k. walk_looks (walk_nodes w.tree s aim follow k slash_now so.taken left (nodes_under v.held stack))) at in
-        let most = looks_within w.tree s aim follow links slash_now so.taken left (nodes_under v.held stack) in
+        let here = ap (λ n. walk_looks (rest_of b (with_slash k slash_now) c n so.taken)) at in
+        let most = looks_within b.world.tree (origin b) k.aim k.follow links slash_now so.taken c.left (way_nodes c) in
         omega (arith, so.same.parts, so.same.links, here, so.few, fails.few, most);
   }
 
   -- and where none may be read any more
-  pub so_fails_last : {now : ℕ} {u : World} {left' : List Component} {new : List Lookup} (e : HostError)
-      (so : SoFar first w v0 v start aim follow slash parts before now slash_now left stack old mid) → now ≡ zero
-      → ReachFails first w v u start aim follow slash_now so.taken left stack left' e
-      → length new + so.taken ≤ length mid + taken_by (leg_nodes w.tree (w.held start).node aim follow slash_now so.taken
-      left (nodes_under v.held stack)) + 1
-      → Comes first w v0 u start aim follow slash parts before old new (Err e)
-  so_fails_last {u = u} e so at fails few = record {
-    resolved =
-        resolved_err (meant_at w.tree aim (w.held start).node _) (shown_found u.held) e (start_is w.tree aim
-        (w.held start).node _)
-        (fault_means _ fails.fault) fails.looks;
+  pub so_fails_last : {now : ℕ} {d : Way} {new : List Lookup} (e : HostError)
+      (so : SoFar b k a now slash_now c old mid) → now ≡ zero → ReachFails b (with_slash k slash_now) so.taken c d e
+      → length new + so.taken ≤ length mid + taken_by (leg_from b (with_slash k slash_now) so.taken c) + 1
+      → Comes b k a d old new (Err e)
+  so_fails_last e so at fails few = record {
+    resolved = fault_resolved k.aim _ fails.fault fails.looks;
     bound =
-        let s = (w.held start).node in
-        let here =
-        ap (λ k. (walk_nodes w.tree s aim follow k slash_now so.taken left (nodes_under v.held stack)).parts) at in
-        let most = last_parts w.tree s aim follow slash_now so.taken left (nodes_under v.held stack) in
+        let here = ap (λ n. (rest_of b (with_slash k slash_now) c n so.taken).parts) at in
+        let most = last_parts b.world.tree (origin b) k.aim k.follow slash_now so.taken c.left (way_nodes c) in
         omega (arith, so.same.parts, so.same.links, here, so.few, few, most);
   }
 
   -- one link too many
-  pub so_loops : {now : ℕ} {u : World} {left' : List Component} {after : List ℕ} {name : List ℕ} {new : List Lookup}
-      (so : SoFar first w v0 v start aim follow slash parts before now slash_now left stack old mid) → now ≡ zero
-      → (link : ReachesLink first w v u start aim follow slash_now so.taken left stack left' after name)
-      → length new + so.taken ≤ length mid + link.taken + 1
-      → Comes first w v0 u start aim follow slash parts before old new (Err (Code Loop))
-  so_loops {u = u} {left' = left'} {after = after} so at link few =
+  pub so_loops : {now : ℕ} {d : Way} {name : List ℕ} {new : List Lookup}
+      (so : SoFar b k a now slash_now c old mid) → now ≡ zero
+      → (link : ReachesLink b (with_slash k slash_now) so.taken c d name) → length new + so.taken ≤ length mid + link.taken + 1
+      → Comes b k a d old new (Err (Code Loop))
+  so_loops {d = d} so at link few =
       let is =
-      ap (λ k. walk_nodes w.tree (w.held start).node aim follow k slash_now so.taken left
-      (nodes_under v.held stack)) at
-      ∙ walk_looped w.tree (w.held start).node aim follow slash_now so.taken link.taken left left'
-      (nodes_under v.held stack) (nodes_under u.held after) _ link.linked in
+      ap (λ n. rest_of b (with_slash k slash_now) c n so.taken) at
+      ∙ walk_looped b.world.tree (origin b) k.aim k.follow slash_now so.taken link.taken c.left d.left
+      (way_nodes c) (way_nodes d) _ link.linked in
       record {
         resolved =
-            subst (λ o. Resolved first w u (meant_at w.tree aim (w.held start).node o) (shown_found u.held) (Err
+            subst (λ o. Resolved b.live b.world d.world (meant_at b.world.tree k.aim (origin b) o) (shown_found d.world.held) (Err
             (Code Loop)))
-            (sym (so.same.outcome ∙ ap (λ x. x.outcome) is)) (stop_resolved aim Loop refl link.walked.looks);
+            (sym (so.same.outcome ∙ ap (λ x. x.outcome) is)) (stop_resolved k.aim Loop refl link.walked.looks);
         bound =
             let number = so.same.parts ∙ ap (λ x. x.parts) is in
             let none = ap (λ x. x.links) is in omega (arith, number, so.same.links, none, so.few, few);
@@ -286,10 +264,11 @@ walks_start {live} {w} {start} none =
     subst (Walked live w w start) (sym none) (record { looks = looks_none live w ((w.held start).node ∷ []); near = tt })
 
 -- and ends as the walk of the text
-module _ {live : Handles} {w u : World} {start : ℕ} {aim : Aim} {follow : Bool} (text : List ℕ) {parts : List Component}
-    {items : List ℕ} {old new : List Lookup} {r : Result Found HostError} (some : is_empty text ≡ false)
+module _ {live : Handles} {w : World} {start : ℕ} {aim : Aim} {follow : Bool} (text : List ℕ) {parts : List Component}
+    {items : List ℕ} {d : Way} {old new : List Lookup} {r : Result Found HostError} (some : is_empty text ≡ false)
     (parts_are : parts ≡ texts.parts text) (none : items ≡ [])
-    (comes : Comes live w w u start aim follow (trailing_slash text) parts items old new r) where
+    (comes : Comes (begin live w start) (record { aim = aim; follow = follow; slash = trailing_slash text })
+    (way w items parts) d old new r) where
   whole_is : whole_walk w.tree (w.held start).node aim follow (trailing_slash text) parts (nodes_under w.held items)
       ≡ walk w.tree (w.held start).node text aim follow
   whole_is =
@@ -299,11 +278,11 @@ module _ {live : Handles} {w u : World} {start : ℕ} {aim : Aim} {follow : Bool
       (nodes_under w.held l)) none
       ∙ sym (walk_whole w.tree (w.held start).node text aim follow some)
 
-  pub comes_resolved : Resolved live w u (meant_at w.tree aim (w.held start).node (walk w.tree
-      (w.held start).node text aim follow).outcome) (shown_found u.held) r
+  pub comes_resolved : Resolved live w d.world (meant_at w.tree aim (w.held start).node (walk w.tree
+      (w.held start).node text aim follow).outcome) (shown_found d.world.held) r
   comes_resolved =
-      subst (λ x. Resolved live w u (meant_at w.tree aim (w.held start).node x.outcome)
-      (shown_found u.held) r) whole_is comes.resolved
+      subst (λ x. Resolved live w d.world (meant_at w.tree aim (w.held start).node x.outcome)
+      (shown_found d.world.held) r) whole_is comes.resolved
 
   pub comes_bound : length new ≤ length old + walk_looks (walk w.tree (w.held start).node text aim follow)
   comes_bound = subst (λ x. length new ≤ length old + walk_looks x) whole_is comes.bound

@@ -25,7 +25,8 @@ use Rattle.wasi_resolve.specs.Paths.{Opening, opened_by, step_of, behind_slash, 
 use Rattle.wasi_resolve.specs.Resolved.{Meant, Resolved, TreeAfter}
 use Rattle.wasi_resolve.specs.Finding.{is_link_kind, is_directory_kind}
 use Rattle.wasi_resolve.specs.NameText.{left_bytes}
-use Rattle.wasi_resolve.specs.WalkSteps.{Looks, IsFault, Enters, EndsUnread, EndsAtLink, EndsAtName, EndsInDirectory, open_meant, meant_at, Sight, Opened, Seen, shown_found}
+use Rattle.wasi_resolve.specs.Ways.{Course}
+use Rattle.wasi_resolve.specs.WalkSteps.{OnlyLooks, IsFault, Enters, EndsUnread, EndsAtLink, EndsAtName, EndsInDirectory, open_meant, meant_at, Sight, HandleFor, Seen, shown_found}
 use Rattle.wasi_resolve.specs.declared.found.Found.TheVariants as found
 use Rattle.wasi_resolve.specs.declared.found.Reach.{Reach}
 use Rattle.wasi_resolve.specs.declared.found.Reach.TheVariants as reach
@@ -87,42 +88,45 @@ as_reach name (Err e) = Err e
 
 pub last_opened : (live : Handles) (w u : World) (d : ℕ) (name : NameLeft) (o : Options) (follow slash : Bool)
     (r : Result (Option ℕ) HostError)
-    → IsTrue (is_plain (left_bytes name.text))
     → Enters live w u d (left_bytes name.text) (last_options o slash) (follow || slash) r
-    → EndsAtName live w u d (Open o) follow slash (left_bytes name.text) (as_reach name r)
-last_opened live w u d name o follow slash (Ok (Some h)) plain opens = record {
+    → EndsAtName live w u d (record { aim = Open o; follow = follow; slash = slash }) (left_bytes name.text)
+    (as_reach name r)
+last_opened live w u d name o follow slash (Ok (Some h)) opens = record {
   unread = open_to_read w.tree o follow slash d (left_bytes name.text) ∙ opens.unread;
-  resolved = mapped_ok Opened (shown_found u.held) (found.Handle h) refl opens.resolved;
+  resolved = mapped_ok HandleFor (shown_found u.held) (found.Handle h) refl opens.resolved;
 }
-last_opened live w u d name o follow slash (Ok None) plain met = record {
+last_opened live w u d name o follow slash (Ok None) met = record {
   reads = open_to_read w.tree o follow slash d (left_bytes name.text) ∙ met.reads;
-  free = met_reads w.tree d (left_bytes name.text) (last_options o slash) (follow || slash) plain met.reads;
+  free = met_reads w.tree d (left_bytes name.text) (last_options o slash) (follow || slash) name.plain met.reads;
   looks = met.looks;
   same = refl;
 }
-last_opened live w u d name o follow slash (Err e) plain fails = elim fails [
+last_opened live w u d name o follow slash (Err e) fails = elim fails [
   | inl fault ↦ inl fault
   | inr opens ↦ inr (record {
     unread = open_to_read w.tree o follow slash d (left_bytes name.text) ∙ opens.unread;
-    resolved = mapped_err Opened (shown_found u.held) e opens.resolved;
+    resolved = mapped_err HandleFor (shown_found u.held) e opens.resolved;
   })
 ]
 
 -- ---- the last name of a look
+
+abbrev for_look : Bool → Bool → Course
+for_look follow slash = record { aim = Look; follow = follow; slash = slash }
 
 module _ {old new : Handles} {w u : World} {d : ℕ} {name : List ℕ} (follow slash : Bool) (plain : IsTrue
     (is_plain name))
     (same : new ≡ old) where
   -- it is refused
   pub last_unseen : (e : HostError) → Told {A = Metadata} old new w u (StatAt d name) (λ m. m) (Err e)
-      → (Looks old w u (d ∷ []) × IsFault e) ⊎ EndsUnread old w u d Look follow slash name (Err e)
+      → (OnlyLooks old w u (d ∷ []) × IsFault e) ⊎ EndsUnread old w u d (for_look follow slash) name (Err e)
   last_unseen e told = by e told.meaning
     where
-      seen : Looks old w u (d ∷ [])
+      seen : OnlyLooks old w u (d ∷ [])
       seen = looks_of (Err e) (λ is. refl) (call_err {call = StatAt d name} e [] same told)
 
       by : (x : HostError) → MeansErr (stat_at_answer w.tree d name) x
-          → (Looks old w u (d ∷ []) × IsFault x) ⊎ EndsUnread old w u d Look follow slash name (Err x)
+          → (OnlyLooks old w u (d ∷ []) × IsFault x) ⊎ EndsUnread old w u d (for_look follow slash) name (Err x)
       by Memory means = inl (seen, inl refl)
       by (Code Io) means = inl (seen, inr refl)
       by (Code code) means = inr (record {
@@ -152,7 +156,7 @@ module _ {old new : Handles} {w u : World} {d : ℕ} {name : List ℕ} (follow s
         StatAt d name} (reached w.tree d name ∷ []) (name_ends w.tree d child_is.0 name child_is.1)
         (same_live same) told
 
-    seen : Looks old w u (d ∷ [])
+    seen : OnlyLooks old w u (d ∷ [])
     seen = looks_of (Ok m) (λ is. refl) resolved
 
     -- what the look means, by the test of the slash
@@ -168,7 +172,7 @@ module _ {old new : Handles} {w u : World} {d : ℕ} {name : List ℕ} (follow s
 
     -- a link that is to be read
     pub last_link : (found_name : List ℕ) → found_name ≡ name → (is_link_kind m.kind && (follow || slash)) ≡ true
-        → EndsAtLink old w u d Look follow slash name found_name
+        → EndsAtLink old w u d (for_look follow slash) name found_name
     last_link found_name is reads = record {
       reads = test ∙ reads;
       free = look_reads w.tree d name (held ∙ first _ _ reads) none;
@@ -183,7 +187,7 @@ module _ {old new : Handles} {w u : World} {d : ℕ} {name : List ℕ} (follow s
     -- no directory, though a slash stands behind it
     pub last_not_directory : (is_link_kind m.kind && (follow || slash)) ≡ false
         → (slash && not (is_directory_kind m.kind)) ≡ true
-        → EndsUnread old w u d Look follow slash name (Err (Code NotDirectory))
+        → EndsUnread old w u d (for_look follow slash) name (Err (Code NotDirectory))
     last_not_directory unread wants = record {
       unread = test ∙ unread;
       resolved = resolved_err (meant_at w.tree Look d (Name d name slash)) (shown_found u.held) (Code NotDirectory) refl
@@ -192,7 +196,7 @@ module _ {old new : Handles} {w u : World} {d : ℕ} {name : List ℕ} (follow s
 
     pub last_seen : (is_link_kind m.kind && (follow || slash)) ≡ false
         → (slash && not (is_directory_kind m.kind)) ≡ false
-        → EndsUnread old w u d Look follow slash name (Ok (found.Metadata m))
+        → EndsUnread old w u d (for_look follow slash) name (Ok (found.Metadata m))
     last_seen unread wants = record {
       unread = test ∙ unread;
       resolved = record {
@@ -215,20 +219,20 @@ dot_opening d o writes = cond writes (Err IsDirectory) (Ok (record { directory =
 abbrev dot_meant : Tree → ℕ → Options → Bool → Meant Sight
 dot_meant t d o writes = record {
   starts = d ∷ [];
-  answer = dot_opening d o writes >>= opened_by t >>= (λ held. Ok (Opened held));
+  answer = dot_opening d o writes >>= opened_by t >>= (λ held. Ok (HandleFor held));
   stepped = step_of t (dot_opening d o writes);
   ends = ends_by (opened_node t) (dot_opening d o writes);
 }
 
 -- an open for writing
-pub dot_written : {live : Handles} {w : World} {d : ℕ} (o : Options) → o.write ≡ true → Looks live w w (d ∷ [])
+pub dot_written : {live : Handles} {w : World} {d : ℕ} (o : Options) → o.write ≡ true → OnlyLooks live w w (d ∷ [])
     → EndsInDirectory live w w d (Open o) (Err (Code IsDirectory))
 dot_written {w = w} {d = d} o is looks =
     resolved_err (meant_at w.tree (Open o) d (Dot d)) (shown_found w.held) (Code IsDirectory) refl
     (ap (λ b. (dot_meant w.tree d o b).answer) is) looks
 
 read_meant : (t : Tree) (d : ℕ) (o : Options) → o.write ≡ false
-    → mapped Opened (open_meant t d (codes ".") o) ≡ meant_at t (Open o) d (Dot d)
+    → mapped HandleFor (open_meant t d (codes ".") o) ≡ meant_at t (Open o) d (Dot d)
 read_meant t d o is = ap (dot_meant t d o) (sym is)
 
 module _ {w : World} {d : ℕ} {o : Options} (is : o.write ≡ false) where
@@ -237,7 +241,7 @@ module _ {w : World} {d : ℕ} {o : Options} (is : o.write ≡ false) where
       → EndsInDirectory old w u d (Open o) (Ok (found.Handle h))
   dot_opened {old} {u = u} {h = h} got told =
       subst (λ m. Resolved old w u m (shown_found u.held) (Ok (found.Handle h))) (read_meant w.tree d o is)
-      (mapped_ok Opened (shown_found u.held) (found.Handle h) refl
+      (mapped_ok HandleFor (shown_found u.held) (found.Handle h) refl
       (call_ok {call =
       OpenAt d (codes ".") o} {shown = u.held} (reached w.tree d (codes ".") ∷ []) (open_ends w.tree d
       (codes ".") o) (still_live old h got) told))
@@ -247,7 +251,7 @@ module _ {w : World} {d : ℕ} {o : Options} (is : o.write ≡ false) where
       → EndsInDirectory old w u d (Open o) (Err e)
   dot_refused {old} {u = u} e same told =
       subst (λ m. Resolved old w u m (shown_found u.held) (Err e)) (read_meant w.tree d o is)
-      (mapped_err Opened (shown_found u.held) e
+      (mapped_err HandleFor (shown_found u.held) e
       (call_err {call = OpenAt d (codes ".") o} {shown = u.held} e (reached w.tree d (codes ".") ∷ []) same told))
 
 stat_gives : (t : Tree) (n : ℕ) (m : Metadata) → stat_answer t n ≡ Ok m → metadata_of t n ≡ m
@@ -282,7 +286,7 @@ module _ {old mid : Handles} {w v : World} {d : ℕ} (same : mid ≡ old) where
     abbrev e : ℕ
     e = (v.held here).node
 
-    first : Looks old w v (d ∷ [])
+    first : OnlyLooks old w v (d ∷ [])
     first = looks_of (Ok tt) (λ is. refl) (call_ok {call = Access d} [] (All-nil _) (same_live same) told)
 
     node_same : e ≡ d
@@ -313,8 +317,8 @@ module _ {old mid : Handles} {w v : World} {d : ℕ} (same : mid ≡ old) where
         → Told {A = Metadata} mid new v u (Stat e) (λ x. x) (hosted (Err code))
         → EndsInDirectory old w u d Look (Err (Code code))
     dot_fault {u} code asked =
-        let second : Looks mid v u (e ∷ []) =
+        let second : OnlyLooks mid v u (e ∷ []) =
         looks_of (Err (Code code)) (λ is. refl) (call_err {call = Stat e} (Code code) [] still asked) in
         resolved_err (meant_at w.tree Look d (Dot d)) (shown_found u.held) (Code code) refl (fault_means _
         (stat_faults v.tree e code asked.meaning))
-        (looks_then first (at_root w.tree d) (same_live same) (subst (λ n. Looks mid v u (n ∷ [])) node_same second))
+        (looks_then first (at_root w.tree d) (same_live same) (subst (λ n. OnlyLooks mid v u (n ∷ [])) node_same second))

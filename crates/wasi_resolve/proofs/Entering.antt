@@ -20,7 +20,7 @@ use Rattle.wasi_host.specs.declared.metadata.Metadata.{Metadata}
 use Rattle.wasi_resolve.specs.Walk.{is_link_code}
 use Rattle.wasi_resolve.specs.Resolved.{Resolved}
 use Rattle.wasi_resolve.specs.Finding.{is_loop, may_be_link, is_link_kind}
-use Rattle.wasi_resolve.specs.WalkSteps.{Looks, IsFault, OpensUnread, MeetsLink, open_meant}
+use Rattle.wasi_resolve.specs.WalkSteps.{OnlyLooks, IsFault, OpensUnread, MeetsLink, open_meant}
 use Rattle.wasi_host.proofs.Touching.{open_ends, at_root}
 use Rattle.wasi_resolve.proofs.Calls.{call_ok, call_err, looks_of, looks_still, looks_then, resolved_err, err_means, same_live, still_live}
 use Rattle.wasi_resolve.proofs.Tables.{refused_by, looked_link, loop_link, unrequired_link, unmet_code, unmet_rule, unmet_unlooked, both as both_true}
@@ -44,7 +44,7 @@ module _ {old mid : Handles} {w v : World} {d : ℕ} {name : List ℕ} {o : Opti
     (same : mid ≡ old) where
   -- no link is read, whatever the code
   pub enters_refused : (e : HostError) → may_read ≡ false → Told {A = ℕ} old mid w v (OpenAt d name o) v.held (Err e)
-      → (Looks old w v (d ∷ []) × IsFault e) ⊎ OpensUnread old w v d name o may_read (Err e)
+      → (OnlyLooks old w v (d ∷ []) × IsFault e) ⊎ OpensUnread old w v d name o may_read (Err e)
   enters_refused e rule told = inr (record {
     unread = unmet_rule w.tree d name o may_read rule;
     resolved = call_err {call = OpenAt d name o} {shown = v.held} e (reached w.tree d name ∷ []) same told;
@@ -54,7 +54,7 @@ module _ {old mid : Handles} {w v : World} {d : ℕ} {name : List ℕ} {o : Opti
   pub enters_other : (e : HostError) → IsTrue (is_plain name) → is_loop e ≡ false
       → may_be_link e o.dir_required ≡ false
       → Told {A = ℕ} old mid w v (OpenAt d name o) v.held (Err e)
-      → (Looks old w v (d ∷ []) × IsFault e) ⊎ OpensUnread old w v d name o may_read (Err e)
+      → (OnlyLooks old w v (d ∷ []) × IsFault e) ⊎ OpensUnread old w v d name o may_read (Err e)
   enters_other Memory plain loop other told =
       let resolved : Resolved old w v (open_meant w.tree d name o) v.held (Err Memory) =
       call_err {call = OpenAt d name o} {shown = v.held} Memory (reached w.tree d name ∷ []) same told in
@@ -129,7 +129,7 @@ module _ {old mid : Handles} {w v : World} (here : ℕ) {name : List ℕ} {o : O
   abbrev d : ℕ
   d = (w.held here).node
 
-  first : Looks old w v (d ∷ [])
+  first : OnlyLooks old w v (d ∷ [])
   first =
       let resolved : Resolved old w v (open_meant w.tree d name o) v.held (Err refused) =
       call_err {call = OpenAt d name o} {shown = v.held} refused (reached w.tree d name ∷ []) same opens in
@@ -138,8 +138,8 @@ module _ {old mid : Handles} {w v : World} (here : ℕ) {name : List ℕ} {o : O
   here_same : (v.held here).node ≡ d
   here_same = ap (λ (h : Held). h.node) (first.keeps here here_live)
 
-  both : {u : World} → Looks mid v u ((v.held here).node ∷ []) → Looks old w u (d ∷ [])
-  both {u} second = looks_then first (at_root w.tree d) (same_live same) (subst (λ n. Looks mid v u (n ∷ [])) here_same second)
+  both : {u : World} → OnlyLooks mid v u ((v.held here).node ∷ []) → OnlyLooks old w u (d ∷ [])
+  both {u} second = looks_then first (at_root w.tree d) (same_live same) (subst (λ n. OnlyLooks mid v u (n ∷ [])) here_same second)
 
   -- what is looked at is the same as before
   as_before : stat_at_answer v.tree (v.held here).node name ≡ stat_at_answer w.tree d name
@@ -171,14 +171,14 @@ module _ {old mid : Handles} {w v : World} (here : ℕ) {name : List ℕ} {o : O
     -- the look is refused
     pub enters_unlooked : (e : HostError)
         → Told {A = Metadata} mid new v u (StatAt (v.held here).node name) (λ m. m) (Err e)
-        → (Looks old w u (d ∷ []) × IsFault e) ⊎ OpensUnread old w u d name o may_read (Err e)
+        → (OnlyLooks old w u (d ∷ []) × IsFault e) ⊎ OpensUnread old w u d name o may_read (Err e)
     enters_unlooked e looks = by e (subst (λ r. MeansErr r e) as_before looks.meaning)
       where
-        seen : Looks old w u (d ∷ [])
+        seen : OnlyLooks old w u (d ∷ [])
         seen = both (looks_of (Err e) (λ is. refl) (call_err {call = StatAt (v.held here).node name} e [] still looks))
 
         by : (x : HostError) → MeansErr (stat_at_answer w.tree d name) x
-            → (Looks old w u (d ∷ []) × IsFault x) ⊎ OpensUnread old w u d name o may_read (Err x)
+            → (OnlyLooks old w u (d ∷ []) × IsFault x) ⊎ OpensUnread old w u d name o may_read (Err x)
         by Memory means = inl (seen, inl refl)
         by (Code Io) means = inl (seen, inr refl)
         by (Code code) means =
@@ -194,7 +194,7 @@ module _ {old mid : Handles} {w v : World} (here : ℕ) {name : List ℕ} {o : O
 
     module _ {m : Metadata} (looks : Told {A =
         Metadata} mid new v u (StatAt (v.held here).node name) (λ m. m) (Ok m)) where
-      seen : Looks old w u (d ∷ [])
+      seen : OnlyLooks old w u (d ∷ [])
       seen =
           both (looks_of (Ok m) (λ is. refl) (call_ok {call = StatAt (v.held here).node name} [] (All-nil _)
           (same_live still) looks))
@@ -204,7 +204,7 @@ module _ {old mid : Handles} {w v : World} (here : ℕ) {name : List ℕ} {o : O
 
       -- it says that there is no link, or none is read
       pub enters_no_link : (is_link_kind m.kind && may_read) ≡ false
-          → (Looks old w u (d ∷ []) × IsFault refused) ⊎ OpensUnread old w u d name o may_read (Err refused)
+          → (OnlyLooks old w u (d ∷ []) × IsFault refused) ⊎ OpensUnread old w u d name o may_read (Err refused)
       enters_no_link other = inr (record {
         unread = ap (λ b. b && (may_read && is_link_code (refusal w.tree (OpenAt d name o)))) kind
             ∙ first_two (is_link_kind m.kind) may_read (is_link_code (refusal w.tree (OpenAt d name o))) other;

@@ -20,7 +20,8 @@ use Rattle.wasi_resolve.specs.Walk.{Linked, middle_options}
 use Rattle.wasi_resolve.specs.ByNodes.{top, leg_nodes}
 use Rattle.wasi_resolve.specs.Left.{is_nil, parts_left}
 use Rattle.wasi_resolve.specs.Stack.{Stands, top_handle, nodes_under}
-use Rattle.wasi_resolve.specs.WalkSteps.{Looks, Walked, Same, IsFault, IsRefused, is_met_link, OpensUnread, MeetsLink, GoesOn, AtLink, Fails, StopsAt, AreReached}
+use Rattle.wasi_resolve.specs.Ways.{Begin, begin, origin, Way, way, way_nodes}
+use Rattle.wasi_resolve.specs.WalkSteps.{OnlyLooks, Walked, SameWalk, IsFault, IsRefused, is_met_link, OpensUnread, MeetsLink, GoesOn, AtLink, Fails, StopsAt, AreReached}
 use Rattle.wasi_resolve.specs.declared.found.Stop.{Stop}
 use Rattle.wasi_resolve.specs.declared.found.Stop.TheVariants as stops
 use Rattle.wasi_resolve.specs.declared.left.PartLeft.{PartLeft}
@@ -36,13 +37,25 @@ use Rattle.wasi_resolve.proofs.Putting.{length-parts}
 -- ---- from the handle on top
 
 -- where a walk stands: the handle on top, and its node
-pub record OnTop (first now : Handles) (w v : World) (start : ℕ) (stack : List ℕ) (here : ℕ) : Type 0 where
-  pub stands : Stands first now start stack
-  pub walked : Walked first w v start stack
-  pub at : here ≡ top_handle start stack
+pub record OnTop (b : Begin) (now : Handles) (v : World) (stack : List ℕ) (here : ℕ) : Type 0 where
+  pub stands : Stands b.live now b.start stack
+  pub walked : Walked b.live b.world v b.start stack
+  pub at : here ≡ top_handle b.start stack
 
-module _ {first now : Handles} {w v : World} {start : ℕ} {stack : List ℕ} {here : ℕ}
-    (on : OnTop first now w v start stack here) where
+pub on_top : {first now : Handles} {w v : World} {start : ℕ} {stack : List ℕ} {here : ℕ} → Stands first now start stack
+    → Walked first w v start stack → here ≡ top_handle start stack → OnTop (begin first w start) now v stack here
+on_top stands walked at = record { stands = stands; walked = walked; at = at }
+
+module _ {b : Begin} {now : Handles} {v : World} {stack : List ℕ} {here : ℕ} (on : OnTop b now v stack here) where
+  abbrev w : World
+  w = b.world
+
+  abbrev first : Handles
+  first = b.live
+
+  abbrev start : ℕ
+  start = b.start
+
   pub node_is : (v.held here).node ≡ top (w.held start).node (nodes_under v.held stack)
   node_is = ap (λ h. (v.held h).node) on.at ∙ top_node v.held start stack
       ∙ ap (λ (h : Held). top h.node (nodes_under v.held stack)) (on.walked.looks.keeps start on.stands.start_live)
@@ -51,14 +64,14 @@ module _ {first now : Handles} {w v : World} {start : ℕ} {stack : List ℕ} {h
   here_near = subst (Reached w.tree ((w.held start).node ∷ [])) (sym node_is)
       (top_near w.tree (w.held start).node (nodes_under v.held stack) on.walked.near)
 
-  pub looks_on : {u : World} → Looks now v u ((v.held here).node ∷ []) → Looks first w u ((w.held start).node ∷ [])
+  pub looks_on : {u : World} → OnlyLooks now v u ((v.held here).node ∷ []) → OnlyLooks first w u ((w.held start).node ∷ [])
   looks_on next = looks_then on.walked.looks here_near (first_live on.stands) next
 
   -- what a call from there leaves of the stack
-  pub kept_on : {u : World} → Looks now v u ((v.held here).node ∷ []) → nodes_under u.held stack ≡ nodes_under v.held stack
+  pub kept_on : {u : World} → OnlyLooks now v u ((v.held here).node ∷ []) → nodes_under u.held stack ≡ nodes_under v.held stack
   kept_on next = nodes_kept on.stands next.keeps
 
-  pub walked_on : {u : World} → Looks now v u ((v.held here).node ∷ []) → Walked first w u start stack
+  pub walked_on : {u : World} → OnlyLooks now v u ((v.held here).node ∷ []) → Walked first w u start stack
   walked_on next = record {
     looks = looks_on next;
     near = subst (AreReached w.tree (w.held start).node) (sym (kept_on next)) on.walked.near;
@@ -81,7 +94,7 @@ module _ {first now : Handles} {w v : World} {start : ℕ} {stack : List ℕ} {h
     opened_none : refusal v.tree (OpenAt (v.held here).node name middle_options) ≡ None
     opened_none = free _ _ _ opens.resolved.answer
 
-    opened_looks : Looks now v u ((v.held here).node ∷ [])
+    opened_looks : OnlyLooks now v u ((v.held here).node ∷ [])
     opened_looks = looks_of (Ok h) (λ is. leaves name opened_none) opens.resolved
 
     opened_node : (u.held h).node ≡ reached w.tree d name
@@ -97,7 +110,7 @@ module _ {first now : Handles} {w v : World} {start : ℕ} {stack : List ℕ} {h
     nodes_now = nodes_push u.held stack h ∙ ap (λ l. (u.held h).node ∷ l) (kept_on opened_looks)
         ∙ ap (λ n. n ∷ nodes_under v.held stack) opened_node
 
-    pub goes_down : GoesOn first w v u start (Normal name ∷ next ∷ rest) stack (next ∷ rest) (stack ++ h ∷ [])
+    pub goes_down : GoesOn b (way v stack (Normal name ∷ next ∷ rest)) (way u (stack ++ h ∷ []) (next ∷ rest))
     goes_down = record {
       walked = record {
         looks = looks_on opened_looks;
@@ -115,7 +128,7 @@ module _ {first now : Handles} {w v : World} {start : ℕ} {stack : List ℕ} {h
 
   pub goes_link : {u : World} (name : List ℕ) (next : Component) (rest : List Component) → IsTrue (is_plain name)
       → MeetsLink now v u (v.held here).node name middle_options true
-      → AtLink first w v u start (Normal name ∷ next ∷ rest) stack (next ∷ rest) stack name
+      → AtLink b (way v stack (Normal name ∷ next ∷ rest)) (way u stack (next ∷ rest)) name
   goes_link name next rest plain met =
       let kept = kept_on met.looks in
       let reads : is_met_link w.tree d name middle_options true ≡ true =
@@ -143,10 +156,10 @@ module _ {first now : Handles} {w v : World} {start : ℕ} {stack : List ℕ} {h
       inr (down_refused w.tree (w.held start).node name next rest (nodes_under v.held stack) code unread
       (refused_by _ _ means))
 
-  pub goes_err : {u : World} (name : List ℕ) (next : Component) (rest : List Component) (e : HostError)
-      → (Looks now v u ((v.held here).node ∷ []) × IsFault e) ⊎ OpensUnread now v u
+  pub goes_err : {u : World} {after : List ℕ} (name : List ℕ) (next : Component) (rest : List Component) (e : HostError)
+      → (OnlyLooks now v u ((v.held here).node ∷ []) × IsFault e) ⊎ OpensUnread now v u
       (v.held here).node name middle_options true (Err e)
-      → Fails first w v u start (Normal name ∷ next ∷ rest) stack (next ∷ rest) e
+      → Fails b (way v stack (Normal name ∷ next ∷ rest)) (way u after (next ∷ rest)) e
   goes_err name next rest e (inl fault) = fails_here (Normal name) (next ∷ rest) (looks_on fault.0) (inl fault.1)
   goes_err name next rest e (inr opens) =
       fails_here (Normal name) (next ∷ rest)
@@ -182,23 +195,21 @@ no_parts items is = by (parts_left items) (length-parts items ∙ is)
 
 -- ---- one behind another
 
-module _ {first : Handles} {w v v' : World} {start : ℕ} {all : List Component} {before stack : List ℕ} {left : List
-    Component}
-    (parts : List Component) (so_far : GoesOn first w v v' start all before left stack) (is : left ≡ parts) where
+module _ {b : Begin} {a c : Way} (parts : List Component) (so_far : GoesOn b a c) (is : c.left ≡ parts) where
+  abbrev here : Way
+  here = record c { left = parts }
+
   from : {rest : List Component} {nodes : List ℕ}
-      → Same w.tree (w.held start).node parts (nodes_under v'.held stack) rest nodes
-      → Same w.tree (w.held start).node all (nodes_under v.held before) rest nodes
+      → SameWalk b.world.tree (origin b) parts (way_nodes c) rest nodes
+      → SameWalk b.world.tree (origin b) a.left (way_nodes a) rest nodes
   from {rest} {nodes} same =
-      same_then so_far.same (subst (λ l. Same w.tree (w.held start).node l (nodes_under v'.held stack) rest nodes)
+      same_then so_far.same (subst (λ l. SameWalk b.world.tree (origin b) l (way_nodes c) rest nodes)
       (sym is) same)
 
-  pub goes_then : {u : World} {rest : List Component} {after : List ℕ}
-      → GoesOn first w v' u start parts stack rest after
-      → GoesOn first w v u start all before rest after
+  pub goes_then : {d : Way} → GoesOn b here d → GoesOn b a d
   goes_then next = record { walked = next.walked; same = from next.same }
 
-  pub fails_then : {u : World} {rest : List Component} (e : HostError) → Fails first w v' u start parts stack rest e
-      → Fails first w v u start all before rest e
+  pub fails_then : {d : Way} (e : HostError) → Fails b here d e → Fails b a d e
   fails_then e fails = record {
     looks = fails.looks;
     part = fails.part;
@@ -207,13 +218,11 @@ module _ {first : Handles} {w v v' : World} {start : ℕ} {all : List Component}
     refused = fails.refused;
   }
 
-  pub stops_then : (u : World) (rest : List Component) (after : List ℕ) (stop : Stop)
-      → StopsAt first w v' u start parts stack rest after stop
-      → StopsAt first w v u start all before rest after stop
-  stops_then u rest after stops.Dot stopped = (goes_then stopped.0, stopped.1)
-  stops_then u rest after (stops.Last name) stopped =
+  pub stops_then : (d : Way) (stop : Stop) → StopsAt b here d stop → StopsAt b a d stop
+  stops_then d stops.Dot stopped = (goes_then stopped.0, stopped.1)
+  stops_then d (stops.Last name) stopped =
       record { walked = stopped.walked; same = from stopped.same; none = stopped.none }
-  stops_then u rest after (stops.Link name) stopped = record {
+  stops_then d (stops.Link name) stopped = record {
     walked = stopped.walked;
     same = from stopped.same;
     linked = stopped.linked;
@@ -221,11 +230,10 @@ module _ {first : Handles} {w v v' : World} {start : ℕ} {all : List Component}
   }
 
 -- no part is left
-pub goes_dot : {first : Handles} {w v u : World} {start : ℕ} {all : List Component} {before stack : List ℕ}
-    (old new : List PartLeft)
-    → GoesOn first w v u start all before (parts_left old) stack → length old ≡ 0 → length new ≡ 0
-    → StopsAt first w v u start all before (parts_left new) stack stops.Dot
-goes_dot {first} {w} {v} {u} {start} {all} {before} {stack} old new goes none still = (
-  subst (λ l. GoesOn first w v u start all before l stack) (no_parts old none ∙ sym (no_parts new still)) goes,
+pub goes_dot : {b : Begin} {a : Way} {u : World} {stack : List ℕ} (old new : List PartLeft)
+    → GoesOn b a (way u stack (parts_left old)) → length old ≡ 0 → length new ≡ 0
+    → StopsAt b a (way u stack (parts_left new)) stops.Dot
+goes_dot {b} {a} {u} {stack} old new goes none still = (
+  subst (λ l. GoesOn b a (way u stack l)) (no_parts old none ∙ sym (no_parts new still)) goes,
   no_parts new still,
 )

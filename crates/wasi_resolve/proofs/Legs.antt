@@ -11,17 +11,17 @@ use Rattle.wasi_host.specs.declared.errors.HostError.TheVariants.{Code}
 use Rattle.wasi_paths.specs.Parts.{Component, RootDir, CurDir, ParentDir, Normal}
 use Rattle.wasi_resolve.specs.Walk.{Aim, Stop, Name, Leg, Ended, Linked, is_to_be_read, refused, middle_options, unless_refused}
 use Rattle.wasi_resolve.specs.ByNodes.{top, leg_nodes}
-use Rattle.wasi_resolve.specs.WalkSteps.{Same, IsRefused, is_met_link, taken_by, AreReached}
+use Rattle.wasi_resolve.specs.WalkSteps.{SameWalk, IsRefused, is_met_link, taken_by, AreReached}
 use Rattle.wasi_host.proofs.Touching.{at_root}
 use Rattle.wasi_resolve.proofs.Tables.{middle_to_read}
 
 -- ---- the same walk from another state
 
-pub same_here : (t : Tree) (s : ℕ) (parts : List Component) (nodes : List ℕ) → Same t s parts nodes parts nodes
+pub same_here : (t : Tree) (s : ℕ) (parts : List Component) (nodes : List ℕ) → SameWalk t s parts nodes parts nodes
 same_here t s parts nodes = record { at = λ aim follow slash m. record { taken = m; count = refl; same = refl } }
 
-pub same_then : {t : Tree} {s : ℕ} {a b c : List Component} {x y z : List ℕ} → Same t s a x b y → Same t s b y c z
-    → Same t s a x c z
+pub same_then : {t : Tree} {s : ℕ} {a b c : List Component} {x y z : List ℕ} → SameWalk t s a x b y → SameWalk t s b y c z
+    → SameWalk t s a x c z
 same_then first second = record {
   at = λ aim follow slash m.
       let one = first.at aim follow slash m in
@@ -29,15 +29,15 @@ same_then first second = record {
       record { taken = two.taken; count = two.count ∙ one.count; same = one.same ∙ two.same };
 }
 
-pub same_nodes : {t : Tree} {s : ℕ} {a b : List Component} {x y z : List ℕ} → Same t s a x b y → y ≡ z
-    → Same t s a x b z
-same_nodes {t} {s} {a} {b} {x} same is = subst (Same t s a x b) is same
+pub same_nodes : {t : Tree} {s : ℕ} {a b : List Component} {x y z : List ℕ} → SameWalk t s a x b y → y ≡ z
+    → SameWalk t s a x b z
+same_nodes {t} {s} {a} {b} {x} same is = subst (SameWalk t s a x b) is same
 
 -- a part is taken, with these nodes then
 taken_one : {t : Tree} {s : ℕ} {part : Component} {rest : List Component} {x y : List ℕ}
     → ((aim : Aim) (follow slash : Bool) (m : ℕ)
     → leg_nodes t s aim follow slash m (part ∷ rest) x ≡ leg_nodes t s aim follow slash (suc m) rest y)
-    → Same t s (part ∷ rest) x rest y
+    → SameWalk t s (part ∷ rest) x rest y
 taken_one {rest = rest} step = record {
   at = λ aim follow slash m. record { taken = suc m; count = omega arith; same = step aim follow slash m };
 }
@@ -48,7 +48,7 @@ pub root_refused : (t : Tree) (s : ℕ) (rest : List Component) (nodes : List �
     → IsRefused t s (RootDir ∷ rest) nodes (Code codes.NotPermitted)
 root_refused t s rest nodes = record { code = codes.NotPermitted; is = refl; ends = λ aim follow slash m. refl }
 
-pub dot_same : (t : Tree) (s : ℕ) (rest : List Component) (nodes : List ℕ) → Same t s (CurDir ∷ rest) nodes rest nodes
+pub dot_same : (t : Tree) (s : ℕ) (rest : List Component) (nodes : List ℕ) → SameWalk t s (CurDir ∷ rest) nodes rest nodes
 dot_same t s rest nodes = taken_one (λ aim follow slash m. refl)
 
 pub top_refused : (t : Tree) (s : ℕ) (rest : List Component) {nodes : List ℕ} → nodes ≡ []
@@ -68,9 +68,9 @@ bit_unset t d code is = (grind (arith), grind (arith))
 
 pub up_same : (t : Tree) (s : ℕ) (rest : List Component) (d : ℕ) (under : List ℕ) {nodes : List ℕ} → nodes ≡ d ∷ under
     → access_answer t d ≡ Ok tt
-    → Same t s (ParentDir ∷ rest) nodes rest under
+    → SameWalk t s (ParentDir ∷ rest) nodes rest under
 up_same t s rest d under at allowed =
-    subst (λ l. Same t s (ParentDir ∷ rest) l rest under) (sym at)
+    subst (λ l. SameWalk t s (ParentDir ∷ rest) l rest under) (sym at)
     (taken_one (λ aim follow slash m.
     ap (λ b. cond b (leg_nodes t s aim follow slash (suc m) rest under) (Ended (suc m) (Stop codes.Access)))
     (bit_set t d allowed)))
@@ -109,7 +109,7 @@ module _ (t : Tree) (s : ℕ) (name : List ℕ) (next : Component) (rest : List 
 
   pub down_same : is_met_link t (top s nodes) name middle_options true ≡ false
       → refusal t (OpenAt (top s nodes) name middle_options) ≡ None
-      → Same t s (Normal name ∷ next ∷ rest) nodes (next ∷ rest) (reached t (top s nodes) name ∷ nodes)
+      → SameWalk t s (Normal name ∷ next ∷ rest) nodes (next ∷ rest) (reached t (top s nodes) name ∷ nodes)
   down_same unmet none =
       taken_one (λ aim follow slash m. unread aim follow slash m unmet ∙ ap (by_name aim follow slash m false) none)
 

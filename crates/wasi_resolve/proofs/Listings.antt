@@ -16,7 +16,7 @@ use Rattle.wasi_host.specs.declared.held.Held.{Held}
 use Rattle.wasi_host.proofs.Touching.{at_root, open_ends}
 use Rattle.wasi_resolve.specs.Meanings.{listing_options, lists_at}
 use Rattle.wasi_resolve.specs.Resolved.{Meant, Resolved}
-use Rattle.wasi_resolve.specs.WalkSteps.{Looks, Stayed, open_meant}
+use Rattle.wasi_resolve.specs.WalkSteps.{OnlyLooks, WorldStays, open_meant}
 use Rattle.wasi_resolve.proofs.Calls.{call_meant, call_ok, call_err, looks_of, means_then, resolved_err, resolved_stay, resolved_then, same_live, still_live}
 use Rattle.wasi_resolve.proofs.Entering.{ok_free}
 use Rattle.wasi_resolve.proofs.Tables.{open_leaves}
@@ -59,7 +59,7 @@ module _ {old mid : Handles} {w v : World} {d : ℕ} (h : ℕ) (got : mid ≡ in
   abbrev listed : Held
   listed = v.held h
 
-  opened_looks : Looks old w v (d ∷ [])
+  opened_looks : OnlyLooks old w v (d ∷ [])
   opened_looks =
       let opened : Resolved old w v (open_meant w.tree d (codes ".") listing_options) v.held (Ok h) =
       call_ok {call = OpenAt d (codes ".") listing_options} {shown = v.held} (reached w.tree d (codes ".") ∷ [])
@@ -77,7 +77,7 @@ module _ {old mid : Handles} {w v : World} {d : ℕ} (h : ℕ) (got : mid ≡ in
 
   -- and then it is listed, and closed
   pub is_listed : {A : Type 0} {new : Handles} {u z : World} {shown : A → List Listed} (r : Result A HostError)
-      → new ≡ mid → Told mid new v u (ListDir listed) shown r → Stayed old u z
+      → new ≡ mid → Told mid new v u (ListDir listed) shown r → WorldStays old u z
       → Resolved old w z (lists_at w.tree d) shown r
   is_listed {A} {new = new} {u = u} {shown = shown} r same asked closed =
       let there : Resolved old w u (list_meant v.tree listed.node (list_answer v.tree listed)) shown r =

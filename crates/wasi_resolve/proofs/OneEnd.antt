@@ -8,7 +8,7 @@ use Rattle.wasi_host.specs.declared.errors.ErrorCode.{ErrorCode}
 use Rattle.wasi_host.specs.declared.errors.ErrorCode.TheVariants.{Loop, NoEntry, Access, NotPermitted}
 use Rattle.wasi_paths.specs.Parts.{Component, RootDir, CurDir, ParentDir, Normal, parts, trailing_slash, is_empty}
 use Rattle.wasi_resolve.specs.Walk.{Aim, Outcome, Stop, Name, Dot, Position, at, Leg, Ended, Linked, leg, is_to_be_read, refused, unless_refused, adds_slash, Walk, ended, one_link_more, resume, walk_from, walk}
-use Rattle.wasi_resolve.specs.Table.{Move, Ends, Goes, unless_stopped, read_link, move, taken_after, Leads, ends, goes, WalksHaveOneEnd}
+use Rattle.wasi_resolve.specs.Table.{Stage, stage, Move, Ends, Goes, unless_stopped, read_link, move, move_from, taken_after, Leads, ends, goes, WalksHaveOneEnd}
 
 -- with so many links read before
 added : ℕ → Walk → Walk
@@ -35,17 +35,17 @@ module _ (t : Tree) (s : ℕ) (aim : Aim) (follow : Bool) where
   by_leg zero slash m left names = refl
   by_leg (suc k) slash m left names = refl
 
-  from : ℕ → List Component → Position → Bool → ℕ → ℕ → Walk
-  from k left names slash n m = added n (walk_from t s aim follow k slash m left names)
+  from : ℕ → Stage → ℕ → Walk
+  from k a m = added a.links (walk_from t s aim follow k a.slash m a.left a.names)
 
   -- a leg comes to what a move says
   -- and goes on with one link less, or with fewer parts left
   Fits : ℕ → ℕ → Bool → ℕ → ℕ → Leg Position → Move → Type 0
   Fits size k slash n m l (Ends outcome) =
       added n (resume (onward k) slash l) ≡ record { outcome = outcome; parts = m; links = n }
-  Fits size k slash n m l (Goes names' left' slash' n') =
-      (k' : ℕ) × (k' + n' ≡ 40) × ((suc k' ≡ k) ⊎ ((k' ≡ k) × (length left' < size))) × (added n (resume
-      (onward k) slash l) ≡ from k' left' names' slash' n' m)
+  Fits size k slash n m l (Goes b) =
+      (k' : ℕ) × (k' + b.links ≡ 40) × ((suc k' ≡ k) ⊎ ((k' ≡ k) × (length b.left < size))) × (added n (resume
+      (onward k) slash l) ≡ from k' b m)
 
   ended_fits : (size k : ℕ) (slash : Bool) (n m : ℕ) (outcome : Outcome)
       → Fits size k slash n m (Ended m outcome) (Ends outcome)
@@ -60,7 +60,7 @@ module _ (t : Tree) (s : ℕ) (aim : Aim) (follow : Bool) where
   both_fit size k slash n m false l l' v v' one other = other
 
   on_fits : (size k : ℕ) (slash : Bool) (n m : ℕ) (left : List Component) (names : Position) → k + n ≡ 40
-      → length left < size → Fits size k slash n m (leg t s aim follow slash m left names) (Goes names left slash n)
+      → length left < size → Fits size k slash n m (leg t s aim follow slash m left names) (Goes (stage left names slash n))
   unfolding Fits from
   on_fits size k slash n m left names e fewer =
       (k, e, inr (refl, fewer), ap (added n) (sym (by_leg k slash m left names)))
@@ -115,42 +115,39 @@ module _ (t : Tree) (s : ℕ) (aim : Aim) (follow : Bool) where
       (at t s names) name) _ _ (on_fits (length (Normal name ∷ part ∷ left)) k slash n (suc m) (part ∷ left)
       (name ∷ names) e (omega arith)))
 
-  from_leg : (k : ℕ) (left : List Component) (names : Position) (slash : Bool) (n m : ℕ)
-      → from k left names slash n m ≡ added n (resume (onward k) slash (leg t s aim follow slash m left names))
+  from_leg : (k : ℕ) (a : Stage) (m : ℕ)
+      → from k a m ≡ added a.links (resume (onward k) a.slash (leg t s aim follow a.slash m a.left a.names))
   unfolding from
-  from_leg k left names slash n m = ap (added n) (by_leg k slash m left names)
+  from_leg k a m = ap (added a.links) (by_leg k a.slash m a.left a.names)
 
   LeadsOn : ℕ → ℕ → Type 0
-  LeadsOn k size =
-      (left : List Component) (names : Position) (slash : Bool) (n m : ℕ) → length left ≤ size → k + n ≡ 40
-      → Leads t s aim follow left names slash n m (from k left names slash n m)
+  LeadsOn k size = (a : Stage) (m : ℕ) → length a.left ≤ size → k + a.links ≡ 40 → Leads t s aim follow a m (from k a m)
 
   -- by what one move comes to
-  one_move : (k size : ℕ) (left : List Component) (names : Position) (slash : Bool) (n m : ℕ) (v : Move)
+  one_move : (k size : ℕ) (a : Stage) (m : ℕ) (v : Move)
       → ((k' : ℕ) → suc k' ≡ k → (size : ℕ) → LeadsOn k' size) → ((size' : ℕ) → size' < size → LeadsOn k size')
-      → move t s aim follow left names slash n ≡ v
-      → Fits size k slash n (taken_after t s aim follow left m) (leg t s aim follow slash m left names) v
-      → Leads t s aim follow left names slash n m (from k left names slash n m)
+      → move_from t s aim follow a ≡ v
+      → Fits size k a.slash a.links (taken_after t s aim follow a.left m) (leg t s aim follow a.slash m a.left a.names) v
+      → Leads t s aim follow a m (from k a m)
   unfolding Fits LeadsOn
-  one_move k size left names slash n m (Ends outcome) lower shorter is fits =
-      subst (Leads t s aim follow left names slash n m) (sym (from_leg k left names slash n m
-      ∙ fits)) (ends left names slash n m outcome is)
-  one_move k size left names slash n m (Goes names' left' slash' n') lower shorter is fits =
-      subst (Leads t s aim follow left names slash n m) (sym (from_leg k left names slash n m ∙ fits.3))
-      (goes left left' names names' slash slash' n n' m _ is (elim fits.2 [
-        | inl less ↦ lower fits.0 less (length left') left' names' slash' n' (taken_after t s aim follow left m) (omega arith) fits.1
-        | inr same ↦ subst (λ j. Leads t s aim follow left' names' slash' n' (taken_after t s aim follow left m) (from j left' names' slash' n' (taken_after t s aim follow left m))) (sym same.0)
-            (shorter (length left') same.1 left' names' slash' n' (taken_after t s aim follow left m) (omega arith)
+  one_move k size a m (Ends outcome) lower shorter is fits =
+      subst (Leads t s aim follow a m) (sym (from_leg k a m ∙ fits)) (ends a m outcome is)
+  one_move k size a m (Goes b) lower shorter is fits =
+      let taken : ℕ = taken_after t s aim follow a.left m in
+      subst (Leads t s aim follow a m) (sym (from_leg k a m ∙ fits.3)) (goes a b m _ is (elim fits.2 [
+        | inl less ↦ lower fits.0 less (length b.left) b taken (omega arith) fits.1
+        | inr same ↦ subst (λ j. Leads t s aim follow b taken (from j b taken)) (sym same.0)
+            (shorter (length b.left) same.1 b taken (omega arith)
             (let e = fits.1 in let j = same.0 in omega arith))
       ]))
 
   up_to : (k : ℕ) → ((k' : ℕ) → suc k' ≡ k → (size : ℕ) → LeadsOn k' size) → (bound size : ℕ) → size < bound
       → LeadsOn k size
   unfolding LeadsOn
-  up_to k lower zero size small left names slash n m few e = absurd (omega arith)
-  up_to k lower (suc bound) size small left names slash n m few e =
-      one_move k (length left) left names slash n m (move t s aim follow left names slash n) lower
-      (λ size' less. up_to k lower bound size' (omega arith)) refl (moves k left names slash n m e)
+  up_to k lower zero size small a m few e = absurd (omega arith)
+  up_to k lower (suc bound) size small a m few e =
+      one_move k (length a.left) a m (move_from t s aim follow a) lower
+      (λ size' less. up_to k lower bound size' (omega arith)) refl (moves k a.left a.names a.slash a.links m e)
 
   all : (k size : ℕ) → LeadsOn k size
   all zero size = up_to zero (λ k' is. absurd (omega arith)) (suc size) size (omega arith)
@@ -158,22 +155,25 @@ module _ (t : Tree) (s : ℕ) (aim : Aim) (follow : Bool) where
       up_to (suc k) (λ k' is size. let same : k ≡ k' = omega arith in subst (λ j. LeadsOn j size) same (all k size))
       (suc size) size (omega arith)
 
-  only_end : (left : List Component) (names : Position) (slash : Bool) (n m : ℕ) (w : Walk)
-      → Leads t s aim follow left names slash n m w → (k : ℕ) → k + n ≡ 40 → w ≡ from k left names slash n m
-  unfolding Fits
-  only_end _ _ _ _ _ _ (ends left names slash n m outcome is) k e =
-      sym (from_leg k left names slash n m
-      ∙ subst (Fits (length left) k slash n (taken_after t s aim follow left m)
-      (leg t s aim follow slash m left names)) is (moves k left names slash n m e))
-  only_end _ _ _ _ _ _ (goes left left' names names' slash slash' n n' m w is rest) k e =
-      let fits =
-      subst (Fits (length left) k slash n (taken_after t s aim follow left m)
-      (leg t s aim follow slash m left names)) is (moves k left names slash n m e) in
-      only_end left' names' slash' n' (taken_after t s aim follow left m) w rest fits.0 fits.1
-      ∙ sym (from_leg k left names slash n m ∙ fits.3)
+  -- what a move comes to fits the leg
+  fits_as : (k : ℕ) (a : Stage) (m : ℕ) (v : Move) → move_from t s aim follow a ≡ v → k + a.links ≡ 40
+      → Fits (length a.left) k a.slash a.links (taken_after t s aim follow a.left m)
+      (leg t s aim follow a.slash m a.left a.names) v
+  fits_as k a m v is e =
+      subst (Fits (length a.left) k a.slash a.links (taken_after t s aim follow a.left m)
+      (leg t s aim follow a.slash m a.left a.names)) is (moves k a.left a.names a.slash a.links m e)
 
-  whole : (text : List ℕ) → is_empty text ≡ false
-      → from 40 (parts text) [] (trailing_slash text) 0 0 ≡ walk t s text aim follow
+  only_end : (a : Stage) (m : ℕ) (w : Walk) → Leads t s aim follow a m w → (k : ℕ) → k + a.links ≡ 40 → w ≡ from k a m
+  unfolding Fits
+  only_end _ _ _ (ends a m outcome is) k e = sym (from_leg k a m ∙ fits_as k a m (Ends outcome) is e)
+  only_end _ _ _ (goes a b m w is rest) k e =
+      let fits = fits_as k a m (Goes b) is e in
+      only_end b (taken_after t s aim follow a.left m) w rest fits.0 fits.1 ∙ sym (from_leg k a m ∙ fits.3)
+
+  abbrev start : List ℕ → Stage
+  start text = stage (parts text) [] (trailing_slash text) 0
+
+  whole : (text : List ℕ) → is_empty text ≡ false → from 40 (start text) 0 ≡ walk t s text aim follow
   unfolding from walk
   whole text filled =
       added_none (walk_from t s aim follow 40 (trailing_slash text) 0 (parts text) [])
@@ -184,9 +184,9 @@ pub walks_have_one_end : WalksHaveOneEnd
 unfolding LeadsOn
 walks_have_one_end t s text aim follow filled = record {
   leads =
-      subst (Leads t s aim follow (parts text) [] (trailing_slash text) 0 0) (whole t s aim follow text filled)
-      (all t s aim follow 40 (length (parts text)) (parts text) [] (trailing_slash text) 0 0 (omega arith) refl);
+      subst (Leads t s aim follow (start t s aim follow text) 0) (whole t s aim follow text filled)
+      (all t s aim follow 40 (length (parts text)) (start t s aim follow text) 0 (omega arith) refl);
   only =
-      λ w leads. only_end t s aim follow (parts text) [] (trailing_slash text) 0 0 w leads 40 refl
+      λ w leads. only_end t s aim follow (start t s aim follow text) 0 w leads 40 refl
       ∙ whole t s aim follow text filled;
 }

@@ -13,12 +13,13 @@ use Rattle.wasi_host.specs.declared.errors.HostError.TheVariants.{Code, Memory}
 use Rattle.wasi_host.specs.declared.lookup.Lookup.{Lookup}
 use Rattle.wasi_paths.specs.Parts as texts
 use Rattle.wasi_paths.specs.Parts.{Component, trailing_slash}
-use Rattle.wasi_resolve.specs.Walk.{Aim, Leg, Ended, Linked, adds_slash}
-use Rattle.wasi_resolve.specs.ByNodes.{top, leg_nodes}
+use Rattle.wasi_resolve.specs.Walk.{Leg, Ended, Linked, adds_slash}
+use Rattle.wasi_resolve.specs.ByNodes.{top}
 use Rattle.wasi_resolve.specs.Left.{parts_left, is_nil}
 use Rattle.wasi_resolve.specs.Stack.{nodes_under}
 use Rattle.wasi_resolve.specs.Finding.{FewUntil, FewReads}
-use Rattle.wasi_resolve.specs.WalkSteps.{Looks, IsFault, ReachesEnd, ReachesLink, ReachFails, ReadsText, ReadFails, EndsPast, LinkPast, FailsPast, taken_by, leg_looks}
+use Rattle.wasi_resolve.specs.Ways.{Begin, origin, Course, Way, way, leg_from}
+use Rattle.wasi_resolve.specs.WalkSteps.{OnlyLooks, IsFault, ReachesEnd, ReachesLink, ReachFails, ReadsText, ReadFails, EndsPast, LinkPast, FailsPast, taken_by, leg_looks}
 use Rattle.wasi_resolve.specs.declared.found.Found.{Found}
 use Rattle.wasi_resolve.specs.declared.left.PartLeft.{PartLeft}
 use Rattle.wasi_resolve.proofs.Calls.{call_ok, call_err, looks_of, same_live}
@@ -37,7 +38,7 @@ adds_is text items = adds_by text (parts_left items) ∙ ap (λ b. b && trailing
 
 module _ {A : Type 0} {old new : Handles} {w u : World} {d : ℕ} {name : List ℕ} {shown : A
     → List ℕ} (same : new ≡ old) where
-  pub read_looks : {text : A} → Told {A = A} old new w u (ReadLinkAt d name) shown (Ok text) → Looks old w u (d ∷ [])
+  pub read_looks : {text : A} → Told {A = A} old new w u (ReadLinkAt d name) shown (Ok text) → OnlyLooks old w u (d ∷ [])
   read_looks {text} told =
       looks_of (Ok text) (λ is. refl) (call_ok {call = ReadLinkAt d name} [] (All-nil _) (same_live same) told)
 
@@ -51,7 +52,7 @@ module _ {A : Type 0} {old new : Handles} {w u : World} {d : ℕ} {name : List �
       (cc)
 
   pub read_fails : (e : HostError) → Told {A = A} old new w u (ReadLinkAt d name) shown (Err e)
-      → ReadFails old w u d name e
+      → ReadFails old w u (record { directory = d; name = name }) e
   read_fails e told = record {
     looks = looks_of (Err e) (λ is. refl) (call_err {call = ReadLinkAt d name} e [] same told);
     fault = λ none. by e (subst (λ r. MeansErr (unless r (link_text w.tree d name)) e) none told.meaning);
@@ -67,7 +68,7 @@ module _ {A : Type 0} {old new : Handles} {w u : World} {d : ℕ} {name : List �
       → Told {A = A} old new w u (ReadLinkAt d name) shown (Ok text)
       → left ≡ texts.parts (shown text) ++ parts_left items → was_last ≡ (length items == 0)
       → slash' ≡ (slash || (was_last && trailing_slash (shown text)))
-      → ReadsText old w u d name slash (parts_left items) left slash'
+      → ReadsText old w u (record { directory = d; name = name }) (parts_left items) left slash slash'
   reads_now {text} {slash = slash} items told put last now = record {
     looks = read_looks told;
     put = put ∙ ap (λ t. texts.parts t ++ parts_left items) (sym (read_text told));
@@ -80,7 +81,7 @@ module _ {A : Type 0} {old new : Handles} {w u : World} {d : ℕ} {name : List �
   -- it was read, and memory was wanted for its parts
   pub reads_wants : {text : A} {e : HostError} → Told {A = A} old new w u (ReadLinkAt d name) shown (Ok text)
       → e ≡ Memory
-      → ReadFails old w u d name e
+      → ReadFails old w u (record { directory = d; name = name }) e
   reads_wants told is = record { looks = read_looks told; fault = λ none. inl is }
 
 -- ---- the parts up to it, and then it
@@ -89,11 +90,14 @@ looks_more : {P : Type 0} (l : Leg P) → taken_by l + 1 ≤ leg_looks l
 looks_more (Ended m outcome) = omega arith
 looks_more (Linked m position text left) = omega arith
 
-module _ {first : Handles} {w v u : World} {start : ℕ} {aim : Aim} {follow slash : Bool} {m : ℕ} {before : List ℕ}
-    (items left : List PartLeft) {old mid : List Lookup} where
-  pub ends_past : (r : Result Found HostError)
-      → ReachesEnd first w v u start aim follow slash m (parts_left items) before (parts_left left) r
-      → FewUntil 1 items left old mid → EndsPast first w v u start aim follow slash m (parts_left items) before old mid r
+-- where a walk stands, by what is left of its parts
+abbrev pub way_left : World → List ℕ → List PartLeft → Way
+way_left world stack items = way world stack (parts_left items)
+
+module _ {b : Begin} {k : Course} {m : ℕ} {v u : World} {before after : List ℕ} (items left : List PartLeft)
+    {old mid : List Lookup} where
+  pub ends_past : (r : Result Found HostError) → ReachesEnd b k m (way_left v before items) (way_left u after left) r
+      → FewUntil 1 items left old mid → EndsPast b k m (way_left v before items) (way_left u after left) old mid r
   ends_past r ends few = record {
     taken = ends.taken;
     outcome = ends.outcome;
@@ -103,62 +107,54 @@ module _ {first : Handles} {w v u : World} {start : ℕ} {aim : Aim} {follow sla
   }
 
   -- what the parts up to a failure cost
-  pub fails_few : {e : HostError}
-      (fails : ReachFails first w v u start aim follow slash m (parts_left items) before (parts_left left) e)
-      → FewUntil 1 items left old mid
-      → length mid + m ≤ length old + taken_by (leg_nodes w.tree (w.held start).node aim follow slash m
-      (parts_left items) (nodes_under v.held before)) + 1
+  pub fails_few : {e : HostError} (fails : ReachFails b k m (way_left v before items) (way_left u after left) e) → FewUntil 1 items left old mid
+      → length mid + m ≤ length old + taken_by (leg_from b k m (way_left v before items)) + 1
   fails_few fails few =
       omega (arith, few.calls, fails.count, fails.most, length-parts items, length-parts left)
 
-  pub fails_past : (e : HostError)
-      → ReachFails first w v u start aim follow slash m (parts_left items) before (parts_left left) e
-      → FewUntil 1 items left old mid → FailsPast first w v u start aim follow slash m (parts_left items) before old mid e
+  pub fails_past : (e : HostError) → ReachFails b k m (way_left v before items) (way_left u after left) e
+      → FewUntil 1 items left old mid → FailsPast b k m (way_left v before items) (way_left u after left) old mid e
   fails_past e fails few = record {
     looks = fails.looks;
     fault = fails.fault;
-    few =
-        let looks =
-        looks_more (leg_nodes w.tree (w.held start).node aim follow slash m (parts_left items)
-        (nodes_under v.held before)) in
-        omega (arith, fails_few fails few, looks);
+    few = let looks = looks_more (leg_from b k m (way_left v before items)) in omega (arith, fails_few fails few, looks);
   }
 
   -- what the parts up to a link cost
-  pub link_few : {after : List ℕ} {name : List ℕ}
-      (link : ReachesLink first w v u start aim follow slash m (parts_left items) before (parts_left left) after name)
+  pub link_few : {name : List ℕ} (link : ReachesLink b k m (way_left v before items) (way_left u after left) name)
       → FewUntil 1 items left old mid → length mid + m ≤ length old + link.taken + 1
   link_few link few = omega (arith, few.calls, link.count, length-parts items, length-parts left)
 
-  module _ {now : Handles} {stack : List ℕ} {here : ℕ} {name : List ℕ} (on : OnTop first now w u start stack here)
-      (link : ReachesLink first w v u start aim follow slash m (parts_left items) before (parts_left left) stack name)
-      (few : FewUntil 1 items left old mid) {new : List Lookup} (more : FewReads 1 1 mid new) where
+  module _ {now : Handles} {here : ℕ} {name : List ℕ} (on : OnTop b now u after here)
+      (link : ReachesLink b k m (way_left v before items) (way_left u after left) name) (few : FewUntil 1 items left old mid) {new : List Lookup}
+      (more : FewReads 1 1 mid new) where
     abbrev d : ℕ
-    d = top (w.held start).node (nodes_under u.held stack)
+    d = top (origin b) (nodes_under u.held after)
 
-    pub link_past : {z : World} {behind : List Component} (slash' : Bool)
-        → ReadsText now u z (u.held here).node name slash (parts_left left) behind slash'
-        → LinkPast first w v z start aim follow slash m (parts_left items) before behind stack old new slash'
-    link_past slash' reads =
-        let text : link_text u.tree (u.held here).node name ≡ link_text w.tree d name =
+    pub link_past : {z : World} {behind : List Component} (slash : Bool)
+        → ReadsText now u z (record { directory = (u.held here).node; name = name }) (parts_left left) behind k.slash slash
+        → LinkPast b k m (way_left v before items) (way z after behind) old new slash
+    link_past slash reads =
+        let text : link_text u.tree (u.held here).node name ≡ link_text b.world.tree d name =
         ap (λ t. link_text t (u.held here).node name) on.walked.looks.tree
-        ∙ ap (λ n. link_text w.tree n name) (node_is on) in
+        ∙ ap (λ n. link_text b.world.tree n name) (node_is on) in
         record {
           walked = walked_on on reads.looks;
           taken = link.taken;
-          text = link_text w.tree d name;
+          text = link_text b.world.tree d name;
           behind = parts_left left;
           linked = link.linked
               ∙ ap (λ ns. let l : Leg (List ℕ) =
-              Linked link.taken ns (link_text w.tree d name) (parts_left left) in l) (sym
+              Linked link.taken ns (link_text b.world.tree d name) (parts_left left) in l) (sym
               (kept_on on reads.looks));
           put = reads.put ∙ ap (λ t. texts.parts t ++ parts_left left) text;
-          now = reads.now ∙ ap (λ t. slash || adds_slash t (parts_left left)) text;
+          now = reads.now ∙ ap (λ t. k.slash || adds_slash t (parts_left left)) text;
           few = omega (arith, link_few link few, more.calls);
         }
 
-    pub link_fails : {z : World} (e : HostError) → ReadFails now u z (u.held here).node name e
-        → FailsPast first w v z start aim follow slash m (parts_left items) before old new e
+    pub link_fails : {z : World} {behind : List Component} (e : HostError)
+        → ReadFails now u z (record { directory = (u.held here).node; name = name }) e
+        → FailsPast b k m (way_left v before items) (way z after behind) old new e
     link_fails e fails = record {
       looks = looks_on on fails.looks;
       fault = fails.fault (back link.free);
@@ -167,6 +163,6 @@ module _ {first : Handles} {w v u : World} {start : ℕ} {aim : Aim} {follow sla
           omega (arith, link_few link few, more.calls, looks);
     }
       where
-        back : refusal w.tree (ReadLinkAt d name) ≡ None → refusal u.tree (ReadLinkAt (u.held here).node name) ≡ None
+        back : refusal b.world.tree (ReadLinkAt d name) ≡ None → refusal u.tree (ReadLinkAt (u.held here).node name) ≡ None
         back is = ap (λ t. refusal t (ReadLinkAt (u.held here).node name)) on.walked.looks.tree
-            ∙ ap (λ n. refusal w.tree (ReadLinkAt n name)) (node_is on) ∙ is
+            ∙ ap (λ n. refusal b.world.tree (ReadLinkAt n name)) (node_is on) ∙ is

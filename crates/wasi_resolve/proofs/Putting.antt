@@ -1,8 +1,10 @@
 -- Parts that are put before those that are left.
-use Rattle.std.proofs.Common.{◌≡◌, ℕ, List, [], ◌∷◌, ◌++◌, map, length, cond, sym, ap, ◌∙◌, append_assoc}
-use Rattle.std.specs.Prelude.{reverse}
+use Rattle.std.proofs.Common.{◌≡◌, ℕ, List, [], ◌∷◌, ◌++◌, map, length, cond, Some, sym, ap, ◌∙◌, append_assoc}
+use Rattle.std.specs.Prelude.{All, reverse}
+use Rattle.std.proofs.lemmas.List.Elements.{All-pop}
 use Rattle.std.proofs.lemmas.List.{append-nil, reverse-append, length-reverse, length-map}
 use Rattle.wasi_paths.specs.Parts.{Component, CurDir, components, trailing_dot, parts}
+use Rattle.wasi_paths.specs.TextLaws.{HasPlainName}
 use Rattle.wasi_resolve.specs.Left.{component_left, parts_left}
 use Rattle.wasi_resolve.specs.declared.left.PartLeft.{PartLeft}
 
@@ -17,14 +19,21 @@ popped_parts new part is = ap parts_left is ∙ pushed_parts new part
 pub length-parts : (items : List PartLeft) → length (parts_left items) ≡ length items
 length-parts items = length-map (reverse items) component_left ∙ length-reverse items
 
--- the last one of the rest is put before what is left
-pub put_one : {rest all : List Component} (items : List PartLeft) (rest' : List Component) (part : PartLeft)
+-- so far: the rest of a text's parts is still to be put before those that are left, which makes them all
+pub record IsPut (all rest : List Component) (items : List PartLeft) : Type 0 where
+  pub so_far : rest ++ parts_left items ≡ all
+  pub plain : All HasPlainName rest
+
+-- the last one of the rest is put
+pub put_one : {all rest : List Component} (items : List PartLeft) (rest' : List Component) (part : PartLeft)
     (piece : Component)
-    → rest ++ parts_left items ≡ all → rest ≡ rest' ++ piece ∷ [] → component_left part ≡ piece
-    → rest' ++ parts_left (items ++ part ∷ []) ≡ all
-put_one {rest} {all} items rest' part piece so_far is at =
-    ap (λ l. rest' ++ l) (pushed_parts items part ∙ ap (λ p. p ∷ parts_left items) at)
-    ∙ sym (append_assoc rest' (piece ∷ []) (parts_left items)) ∙ ap (λ l. l ++ parts_left items) (sym is) ∙ so_far
+    → IsPut all rest items → rest ≡ rest' ++ piece ∷ [] → component_left part ≡ piece
+    → IsPut all rest' (items ++ part ∷ [])
+put_one {all} {rest} items rest' part piece put is at = record {
+  so_far = ap (λ l. rest' ++ l) (pushed_parts items part ∙ ap (λ p. p ∷ parts_left items) at)
+      ∙ sym (append_assoc rest' (piece ∷ []) (parts_left items)) ∙ ap (λ l. l ++ parts_left items) (sym is) ∙ put.so_far;
+  plain = (All-pop HasPlainName rest rest' (Some piece) is put.plain).0;
+}
 
 -- all are put
 pub put_all : (text : List ℕ) {rest all : List Component} (items : List PartLeft) (before : List Component) → rest ≡ []

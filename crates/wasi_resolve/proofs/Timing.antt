@@ -21,7 +21,7 @@ use Rattle.wasi_resolve.specs.PathRequest.{TimesPath, meant_by, times_through}
 use Rattle.wasi_resolve.specs.Paths.{opened, reading, writing, or_else, access_unsupported, timed_again, timed}
 use Rattle.wasi_resolve.specs.Resolved.{Meant, Resolved}
 use Rattle.wasi_resolve.specs.Timed.{reads_after, read_refused, read_at, timed_at}
-use Rattle.wasi_resolve.specs.WalkSteps.{Looks, Stayed}
+use Rattle.wasi_resolve.specs.WalkSteps.{OnlyLooks, WorldStays}
 use Rattle.wasi_resolve.proofs.LawProofs.{paths_stay_in_reach}
 use Rattle.wasi_resolve.proofs.Calls.{call_meant, call_ok, call_err, found_ok, looks_of, means_then, resolved_err, resolved_stay, resolved_then, same_live, still_live}
 use Rattle.wasi_resolve.proofs.Parenting.{opening_leaves}
@@ -84,7 +84,7 @@ module _ {live : Handles} {w v : World} (s : ℕ) (text : List ℕ) where
       (looks_of (Ok h) (opening_leaves w.tree s text writing true refl refl) opens)
 
   refused_looks : (e : HostError) → Resolved live w v (opens_at w.tree s text writing) v.held (Err e)
-      → Looks live w v (s ∷ [])
+      → OnlyLooks live w v (s ∷ [])
   refused_looks e opens = looks_of (Err e) (opening_leaves w.tree s text writing true refl refl) opens
 
   pub timed_err : (e : HostError) → reads_after e ≡ false
@@ -132,7 +132,7 @@ module _ {first : Handles} {w v : World} (s : ℕ) (text : List ℕ) (atime mtim
   -- the handle's node is reached from the start, its times are set, and it is closed
   pub is_timed : {mid new : Handles} {u z : World} (h : ℕ) (r : Result (Unit {0}) HostError) → mid ≡ insert first h
       → new ≡ mid → Resolved first w v (timed_at w.tree s text) v.held (Ok h)
-      → Told mid new v u (SetTimes (v.held h).node atime mtime) (λ unit. unit) r → Stayed first u z
+      → Told mid new v u (SetTimes (v.held h).node atime mtime) (λ unit. unit) r → WorldStays first u z
       → Resolved first w z (meant_by w.tree (TimesPath s text true atime mtime)) (λ unit. unit) r
   unfolding refusal
   is_timed {mid} {new} {u} {z} h r got same opens set closed =

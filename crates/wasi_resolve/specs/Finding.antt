@@ -13,14 +13,13 @@ use Rattle.wasi_resolve.specs.Walk as walk
 use Rattle.wasi_resolve.specs.Resolved.{last_got, links_read}
 use Rattle.wasi_resolve.specs.Meanings.{follows}
 use Rattle.wasi_resolve.specs.Stack.{Stands, Among}
+use Rattle.wasi_resolve.specs.Ways.{Course}
 use Rattle.wasi_resolve.specs.declared.found.Aim.{Aim}
 use Rattle.wasi_resolve.specs.declared.found.Aim.TheVariants as aims
 use Rattle.wasi_resolve.specs.declared.found.Found.{Found}
 use Rattle.wasi_resolve.specs.declared.found.Found.TheVariants as found
 use Rattle.wasi_resolve.specs.declared.found.Reach.{Reach}
 use Rattle.wasi_resolve.specs.declared.found.Reach.TheVariants as reach
-use Rattle.wasi_resolve.specs.declared.found.Past.{Past}
-use Rattle.wasi_resolve.specs.declared.found.Past.TheVariants as past
 use Rattle.wasi_resolve.specs.declared.found.Stop as stopping
 use Rattle.wasi_resolve.specs.declared.found.Stop.TheVariants as stops
 use Rattle.wasi_resolve.specs.declared.left.PartLeft.{PartLeft}
@@ -31,9 +30,13 @@ abbrev pub aim_of : Aim → walk.Aim
 aim_of (aims.Open options) = walk.Open options
 aim_of (aims.Look follow) = walk.Look
 
-abbrev pub follow_of : Aim → Bool
-follow_of (aims.Open options) = follows options.follow
-follow_of (aims.Look follow) = follows follow
+abbrev pub aim_follows : Aim → Bool
+aim_follows (aims.Open options) = follows options.follow
+aim_follows (aims.Look follow) = follows follow
+
+-- what a walk with this aim is for, where a slash stands behind its last name, or none
+abbrev pub course_of : Aim → Bool → Course
+course_of aim slash = record { aim = aim_of aim; follow = aim_follows aim; slash = slash }
 
 -- an open finds a handle, a look metadata
 abbrev pub IsFor : Aim → Found → Type 0
@@ -50,11 +53,6 @@ abbrev pub FoundAs : Aim → Result Reach HostError → Type 0
 FoundAs aim (Ok (reach.Found it)) = IsFor aim it
 FoundAs aim (Ok (reach.Link name)) = Unit {0}
 FoundAs aim (Err e) = Unit {0}
-
-abbrev pub PastFor : Aim → Result Past HostError → Type 0
-PastFor aim (Ok (past.Found it)) = IsFor aim it
-PastFor aim (Ok (past.Link slash)) = Unit {0}
-PastFor aim (Err e) = Unit {0}
 
 abbrev pub is_link_kind : FileType → Bool
 is_link_kind kinds.SymbolicLink = true
@@ -78,95 +76,54 @@ may_be_link Memory dir_required = false
 may_be_link (Code NotDirectory) dir_required = dir_required
 may_be_link (Code code) dir_required = false
 
--- ---- what is live afterwards: the new handle too, where one was found
+-- ---- the handle that was got, where one was
 
-abbrev pub LiveEntered : Handles → Result (Option ℕ) HostError → Handles → Type 0
-LiveEntered old (Ok (Some h)) new = (contains old h ≡ false) × (new ≡ insert old h)
-LiveEntered old (Ok None) new = new ≡ old
-LiveEntered old (Err e) new = new ≡ old
+abbrev pub handle_entered : Result (Option ℕ) HostError → Option ℕ
+handle_entered (Ok entered) = entered
+handle_entered (Err e) = None
 
-abbrev pub LiveFound : Handles → Result Found HostError → Handles → Type 0
-LiveFound old (Ok (found.Handle h)) new = (contains old h ≡ false) × (new ≡ insert old h)
-LiveFound old (Ok (found.Metadata metadata)) new = new ≡ old
-LiveFound old (Err e) new = new ≡ old
+abbrev pub handle_found : Result Found HostError → Option ℕ
+handle_found (Ok (found.Handle h)) = Some h
+handle_found (Ok (found.Metadata metadata)) = None
+handle_found (Err e) = None
 
-abbrev pub LiveReached : Handles → Result Reach HostError → Handles → Type 0
-LiveReached old (Ok (reach.Found it)) new = LiveFound old (Ok it) new
-LiveReached old (Ok (reach.Link name)) new = new ≡ old
-LiveReached old (Err e) new = new ≡ old
+abbrev pub handle_reached : Result Reach HostError → Option ℕ
+handle_reached (Ok (reach.Found it)) = handle_found (Ok it)
+handle_reached (Ok (reach.Link name)) = None
+handle_reached (Err e) = None
 
--- what is live is what was live, the stack, and the new handle
-abbrev pub StandsFound : Handles → Handles → ℕ → List ℕ → Result Found HostError → Type 0
-StandsFound first now start stack (Ok (found.Handle h)) =
-    (contains first h ≡ false) × Stands (insert first h) now start stack
-StandsFound first now start stack (Ok (found.Metadata metadata)) = Stands first now start stack
-StandsFound first now start stack (Err e) = Stands first now start stack
+-- it is new, and live afterwards
+abbrev pub LiveWith : Handles → Option ℕ → Handles → Type 0
+LiveWith old (Some h) new = (contains old h ≡ false) × (new ≡ insert old h)
+LiveWith old None new = new ≡ old
 
-abbrev pub StandsReached : Handles → Handles → ℕ → List ℕ → Result Reach HostError → Type 0
-StandsReached first now start stack (Ok (reach.Found it)) = StandsFound first now start stack (Ok it)
-StandsReached first now start stack (Ok (reach.Link name)) = Stands first now start stack
-StandsReached first now start stack (Err e) = Stands first now start stack
+-- what is live is what was live, the stack, and it
+abbrev pub StandsWith : Handles → Handles → ℕ → List ℕ → Option ℕ → Type 0
+StandsWith first now start stack (Some h) = (contains first h ≡ false) × Stands (insert first h) now start stack
+StandsWith first now start stack None = Stands first now start stack
 
-abbrev pub StandsPast : Handles → Handles → ℕ → List ℕ → Result Past HostError → Type 0
-StandsPast first now start stack (Ok (past.Found it)) = StandsFound first now start stack (Ok it)
-StandsPast first now start stack (Ok (past.Link slash)) = Stands first now start stack
-StandsPast first now start stack (Err e) = Stands first now start stack
+abbrev pub IsGot : Option ℕ → ℕ → Type 0
+IsGot (Some h) q = q ≡ h
+IsGot None q = ⊥
 
--- ---- the handles that were got
-
-abbrev pub EnteredBy : Result (Option ℕ) HostError → ℕ → Type 0
-EnteredBy (Ok (Some h)) q = q ≡ h
-EnteredBy (Ok None) q = ⊥
-EnteredBy (Err e) q = ⊥
-
-abbrev pub FoundBy : Result Found HostError → ℕ → Type 0
-FoundBy (Ok (found.Handle h)) q = q ≡ h
-FoundBy (Ok (found.Metadata metadata)) q = ⊥
-FoundBy (Err e) q = ⊥
-
-abbrev pub ReachedBy : Result Reach HostError → ℕ → Type 0
-ReachedBy (Ok (reach.Found it)) q = FoundBy (Ok it) q
-ReachedBy (Ok (reach.Link name)) q = ⊥
-ReachedBy (Err e) q = ⊥
-
--- ---- what was found is what the last look-up got
-
-abbrev pub EnteredLast : Result (Option ℕ) HostError → List Lookup → Type 0
-EnteredLast (Ok (Some h)) lookups = last_got lookups ≡ Some h
-EnteredLast (Ok None) lookups = Unit {0}
-EnteredLast (Err e) lookups = Unit {0}
-
-abbrev pub FoundLast : Result Found HostError → List Lookup → Type 0
-FoundLast (Ok (found.Handle h)) lookups = last_got lookups ≡ Some h
-FoundLast (Ok (found.Metadata metadata)) lookups = Unit {0}
-FoundLast (Err e) lookups = Unit {0}
-
-abbrev pub ReachedLast : Result Reach HostError → List Lookup → Type 0
-ReachedLast (Ok (reach.Found it)) lookups = FoundLast (Ok it) lookups
-ReachedLast (Ok (reach.Link name)) lookups = Unit {0}
-ReachedLast (Err e) lookups = Unit {0}
-
-abbrev pub PastLast : Result Past HostError → List Lookup → Type 0
-PastLast (Ok (past.Found it)) lookups = FoundLast (Ok it) lookups
-PastLast (Ok (past.Link slash)) lookups = Unit {0}
-PastLast (Err e) lookups = Unit {0}
+-- it is what the last look-up got
+abbrev pub IsLast : Option ℕ → List Lookup → Type 0
+IsLast (Some h) lookups = last_got lookups ≡ Some h
+IsLast None lookups = Unit {0}
 
 -- ---- where look-ups begin
 
--- up to a link the stack was got, and else what was found
-abbrev pub ReachTraced : ℕ → List ℕ → List ℕ → Result Reach HostError → List Lookup → List Lookup → Type 0
-ReachTraced start before after (Ok (reach.Link name)) old new =
-    Traced (Among start before) (Among start before) (Among start after) old new
-ReachTraced start before after (Ok (reach.Found it)) old new =
-    Traced (Among start before) Nothing (FoundBy (Ok it)) old new
-ReachTraced start before after (Err e) old new = Traced (Among start before) Nothing Nothing old new
+-- from a stack, which is another one then
+abbrev pub StackTraced : ℕ → List ℕ → List ℕ → List Lookup → List Lookup → Type 0
+StackTraced start before after old new = Traced (Among start before) (Among start before) (Among start after) old new
 
-abbrev pub PastTraced : ℕ → List ℕ → List ℕ → Result Past HostError → List Lookup → List Lookup → Type 0
-PastTraced start before after (Ok (past.Link slash)) old new =
-    Traced (Among start before) (Among start before) (Among start after) old new
-PastTraced start before after (Ok (past.Found it)) old new =
-    Traced (Among start before) Nothing (FoundBy (Ok it)) old new
-PastTraced start before after (Err e) old new = Traced (Among start before) Nothing Nothing old new
+-- up to a link the stack was got, and else what was found
+abbrev pub ReachTraced : ℕ → List ℕ → List ℕ → Result Reach HostError → List Lookup → List Lookup
+    → Type 0
+ReachTraced start before after (Ok (reach.Link name)) old new = StackTraced start before after old new
+ReachTraced start before after (Ok (reach.Found it)) old new =
+    Traced (Among start before) Nothing (IsGot (handle_found (Ok it))) old new
+ReachTraced start before after (Err e) old new = Traced (Among start before) Nothing Nothing old new
 
 -- ---- how many look-ups were made
 

@@ -9,10 +9,12 @@ pub mod PathRequest
 pub mod NameText
 pub mod Left
 pub mod Stack
+pub mod Ways
 pub mod Finding
 pub mod WalkSteps
 pub mod Parents
 pub mod AtPlace
+pub mod Change
 pub mod AtTwo
 pub mod TwoParents
 pub mod Timed

@@ -21,6 +21,10 @@ pub record Stands (first now : Handles) (start : ℕ) (stack : List ℕ) : Type 
   pub fresh : AreFresh first stack
   pub live : now ≡ with_handles first stack
 
+-- whatever was live before a stack, it is so before what the stack is now
+abbrev pub StillStands : ℕ → Handles → List ℕ → Handles → List ℕ → Type 0
+StillStands start old before new after = (first : Handles) → Stands first old start before → Stands first new start after
+
 -- the handle on top, or the start
 abbrev pub top_handle : ℕ → List ℕ → ℕ
 top_handle start stack = top start (reverse stack)

@@ -12,6 +12,8 @@ ghost use Rattle.wasi_paths.specs.Parts.{has_root, strip_dir_suffix};
 ghost use Rattle.wasi_resolve.specs.Parents.{parent_looks};
 ghost use Rattle.wasi_resolve.specs.Resolved.{links_read, Resolved};
 ghost use Rattle.wasi_resolve.specs.Finding.{FewReads};
+ghost use Rattle.wasi_resolve.specs.Change.{change_call, change_done};
+ghost use Rattle.wasi_resolve.specs.Paths.{place};
 ghost use Rattle.wasi_resolve.specs.AtPlace.{CreateDir, RemoveFile, RemoveDir, Symlink, ReadLink, SetTimes, done_in, does_at};
 
 use crate::parent::open_parent;
@@ -42,13 +44,13 @@ pub fn create_dir<H: Host>(
     ensures bound { IsTrue H.told → length (H.lookups host.new) ≤ length (H.lookups host.old)
         + parent_looks (H.world host.old).tree ((H.world host.old).held start).node (strip_dir_suffix path.now) + 1 }
 {
-    let place = match open_parent(alloc, host, start, strip_dir_suffix(path)) {
-        Ok(place) => place,
-        Err(e) => return Err(e),
-    };
-    let made = host.make_dir_at(place.directory.handle(), place.name);
-    place.directory.release(host);
-    made
+    change_at(
+        alloc,
+        host,
+        start,
+        strip_dir_suffix(path),
+        &Change::CreateDir,
+    )
 }
 
 /// Drops the name of a file or link at the place that a path names below a start directory; the link itself is
@@ -72,13 +74,7 @@ pub fn remove_file<H: Host>(
     ensures bound { IsTrue H.told → length (H.lookups host.new) ≤ length (H.lookups host.old)
         + parent_looks (H.world host.old).tree ((H.world host.old).held start).node path.now + 1 }
 {
-    let place = match open_parent(alloc, host, start, path) {
-        Ok(place) => place,
-        Err(e) => return Err(e),
-    };
-    let removed = host.unlink_at(place.directory.handle(), place.name);
-    place.directory.release(host);
-    removed
+    change_at(alloc, host, start, path, &Change::RemoveFile)
 }
 
 /// Drops an empty directory at the place that a path names below a start directory: the crate's `remove_dir`. A handle
@@ -102,13 +98,7 @@ pub fn remove_dir<H: Host>(
     ensures bound { IsTrue H.told → length (H.lookups host.new) ≤ length (H.lookups host.old)
         + parent_looks (H.world host.old).tree ((H.world host.old).held start).node path.now + 1 }
 {
-    let place = match open_parent(alloc, host, start, path) {
-        Ok(place) => place,
-        Err(e) => return Err(e),
-    };
-    let removed = host.remove_dir_at(place.directory.handle(), place.name);
-    place.directory.release(host);
-    removed
+    change_at(alloc, host, start, path, &Change::RemoveDir)
 }
 
 /// Makes a link of this text at the place that a path names below a start directory: the crate's `symlink`. A text with
@@ -138,13 +128,7 @@ pub fn symlink<H: Host>(
     if has_root(target) {
         return Err(HostError::Code(ErrorCode::NotPermitted));
     }
-    let place = match open_parent(alloc, host, start, path) {
-        Ok(place) => place,
-        Err(e) => return Err(e),
-    };
-    let made = host.symlink_at(target, place.directory.handle(), place.name);
-    place.directory.release(host);
-    made
+    change_at(alloc, host, start, path, &Change::Symlink(target))
 }
 
 /// Sets the given times of what the place holds that a path names below a start directory, that of its last read and
@@ -170,13 +154,75 @@ pub fn set_times_nofollow<H: Host>(
     ensures bound { IsTrue H.told → length (H.lookups host.new) ≤ length (H.lookups host.old)
         + parent_looks (H.world host.old).tree ((H.world host.old).held start).node path.now + 1 }
 {
+    change_at(alloc, host, start, path, &Change::SetTimes(atime, mtime))
+}
+
+/// What one call of the host changes at a place. It answers nothing but that it was done.
+#[derive(Clone, Copy, Debug)]
+enum Change<'a> {
+    CreateDir,
+    RemoveFile,
+    RemoveDir,
+    /// A link of this text is made.
+    Symlink(&'a str),
+    /// These times are set: that of the last read, and that of the last change.
+    SetTimes(Option<SystemTime>, Option<SystemTime>),
+}
+
+/// Changes what a name holds in a directory.
+fn change_in<H: Host>(
+    host: &mut H,
+    directory: Handle,
+    name: Name<'_>,
+    change: &Change<'_>,
+) -> Result<(), HostError>
+    requires { contains (H.live host.old) directory ≡ true }
+    ensures cause { HasCause (H.faults host.old) (H.faults host.new) result }
+    ensures live { H.live host.new ≡ H.live host.old }
+    ensures lineage { Traced (Only directory) Nothing Nothing (H.lookups host.old) (H.lookups host.new) }
+    ensures reads { FewReads 1 0 (H.lookups host.old) (H.lookups host.new) }
+    ensures told { IsTrue H.told → Resolved (H.live host.old) (H.world host.old) (H.world host.new)
+        (done_in (H.world host.old).tree ((H.world host.old).held directory).node
+        (Ok (record { directory = ((H.world host.old).held directory).node; name = name_bytes name.entry }))
+        (change_call change.now))
+        (change_done change.now) result }
+{
+    match change {
+        Change::CreateDir => host.make_dir_at(directory, name),
+        Change::RemoveFile => host.unlink_at(directory, name),
+        Change::RemoveDir => host.remove_dir_at(directory, name),
+        Change::Symlink(text) => host.symlink_at(text, directory, name),
+        Change::SetTimes(atime, mtime) => host.times_at(directory, name, *atime, *mtime),
+    }
+}
+
+/// Changes what stands at the place that a path names below a start directory.
+fn change_at<H: Host>(
+    alloc: Global,
+    host: &mut H,
+    start: Handle,
+    path: &str,
+    change: &Change<'_>,
+) -> Result<(), HostError>
+    requires live { contains (H.live host.old) start ≡ true }
+    ensures cause { HasCause (H.faults host.old) (H.faults host.new) result }
+    ensures live { H.live host.new ≡ H.live host.old }
+    ensures lineage { Traced (Only start) Nothing Nothing (H.lookups host.old) (H.lookups host.new) }
+    ensures links { links_read (H.lookups host.new) ≤ links_read (H.lookups host.old) + 40 }
+    ensures told { IsTrue H.told → Resolved (H.live host.old) (H.world host.old) (H.world host.new)
+        (done_in (H.world host.old).tree ((H.world host.old).held start).node
+        (place (H.world host.old).tree ((H.world host.old).held start).node path.now) (change_call change.now))
+        (change_done change.now) result }
+    ensures bound { IsTrue H.told → length (H.lookups host.new) ≤ length (H.lookups host.old)
+        + parent_looks (H.world host.old).tree ((H.world host.old).held start).node path.now + 1 }
+{
     let place = match open_parent(alloc, host, start, path) {
         Ok(place) => place,
         Err(e) => return Err(e),
     };
-    let set = host.times_at(place.directory.handle(), place.name, atime, mtime);
+    let done = change_in(host, place.directory.handle(), place.name, change);
     place.directory.release(host);
-    set
+    done
 }
 
 /// The text of the link at the place that a path names below a start directory: the crate's `read_link`. The link

@@ -9,7 +9,7 @@ ghost use Rattle.wasi_resolve.specs.Parents.{directory_of, parent_looks, release
 ghost use Rattle.wasi_resolve.specs.PathRequest.{AtTwo, meant_by};
 ghost use Rattle.wasi_resolve.specs.Resolved.{links_read, Resolved};
 ghost use Rattle.wasi_resolve.specs.TwoParents.{both_at, both_released, shown_places, TracedBoth};
-ghost use Rattle.wasi_resolve.specs.WalkSteps.{Stayed};
+ghost use Rattle.wasi_resolve.specs.WalkSteps.{WorldStays};
 
 use crate::parent::{MaybeOwned, Parent, open_parent};
 use std::alloc::Global;
@@ -135,7 +135,7 @@ fn release_both<H: Host>(host: &mut H, first: MaybeOwned, second: MaybeOwned)
     ensures live { H.live host.new ≡ both_released (H.live host.old) first second }
     ensures logged { H.lookups host.new ≡ H.lookups host.old }
     ensures told { IsTrue H.told
-        → Stayed (both_released (H.live host.old) first second) (H.world host.old) (H.world host.new) }
+        → WorldStays (both_released (H.live host.old) first second) (H.world host.old) (H.world host.new) }
 {
     second.release(host);
     first.release(host);

@@ -34,11 +34,3 @@ pub(crate) enum Reach<'p> {
     Found(Found),
     Link(NameLeft<'p>),
 }
-
-/// How the walk goes on behind the parts up to the next link.
-#[derive(Clone, Copy, Debug)]
-pub(crate) enum Past {
-    Found(Found),
-    /// The link was read; whether a slash stands behind the last part now.
-    Link(bool),
-}

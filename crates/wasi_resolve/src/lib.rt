@@ -14,6 +14,7 @@ mod resolver;
 mod stack;
 mod times;
 mod walk;
+mod way;
 
 pub use at_place::{create_dir, read_link, remove_dir, remove_file, set_times_nofollow, symlink};
 pub use at_two::{hard_link, rename};

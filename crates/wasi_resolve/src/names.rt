@@ -6,12 +6,13 @@ ghost use Rattle.wasi_host.specs.Lineage.{Traced, Only, Nothing};
 ghost use Rattle.wasi_paths.specs.Text.{is_plain};
 ghost use Rattle.wasi_paths.specs.Name.{name_bytes};
 ghost use Rattle.wasi_paths.specs.Parts.{Component, Normal};
-ghost use Rattle.wasi_resolve.specs.Walk.{Open, Look, middle_options, last_options};
+ghost use Rattle.wasi_resolve.specs.Walk.{middle_options, last_options};
 ghost use Rattle.wasi_resolve.specs.Meanings.{follows};
 ghost use Rattle.wasi_resolve.specs.NameText.{left_bytes};
-ghost use Rattle.wasi_resolve.specs.Stack.{Stands, Among};
-ghost use Rattle.wasi_resolve.specs.Finding.{follow_of, aim_of, LiveEntered, EnteredBy, LiveReached, ReachedBy, EnteredLast, ReachedLast, FewReads, ReadsBy, ReadsOnce, is_loop, may_be_link, is_link_kind, is_directory_kind, FoundAs};
-ghost use Rattle.wasi_resolve.specs.WalkSteps.{Walked, Enters, Goes, EndsAtName};
+ghost use Rattle.wasi_resolve.specs.Stack.{Stands, StillStands};
+ghost use Rattle.wasi_resolve.specs.Ways.{begin, way};
+ghost use Rattle.wasi_resolve.specs.Finding.{course_of, StackTraced, LiveWith, IsGot, IsLast, FewReads, ReadsBy, ReadsOnce, is_loop, may_be_link, is_link_kind, is_directory_kind, FoundAs, handle_entered, handle_reached};
+ghost use Rattle.wasi_resolve.specs.WalkSteps.{Walked, Enters, TakesPart, EndsAtName};
 
 use crate::found::{Aim, Found, Reach, Stop};
 use crate::name_left::NameLeft;
@@ -100,9 +101,9 @@ pub(crate) fn open_or_link<H: Host>(
     requires live { contains (H.live host.old) here ≡ true }
     requires plain { IsTrue (is_plain (name_bytes name)) }
     ensures cause { HasCause (H.faults host.old) (H.faults host.new) result }
-    ensures live { LiveEntered (H.live host.old) result (H.live host.new) }
-    ensures lineage { Traced (Only here) Nothing (EnteredBy result) (H.lookups host.old) (H.lookups host.new) }
-    ensures last { EnteredLast result (H.lookups host.new) }
+    ensures live { LiveWith (H.live host.old) (handle_entered result) (H.live host.new) }
+    ensures lineage { Traced (Only here) Nothing (IsGot (handle_entered result)) (H.lookups host.old) (H.lookups host.new) }
+    ensures last { IsLast (handle_entered result) (H.lookups host.new) }
     ensures reads { ReadsOnce (H.lookups host.old) (H.lookups host.new) result }
     ensures once { options.now.dir_required ≡ false → FewReads 1 0 (H.lookups host.old) (H.lookups host.new) }
     ensures told { IsTrue H.told → Enters (H.live host.old) (H.world host.old) (H.world host.new)
@@ -160,16 +161,15 @@ pub(crate) fn go_down<'p, H: Host>(
 ) -> Result<Option<Stop<'p>>, HostError>
     requires { (first : _) × Stands first (H.live host.old) start stack.old.items }
     ensures cause { HasCause (H.faults host.old) (H.faults host.new) result }
-    ensures stands { (first : _) → Stands first (H.live host.old) start stack.old.items
-        → Stands first (H.live host.new) start stack.new.items }
-    ensures lineage { Traced (Among start stack.old.items) (Among start stack.old.items) (Among start stack.new.items)
-        (H.lookups host.old) (H.lookups host.new) }
+    ensures stands { StillStands start (H.live host.old) stack.old.items (H.live host.new) stack.new.items }
+    ensures lineage { StackTraced start stack.old.items stack.new.items (H.lookups host.old) (H.lookups host.new) }
     ensures reads { ReadsBy (H.lookups host.old) (H.lookups host.new) result }
     ensures told { IsTrue H.told → (first : _) (w : World) (next : Component) (rest : List Component)
         → Stands first (H.live host.old) start stack.old.items
         → Walked first w (H.world host.old) start stack.old.items
-        → Goes first w (H.world host.old) (H.world host.new) start
-        (Normal (left_bytes name.entry.text) ∷ next ∷ rest) stack.old.items (next ∷ rest) stack.new.items result }
+        → TakesPart (begin first w start)
+        (way (H.world host.old) stack.old.items (Normal (left_bytes name.entry.text) ∷ next ∷ rest))
+        (way (H.world host.new) stack.new.items (next ∷ rest)) result }
 {
     stack.reserve(1)?;
     let here = top_of(start, stack);
@@ -193,80 +193,33 @@ pub(crate) fn at_last<'p, H: Host>(
 ) -> Result<Reach<'p>, HostError>
     requires { contains (H.live host.old) here ≡ true }
     ensures cause { HasCause (H.faults host.old) (H.faults host.new) result }
-    ensures live { LiveReached (H.live host.old) result (H.live host.new) }
+    ensures live { LiveWith (H.live host.old) (handle_reached result) (H.live host.new) }
     ensures for_aim { FoundAs aim.now result }
-    ensures lineage { Traced (Only here) Nothing (ReachedBy result) (H.lookups host.old) (H.lookups host.new) }
-    ensures last { ReachedLast result (H.lookups host.new) }
+    ensures lineage { Traced (Only here) Nothing (IsGot (handle_reached result)) (H.lookups host.old) (H.lookups host.new) }
+    ensures last { IsLast (handle_reached result) (H.lookups host.new) }
     ensures reads { FewReads 2 0 (H.lookups host.old) (H.lookups host.new) }
     ensures told { IsTrue H.told → EndsAtName (H.live host.old) (H.world host.old) (H.world host.new)
-        ((H.world host.old).held here).node (aim_of aim.now) (follow_of aim.now) slash (left_bytes name.entry.text)
-        result }
+        ((H.world host.old).held here).node (course_of aim.now slash) (left_bytes name.entry.text) result }
 {
     match aim {
-        Aim::Open(options) => open_last(host, here, name, options, slash),
-        Aim::Look(follow) => look_last(host, here, name, *follow, slash),
+        Aim::Open(options) => {
+            let last = last_options(options, slash);
+            let may_read = reads_links(options.is_follow(), slash);
+            match open_or_link(host, here, name.name(), &last, may_read) {
+                Ok(Some(handle)) => Ok(Reach::Found(Found::Handle(handle))),
+                Ok(None) => Ok(Reach::Link(name)),
+                Err(e) => Err(e),
+            }
+        }
+        Aim::Look(follow) => {
+            let metadata = host.stat_at(here, name.name())?;
+            if is_read(metadata.kind, reads_links(*follow, slash)) {
+                return Ok(Reach::Link(name));
+            }
+            if is_no_directory(metadata.kind, slash) {
+                return Err(HostError::Code(ErrorCode::NotDirectory));
+            }
+            Ok(Reach::Found(Found::Metadata(metadata)))
+        }
     }
-}
-
-/// The last name of an open.
-fn open_last<'p, H: Host>(
-    host: &mut H,
-    here: Handle,
-    name: NameLeft<'p>,
-    options: &OpenOptions,
-    slash: bool,
-) -> Result<Reach<'p>, HostError>
-    requires { contains (H.live host.old) here ≡ true }
-    ensures cause { HasCause (H.faults host.old) (H.faults host.new) result }
-    ensures live { LiveReached (H.live host.old) result (H.live host.new) }
-    ensures for_aim { FoundAs (Aim.Open options.now) result }
-    ensures lineage { Traced (Only here) Nothing (ReachedBy result) (H.lookups host.old) (H.lookups host.new) }
-    ensures last { ReachedLast result (H.lookups host.new) }
-    ensures reads { FewReads 2 0 (H.lookups host.old) (H.lookups host.new) }
-    ensures told { IsTrue H.told → EndsAtName (H.live host.old) (H.world host.old) (H.world host.new)
-        ((H.world host.old).held here).node (Open options.now)
-        (follows options.now.follow) slash (left_bytes name.entry.text) result }
-{
-    let may_read = reads_links(options.is_follow(), slash);
-    match open_or_link(
-        host,
-        here,
-        name.name(),
-        &last_options(options, slash),
-        may_read,
-    ) {
-        Ok(Some(handle)) => Ok(Reach::Found(Found::Handle(handle))),
-        Ok(None) => Ok(Reach::Link(name)),
-        Err(e) => Err(e),
-    }
-}
-
-/// The last name of a look.
-fn look_last<'p, H: Host>(
-    host: &mut H,
-    here: Handle,
-    name: NameLeft<'p>,
-    follow: FollowSymlinks,
-    slash: bool,
-) -> Result<Reach<'p>, HostError>
-    requires { contains (H.live host.old) here ≡ true }
-    ensures cause { HasCause (H.faults host.old) (H.faults host.new) result }
-    ensures live { LiveReached (H.live host.old) result (H.live host.new) }
-    ensures for_aim { FoundAs (Aim.Look follow) result }
-    ensures lineage { Traced (Only here) Nothing (ReachedBy result) (H.lookups host.old) (H.lookups host.new) }
-    ensures last { ReachedLast result (H.lookups host.new) }
-    ensures reads { FewReads 1 0 (H.lookups host.old) (H.lookups host.new) }
-    ensures told { IsTrue H.told → EndsAtName (H.live host.old) (H.world host.old) (H.world host.new)
-        ((H.world host.old).held here).node Look
-        (follows follow) slash (left_bytes name.entry.text) result }
-{
-    let metadata = host.stat_at(here, name.name())?;
-    let may_read = reads_links(follow, slash);
-    if is_read(metadata.kind, may_read) {
-        return Ok(Reach::Link(name));
-    }
-    if is_no_directory(metadata.kind, slash) {
-        return Err(HostError::Code(ErrorCode::NotDirectory));
-    }
-    Ok(Reach::Found(Found::Metadata(metadata)))
 }

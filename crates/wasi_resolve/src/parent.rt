@@ -10,7 +10,7 @@ ghost use Rattle.wasi_paths.specs.TextLaws.{IsLastPart};
 ghost use Rattle.wasi_resolve.specs.Paths.{part_text};
 ghost use Rattle.wasi_resolve.specs.Resolved.{links_read, Resolved};
 ghost use Rattle.wasi_resolve.specs.Parents.{directory_of, is_borrowed, parent_looks, parent_text, places_at, released, shown_place, GotParent, LastIn, LiveParent};
-ghost use Rattle.wasi_resolve.specs.WalkSteps.{Stayed};
+ghost use Rattle.wasi_resolve.specs.WalkSteps.{WorldStays};
 
 use crate::resolver::open_dir;
 use crate::walk::is_empty;
@@ -44,7 +44,7 @@ impl MaybeOwned {
         ensures live { H.live host.new ≡ released (H.live host.old) self }
         ensures logged { H.lookups host.new ≡ H.lookups host.old }
         ensures told { IsTrue H.told
-            → Stayed (released (H.live host.old) self) (H.world host.old) (H.world host.new) }
+            → WorldStays (released (H.live host.old) self) (H.world host.old) (H.world host.new) }
     {
         match self {
             MaybeOwned::Borrowed(_) => {}

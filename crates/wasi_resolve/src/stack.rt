@@ -1,10 +1,11 @@
 //! The stack of handles of the directories that a walk has gone down into, the last one on top.
 ghost use Rattle.std.specs.Prelude.{◌≡◌, ◌∷◌, IsTrue, List};
 ghost use Rattle.wasi_host.specs.Meaning.{HasCause, World};
-ghost use Rattle.wasi_host.specs.Lineage.{Traced};
 ghost use Rattle.wasi_paths.specs.Parts.{Component, ParentDir};
-ghost use Rattle.wasi_resolve.specs.Stack.{Stands, top_handle, Among};
-ghost use Rattle.wasi_resolve.specs.WalkSteps.{Stayed, Walked, Leaves};
+ghost use Rattle.wasi_resolve.specs.Stack.{Stands, StillStands, top_handle};
+ghost use Rattle.wasi_resolve.specs.Ways.{begin, way};
+ghost use Rattle.wasi_resolve.specs.Finding.{StackTraced};
+ghost use Rattle.wasi_resolve.specs.WalkSteps.{WorldStays, Walked, Leaves};
 
 use wasi_host::{ErrorCode, Handle, Host, HostError};
 
@@ -26,16 +27,14 @@ pub(crate) fn leave<H: Host>(
 ) -> Result<(), HostError>
     requires { (first : _) × Stands first (H.live host.old) start stack.old.items }
     ensures cause { HasCause (H.faults host.old) (H.faults host.new) result }
-    ensures stands { (first : _) → Stands first (H.live host.old) start stack.old.items
-        → Stands first (H.live host.new) start stack.new.items }
-    ensures lineage { Traced (Among start stack.old.items) (Among start stack.old.items) (Among start stack.new.items)
-        (H.lookups host.old) (H.lookups host.new) }
+    ensures stands { StillStands start (H.live host.old) stack.old.items (H.live host.new) stack.new.items }
+    ensures lineage { StackTraced start stack.old.items stack.new.items (H.lookups host.old) (H.lookups host.new) }
     ensures logged { H.lookups host.new ≡ H.lookups host.old }
     ensures told { IsTrue H.told → (first : _) (w : World) (rest : List Component)
         → Stands first (H.live host.old) start stack.old.items
         → Walked first w (H.world host.old) start stack.old.items
-        → Leaves first w (H.world host.old) (H.world host.new) start (ParentDir ∷ rest) stack.old.items
-        rest stack.new.items result }
+        → Leaves (begin first w start) (way (H.world host.old) stack.old.items (ParentDir ∷ rest))
+        (way (H.world host.new) stack.new.items rest) result }
 {
     let Some(here) = stack.pop() else {
         return Err(HostError::Code(ErrorCode::NotPermitted));
@@ -49,13 +48,13 @@ pub(crate) fn leave<H: Host>(
 }
 
 /// Closes the handles of a stack.
-pub(crate) fn close_all<H: Host>(host: &mut H, start: Handle, mut stack: Vec<Handle>)
-    requires { (first : _) × Stands first (H.live host.old) start stack.items }
+pub(crate) fn close_all<H: Host>(host: &mut H, start: Handle, stack: &mut Vec<Handle>)
+    requires { (first : _) × Stands first (H.live host.old) start stack.old.items }
     ensures faults { H.faults host.new ≡ H.faults host.old }
-    ensures live { (first : _) → Stands first (H.live host.old) start stack.items → H.live host.new ≡ first }
+    ensures live { (first : _) → Stands first (H.live host.old) start stack.old.items → H.live host.new ≡ first }
     ensures logged { H.lookups host.new ≡ H.lookups host.old }
-    ensures told { IsTrue H.told → (first : _) → Stands first (H.live host.old) start stack.items
-        → Stayed first (H.world host.old) (H.world host.new) }
+    ensures told { IsTrue H.told → (first : _) → Stands first (H.live host.old) start stack.old.items
+        → WorldStays first (H.world host.old) (H.world host.new) }
 {
     while let Some(handle) = stack.pop() {
         host.close(handle);

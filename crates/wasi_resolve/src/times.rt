@@ -7,7 +7,7 @@ ghost use Rattle.wasi_resolve.specs.Walk.{Open, walk, walk_looks};
 ghost use Rattle.wasi_resolve.specs.Paths.{reading, writing};
 ghost use Rattle.wasi_resolve.specs.PathRequest.{TimesPath, meant_by};
 ghost use Rattle.wasi_resolve.specs.Resolved.{links_read, GotBy, Resolved};
-ghost use Rattle.wasi_resolve.specs.Timed.{reads_after, read_refused, read_at, timed_at};
+ghost use Rattle.wasi_resolve.specs.Timed.{reads_after, read_refused, timed_at};
 
 use crate::resolver::open;
 use std::alloc::Global;
@@ -53,7 +53,8 @@ pub fn set_times<H: Host>(
     }
 }
 
-/// What the times of a path are set through: a handle for writing, or else one for reading.
+/// What the times of a path are set through: a handle for writing, or else one for reading. Where that is refused
+/// Access, nothing is left by which times could be set: Unsupported.
 fn open_to_set<H: Host>(
     alloc: Global,
     host: &mut H,
@@ -79,30 +80,9 @@ fn open_to_set<H: Host>(
     if !reads_after(refused) {
         return Err(refused);
     }
-    open_to_read(alloc, host, start, path)
-}
-
-/// A handle for reading. Where it is refused Access, nothing is left by which times could be set: Unsupported.
-fn open_to_read<H: Host>(
-    alloc: Global,
-    host: &mut H,
-    start: Handle,
-    path: &str,
-) -> Result<Handle, HostError>
-    requires live { contains (H.live host.old) start ≡ true }
-    ensures cause { HasCause (H.faults host.old) (H.faults host.new) result }
-    ensures live { LiveGot (H.live host.old) result (H.live host.new) }
-    ensures lineage { Traced (Only start) Nothing (GotBy result) (H.lookups host.old) (H.lookups host.new) }
-    ensures links { links_read (H.lookups host.new) ≤ links_read (H.lookups host.old) + 40 }
-    ensures told { IsTrue H.told → Resolved (H.live host.old) (H.world host.old) (H.world host.new)
-        (read_at (H.world host.old).tree ((H.world host.old).held start).node path.now)
-        (H.world host.new).held result }
-    ensures bound { IsTrue H.told → length (H.lookups host.new) ≤ length (H.lookups host.old)
-        + walk_looks (walk (H.world host.old).tree ((H.world host.old).held start).node path.now (Open reading) true) }
-{
     match open(alloc, host, start, path, &reading()) {
         Ok(handle) => Ok(handle),
-        Err(refused) => Err(read_refused(refused)),
+        Err(failed) => Err(read_refused(failed)),
     }
 }
 

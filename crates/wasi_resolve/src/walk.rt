@@ -7,49 +7,24 @@ ghost use Rattle.wasi_paths.specs.Parts.{Component, trailing_slash, is_empty};
 ghost use Rattle.wasi_resolve.specs.Walk.{walk, walk_looks};
 ghost use Rattle.wasi_resolve.specs.NameText.{left_bytes};
 ghost use Rattle.wasi_resolve.specs.Left.{component_left, parts_left, is_nil};
-ghost use Rattle.wasi_resolve.specs.Stack.{Stands, Among};
+ghost use Rattle.wasi_resolve.specs.Stack.{Stands, StillStands, Among};
+ghost use Rattle.wasi_resolve.specs.Ways.{begin, way, way_of};
 ghost use Rattle.wasi_resolve.specs.Resolved.{links_read, Resolved};
-ghost use Rattle.wasi_resolve.specs.Finding.{follow_of, aim_of, LiveFound, FoundBy, StandsFound, StandsReached, StandsPast, ReachTraced, PastTraced, PastFor, FoundLast, ReachedLast, PastLast, FewReads, ReadsBy, ReadsTo, FewUntil, FoundAs, FoundOf};
-ghost use Rattle.wasi_resolve.specs.WalkSteps.{Walked, Goes, Stopped, EndsInDirectory, Reaches, ReadsLink, Passes, Comes, meant_at, shown_found};
+ghost use Rattle.wasi_resolve.specs.Finding.{aim_follows, aim_of, course_of, LiveWith, IsGot, StandsWith, StackTraced, ReachTraced, IsLast, FewReads, ReadsBy, ReadsTo, FewUntil, FoundAs, FoundOf, handle_found, handle_reached};
+ghost use Rattle.wasi_resolve.specs.WalkSteps.{Walked, TakesPart, Stopped, EndsInDirectory, Reaches, ReadsLink, Comes, meant_at, shown_found};
 
 use crate::MAX_SYMLINK_EXPANSIONS;
-use crate::found::{Aim, Found, Past, Reach, Stop};
+use crate::found::{Aim, Found, Reach, Stop};
 use crate::left::{PartLeft, put_link, put_path};
 use crate::name_left::NameLeft;
 use crate::names::{at_last, go_down};
 use crate::stack::{close_all, leave, top_of};
+use crate::way::Way;
 use std::alloc::Global;
-use wasi_host::{ErrorCode, FollowSymlinks, Handle, Host, HostError, OpenOptions};
+use wasi_host::{ErrorCode, Handle, Host, HostError};
 use wasi_paths::{Name, path_has_trailing_slash};
 
-/// A name: the walk stops at the last one, and goes down into the others.
-fn at_name<'p, H: Host>(
-    host: &mut H,
-    start: Handle,
-    stack: &mut Vec<Handle>,
-    name: NameLeft<'p>,
-    is_last: bool,
-) -> Result<Option<Stop<'p>>, HostError>
-    requires { (first : _) × Stands first (H.live host.old) start stack.old.items }
-    ensures cause { HasCause (H.faults host.old) (H.faults host.new) result }
-    ensures stands { (first : _) → Stands first (H.live host.old) start stack.old.items
-        → Stands first (H.live host.new) start stack.new.items }
-    ensures lineage { Traced (Among start stack.old.items) (Among start stack.old.items) (Among start stack.new.items)
-        (H.lookups host.old) (H.lookups host.new) }
-    ensures reads { ReadsBy (H.lookups host.old) (H.lookups host.new) result }
-    ensures told { IsTrue H.told → (first : _) (w : World) (rest : List Component) → is_nil rest ≡ is_last
-        → Stands first (H.live host.old) start stack.old.items
-        → Walked first w (H.world host.old) start stack.old.items
-        → Goes first w (H.world host.old) (H.world host.new) start
-        (component_left (PartLeft.Normal name.entry) ∷ rest) stack.old.items rest stack.new.items result }
-{
-    if is_last {
-        return Ok(Some(Stop::Last(name)));
-    }
-    go_down(host, start, stack, name)
-}
-
-/// One part. `None` says that the walk goes on behind it.
+/// One part. The walk stops at a last name, and goes down into the others; `None` says that it goes on behind the part.
 fn step<'p, H: Host>(
     host: &mut H,
     start: Handle,
@@ -59,16 +34,14 @@ fn step<'p, H: Host>(
 ) -> Result<Option<Stop<'p>>, HostError>
     requires { (first : _) × Stands first (H.live host.old) start stack.old.items }
     ensures cause { HasCause (H.faults host.old) (H.faults host.new) result }
-    ensures stands { (first : _) → Stands first (H.live host.old) start stack.old.items
-        → Stands first (H.live host.new) start stack.new.items }
-    ensures lineage { Traced (Among start stack.old.items) (Among start stack.old.items) (Among start stack.new.items)
-        (H.lookups host.old) (H.lookups host.new) }
+    ensures stands { StillStands start (H.live host.old) stack.old.items (H.live host.new) stack.new.items }
+    ensures lineage { StackTraced start stack.old.items stack.new.items (H.lookups host.old) (H.lookups host.new) }
     ensures reads { ReadsBy (H.lookups host.old) (H.lookups host.new) result }
     ensures told { IsTrue H.told → (first : _) (w : World) (rest : List Component) → is_nil rest ≡ is_last
         → Stands first (H.live host.old) start stack.old.items
         → Walked first w (H.world host.old) start stack.old.items
-        → Goes first w (H.world host.old) (H.world host.new) start
-        (component_left part.entry ∷ rest) stack.old.items rest stack.new.items result }
+        → TakesPart (begin first w start) (way (H.world host.old) stack.old.items (component_left part.entry ∷ rest))
+        (way (H.world host.new) stack.new.items rest) result }
 {
     match part {
         PartLeft::Root => Err(HostError::Code(ErrorCode::NotPermitted)),
@@ -77,33 +50,31 @@ fn step<'p, H: Host>(
             Ok(()) => Ok(None),
             Err(e) => Err(e),
         },
-        PartLeft::Normal(name) => at_name(host, start, stack, name, is_last),
+        PartLeft::Normal(name) => {
+            if is_last {
+                return Ok(Some(Stop::Last(name)));
+            }
+            go_down(host, start, stack, name)
+        }
     }
 }
 
 /// The parts that are left, up to the last name or the next link.
-fn leg<'p, H: Host>(
-    host: &mut H,
-    start: Handle,
-    stack: &mut Vec<Handle>,
-    left: &mut Vec<PartLeft<'p>>,
-) -> Result<Stop<'p>, HostError>
-    requires { (first : _) × Stands first (H.live host.old) start stack.old.items }
+fn leg<'p, H: Host>(host: &mut H, start: Handle, way: &mut Way<'p>) -> Result<Stop<'p>, HostError>
+    requires { (first : _) × Stands first (H.live host.old) start way.old.stack.items }
     ensures cause { HasCause (H.faults host.old) (H.faults host.new) result }
-    ensures stands { (first : _) → Stands first (H.live host.old) start stack.old.items
-        → Stands first (H.live host.new) start stack.new.items }
-    ensures lineage { Traced (Among start stack.old.items) (Among start stack.old.items) (Among start stack.new.items)
-        (H.lookups host.old) (H.lookups host.new) }
-    ensures reads { ReadsTo left.old.items left.new.items (H.lookups host.old) (H.lookups host.new) result }
+    ensures stands { StillStands start (H.live host.old) way.old.stack.items (H.live host.new) way.new.stack.items }
+    ensures lineage { StackTraced start way.old.stack.items way.new.stack.items (H.lookups host.old) (H.lookups host.new) }
+    ensures reads { ReadsTo way.old.left.items way.new.left.items (H.lookups host.old) (H.lookups host.new) result }
     ensures told { IsTrue H.told → (first : _) (w : World)
-        → Stands first (H.live host.old) start stack.old.items
-        → Walked first w (H.world host.old) start stack.old.items
-        → Stopped first w (H.world host.old) (H.world host.new) start
-        (parts_left left.old.items) stack.old.items (parts_left left.new.items) stack.new.items result }
+        → Stands first (H.live host.old) start way.old.stack.items
+        → Walked first w (H.world host.old) start way.old.stack.items
+        → Stopped (begin first w start) (way_of (H.world host.old) way.old)
+        (way_of (H.world host.new) way.new) result }
 {
-    while let Some(part) = left.pop() {
-        let is_last = left.as_slice().is_empty();
-        let stopped = step(host, start, stack, part, is_last)?;
+    while let Some(part) = way.left.pop() {
+        let is_last = way.left.as_slice().is_empty();
+        let stopped = step(host, start, &mut way.stack, part, is_last)?;
         if let Some(stop) = stopped {
             return Ok(stop);
         }
@@ -111,58 +82,33 @@ fn leg<'p, H: Host>(
     Ok(Stop::Dot)
 }
 
-/// An open that ends in a directory.
+/// A walk that ends in a directory, since no part is left: it is opened, or looked at, for which it must have its search
+/// bit.
 #[tactic(auto, using(crate::proofs::Lookups::last_is))]
-fn open_dot<H: Host>(host: &mut H, here: Handle, options: &OpenOptions) -> Result<Found, HostError>
-    requires { contains (H.live host.old) here ≡ true }
-    ensures cause { HasCause (H.faults host.old) (H.faults host.new) result }
-    ensures live { LiveFound (H.live host.old) result (H.live host.new) }
-    ensures for_aim { FoundOf (Aim.Open options.now) result }
-    ensures lineage { Traced (Only here) Nothing (FoundBy result) (H.lookups host.old) (H.lookups host.new) }
-    ensures last { FoundLast result (H.lookups host.new) }
-    ensures reads { FewReads 1 0 (H.lookups host.old) (H.lookups host.new) }
-    ensures told { IsTrue H.told → EndsInDirectory (H.live host.old) (H.world host.old) (H.world host.new)
-        ((H.world host.old).held here).node (aim_of (Aim.Open options.now)) result }
-{
-    if options.is_write() {
-        return Err(HostError::Code(ErrorCode::IsDirectory));
-    }
-    let handle = host.open_at(here, Name::dot(), options)?;
-    Ok(Found::Handle(handle))
-}
-
-/// A look that ends in a directory, which must have its search bit.
-fn look_dot<H: Host>(host: &mut H, here: Handle) -> Result<Found, HostError>
-    requires { contains (H.live host.old) here ≡ true }
-    ensures cause { HasCause (H.faults host.old) (H.faults host.new) result }
-    ensures live { LiveFound (H.live host.old) result (H.live host.new) }
-    ensures for_aim { FoundOf (Aim.Look FollowSymlinks.No) result }
-    ensures lineage { Traced (Only here) Nothing (FoundBy result) (H.lookups host.old) (H.lookups host.new) }
-    ensures last { FoundLast result (H.lookups host.new) }
-    ensures reads { FewReads 1 0 (H.lookups host.old) (H.lookups host.new) }
-    ensures told { IsTrue H.told → EndsInDirectory (H.live host.old) (H.world host.old) (H.world host.new)
-        ((H.world host.old).held here).node (aim_of (Aim.Look FollowSymlinks.No)) result }
-{
-    host.access(here)?;
-    let metadata = host.stat(here)?;
-    Ok(Found::Metadata(metadata))
-}
-
-/// A walk that ends in a directory, since no part is left.
 fn at_dot<H: Host>(host: &mut H, here: Handle, aim: &Aim) -> Result<Found, HostError>
     requires { contains (H.live host.old) here ≡ true }
     ensures cause { HasCause (H.faults host.old) (H.faults host.new) result }
-    ensures live { LiveFound (H.live host.old) result (H.live host.new) }
+    ensures live { LiveWith (H.live host.old) (handle_found result) (H.live host.new) }
     ensures for_aim { FoundOf aim.now result }
-    ensures lineage { Traced (Only here) Nothing (FoundBy result) (H.lookups host.old) (H.lookups host.new) }
-    ensures last { FoundLast result (H.lookups host.new) }
+    ensures lineage { Traced (Only here) Nothing (IsGot (handle_found result)) (H.lookups host.old) (H.lookups host.new) }
+    ensures last { IsLast (handle_found result) (H.lookups host.new) }
     ensures reads { FewReads 1 0 (H.lookups host.old) (H.lookups host.new) }
     ensures told { IsTrue H.told → EndsInDirectory (H.live host.old) (H.world host.old) (H.world host.new)
         ((H.world host.old).held here).node (aim_of aim.now) result }
 {
     match aim {
-        Aim::Open(options) => open_dot(host, here, options),
-        Aim::Look(_) => look_dot(host, here),
+        Aim::Open(options) => {
+            if options.is_write() {
+                return Err(HostError::Code(ErrorCode::IsDirectory));
+            }
+            let handle = host.open_at(here, Name::dot(), options)?;
+            Ok(Found::Handle(handle))
+        }
+        Aim::Look(_) => {
+            host.access(here)?;
+            let metadata = host.stat(here)?;
+            Ok(Found::Metadata(metadata))
+        }
     }
 }
 
@@ -170,28 +116,28 @@ fn at_dot<H: Host>(host: &mut H, here: Handle, aim: &Aim) -> Result<Found, HostE
 fn reach<'p, H: Host>(
     host: &mut H,
     start: Handle,
-    stack: &mut Vec<Handle>,
-    left: &mut Vec<PartLeft<'p>>,
+    way: &mut Way<'p>,
     aim: &Aim,
     slash: bool,
 ) -> Result<Reach<'p>, HostError>
-    requires { (first : _) × Stands first (H.live host.old) start stack.old.items }
+    requires { (first : _) × Stands first (H.live host.old) start way.old.stack.items }
     ensures cause { HasCause (H.faults host.old) (H.faults host.new) result }
-    ensures stands { (first : _) → Stands first (H.live host.old) start stack.old.items
-        → StandsReached first (H.live host.new) start stack.new.items result }
+    ensures stands { (first : _) → Stands first (H.live host.old) start way.old.stack.items
+        → StandsWith first (H.live host.new) start way.new.stack.items (handle_reached result) }
     ensures for_aim { FoundAs aim.now result }
-    ensures lineage { ReachTraced start stack.old.items stack.new.items result
+    ensures lineage { ReachTraced start way.old.stack.items way.new.stack.items result
         (H.lookups host.old) (H.lookups host.new) }
-    ensures last { ReachedLast result (H.lookups host.new) }
-    ensures reads { FewUntil 1 left.old.items left.new.items (H.lookups host.old) (H.lookups host.new) }
+    ensures last { IsLast (handle_reached result) (H.lookups host.new) }
+    ensures reads { FewUntil 1 way.old.left.items way.new.left.items (H.lookups host.old) (H.lookups host.new) }
     ensures told { IsTrue H.told → (first : _) (w : World) (m : ℕ)
-        → Stands first (H.live host.old) start stack.old.items
-        → Walked first w (H.world host.old) start stack.old.items
-        → Reaches first w (H.world host.old) (H.world host.new) start (aim_of aim.now) (follow_of aim.now) slash m
-        (parts_left left.old.items) stack.old.items (parts_left left.new.items) stack.new.items result }
+        → Stands first (H.live host.old) start way.old.stack.items
+        → Walked first w (H.world host.old) start way.old.stack.items
+        → Reaches (begin first w start) (course_of aim.now slash) m
+        (way_of (H.world host.old) way.old)
+        (way_of (H.world host.new) way.new) result }
 {
-    let stop = leg(host, start, stack, left)?;
-    let here = top_of(start, stack);
+    let stop = leg(host, start, way)?;
+    let here = top_of(start, &way.stack);
     match stop {
         Stop::Dot => match at_dot(host, here, aim) {
             Ok(found) => Ok(Reach::Found(found)),
@@ -225,8 +171,8 @@ fn read_link<'p, H: Host>(
     ensures lineage { Traced (Only here) Nothing Nothing (H.lookups host.old) (H.lookups host.new) }
     ensures reads { FewReads 1 1 (H.lookups host.old) (H.lookups host.new) }
     ensures told { IsTrue H.told → ReadsLink (H.live host.old) (H.world host.old) (H.world host.new)
-        ((H.world host.old).held here).node (left_bytes name.entry.text) slash
-        (parts_left left.old.items) (parts_left left.new.items) result }
+        (record { directory = ((H.world host.old).held here).node; name = left_bytes name.entry.text })
+        (parts_left left.old.items) (parts_left left.new.items) slash result }
 {
     let text = host.read_link_at(alloc, here, name.name())?;
     let was_last = left.as_slice().is_empty();
@@ -234,78 +180,44 @@ fn read_link<'p, H: Host>(
     Ok(slash_behind(slash, was_last, text.as_str()))
 }
 
-/// The parts that are left up to what they end at, or past the next link, which is read.
-fn past_link<'p, H: Host>(
-    alloc: Global,
-    host: &mut H,
-    start: Handle,
-    stack: &mut Vec<Handle>,
-    left: &mut Vec<PartLeft<'p>>,
-    aim: &Aim,
-    slash: bool,
-) -> Result<Past, HostError>
-    requires { (first : _) × Stands first (H.live host.old) start stack.old.items }
-    ensures cause { HasCause (H.faults host.old) (H.faults host.new) result }
-    ensures stands { (first : _) → Stands first (H.live host.old) start stack.old.items
-        → StandsPast first (H.live host.new) start stack.new.items result }
-    ensures for_aim { PastFor aim.now result }
-    ensures lineage { PastTraced start stack.old.items stack.new.items result
-        (H.lookups host.old) (H.lookups host.new) }
-    ensures last { PastLast result (H.lookups host.new) }
-    ensures links { links_read (H.lookups host.new) ≤ links_read (H.lookups host.old) + 1 }
-    ensures told { IsTrue H.told → (first : _) (w : World) (m : ℕ)
-        → Stands first (H.live host.old) start stack.old.items
-        → Walked first w (H.world host.old) start stack.old.items
-        → Passes first w (H.world host.old) (H.world host.new) start (aim_of aim.now) (follow_of aim.now) slash m
-        (parts_left left.old.items) stack.old.items (parts_left left.new.items) stack.new.items
-        (H.lookups host.old) (H.lookups host.new) result }
-{
-    let reached = reach(host, start, stack, left, aim, slash)?;
-    let here = top_of(start, stack);
-    match reached {
-        Reach::Found(found) => Ok(Past::Found(found)),
-        Reach::Link(name) => match read_link(alloc, host, here, name, left, slash) {
-            Ok(slash) => Ok(Past::Link(slash)),
-            Err(e) => Err(e),
-        },
-    }
-}
-
 /// The whole walk along the parts that are left. It reads a link in each turn, and none behind the last turn.
 fn along<'p, H: Host>(
     alloc: Global,
     host: &mut H,
     start: Handle,
-    stack: &mut Vec<Handle>,
-    left: &mut Vec<PartLeft<'p>>,
+    way: &mut Way<'p>,
     aim: &Aim,
     has_slash: bool,
 ) -> Result<Found, HostError>
-    requires { (first : _) × Stands first (H.live host.old) start stack.old.items }
+    requires { (first : _) × Stands first (H.live host.old) start way.old.stack.items }
     ensures cause { HasCause (H.faults host.old) (H.faults host.new) result }
-    ensures stands { (first : _) → Stands first (H.live host.old) start stack.old.items
-        → StandsFound first (H.live host.new) start stack.new.items result }
+    ensures stands { (first : _) → Stands first (H.live host.old) start way.old.stack.items
+        → StandsWith first (H.live host.new) start way.new.stack.items (handle_found result) }
     ensures for_aim { FoundOf aim.now result }
-    ensures lineage { Traced (Among start stack.old.items) Nothing (FoundBy result)
+    ensures lineage { Traced (Among start way.old.stack.items) Nothing (IsGot (handle_found result))
         (H.lookups host.old) (H.lookups host.new) }
-    ensures last { FoundLast result (H.lookups host.new) }
+    ensures last { IsLast (handle_found result) (H.lookups host.new) }
     ensures links { links_read (H.lookups host.new) ≤ links_read (H.lookups host.old) + 40 }
     ensures told { IsTrue H.told → (first : _) (w : World)
-        → Stands first (H.live host.old) start stack.old.items
-        → Walked first w (H.world host.old) start stack.old.items
-        → Comes first w (H.world host.old) (H.world host.new) start (aim_of aim.now) (follow_of aim.now) has_slash
-        (parts_left left.old.items) stack.old.items (H.lookups host.old) (H.lookups host.new) result }
+        → Stands first (H.live host.old) start way.old.stack.items
+        → Walked first w (H.world host.old) start way.old.stack.items
+        → Comes (begin first w start) (course_of aim.now has_slash)
+        (way_of (H.world host.old) way.old)
+        (way_of (H.world host.new) way.new) (H.lookups host.old) (H.lookups host.new) result }
 {
     let mut slash = has_slash;
     for links in 0..MAX_SYMLINK_EXPANSIONS {
-        let past = past_link(alloc, host, start, stack, left, aim, slash)?;
-        match past {
-            Past::Found(found) => return Ok(found),
-            Past::Link(slash_now) => slash = slash_now,
+        let reached = reach(host, start, way, aim, slash)?;
+        let here = top_of(start, &way.stack);
+        match reached {
+            Reach::Found(found) => return Ok(found),
+            Reach::Link(name) => {
+                slash = read_link(alloc, host, here, name, &mut way.left, slash)?;
+            }
         }
     }
-    let reached = reach(host, start, stack, left, aim, slash)?;
-    match reached {
+    let last = reach(host, start, way, aim, slash)?;
+    match last {
         Reach::Found(found) => Ok(found),
         Reach::Link(_name) => Err(HostError::Code(ErrorCode::Loop)),
     }
@@ -328,28 +240,29 @@ pub(crate) fn walk<H: Host>(
 ) -> Result<Found, HostError>
     requires { contains (H.live host.old) start ≡ true }
     ensures cause { HasCause (H.faults host.old) (H.faults host.new) result }
-    ensures live { LiveFound (H.live host.old) result (H.live host.new) }
+    ensures live { LiveWith (H.live host.old) (handle_found result) (H.live host.new) }
     ensures for_aim { FoundOf aim.now result }
-    ensures lineage { Traced (Only start) Nothing (FoundBy result) (H.lookups host.old) (H.lookups host.new) }
-    ensures last { FoundLast result (H.lookups host.new) }
+    ensures lineage { Traced (Only start) Nothing (IsGot (handle_found result)) (H.lookups host.old) (H.lookups host.new) }
+    ensures last { IsLast (handle_found result) (H.lookups host.new) }
     ensures links { links_read (H.lookups host.new) ≤ links_read (H.lookups host.old) + 40 }
     ensures told { IsTrue H.told → Resolved (H.live host.old) (H.world host.old) (H.world host.new)
         (meant_at (H.world host.old).tree (aim_of aim.now) ((H.world host.old).held start).node
         (walk (H.world host.old).tree ((H.world host.old).held start).node path.now (aim_of aim.now)
-        (follow_of aim.now)).outcome)
+        (aim_follows aim.now)).outcome)
         (shown_found (H.world host.new).held) result }
     ensures bound { IsTrue H.told → length (H.lookups host.new) ≤ length (H.lookups host.old)
         + walk_looks (walk (H.world host.old).tree ((H.world host.old).held start).node path.now (aim_of aim.now)
-        (follow_of aim.now)) }
+        (aim_follows aim.now)) }
 {
     if is_empty(path) {
         return Err(HostError::Code(ErrorCode::NoEntry));
     }
-    let mut stack = Vec::new(alloc);
-    let mut left = Vec::new(alloc);
-    put_path(&mut left, path)?;
+    let stack = Vec::new(alloc);
+    let left = Vec::new(alloc);
+    let mut way = Way { stack, left };
+    put_path(&mut way.left, path)?;
     let slash = path_has_trailing_slash(path);
-    let found = along(alloc, host, start, &mut stack, &mut left, aim, slash);
-    close_all(host, start, stack);
+    let found = along(alloc, host, start, &mut way, aim, slash);
+    close_all(host, start, &mut way.stack);
     found
 }

@@ -13,7 +13,7 @@ use Rattle.std.proofs.lemmas.Map.Views.{Contains-from_any}
 use Rattle.wasi_host.specs.Tree.{Nodes}
 use Rattle.wasi_tree.specs.Given.{tree_of}
 use Rattle.wasi_tree.specs.MemState.{MemState, world_of}
-use Rattle.wasi_script.specs.Headline.{told_of, Reports, fueled_calls}
+use Rattle.wasi_script.specs.Headline.{report_after, Reports, fueled_calls}
 use Rattle.wasi_p1.specs.Reach.{Confined}
 use Rattle.wasi_report.specs.Report.{report_text}
 use Rattle.wasi_report.specs.ReadBack.{IsOrdered}
@@ -52,15 +52,15 @@ pub record RanPlan (plan : Plan) (last : State) (answers : List Answer) (touched
 pub reports : {plan : Plan} {last : State} {answers : List Answer} {touched : Nodes} (listed : List ℕ)
     (result : Result (Vec ℕ Global) AllocError) → RanPlan plan last answers touched → from_list listed ≡ touched
     → IsStrictlySortedBy nat_cmp listed
-    → OnOk result (IsOrdered (record (told_of plan.show [] last listed) { answers = answers }))
-    → IfOk result (λ text. text.items ≡ report_text (record (told_of plan.show [] last listed) { answers = answers }))
+    → OnOk result (IsOrdered (record (report_after plan.show [] last listed) { answers = answers }))
+    → IfOk result (λ text. text.items ≡ report_text (record (report_after plan.show [] last listed) { answers = answers }))
     → IfOk result (λ text. Reports plan text.items)
 reports {plan} {last} {answers} {touched} listed (Err error) run nodes-are rising ordered text-is = tt
 reports {plan} {last} {answers} {touched} listed (Ok text) run nodes-are rising ordered text-is =
     let from_start : DidRun 0 0 (start plan) (fueled_calls plan) answers last touched =
     subst (λ s. DidRun 0 0 s (fueled_calls plan) answers last touched) run.begins run.ran in
     let near : Confined (start plan) last touched = subst (λ s. Confined s last touched) run.begins run.confined in
-    let told_is = ap (λ all. record (told_of plan.show [] last listed) { answers = all }) from_start.answers_are in
+    let told_is = ap (λ all. record (report_after plan.show [] last listed) { answers = all }) from_start.answers_are in
     record {
       turns = from_start.turns;
       last = last;

@@ -11,15 +11,15 @@ use Rattle.wasi_p1.specs.Guest.{perms_in}
 use Rattle.wasi_p1.specs.ReadOnly.{IsReadOnlyGuest}
 use Rattle.wasi_p1.proofs.Permitting.{run_leaves}
 use Rattle.wasi_script.specs.Due.{Due, the_usage, the_refusal, the_report, OfDue, Writes, KeepsTree}
-use Rattle.wasi_script.specs.Headline.{Reports, GivesReadOnly, TellsOwnTree, fueled_calls, own_nodes, node_in_order, told_of}
-use Rattle.wasi_script.specs.Start.{start, given_place}
+use Rattle.wasi_script.specs.Headline.{Reports, GivesReadOnly, TellsOwnTree, fueled_calls, own_nodes, node_in_order, report_after}
+use Rattle.wasi_script.specs.Start.{start, given_guest_slot}
 use Rattle.wasi_script.specs.declared.status.Status.{Status}
 use Rattle.wasi_script.specs.declared.status.Status.TheVariants as statuses
 
 -- ---- the guest at the start
 
 given_only : (preopens : List PlannedPreopen) → All (λ preopen. preopen.perms ≡ ReadOnly) preopens → (n : ℕ)
-    (perms : FsPerms) → perms_in (slice_get (map given_place preopens) n) ≡ Some perms → perms ≡ ReadOnly
+    (perms : FsPerms) → perms_in (slice_get (map given_guest_slot preopens) n) ≡ Some perms → perms ≡ ReadOnly
 given_only [] only n perms has = absurd (cc)
 given_only (p ∷ ps) only zero perms has =
     let same : p.perms ≡ perms = (cc) in
@@ -58,7 +58,7 @@ tree_again plan = told_again plan.nodes 0 plan.nodes
 
 tells_own : (plan : Plan) {text : List ℕ} → Reports plan text → GivesReadOnly plan → TellsOwnTree plan text
 tells_own plan reports only = record {
-  report = told_of plan.show reports.turns reports.last reports.touched;
+  report = report_after plan.show reports.turns reports.last reports.touched;
   ordered = reports.ordered;
   text_is = reports.text_is;
   tree =

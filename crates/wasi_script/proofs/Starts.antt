@@ -12,7 +12,7 @@ use Rattle.std.specs.Prelude.{All}
 use Rattle.std.proofs.lemmas.List.Elements.{All-head, All-tail, All-push, All-weaker}
 use Rattle.std.proofs.lemmas.List.Quantifiers.{all_pairs_push}
 use Rattle.std.proofs.lemmas.List.Folds.{list_all_at, list_all-map}
-use Rattle.wasi_host.specs.Tree.{Tree, node_at, is_directory, stray}
+use Rattle.wasi_host.specs.Tree.{Tree, Nodes, node_at, is_directory, stray}
 use Rattle.wasi_host.specs.ValidTree.{root, held}
 use Rattle.wasi_host.specs.declared.held.AccessMode.TheVariants.{PathOnly}
 use Rattle.wasi_host.specs.declared.held.Held.{Held}
@@ -28,8 +28,8 @@ use Rattle.wasi_form.specs.Built.{are_preopens_directories, is_directory_given, 
 use Rattle.wasi_p1.specs.Slots.{first_slots, given_mode, given_directory, given_slot}
 use Rattle.wasi_p1.specs.Stock.{first_stock}
 use Rattle.wasi_p1.specs.declared.context.P1Preopen.{P1Preopen}
-use Rattle.wasi_script.specs.Start.{given_place, AreGiven, IsBegun, with_pieces}
-use Rattle.wasi_p1.specs.Guest.{State, directory as directory_place, directory_by, place_of}
+use Rattle.wasi_script.specs.Start.{given_guest_slot, AreGiven, IsBegun, with_pieces}
+use Rattle.wasi_p1.specs.Guest.{State, directory as directory_slot, directory_by, guest_slot}
 use Rattle.wasi_form.specs.declared.script.Piece.{Piece}
 use Rattle.wasi_form.specs.declared.script.ScriptPreopen.{ScriptPreopen}
 
@@ -74,20 +74,20 @@ abbrev IsLiveIn : HeldMap → P1Preopen → Type 0
 IsLiveIn handles preopen = contains (live_of handles) preopen.handle ≡ true
 
 -- those that were given stand for what they stood for
-places_again : (old new : HeldMap) (given : List P1Preopen) → All (IsLiveIn old) given
+slots_again : (old new : HeldMap) (given : List P1Preopen) → All (IsLiveIn old) given
     → ((h : ℕ) → contains (live_of old) h ≡ true → held_in new h ≡ held_in old h)
-    → map (place_of (held_in new)) (map given_slot given) ≡ map (place_of (held_in old)) (map given_slot given)
-places_again old new [] lives same = refl
-places_again old new (p ∷ ps) lives same =
-    let here : place_of (held_in new) (given_slot p) ≡ place_of (held_in old) (given_slot p) =
-    ap (λ (held : Held). directory_place (directory_by held (given_directory p))) (same p.handle (All-head (IsLiveIn old) p ps lives)) in
-    λ i. here i ∷ places_again old new ps (All-tail (IsLiveIn old) p ps lives) same i
+    → map (guest_slot (held_in new)) (map given_slot given) ≡ map (guest_slot (held_in old)) (map given_slot given)
+slots_again old new [] lives same = refl
+slots_again old new (p ∷ ps) lives same =
+    let here : guest_slot (held_in new) (given_slot p) ≡ guest_slot (held_in old) (given_slot p) =
+    ap (λ (held : Held). directory_slot (directory_by held (given_directory p))) (same p.handle (All-head (IsLiveIn old) p ps lives)) in
+    λ i. here i ∷ slots_again old new ps (All-tail (IsLiveIn old) p ps lives) same i
 
 pub none_given : {handles : HeldMap} → AreGiven handles [] []
 none_given = record {
   live = λ k d within. absurd (omega arith);
   once = λ i j d less within. absurd (omega arith);
-  places = refl;
+  slots = refl;
   names = refl;
 }
 
@@ -114,18 +114,18 @@ given_more {old} {new} {planned} {p} preopens given are is = record {
   live = All-push (IsLiveIn new) given p (All-weaker (IsLiveIn old) (IsLiveIn new) still given are.live) got;
   once = all_pairs_push (λ one other. one.handle ≢ other.handle) given p are.once (λ k d within same.
       absurd (let wrong = sym (are.live k d within) ∙ ap (contains (live_of old)) same ∙ is.fresh in cc));
-  places =
-      let here : place_of (held_in new) (given_slot p) ≡ given_place planned =
-      (λ i. directory_place (record {
+  slots =
+      let here : guest_slot (held_in new) (given_slot p) ≡ given_guest_slot planned =
+      (λ i. directory_slot (record {
         node = (is.held i).node;
         perms = is.perms i;
         open_mode = given_mode (is.perms i);
       })) in
-      let old_ones = places_again old new given are.live is.others ∙ are.places in
+      let old_ones = slots_again old new given are.live is.others ∙ are.slots in
       rw (
         map-append given_slot given (p ∷ []),
-        map-append (place_of (held_in new)) (map given_slot given) (given_slot p ∷ []),
-        map-append given_place preopens (planned ∷ []),
+        map-append (guest_slot (held_in new)) (map given_slot given) (given_slot p ∷ []),
+        map-append given_guest_slot preopens (planned ∷ []),
       ) (λ i. old_ones i ++ here i ∷ []);
   names = rw (map-append name_bytes given (p ∷ []), map-append planned_name preopens (planned ∷ []))
       (λ i. are.names i ++ is.name i ∷ []);
@@ -146,18 +146,18 @@ pub begun_by : {given : MemState} {tree : Tree} {preopens : List PlannedPreopen}
     (record { host = given; slots = first_slots list; holdings = first_stock services; fuel = fuel })
     tree preopens services
 begun_by tree-is none are = record {
-  state = λ memory. rw (tree-is, are.places) refl;
+  state = λ memory. rw (tree-is, are.slots) refl;
   untouched = none;
 }
 
--- at the start all that was come to is in reach
-pub confined_at_start : (s : State) → Confined s s empty
-confined_at_start s = record {
+-- at the start, where nothing was touched, all that was come to is in reach
+pub confined_at_start : (s : State) {touched : Nodes} → touched ≡ empty → Confined s s touched
+confined_at_start s untouched = rw untouched (record {
   later = omega arith;
   descriptors = λ n has. inl (root n has);
   names = λ d n name near is. elim near [ inl reached ↦ inl (held d n name reached is) | inr made ↦ let low = made.fresh in let high = made.there in absurd (omega arith) ];
   touched_in = λ n has. let none = contains-empty nat_cmp n in absurd (cc);
-}
+})
 
 with_one_more : (memory : List ℕ) (pieces : List PlannedPiece) (piece : PlannedPiece) → with_pieces memory (pieces ++ piece ∷ []) ≡ with_bytes (with_pieces memory pieces) piece.offset piece.bytes
 with_one_more memory [] piece = refl

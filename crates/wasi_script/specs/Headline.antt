@@ -17,14 +17,14 @@ use Rattle.wasi_p1.specs.Guest.{State}
 use Rattle.wasi_form.specs.declared.script.Shown.{Shown}
 
 -- the bytes of a range of memory
-abbrev pub shown_in : List ℕ → Shown → List ℕ
-shown_in memory range = slice_range memory range.ptr (range.ptr + range.len)
+abbrev pub bytes_shown : List ℕ → Shown → List ℕ
+bytes_shown memory range = slice_range memory range.ptr (range.ptr + range.len)
 
 -- the answers of the turns, and of the state after them the ranges to be shown, what was written out, and the tree
-abbrev pub told_of : List Shown → List Turned → State → List ℕ → Report
-told_of show turns last touched = record {
+abbrev pub report_after : List Shown → List Turned → State → List ℕ → Report
+report_after show turns last touched = record {
   answers = answers_of turns;
-  memory = map (shown_in last.guest.memory) show;
+  memory = map (bytes_shown last.guest.memory) show;
   stderr = last.guest.holdings.stderr;
   stdout = last.guest.holdings.stdout;
   touched = touched;
@@ -46,8 +46,8 @@ pub record Reports (plan : Plan) (text : List ℕ) : Type 0 where
   pub rising : IsStrictlySortedBy nat_cmp touched
   pub ends : All (Contains touched) (named turns)
   pub in_reach : (n : ℕ) → Contains touched n → InReach (start plan) last n
-  pub ordered : IsOrdered (told_of plan.show turns last touched)
-  pub text_is : text ≡ report_text (told_of plan.show turns last touched)
+  pub ordered : IsOrdered (report_after plan.show turns last touched)
+  pub text_is : text ≡ report_text (report_after plan.show turns last touched)
 
 -- each directory that the guest is given is read-only
 abbrev pub GivesReadOnly : Plan → Type 0

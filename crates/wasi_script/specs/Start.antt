@@ -10,19 +10,19 @@ use Rattle.wasi_guest.specs.Range.{with_bytes}
 use Rattle.wasi_guest.specs.Services.{Handed}
 use Rattle.wasi_form.specs.Plan.{Plan, PlannedPiece, PlannedPreopen}
 use Rattle.wasi_p1.specs.Slots.{View, given_mode, given_slot}
-use Rattle.wasi_p1.specs.Guest.{State, Place, stream, directory, place_of, state_of}
+use Rattle.wasi_p1.specs.Guest.{State, GuestSlot, stream, directory, guest_slot, state_of}
 use Rattle.wasi_p1.specs.Stock.{first_stock}
 use Rattle.wasi_p1.specs.declared.context.P1Preopen.{P1Preopen}
 use Rattle.wasi_p1.specs.declared.context.Stream.TheVariants.{Input, Output, Error}
 
 -- the descriptor of a directory that the guest is given
-abbrev pub given_place : PlannedPreopen → Place
-given_place preopen =
+abbrev pub given_guest_slot : PlannedPreopen → GuestSlot
+given_guest_slot preopen =
     directory (record { node = preopen.node; perms = preopen.perms; open_mode = given_mode preopen.perms })
 
 -- the three streams, then the directories that the guest is given
-abbrev pub first_places : List PlannedPreopen → List Place
-first_places preopens = stream Input ∷ stream Output ∷ stream Error ∷ map given_place preopens
+abbrev pub first_guest_slots : List PlannedPreopen → List GuestSlot
+first_guest_slots preopens = stream Input ∷ stream Output ∷ stream Error ∷ map given_guest_slot preopens
 
 -- a memory with the pieces written into it, one after another
 abbrev pub with_pieces : List ℕ → List PlannedPiece → List ℕ
@@ -33,7 +33,7 @@ with_pieces memory (piece ∷ pieces) = with_pieces (with_bytes memory piece.off
 abbrev pub begun : Tree → List PlannedPreopen → Handed → List ℕ → State
 begun tree preopens services memory = record {
   tree = tree;
-  guest = record { places = first_places preopens; memory = memory; holdings = first_stock services };
+  guest = record { slots = first_guest_slots preopens; memory = memory; holdings = first_stock services };
 }
 
 -- a plan's tree, directories and services, and its pieces over zeros
@@ -51,5 +51,5 @@ pub record IsBegun {H : Type 0} (world : H → World) (context : View H) (tree :
 pub record AreGiven (handles : HeldMap) (preopens : List PlannedPreopen) (given : List P1Preopen) : Type 0 where
   pub live : All (λ preopen. contains (live_of handles) preopen.handle ≡ true) given
   pub once : AllPairs (λ one other. one.handle ≢ other.handle) given
-  pub places : map (place_of (held_in handles)) (map given_slot given) ≡ map given_place preopens
+  pub slots : map (guest_slot (held_in handles)) (map given_slot given) ≡ map given_guest_slot preopens
   pub names : map (λ preopen. string_bytes preopen.name) given ≡ map (λ preopen. preopen.name) preopens

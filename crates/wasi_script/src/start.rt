@@ -8,11 +8,11 @@ ghost use Rattle.wasi_guest.specs.Services.{handed};
 ghost use Rattle.wasi_form.specs.Plan.{planned_piece, planned_preopen};
 ghost use Rattle.wasi_form.specs.Built.{are_preopens_directories, is_piece_within, is_shown_within};
 ghost use Rattle.wasi_script.specs.Start.{with_pieces, IsBegun, AreGiven};
-ghost use Rattle.wasi_script.specs.Headline.{shown_in};
+ghost use Rattle.wasi_script.specs.Headline.{bytes_shown};
 
 use std::alloc::{AllocError, Global};
 use wasi_form::{Piece, ScriptPreopen, Shown};
-use wasi_guest::{GuestMemory, Services};
+use wasi_guest::{GuestMemory, Services, slice_at};
 use wasi_p1::{P1Preopen, WasiP1Ctx};
 use wasi_tree::{FitNodes, HandleError, MemTree};
 
@@ -78,17 +78,13 @@ pub fn first_memory(alloc: Global, size: u32, pieces: &[Piece]) -> Result<GuestM
 }
 
 /// The bytes of each range.
-pub fn shown(
-    alloc: Global,
-    memory: &GuestMemory,
-    ranges: &[Shown],
-) -> Result<Vec<Vec<u8>>, AllocError>
+pub fn shown(alloc: Global, memory: &[u8], ranges: &[Shown]) -> Result<Vec<Vec<u8>>, AllocError>
     requires { list_all (is_shown_within (length memory.now)) ranges.now ≡ true }
-    ensures shown { IfOk result (λ list. map (λ bytes. bytes.items) list.items ≡ map (shown_in memory.now) ranges.now) }
+    ensures shown { IfOk result (λ list. map (λ bytes. bytes.items) list.items ≡ map (bytes_shown memory.now) ranges.now) }
 {
     let mut list = Vec::new(alloc);
     for range in ranges {
-        let Some(bytes) = memory.slice(range.ptr, range.len) else {
+        let Some(bytes) = slice_at(memory, range.ptr, range.len) else {
             unreachable!()
         };
         list.push(bytes.to_vec(alloc)?)?;

@@ -62,11 +62,12 @@ fn report_of(alloc: Global, script: Script) -> Result<Vec<u8>, AllocError>
         script.services,
         script.preopens.as_slice(),
     )?;
-    let ran = run_calls(alloc, &mut context, &mut memory, script.fuel, &script.calls);
+    let bytes = memory.bytes_mut();
+    let ran = run_calls(alloc, &mut context, bytes, script.fuel, &script.calls);
     let Ok(answers) = ran else {
         return Err(AllocError);
     };
-    let shown = shown(alloc, &memory, script.show.as_slice())?;
+    let shown = shown(alloc, memory.bytes(), script.show.as_slice())?;
     let touched = context.host().touched(alloc)?;
     let ended = context.into_parts();
     let outputs = ended.holdings.into_outputs();

@@ -1,5 +1,5 @@
 //! How times are asked for, and how a host's answers are told.
-use crate::line::{number, told};
+use crate::line::{Told, number, told};
 use std::alloc::{AllocError, Global};
 use std::fmt::Debug;
 use wasi_host::{ErrorCode, HostError, Metadata, SystemTime, system_time_from_rustix};
@@ -14,7 +14,7 @@ pub fn time_of(word: &str) -> Option<SystemTime> {
 }
 
 /// The code of a refusal.
-pub fn refused(alloc: Global, error: HostError) -> Result<String, AllocError> {
+pub fn refused(alloc: Global, error: HostError) -> Told {
     match error {
         HostError::Code(code) => told(alloc, &code),
         HostError::Memory => Err(AllocError),
@@ -22,7 +22,7 @@ pub fn refused(alloc: Global, error: HostError) -> Result<String, AllocError> {
 }
 
 /// `ok`, or the code of the refusal.
-pub fn done(alloc: Global, answer: Result<(), HostError>) -> Result<String, AllocError> {
+pub fn done(alloc: Global, answer: Result<(), HostError>) -> Told {
     match answer {
         Ok(()) => String::from_str(alloc, "ok"),
         Err(error) => refused(alloc, error),
@@ -30,10 +30,7 @@ pub fn done(alloc: Global, answer: Result<(), HostError>) -> Result<String, Allo
 }
 
 /// What is answered, or the code of the refusal.
-pub fn answered<T: Debug + Drop>(
-    alloc: Global,
-    answer: Result<T, HostError>,
-) -> Result<String, AllocError> {
+pub fn answered<T: Debug + Drop>(alloc: Global, answer: Result<T, HostError>) -> Told {
     match answer {
         Ok(value) => told(alloc, &value),
         Err(error) => refused(alloc, error),
@@ -41,7 +38,7 @@ pub fn answered<T: Debug + Drop>(
 }
 
 /// The node's number, its kind, its size, and its count of links; or the code of the refusal.
-pub fn told_node(alloc: Global, answer: Result<Metadata, HostError>) -> Result<String, AllocError> {
+pub fn told_node(alloc: Global, answer: Result<Metadata, HostError>) -> Told {
     match answer {
         Ok(is) => told(alloc, &(is.ino(), is.file_type(), is.len(), is.nlink())),
         Err(error) => refused(alloc, error),
@@ -49,10 +46,7 @@ pub fn told_node(alloc: Global, answer: Result<Metadata, HostError>) -> Result<S
 }
 
 /// The times of the node's last read and of its last change; or the code of the refusal.
-pub fn told_times(
-    alloc: Global,
-    answer: Result<Metadata, HostError>,
-) -> Result<String, AllocError> {
+pub fn told_times(alloc: Global, answer: Result<Metadata, HostError>) -> Told {
     match answer {
         Ok(is) => told(alloc, &(is.accessed(), is.modified(), is.created())),
         Err(error) => refused(alloc, error),

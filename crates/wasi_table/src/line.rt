@@ -3,6 +3,24 @@ use std::alloc::{AllocError, Global};
 use std::fmt::Debug;
 use std::str::FromStr;
 
+/// What a line is answered.
+pub type Told = Result<String, AllocError>;
+
+/// What a text asks: its first word, what is left behind it, and what an answer takes memory from.
+#[derive(Clone, Copy)]
+pub struct Asked<'a> {
+    pub alloc: Global,
+    pub what: &'a str,
+    pub rest: &'a str,
+}
+
+impl<'a> Asked<'a> {
+    pub fn of(alloc: Global, text: &'a str) -> Asked<'a> {
+        let (what, rest) = word(text);
+        Asked { alloc, what, rest }
+    }
+}
+
 /// The first word of a text, and what is left. Blanks stand between words. A word in quotes may be empty or have blanks,
 /// and is given without them.
 pub fn word(text: &str) -> (&str, &str) {
@@ -33,11 +51,11 @@ where
 }
 
 /// A value as `{:?}` prints it.
-pub fn told<T: Debug>(alloc: Global, value: &T) -> Result<String, AllocError> {
+pub fn told<T: Debug>(alloc: Global, value: &T) -> Told {
     format!(in alloc; "{value:?}")
 }
 
 /// The answer where a line asks what nobody answers.
-pub fn unknown(alloc: Global) -> Result<String, AllocError> {
+pub fn unknown(alloc: Global) -> Told {
     String::from_str(alloc, "nobody answers this")
 }

@@ -1,10 +1,11 @@
 //! Trying a table.
+use crate::line::Told;
 use std::alloc::{AllocError, Global};
 use wasi_ends::{Sink, Source, read_all, write_all};
 
 /// What answers the lines of a table, one after another.
 pub trait Answering {
-    fn answer(&mut self, alloc: Global, asked: &str) -> Result<String, AllocError>;
+    fn answer(&mut self, alloc: Global, asked: &str) -> Told;
 }
 
 /// What a table came to.

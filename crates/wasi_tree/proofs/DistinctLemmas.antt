@@ -1,3 +1,4 @@
+-- That the names of a directory's entries are distinct, as a test finds it name by name.
 use Rattle.std.proofs.Common.{◌≡◌, ℕ, ◌+◌, ◌<◌, ◌≤◌, Bool, true, false, not, cond, ◌&&◌, ◌||◌, List, [], ◌∷◌, ◌++◌, map, take, drop, length, slice_index_or, refl, sym, ap, ◌∙◌, subst, arith}
 use Rattle.std.specs.BTreeSet.{BTreeSet, contains, contains_by, UpdatesBy}
 use Rattle.std.specs.Cmp.Lexicographic.{slice_cmp}

@@ -1,3 +1,4 @@
+-- What the types of a list of nodes give of its texts and bytes.
 use Rattle.std.proofs.Common.{◌≡◌, ℕ, suc, ◌<◌, true, not, ◌&&◌, List, [], ◌∷◌, map, length, nat_lt, nat_le, slice_index_or, refl, ap, ◌∙◌}
 use Rattle.std.specs.List.{list_all}
 use Rattle.std.specs.Str.{IsUtf8, is_utf8}

@@ -19,7 +19,7 @@ use Rattle.wasi_host.specs.declared.limits.Limits.{Limits}
 use Rattle.wasi_host.specs.Numbers.{largest_file, longest_link}
 use Rattle.wasi_tree.specs.Given.{Given, GivenContent, file, directory, link, given_entries, entry_count, content_from, node_from, nodes_from, tree_of}
 use Rattle.wasi_tree.specs.GivenTests.{is_dir_content, are_distinct, starts_with_directory}
-use Rattle.wasi_tree.specs.Fit.{is_fit_entry, IsFound, root, held, entries_held, HasPlace, IsFitContent, AreFit}
+use Rattle.wasi_tree.specs.Fit.{is_fit_entry, IsFound, at_zero, by_entry, entries_held, HasPlace, IsFitContent, AreFit}
 use Rattle.wasi_tree.proofs.CountLemmas.{times-numbers}
 use Rattle.wasi_tree.proofs.GivenNames.{texts, names_from, times-from, All-from, find_held}
 
@@ -105,8 +105,8 @@ name_at (link text) entry is at = absurd (omega (arith, at.1))
 
 found_reached : (limits : Limits) (nodes : List Given) → AreFit limits nodes → (n : ℕ) → IsFound nodes n
     → Reached (tree_of nodes limits) (0 ∷ []) n
-found_reached limits nodes are n root = valid.root 0 (0, omega arith, refl)
-found_reached limits nodes are n (held d entry found at) =
+found_reached limits nodes are n at_zero = valid.root 0 (0, omega arith, refl)
+found_reached limits nodes are n (by_entry d entry found at) =
     by (slice_get nodes d) refl at (found_reached limits nodes are d found)
   where
     by : (o : Option Given) → slice_get nodes d ≡ o → Contains (entries_held o) entry

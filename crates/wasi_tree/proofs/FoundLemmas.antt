@@ -11,7 +11,7 @@ use Rattle.std.proofs.lemmas.Option.{slice_get_within, slice_get_read, slice_get
 use Rattle.wasi_tree.specs.declared.node.NewEntry.{NewEntry}
 use Rattle.wasi_tree.specs.declared.node.NewNode.{NewNode}
 use Rattle.wasi_tree.specs.Given.{Given, pair_of, given, given_content, given_entries}
-use Rattle.wasi_tree.specs.Fit.{IsFound, root, held, entries_at, entries_held}
+use Rattle.wasi_tree.specs.Fit.{IsFound, at_zero, by_entry, entries_at, entries_held}
 use Rattle.wasi_tree.specs.FitTests.{entry_numbers, IsMarked, AreMarked, TellFound}
 use Rattle.wasi_tree.proofs.CountLemmas.{entry_numbers-take}
 
@@ -107,7 +107,7 @@ pub search_first : (nodes : List Given) (marks marks' : List Bool) (work' : List
 search_first nodes marks marks' work' len none are = record {
   len = are.len ∙ len;
   root = λ h. are.given 0 (first_of 0) (omega (arith, len, h));
-  sound = λ n h. ⊎_elim (λ o. absurd (none n o)) (λ p. subst (IsFound nodes) (only 0 n p.0) root) (are.new n h);
+  sound = λ n h. ⊎_elim (λ o. absurd (none n o)) (λ p. subst (IsFound nodes) (only 0 n p.0) at_zero) (are.new n h);
   waits = λ n c. ⊎_elim (λ o. absurd (omega (arith, o.1))) (λ m. m) (are.comes n c);
   closed = λ n h. ⊎_elim (λ o. absurd (none n o)) (λ p. inl p.1) (are.new n h);
 }
@@ -139,7 +139,7 @@ search_next {nodes} {marks} {marks'} {work} {rest} {work'} d is popped are =
       root = λ h. are.kept 0 (is.root h);
       sound = λ n h. ⊎_elim
           (λ o. is.sound n o)
-          (λ p. let e = entry_of (entries_at nodes d) n p.0 in subst (IsFound nodes) e.2 (held d e.0 (is.sound d here) e.1))
+          (λ p. let e = entry_of (entries_at nodes d) n p.0 in subst (IsFound nodes) e.2 (by_entry d e.0 (is.sound d here) e.1))
           (are.new n h);
       waits = λ n c. ⊎_elim
           (λ o. are.kept n (is.waits n (subst (λ w. Contains w n) (sym popped) (Contains-append_left rest (d ∷ []) n o))))
@@ -172,8 +172,8 @@ has_numbers nodes d n c = let e = entry_of (entries_at nodes d) n c in has_entri
 
 marked_found : (nodes : List Given) (marks : List Bool) → IsSearch nodes marks [] → (n : ℕ) → IsFound nodes n
     → n < length nodes → IsMarked marks n
-marked_found nodes marks is n root within = is.root within
-marked_found nodes marks is n (held d entry found at) within =
+marked_found nodes marks is n at_zero within = is.root within
+marked_found nodes marks is n (by_entry d entry found at) within =
     let before : IsMarked marks d = marked_found nodes marks is d found (has_entries nodes d entry at) in
     ⊎_elim (λ c. absurd (omega (arith, c.1))) (λ done. done entry at within) (is.closed d before)
 

@@ -1,3 +1,4 @@
+-- A list of entries beside the map of names that is made of it.
 use Rattle.std.proofs.Common.{◌≡◌, ℕ, zero, suc, ◌+◌, true, false, not, cond, ◌||◌, List, [], ◌∷◌, map, nat_eq, Some, None, refl, sym, ap, ◌∙◌, subst, arith}
 use Rattle.std.specs.List.{All, Contains, list_any}
 use Rattle.std.specs.Cmp.Lexicographic.{nat_list_cmp_total}

@@ -1,18 +1,20 @@
 -- What a step keeps of where directories stand.
 use Rattle.std.proofs.Common.{◌≡◌, ◌≢◌, ℕ, ◌+◌, ◌<◌, Bool, true, false, cond, List, [], ◌∷◌, ◌++◌, slice_set, Option, Some, None, Result, Ok, Err, OnOk, OnErr, refl, sym, ap, ◌∙◌, subst, arith}
-use Rattle.std.proofs.lemmas.Bool.{true≢false, eqb-true}
+use Rattle.std.proofs.lemmas.Bool.{true≢false, eqb-false}
 use Rattle.std.proofs.lemmas.List.{length-set, get_or-set_other}
 use Rattle.std.specs.FinMap as maps
 use Rattle.wasi_paths.specs.Text.{is_dot_text}
 use Rattle.wasi_host.specs.Tree.{Tree, Node, Nodes, Content, node_at, next_of, names_of, child, is_directory}
-use Rattle.wasi_host.specs.HostCall.{MakeDirAt, SymlinkAt, UnlinkAt, RemoveDirAt}
-use Rattle.wasi_host.specs.Refusal.{refusal, is_bare}
-use Rattle.wasi_host.specs.Step.{node_made, file_cut, no_bytes, bytes_put, piece_in, write_step, with_times, times_set, times_set_if, times_step, name_added, name_dropped, dropped_step, one_name_less, made_gone, unlink_step, remove_step, without_name, with_name, one_name_more}
+use Rattle.wasi_host.specs.HostCall.{UnlinkAt, RemoveDirAt}
+use Rattle.wasi_host.specs.Refusal.{refusal, refused_with}
+use Rattle.wasi_host.specs.Step.{with_content, with_entry, content_changed, node_made, file_cut, no_bytes, bytes_put, piece_in, write_step, with_times, times_set, times_set_if, times_step, name_added, name_dropped, dropped_step, one_name_less, made_gone, unlink_step, remove_step, without_name, with_name, one_name_more}
+use Rattle.wasi_host.specs.declared.errors.ErrorCode.{ErrorCode}
 use Rattle.wasi_host.specs.declared.system_time.SystemTime.{SystemTime}
-use Rattle.wasi_host.proofs.Changes.{changed, directory_within, next_of-changed, next_of-made, node_at-other}
-use Rattle.wasi_tree.specs.LinkRows.{name_put, node_gained}
+use Rattle.wasi_host.proofs.Changes.{changed, changed_apart, directory_within, next_of-changed, next_of-made, node_at-other}
+use Rattle.wasi_host.proofs.ValidSteps.{missing_name, can_unlink, can_remove}
+use Rattle.wasi_tree.specs.Move.{MayName}
 use Rattle.wasi_tree.specs.ParentOf.{parent_of, named_at, AreParents, IsKept}
-use Rattle.wasi_tree.proofs.LinkLemmas.{MayLink, none_there, added_apart, links_directory, links_none, links_missing, links_apart}
+use Rattle.wasi_tree.proofs.LinkLemmas.{MayLink, added, links_apart}
 use Rattle.wasi_tree.proofs.ParentLemmas.{SameNames, names_same, names_changed, parents_after, parents_same, stands_leaf, taken_kinds, parents_taken, parents_put_leaf, parents_grown}
 use Rattle.wasi_tree.proofs.SoundLemmas.{Seen, seen, seen-no_bytes, seen-piece_in, seen-one_name_more, seen-one_name_less, seen-made_gone}
 use Rattle.wasi_tree.proofs.NameLemmas.{get-no_names}
@@ -69,60 +71,43 @@ names_either (Err error) done kept same = names_same kept
 
 -- ---- names
 
-pub named_missing : (t : Tree) (d : ℕ) (name : List ℕ) → child t d name ≡ None → named_at t d name ≡ None
-unfolding child
-named_missing t d name none = by (is_dot_text name) none
-  where
-    by : (dot : Bool) → cond dot (Some d) (named_at t d name) ≡ None → named_at t d name ≡ None
-    by true some = absurd (cc)
-    by false none = none
-
 pub named_there : (t : Tree) (d : ℕ) (name : List ℕ) {found : Option ℕ} → is_dot_text name ≡ false
     → child t d name ≡ found → named_at t d name ≡ found
 named_there t d name no_dot is = sym (child_is t d name no_dot) ∙ is
 
 -- a node that has no names
-pub named_bare : (t : Tree) (d n : ℕ) (name : List ℕ) → named_at t d name ≡ Some n → is_bare (node_at t d) ≡ true → ⊥
-named_bare t d n name named bare =
-    let none = eqb-true (maps.len (names_of (node_at t d).content)) 0 bare in
+pub named_bare : (t : Tree) (d n : ℕ) (name : List ℕ) → named_at t d name ≡ Some n
+    → maps.len (names_of (node_at t d).content) ≡ 0 → ⊥
+named_bare t d n name named none =
     let gone : named_at t d name ≡ None =
     ap (λ m. maps.get m name) (maps.empty_of_len (names_of (node_at t d).content) none) ∙ get-no_names name in
     absurd (cc)
 
 -- ---- a node more
 
-pub makes_missing : (t : Tree) (d : ℕ) (name : List ℕ) → refusal t (MakeDirAt d name) ≡ None
-    → child t d name ≡ None
-unfolding refusal
-makes_missing t d name free = none_there (child t d name) (grind (arith))
-
-pub link_missing : (t : Tree) (d : ℕ) (name text : List ℕ) → refusal t (SymlinkAt text d name) ≡ None
-    → child t d name ≡ None
-unfolding refusal
-link_missing t d name text free = none_there (child t d name) (grind (arith))
-
 -- a node is made under a name that is missing, and its parent is noted
 pub record IsGrown (t u : Tree) (d : ℕ) (name : List ℕ) (node : Node) : Type 0 where
-  pub directory : is_directory (node_at t d).content ≡ true
-  pub missing : child t d name ≡ None
+  pub may : MayName t d name
   pub bare : names_of node.content ≡ maps.empty
   pub made : u ≡ node_made t d name node
 
 pub kept_grown : {t u : Tree} {d : ℕ} {name : List ℕ} {node : Node} {marks more : ℕ} {old new : List (Option ℕ)}
     → IsGrown t u d name node → IsKept t marks old → more ≡ marks + 1 → new ≡ old ++ Some d ∷ []
     → IsKept u more new
-kept_grown {t} {u} {d} {name} {node} {old = old} grown kept counted pushed = record {
-  counted =
-      omega (
-        arith,
-        counted,
-        kept.counted,
-        ap next_of grown.made,
-        next_of-made t d name node (directory_within t d grown.directory),
-      );
-  stand = subst (AreParents u) (sym pushed) (subst (λ v. AreParents v (old ++ Some d ∷ [])) (sym grown.made)
-      (parents_grown t d name node grown.directory (named_missing t d name grown.missing) grown.bare kept.stand));
-}
+kept_grown {t} {u} {d} {name} {node} {old = old} grown kept counted pushed =
+    let directory = grown.may.directory in
+    record {
+      counted =
+          omega (
+            arith,
+            counted,
+            kept.counted,
+            ap next_of grown.made,
+            next_of-made t d name node (directory_within t d directory),
+          );
+      stand = subst (AreParents u) (sym pushed) (subst (λ v. AreParents v (old ++ Some d ∷ [])) (sym grown.made)
+          (parents_grown t d name node directory (missing_name t d name grown.may.missing).1 grown.bare kept.stand));
+    }
 
 -- ---- a name more
 
@@ -130,20 +115,22 @@ pub kept_linked : {t u : Tree} {old new n : ℕ} {old_name new_name : List ℕ} 
     {parents : List (Option ℕ)} → MayLink t old old_name new new_name n → n < next_of t
     → u ≡ name_added t new new_name n → IsKept t marks parents → more ≡ marks → next_of u ≡ next_of t
     → IsKept u more parents
-kept_linked {t} {u} {new = new} {n} {new_name = new_name} {parents = parents} may within added kept counted next =
-    let directory = links_directory may in
-    let put : Tree = name_put t new new_name n in
+kept_linked {t} {u} {new = new} {n} {new_name = new_name} {parents = parents} may within is_added kept counted next =
+    let can = added may in
+    let put : Tree = content_changed t new (with_entry new_name n) in
     let inside : n < next_of put =
     omega (arith, within, next_of-changed t new (with_name (node_at t new) new_name n) put.worked) in
     record {
       counted = counted ∙ kept.counted ∙ sym next;
       stand = subst (λ v. AreParents v parents)
-          (added_apart t new n new_name (directory_within t new directory) (links_apart may) ∙ sym added)
+          (changed_apart t new n (with_entry new_name n) one_name_more (directory_within t new can.looks.directory)
+          (eqb-false n new (links_apart may))
+          ∙ sym is_added)
           (parents_same
-          (names_seen put n (record (node_at put n) { content = one_name_more (node_at put n).content })
-          (node_gained put n).worked inside (seen-one_name_more (node_at put n).content))
-          (parents_put_leaf t new n new_name put.worked directory (named_missing t new new_name (links_missing may))
-          kept.stand within (links_none may)));
+          (names_seen put n (with_content (node_at put n) one_name_more)
+          (content_changed put n one_name_more).worked inside (seen-one_name_more (node_at put n).content))
+          (parents_put_leaf t new n new_name put.worked can.looks.directory (missing_name t new new_name can.missing).1
+          kept.stand within can.leaf));
     }
 
 -- ---- a name less
@@ -197,29 +184,15 @@ parents_leaf {t} {n} {parents} parent within leaf are =
     (record { here = refl; others = λ m other. sym (get_or-set_other parents n m parent None other) })
     (sym (length-set parents n parent) ∙ are.len)
 
-unlink_directory : (t : Tree) (d : ℕ) (name : List ℕ) → refusal t (UnlinkAt d name) ≡ None
-    → is_directory (node_at t d).content ≡ true
-unfolding refusal
-unlink_directory t d name free = grind (arith)
-
-unlink_named : (t : Tree) (d : ℕ) (name : List ℕ) → refusal t (UnlinkAt d name) ≡ None → is_dot_text name ≡ false
-unfolding refusal
-unlink_named t d name free = grind (arith)
-
-unlink_leaf : (t : Tree) (d n : ℕ) (name : List ℕ) → refusal t (UnlinkAt d name) ≡ None → child t d name ≡ Some n
-    → is_directory (node_at t n).content ≡ false
-unfolding refusal
-unlink_leaf t d n name free found = grind (arith)
-
 unlink_has : (t : Tree) (d n : ℕ) (name : List ℕ) → refusal t (UnlinkAt d name) ≡ None → child t d name ≡ Some n
     → Has t d name n
 unlink_has t d n name free is =
-    let directory = unlink_directory t d name free in
+    let can = can_unlink t d n name free is in
     record {
-      directory = directory;
-      named = named_there t d name (unlink_named t d name free) is;
+      directory = can.0;
+      named = named_there t d name can.1 is;
       apart = λ same. true≢false
-          (sym directory ∙ ap (λ k. is_directory (node_at t k).content) (sym same) ∙ unlink_leaf t d n name free is);
+          (sym can.0 ∙ ap (λ k. is_directory (node_at t k).content) (sym same) ∙ can.2);
     }
 
 pub parents_unlinked : (t : Tree) (d : ℕ) (name : List ℕ) {parents : List (Option ℕ)}
@@ -235,27 +208,27 @@ parents_unlinked t d name {parents} free are = by (child t d name) refl
         let same = seen-one_name_less (node_at t n).content in
         let dropped = parents_dropped has one_name_less same within are in
         parents_leaf None (omega (arith, within, are.len, dropped.len, length-set parents n None))
-        (dropped_kinds has one_name_less same within n ∙ unlink_leaf t d n name free is) dropped
+        (dropped_kinds has one_name_less same within n ∙ (can_unlink t d n name free is).2) dropped
 
-pub kept_unlinked : {A E : Type 0} {t u : Tree} {marks more : ℕ} {parents : List (Option ℕ)} (d : ℕ) (name : List ℕ)
-    (result : Result A E) → OnOk result (refusal t (UnlinkAt d name) ≡ None) → OnOk result (u ≡ unlink_step t d name)
+pub kept_unlinked : {A : Type 0} {t u : Tree} {marks more : ℕ} {parents : List (Option ℕ)} (d : ℕ) (name : List ℕ)
+    (result : Result A ErrorCode) → refused_with result ≡ refusal t (UnlinkAt d name) → OnOk result (u ≡ unlink_step t d name)
     → OnErr result (u ≡ t) → IsKept t marks parents → more ≡ marks → next_of u ≡ next_of t → IsKept u more parents
 kept_unlinked {t = t} {parents = parents} d name (Ok a) free step same kept counted next = record {
   counted = counted ∙ kept.counted ∙ sym next;
-  stand = subst (λ v. AreParents v parents) (sym step) (parents_unlinked t d name free kept.stand);
+  stand = subst (λ v. AreParents v parents) (sym step) (parents_unlinked t d name (sym free) kept.stand);
 }
 kept_unlinked d name (Err error) free step same kept counted next = kept_same kept counted (names_same same)
 
 remove_has : (t : Tree) (d n : ℕ) (name : List ℕ) → refusal t (RemoveDirAt d name) ≡ None → child t d name ≡ Some n
     → Has t d name n
-unfolding refusal
 remove_has t d n name free found =
-    let named : named_at t d name ≡ Some n = named_there t d name (grind (arith)) found in
-    let bare : is_bare (node_at t n) ≡ true = grind (arith) in
+    let can = can_remove t d n name free found in
+    let named : named_at t d name ≡ Some n = named_there t d name can.1 found in
     record {
-      directory = grind (arith);
+      directory = can.0;
       named = named;
-      apart = λ same. named_bare t d n name named (ap (λ k. is_bare (node_at t k)) (sym same) ∙ bare);
+      apart = λ same. named_bare t d n name named
+          (ap (λ k. maps.len (names_of (node_at t k).content)) (sym same) ∙ can.3);
     }
 
 -- a directory's name is dropped, and it stands nowhere from then on

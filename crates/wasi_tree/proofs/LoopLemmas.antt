@@ -2,14 +2,13 @@
 use Rattle.std.proofs.Common.{◌≡◌, ℕ, Bool, true, false, ◌&&◌, [], ◌∷◌, Option, Some, None, ap, ◌∙◌}
 use Rattle.wasi_host.specs.Below.{is_below}
 use Rattle.wasi_host.specs.Tree.{Tree, node_at, is_directory}
-use Rattle.wasi_host.specs.Refusal.{first_row, passes}
+use Rattle.wasi_host.specs.Refusal.{first_row, finds_directory, finds_above, loop_rows}
 use Rattle.wasi_host.specs.declared.errors.ErrorCode.TheVariants as codes
-use Rattle.wasi_tree.specs.RenameRows.{is_dir_at, loop_rows}
 use Rattle.wasi_tree.proofs.WayLemmas.{below_directory}
 
 -- the second row, by what the new name holds
 abbrev above_old : Tree → ℕ → Option ℕ → Bool
-above_old t old there = passes (is_dir_at t) there && passes (λ top. is_below t top old) there
+above_old t old there = finds_directory t there && finds_above t there old
 
 module _ (t : Tree) (old new n : ℕ) (there : Option ℕ) (to : is_directory (node_at t new).content ≡ true) where
   loop_by : (first second : Bool) → (is_directory (node_at t n).content && is_below t n new) ≡ first

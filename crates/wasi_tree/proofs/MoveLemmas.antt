@@ -9,13 +9,11 @@ use Rattle.std.specs.FinMap as maps
 use Rattle.std.specs.FinSet.{members, same_set, nat_cmp-IsAntisymmetric}
 use Rattle.std.specs.Ordering.{nat_cmp, eq_by_cmp}
 use Rattle.wasi_host.specs.Tree.{Tree, Node, Nodes, Names, Directory, node_at, next_of, names_of, is_directory, is_gone, stray}
-use Rattle.wasi_host.specs.Step.{with_nodes, with_name, without_name, name_dropped, name_lost}
+use Rattle.wasi_host.specs.Step.{with_nodes, with_content, with_entry, without_entry, content_changed, with_name, without_name, name_dropped, name_lost, name_moved_onto}
 use Rattle.wasi_host.proofs.Changes.{changed, directory_within, next_of-changed, node_at-changed, node_at-other, node_at-same}
 use Rattle.wasi_host.proofs.EntryLemmas.{nat_eq-refl}
-use Rattle.wasi_tree.specs.DropRows.{directory_without, node_lost}
-use Rattle.wasi_tree.specs.LinkRows.{name_put}
 use Rattle.wasi_tree.specs.ParentOf.{named_at}
-use Rattle.wasi_tree.specs.RenameRows.{IsMove, found_lost, name_moved_onto}
+use Rattle.wasi_tree.specs.Move.{IsMove, found_lost}
 use Rattle.wasi_tree.proofs.NameLemmas.{same_names}
 use Rattle.wasi_tree.proofs.TextEntries.{same_name}
 
@@ -200,7 +198,7 @@ module _ (t : Tree) (old new n : ℕ) (old_name new_name : List ℕ) where
       is.other (sym is.onto ∙ (λ i. named_at t (sym here i) (sym same i)) ∙ is.named)
 
   abbrev new_put : Tree
-  new_put = name_put t new new_name n
+  new_put = content_changed t new (with_entry new_name n)
 
   beside_none : IsMove t old old_name new new_name n None
       → AreBeside t new_put t old new n new_name (λ k. false) stray (node_at t new)
@@ -219,10 +217,10 @@ module _ (t : Tree) (old new n : ℕ) (old_name new_name : List ℕ) where
   }
 
   abbrev lost_node : ℕ → Node
-  lost_node m = record (node_at t m) { content = name_lost (node_at t m).content }
+  lost_node m = with_content (node_at t m) name_lost
 
   beside_some : {m : ℕ} → IsMove t old old_name new new_name n (Some m)
-      → AreBeside t (node_lost new_put m) (name_dropped t new new_name name_lost m) old new n new_name
+      → AreBeside t (content_changed new_put m name_lost) (name_dropped t new new_name name_lost m) old new n new_name
       (λ k. nat_eq k m) (lost_node m) (without_name (node_at t new) new_name)
   beside_some {m} is =
       let apart = is.lost m refl in
@@ -231,12 +229,12 @@ module _ (t : Tree) (old new n : ℕ) (old_name new_name : List ℕ) where
       let bare : Node = without_name (node_at t new) new_name in
       let first : Tree = changed t new bare t.worked in
       let put_same : node_at new_put m ≡ node_at t m = node_at-other t new put_node new_put.worked to m apart.2 in
-      let put_lost : Node = record (node_at new_put m) { content = name_lost (node_at new_put m).content } in
+      let put_lost : Node = with_content (node_at new_put m) name_lost in
       let same_lost : put_lost ≡ lost_node m =
-      ap (λ (x : Node). let y : Node = record x { content = name_lost x.content } in y) put_same in
+      ap (λ (x : Node). with_content x name_lost) put_same in
       record {
         put_at = λ k.
-            at_changed new_put m put_lost (node_lost new_put m).worked
+            at_changed new_put m put_lost (content_changed new_put m name_lost).worked
             (omega (arith, apart.0, next_of-changed t new put_node new_put.worked)) k
             ∙ (λ i. cond (nat_eq k m) (same_lost i) (at_changed t new put_node new_put.worked to k i));
         gone_at = λ k.
@@ -247,7 +245,7 @@ module _ (t : Tree) (old new n : ℕ) (old_name new_name : List ℕ) where
         not_old = ne_eqb old m (λ here. apart.1 (sym here));
         not_new = ne_eqb new m (λ here. apart.2 (sym here));
         put_next =
-            next_of-changed new_put m put_lost (node_lost new_put m).worked
+            next_of-changed new_put m put_lost (content_changed new_put m name_lost).worked
             ∙ next_of-changed t new put_node new_put.worked;
         gone_next =
             next_of-changed first m (lost_node m) (name_dropped t new new_name name_lost m).worked
@@ -262,7 +260,7 @@ module _ (t : Tree) (old new n : ℕ) (old_name new_name : List ℕ) where
   worked_some m = same_set nat_cmp_total nat_cmp-IsAntisymmetric _ _ (λ q. grind (arith, members, nat_tests))
 
   pub moved_as : (there : Option ℕ) → IsMove t old old_name new new_name n there
-      → directory_without (found_lost (name_put t new new_name n) there) old old_name
+      → content_changed (found_lost new_put there) old (without_entry old_name)
       ≡ name_moved_onto t old old_name new new_name n there
   moved_as None is = λ i.
       let u : Tree = record {
@@ -274,7 +272,7 @@ module _ (t : Tree) (old new n : ℕ) (old_name new_name : List ℕ) where
   moved_as (Some m) is = λ i.
       let u : Tree = record {
         nodes = nodes_moved (beside_some is) (directory_within t old is.from) (directory_within t new is.to) (names_apart is)
-            (with_nodes (node_lost new_put m).worked (old ∷ []))
+            (with_nodes (content_changed new_put m name_lost).worked (old ∷ []))
             (name_dropped t new new_name name_lost m).worked
             (with_nodes (name_dropped t new new_name name_lost m).worked (old ∷ new ∷ [])) i;
         limits = t.limits;
@@ -289,13 +287,13 @@ module _ (t : Tree) (old new n : ℕ) (old_name new_name : List ℕ) where
 
   -- the directory that loses the name is one still
   pub put_from : (there : Option ℕ) → IsMove t old old_name new new_name n there
-      → is_directory (node_at (found_lost (name_put t new new_name n) there) old).content ≡ true
+      → is_directory (node_at (found_lost new_put there) old).content ≡ true
   put_from None is = put_kind is old ∙ is.from
   put_from (Some m) is =
       let apart = is.lost m refl in
       ap (λ (x : Node). is_directory x.content)
-      (node_at-other new_put m (record (node_at new_put m) { content = name_lost (node_at new_put m).content })
-      (node_lost new_put m).worked
+      (node_at-other new_put m (with_content (node_at new_put m) name_lost)
+      (content_changed new_put m name_lost).worked
       (omega (arith, apart.0, next_of-changed t new (with_name (node_at t new) new_name n) new_put.worked)) old
       (λ here. apart.1 (sym here)))
       ∙ put_kind is old ∙ is.from

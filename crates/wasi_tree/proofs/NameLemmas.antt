@@ -1,3 +1,4 @@
+-- The names of a directory as a map of texts: what changes of it do.
 use Rattle.std.proofs.Common.{◌≡◌, ℕ, true, List, [], ◌∷◌, ◌++◌, None, Option, map, reverse, refl, sym, ap, ◌∙◌, cond, Some, Bool, false, length, nat_eq, arith}
 use Rattle.std.specs.Prelude.{◌↔◌, IsTrue}
 use Rattle.std.proofs.lemmas.Bool.{true≢false, ne_eqb}

@@ -2,7 +2,7 @@
 use Rattle.std.proofs.Common.{◌≡◌, ◌<◌, ℕ, zero, suc, ◌+◌, Bool, true, false, cond, not, ◌&&◌, nat_lt, nat_le, List, [], ◌∷◌, ◌++◌, Some, map, length, refl, sym, ap, ◌∙◌, subst, arith, append_assoc, slice_index_or}
 use Rattle.std.specs.Prelude.{slice_get}
 use Rattle.std.proofs.lemmas.Bool.{true≢false, and_parts, ltb-true, leb-true}
-use Rattle.std.proofs.lemmas.List.{length-map, length-append, append-nil, map_push}
+use Rattle.std.proofs.lemmas.List.{length-map, length-append, map_push}
 use Rattle.std.specs.List.{list_all}
 use Rattle.std.specs.Option.{ForSome}
 use Rattle.std.specs.Ordering.{nat_cmp, eq_by_cmp}
@@ -76,12 +76,6 @@ row_more {all} {rows} {now} {left = left} {rest} {g} row number pushed is next s
           ∙ ap (λ gs. map stored_node rows ++ nodes_from all (length rows) gs) (sym next) ∙ so_far.same;
       count = omega (arith, long, ap length next, so_far.count);
     }
-
-pub all_rows : {all : List Given} {rows : List Row} {left : List Given} → left ≡ [] → AreRows all rows left
-    → map stored_node rows ≡ nodes_from all 0 all
-all_rows {all} {rows} none so_far =
-    sym (append-nil (map stored_node rows))
-    ∙ ap (λ gs. map stored_node rows ++ nodes_from all (length rows) gs) (sym none) ∙ so_far.same
 
 -- ---- fit nodes are sound
 

@@ -1,3 +1,4 @@
+-- A node that is made.
 use Rattle.std.proofs.Common.{◌≡◌, Bool, true}
 use Rattle.wasi_host.specs.Time.{zero_time}
 use Rattle.wasi_host.specs.Tree.{Node, Content, default_bits}

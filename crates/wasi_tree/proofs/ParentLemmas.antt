@@ -125,13 +125,6 @@ pub record SameNames (t u : Tree) : Type 0 where
 pub names_same : {t u : Tree} → u ≡ t → SameNames t u
 names_same {t} same = subst (SameNames t) (sym same) (record { next = refl; kinds = λ m. refl; names = λ d name. refl })
 
-pub names_then : {t u v : Tree} → SameNames t u → SameNames u v → SameNames t v
-names_then first second = record {
-  next = second.next ∙ first.next;
-  kinds = λ m. second.kinds m ∙ first.kinds m;
-  names = λ d name. second.names d name ∙ first.names d name;
-}
-
 pub names_changed : (t : Tree) (n : ℕ) (node : Node) (worked : Nodes) → n < next_of t
     → names_of node.content ≡ names_of (node_at t n).content
     → is_directory node.content ≡ is_directory (node_at t n).content → SameNames t (changed t n node worked)

@@ -2,10 +2,10 @@
 use Rattle.std.proofs.Common.{◌≡◌, ◌≢◌, ℕ, ◌<◌, true, List, length, slice_set, Option, Some, None, refl, sym, ap, ◌∙◌, subst, arith}
 use Rattle.std.proofs.lemmas.List.{length-set, get_or-set_same, get_or-set_other}
 use Rattle.wasi_host.specs.Tree.{Tree, node_at, next_of, is_directory}
-use Rattle.wasi_host.specs.Step.{without_name, name_lost, name_moved}
+use Rattle.wasi_host.specs.Step.{without_name, name_lost, name_moved, name_moved_onto}
 use Rattle.wasi_host.proofs.Changes.{changed, next_of-changed}
 use Rattle.wasi_tree.specs.ParentOf.{named_at, AreParents, IsKept, without_parent}
-use Rattle.wasi_tree.specs.RenameRows.{IsMove, name_moved_onto}
+use Rattle.wasi_tree.specs.Move.{IsMove}
 use Rattle.wasi_tree.proofs.KeptLemmas.{Has, dropped_names, dropped_kinds, parents_dropped}
 use Rattle.wasi_tree.proofs.ParentLemmas.{Places, taken_before, taken_still, taken_none, taken_kinds, taken_nowhere, parents_taken, parents_put}
 use Rattle.wasi_tree.proofs.SoundLemmas.{seen-name_lost}

@@ -1,33 +1,29 @@
 -- The rows of a rename, one part after another, and its step.
-use Rattle.std.proofs.Common.{◌≡◌, ◌≢◌, ℕ, Bool, true, false, cond, List, [], ◌++◌, Option, Some, None, sym, ap, ◌∙◌, arith}
+use Rattle.std.proofs.Common.{◌≡◌, ◌≢◌, ℕ, Bool, true, false, cond, List, [], ◌++◌, Option, Some, None, sym, ap, ◌∙◌}
 use Rattle.std.specs.Prelude.{IsTrue}
 use Rattle.std.proofs.lemmas.Bool.{true≢false, ne_eqb}
 use Rattle.std.proofs.lemmas.List.{append-nil}
-use Rattle.wasi_paths.specs.Text.{is_dot_text, is_name_text, has_nul, is_long}
+use Rattle.std.specs.FinMap.{len}
+use Rattle.wasi_paths.specs.Text.{is_dot_text, is_name_text}
 use Rattle.wasi_host.specs.Below.{is_below}
-use Rattle.wasi_host.specs.Tree.{Tree, node_at, child, is_directory, hold_one}
+use Rattle.wasi_host.specs.Tree.{Tree, node_at, names_of, child, is_directory, hold_one}
 use Rattle.wasi_host.specs.HostCall.{RenameAt}
-use Rattle.wasi_host.specs.Refusal.{refusal, first_row, is_bare}
+use Rattle.wasi_host.specs.Refusal.{refusal, first_row, naming_rows, loop_rows, moving_rows, renaming_rows}
 use Rattle.wasi_host.specs.Answer.{unless}
-use Rattle.wasi_host.specs.Step.{found_under, with_nodes, moved_step, rename_step}
+use Rattle.wasi_host.specs.Step.{found_under, with_nodes, name_moved_onto, moved_step, rename_step}
 use Rattle.wasi_host.specs.declared.errors.ErrorCode.{ErrorCode}
 use Rattle.wasi_host.specs.declared.errors.HostError.TheVariants.{Code}
 use Rattle.wasi_host.proofs.EntryLemmas.{nat_eq-refl}
+use Rattle.wasi_host.proofs.Refusals.{refused_before, left_behind}
+use Rattle.wasi_host.proofs.ValidSteps.{can_rename, not_below, replaces, is_named}
 use Rattle.wasi_tree.specs.ParentOf.{AreParents}
-use Rattle.wasi_tree.specs.RenameRows.{naming_rows, is_dir_at, loop_rows, moving_by, IsMove, name_moved_onto}
-use Rattle.wasi_tree.specs.TouchedTree.{Touched, Answers, Refuses}
-use Rattle.wasi_tree.proofs.DropLemmas.{refused_before, left_behind}
-use Rattle.wasi_tree.proofs.GoodNames.{good_name}
+use Rattle.wasi_tree.specs.Move.{IsMove}
+use Rattle.wasi_tree.specs.TouchedTree.{Touched, AnsweredByTable, RefusedByTable}
 use Rattle.wasi_tree.proofs.KeptLemmas.{named_there, named_bare}
 use Rattle.wasi_tree.proofs.LinkLemmas.{with_nodes-append}
 use Rattle.wasi_tree.proofs.WayLemmas.{below_itself}
 
 -- ---- the rows
-
--- the rows behind those for the names, by what the names hold
-abbrev later_rows : Tree → ℕ → ℕ → Option ℕ → Option ℕ → List (Bool × ErrorCode)
-later_rows t old new found there =
-    loop_rows t old new found there ++ cond (hold_one found there) [] (moving_by t old new found there)
 
 pub naming_refused : (t : Tree) (old : ℕ) (old_name : List ℕ) (new : ℕ) (new_name : List ℕ) (requires_dir : Bool)
     {code : ErrorCode} → first_row (naming_rows t old old_name new new_name requires_dir) ≡ Some code
@@ -35,7 +31,7 @@ pub naming_refused : (t : Tree) (old : ℕ) (old_name : List ℕ) (new : ℕ) (n
 unfolding refusal
 naming_refused t old old_name new new_name requires_dir refused =
     refused_before (naming_rows t old old_name new new_name requires_dir)
-    (later_rows t old new (child t old old_name) (child t new new_name)) refused
+    (renaming_rows t old new (child t old old_name) (child t new new_name)) refused
 
 -- the rows for the names don't refuse, and this is what the names hold
 pub record Holds (t : Tree) (old : ℕ) (old_name : List ℕ) (new : ℕ) (new_name : List ℕ) (requires_dir : Bool) (n : ℕ)
@@ -46,36 +42,36 @@ pub record Holds (t : Tree) (old : ℕ) (old_name : List ℕ) (new : ℕ) (new_n
 
 module _ {t : Tree} {old new n : ℕ} {old_name new_name : List ℕ} {requires_dir : Bool} {there : Option ℕ}
     (are : Holds t old old_name new new_name requires_dir n there) where
-  later : refusal t (RenameAt old old_name new new_name requires_dir) ≡ first_row (later_rows t old new (Some n) there)
+  later : refusal t (RenameAt old old_name new new_name requires_dir) ≡ first_row (renaming_rows t old new (Some n) there)
   unfolding refusal
   later =
       left_behind (naming_rows t old old_name new new_name requires_dir)
-      (later_rows t old new (child t old old_name) (child t new new_name)) are.free
-      ∙ (λ i. first_row (later_rows t old new (are.found i) (are.onto i)))
+      (renaming_rows t old new (child t old old_name) (child t new new_name)) are.free
+      ∙ (λ i. first_row (renaming_rows t old new (are.found i) (are.onto i)))
 
   pub loop_refused : {code : ErrorCode} → first_row (loop_rows t old new (Some n) there) ≡ Some code
       → refusal t (RenameAt old old_name new new_name requires_dir) ≡ Some code
   loop_refused refused =
       later
       ∙ refused_before (loop_rows t old new (Some n) there)
-      (cond (hold_one (Some n) there) [] (moving_by t old new (Some n) there)) refused
+      (cond (hold_one (Some n) there) [] (moving_rows t old new (Some n) there)) refused
 
   module _ (free : first_row (loop_rows t old new (Some n) there) ≡ None) where
     behind : refusal t (RenameAt old old_name new new_name requires_dir)
-        ≡ first_row (cond (hold_one (Some n) there) [] (moving_by t old new (Some n) there))
+        ≡ first_row (cond (hold_one (Some n) there) [] (moving_rows t old new (Some n) there))
     behind =
         later
         ∙ left_behind (loop_rows t old new (Some n) there)
-        (cond (hold_one (Some n) there) [] (moving_by t old new (Some n) there)) free
+        (cond (hold_one (Some n) there) [] (moving_rows t old new (Some n) there)) free
 
     pub onto_itself : hold_one (Some n) there ≡ true → refusal t (RenameAt old old_name new new_name requires_dir) ≡ None
     onto_itself same =
-        behind ∙ ap (λ one. first_row (cond one [] (moving_by t old new (Some n) there))) same
+        behind ∙ ap (λ one. first_row (cond one [] (moving_rows t old new (Some n) there))) same
 
     pub moving_refuses : hold_one (Some n) there ≡ false
         → refusal t (RenameAt old old_name new new_name requires_dir)
-        ≡ first_row (moving_by t old new (Some n) there)
-    moving_refuses other = behind ∙ ap (λ one. first_row (cond one [] (moving_by t old new (Some n) there))) other
+        ≡ first_row (moving_rows t old new (Some n) there)
+    moving_refuses other = behind ∙ ap (λ one. first_row (cond one [] (moving_rows t old new (Some n) there))) other
 
 -- two names that hold different nodes
 not_one : (n : ℕ) (there : Option ℕ) → hold_one (Some n) there ≡ false → there ≢ Some n
@@ -102,84 +98,42 @@ module _ {t : Tree} {old new n : ℕ} {old_name new_name : List ℕ} {requires_d
 
 -- ---- what the rows say
 
-module _ (t : Tree) (old : ℕ) (old_name : List ℕ) (new : ℕ) (new_name : List ℕ) (requires_dir : Bool)
-    (free : first_row (naming_rows t old old_name new new_name requires_dir) ≡ None) where
-  from : is_directory (node_at t old).content ≡ true
-  from = grind (arith)
-
-  to : is_directory (node_at t new).content ≡ true
-  to = grind (arith)
-
-  old_plain : is_dot_text old_name ≡ false
-  old_plain = grind (arith)
-
-  new_plain : is_dot_text new_name ≡ false
-  new_plain = grind (arith)
-
-  new_nul : has_nul new_name ≡ false
-  new_nul = grind (arith)
-
-  new_long : is_long new_name ≡ false
-  new_long = grind (arith)
-
-pub directories : {t : Tree} {old new n : ℕ} {old_name new_name : List ℕ} {requires_dir : Bool} {there : Option ℕ}
-    → Holds t old old_name new new_name requires_dir n there
-    → (is_directory (node_at t old).content ≡ true) × (is_directory (node_at t new).content ≡ true)
-directories {t} {old} {new} {old_name = old_name} {new_name} {requires_dir} holds = (
-  from t old old_name new new_name requires_dir holds.free,
-  to t old old_name new new_name requires_dir holds.free,
-)
-
--- a node isn't below itself
-loop_apart : (t : Tree) (old new n : ℕ) (there : Option ℕ) → first_row (loop_rows t old new (Some n) there) ≡ None
-    → is_below t n new ≡ false
-loop_apart t old new n there free = grind (arith)
-
--- a directory that loses its name is empty
-replaced_bare : (t : Tree) (old new n m : ℕ) → first_row (moving_by t old new (Some n) (Some m)) ≡ None
-    → is_dir_at t m ≡ true → is_bare (node_at t m) ≡ true
-replaced_bare t old new n m free directory = grind (arith)
-
 pub record Free (t : Tree) (old new n : ℕ) (there : Option ℕ) : Type 0 where
   pub loops : first_row (loop_rows t old new (Some n) there) ≡ None
-  pub moves : first_row (moving_by t old new (Some n) there) ≡ None
+  pub moves : first_row (moving_rows t old new (Some n) there) ≡ None
   pub other : hold_one (Some n) there ≡ false
 
 module _ {t : Tree} {old new n : ℕ} {old_name new_name : List ℕ} {requires_dir : Bool} {there : Option ℕ}
     {parents : List (Option ℕ)} (holds : Holds t old old_name new new_name requires_dir n there)
     (free : Free t old new n there) (name : IsTrue (is_name_text new_name)) (are : AreParents t parents) where
-  lost_apart : (m d q : ℕ) (text : List ℕ) → there ≡ Some m → is_dir_at t d ≡ true → child t d text ≡ Some q
+  lost_apart : (m d q : ℕ) (text : List ℕ) → there ≡ Some m → is_directory (node_at t d).content ≡ true → child t d text ≡ Some q
       → is_dot_text text ≡ false → m ≢ d
   lost_apart m d q text onto directory holding plain same =
       named_bare t d q text (named_there t d text plain holding)
-      (ap (λ k. is_bare (node_at t k)) (sym same)
-      ∙ replaced_bare t old new n m (ap (λ f. first_row (moving_by t old new (Some n) f)) (sym onto) ∙ free.moves)
-      (ap (is_dir_at t) same ∙ directory))
+      (ap (λ k. len (names_of (node_at t k).content)) (sym same)
+      ∙ replaces t old new n m (ap (λ f. first_row (moving_rows t old new (Some n) f)) (sym onto) ∙ free.moves)
+      (ap (λ k. is_directory (node_at t k).content) same ∙ directory))
 
   pub may_move : IsMove t old old_name new new_name n there
   may_move =
-      let old_is = from t old old_name new new_name requires_dir holds.free in
-      let new_is = to t old old_name new new_name requires_dir holds.free in
-      let old_is_plain = old_plain t old old_name new new_name requires_dir holds.free in
-      let new_is_plain = new_plain t old old_name new new_name requires_dir holds.free in
-      let named = named_there t old old_name old_is_plain holds.found in
-      let onto = named_there t new new_name new_is_plain holds.onto in
+      let can = can_rename t old old_name new new_name requires_dir holds.free in
+      let named = named_there t old old_name can.old_plain holds.found in
+      let onto = named_there t new new_name can.plain holds.onto in
       record {
-        from = old_is;
-        to = new_is;
+        from = can.old_directory;
+        to = can.looks.directory;
         named = named;
         onto = onto;
         within = are.within old n old_name named;
         apart = ne_eqb n new (λ same. true≢false
-            (sym (below_itself t n) ∙ ap (is_below t n) same ∙ loop_apart t old new n there free.loops));
+            (sym (below_itself t n) ∙ ap (is_below t n) same ∙ not_below t old new n there free.loops));
         other = not_one n there free.other;
         lost = λ m is. (
           are.within new m new_name (onto ∙ is),
-          lost_apart m old n old_name is old_is holds.found old_is_plain,
-          lost_apart m new m new_name is new_is (holds.onto ∙ is) new_is_plain,
+          lost_apart m old n old_name is can.old_directory holds.found can.old_plain,
+          lost_apart m new m new_name is can.looks.directory (holds.onto ∙ is) can.plain,
         );
-        good = good_name new_name name new_is_plain (new_nul t old old_name new new_name requires_dir holds.free)
-            (new_long t old old_name new new_name requires_dir holds.free);
+        good = is_named new_name can.plain name can.looks.no_nul can.looks.short;
       }
 
 -- ---- the answers
@@ -189,7 +143,7 @@ module _ {s u : Touched} (old : ℕ) (old_name : List ℕ) (new : ℕ) (new_name
     ≡ with_nodes (with_nodes s.touched (found_under s.tree old old_name)) (found_under s.tree new new_name)) where
   pub rename_refuses : {code : ErrorCode} → u.tree ≡ s.tree
       → refusal s.tree (RenameAt old old_name new new_name requires_dir) ≡ Some code
-      → Refuses s u (RenameAt old old_name new new_name requires_dir) (Code code)
+      → RefusedByTable s u (RenameAt old old_name new new_name requires_dir) (Code code)
   rename_refuses tree refused = record {
     meant = ap (λ r. unless r tt) refused;
     tree = tree;
@@ -200,7 +154,7 @@ module _ {s u : Touched} (old : ℕ) (old_name : List ℕ) (new : ℕ) (new_name
 
   pub rename_answers : u.tree ≡ rename_step s.tree old old_name new new_name
       → refusal s.tree (RenameAt old old_name new new_name requires_dir) ≡ None
-      → Answers s u (RenameAt old old_name new new_name requires_dir) tt
+      → AnsweredByTable s u (RenameAt old old_name new new_name requires_dir) tt
   rename_answers tree free = record {
     meant = ap (λ r. unless r tt) free;
     tree = tree;

@@ -1,12 +1,12 @@
 -- Lemmas on the row of a node: what it stands for, and the tree once its content is another one.
-use Rattle.std.proofs.Common.{◌≡◌, ◌<◌, ℕ, zero, suc, List, [], ◌∷◌, ◌++◌, map, length, refl, sym, ap, ◌∙◌, subst, arith, slice_index_or, slice_set}
+use Rattle.std.proofs.Common.{◌≡◌, ◌<◌, ℕ, zero, suc, true, List, [], ◌∷◌, ◌++◌, map, length, refl, sym, ap, ◌∙◌, subst, arith, slice_index_or, slice_set}
 use Rattle.std.proofs.Math.Seq.{map-set_same}
 use Rattle.std.proofs.lemmas.List.{length-map, map-set, map_push}
-use Rattle.std.specs.FinMap.{insert, remove}
-use Rattle.wasi_host.specs.Tree.{Tree, Node, Nodes, Content, Directory, node_at, next_of, names_of, is_gone}
-use Rattle.wasi_host.specs.Step.{with_nodes, node_made}
+use Rattle.std.specs.FinSet.{insert}
+use Rattle.wasi_host.specs.Tree.{Tree, Node, Nodes, Content, node_at, next_of, is_directory}
+use Rattle.wasi_host.specs.Step.{with_nodes, with_content, with_entry, content_changed, node_made}
 use Rattle.wasi_host.specs.declared.limits.Limits.{Limits}
-use Rattle.wasi_host.proofs.Changes.{changed}
+use Rattle.wasi_host.proofs.Changes.{changed, directory_within}
 use Rattle.wasi_tree.specs.StoredTree.{stored_content, stored_node, stored_tree}
 use Rattle.wasi_tree.specs.Sound.{IsSound, IsSoundNode}
 use Rattle.wasi_tree.specs.declared.row.Row.{Row}
@@ -35,13 +35,15 @@ pub record IsRow (rows : List Row) (limits : Limits) (worked : Nodes) (t : Tree)
   pub within : n < next_of t
   pub read : row ≡ slice_index_or rows n row
 
--- a directory's content with one name more
-abbrev pub with_entry : List ℕ → ℕ → Content → Content
-with_entry name n content = Directory (insert (names_of content) name n) (is_gone content)
-
--- a directory's content with one name less
-abbrev pub without_entry : List ℕ → Content → Content
-without_entry name content = Directory (remove (names_of content) name) (is_gone content)
+-- that of a directory
+pub row_of_directory : {rows : List Row} {limits : Limits} {worked : Nodes} {t : Tree} {n : ℕ} {row : Row}
+    → stored_tree rows limits worked ≡ t → is_directory (node_at t n).content ≡ true
+    → row ≡ slice_index_or rows n row → IsRow rows limits worked t n row
+row_of_directory {t = t} {n} stands directory read = record {
+  stands = stands;
+  within = directory_within t n directory;
+  read = read;
+}
 
 module _ {rows : List Row} {limits : Limits} {worked : Nodes} {t : Tree} {n : ℕ} {row : Row}
     (is : IsRow rows limits worked t n row) where
@@ -95,24 +97,24 @@ module _ {rows : List Row} {limits : Limits} {worked : Nodes} {t : Tree} {n : �
     abbrev new : Row
     new = record row { content = content }
 
-    abbrev with_content : Node → Node
-    with_content node = record node { content = f node.content }
-
-    node_written : stored_node new ≡ with_content (stored_node row)
+    node_written : stored_node new ≡ with_content (stored_node row) f
     node_written = ap (λ c. let node : Node = record (stored_node row) { content = c } in node) does
 
-    nodes_written : map stored_node (slice_set rows n new) ≡ slice_set t.nodes n (with_content old)
-    nodes_written = nodes_put with_content new node_written
+    nodes_written : map stored_node (slice_set rows n new) ≡ slice_set t.nodes n (with_content old f)
+    nodes_written = nodes_put (λ node. with_content node f) new node_written
 
-    pub tree_written : (now : Nodes)
-        → stored_tree (slice_set rows n new) limits now ≡ changed t n (with_content old) now
-    tree_written now = tree_put with_content new node_written now
+    -- the tree that the rows then stand for, where the node is marked
+    pub tree_written : {now : Nodes} → now ≡ insert worked n
+        → stored_tree (slice_set rows n new) limits now ≡ content_changed t n f
+    tree_written {now} marked =
+        tree_put (λ node. with_content node f) new node_written now
+        ∙ ap (changed t n (with_content old f)) (marked ∙ ap (λ (u : Tree). insert u.worked n) is.stands)
 
     pub sound_written : (now : Nodes) {marks count : ℕ} → ((c : Content) → seen (f c) ≡ seen c)
         → IsSound (stored_tree rows limits worked) marks → count ≡ marks
         → IsSound (stored_tree (slice_set rows n new) limits now) count
     sound_written now same_seen sound same =
-        sound_row with_content new node_written now (λ node. same_seen node.content) sound same
+        sound_row (λ node. with_content node f) new node_written now (λ node. same_seen node.content) sound same
 
 -- the tree with one row more, which a name of the row's directory holds
 pub tree_grown : {rows : List Row} {limits : Limits} {worked : Nodes} {t : Tree} {d : ℕ} {row : Row}

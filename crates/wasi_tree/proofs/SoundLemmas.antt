@@ -1,16 +1,16 @@
 -- Changes keep a tree sound, and its files files.
-use Rattle.std.proofs.Common.{◌≡◌, ◌<◌, ◌≤◌, ◌+◌, ℕ, Bool, true, false, List, inl, inr, refl, sym, ap, ◌∙◌, subst, arith}
+use Rattle.std.proofs.Common.{◌≡◌, ◌<◌, ◌≤◌, ◌+◌, ℕ, Bool, true, false, not, ◌&&◌, List, Option, Some, None, inl, inr, refl, sym, ap, ◌∙◌, subst, arith}
 use Rattle.std.proofs.lemmas.Bool.{true≢false, cases_eq, cases_lt}
 use Rattle.std.specs.FinMap.{get, empty}
 use Rattle.wasi_host.specs.Tree.{Tree, Node, Nodes, Names, Content, File, Directory, Link, node_at, next_of, stray, names_of, text_of, is_file, is_directory, is_link}
-use Rattle.wasi_host.specs.Step.{new_link, with_name, without_name, node_made, no_bytes, piece_in, one_name_more, one_name_less, made_gone}
+use Rattle.wasi_host.specs.Step.{new_link, with_name, without_name, node_made, no_bytes, piece_in, one_name_more, one_name_less, made_gone, name_lost}
 use Rattle.wasi_host.proofs.Changes.{changed, next_of-changed, node_at-changed, node_at-other, node_at-same, node_at-past, node_at-parent, node_at-apart, node_at-made, node_at-kept, next_of-made, directory_within}
 use Rattle.wasi_host.proofs.EntryLemmas.{unnamed}
-use Rattle.wasi_host.proofs.Leaving.{without_name_names}
+use Rattle.wasi_host.proofs.Leaving.{each_kind, without_name_names}
 use Rattle.wasi_paths.specs.Text.{is_entry_name}
+use Rattle.wasi_tree.proofs.NameLemmas.{get-no_names, same_names}
 use Rattle.wasi_tree.proofs.ParentLemmas.{with_name_cases}
-use Rattle.wasi_tree.specs.DropRows.{name_lost}
-use Rattle.wasi_tree.specs.Sound.{IsSound, IsSoundNode, IsSoundText, Stays}
+use Rattle.wasi_tree.specs.Sound.{IsSound, IsSoundNode, IsSoundText, NodesStay}
 
 -- what is sound of a content: its names, which only a directory has, and the text of a link
 abbrev pub Seen : Type 0
@@ -20,35 +20,24 @@ abbrev pub seen : Content → Seen
 seen content = ((names_of content, is_directory content), (is_link content, text_of content))
 
 pub seen-no_bytes : (content : Content) → seen (no_bytes content) ≡ seen content
-seen-no_bytes (File bytes links) = refl
-seen-no_bytes (Directory names gone) = refl
-seen-no_bytes (Link text links) = refl
+seen-no_bytes = each_kind (λ c. seen (no_bytes c) ≡ seen c) (λ _ _. refl) (λ _ _. refl) (λ _ _. refl)
 
 pub seen-piece_in : (content : Content) (offset : ℕ) (piece : List ℕ)
     → seen (piece_in content offset piece) ≡ seen content
-seen-piece_in (File bytes links) offset piece = refl
-seen-piece_in (Directory names gone) offset piece = refl
-seen-piece_in (Link text links) offset piece = refl
+seen-piece_in content offset piece =
+    each_kind (λ c. seen (piece_in c offset piece) ≡ seen c) (λ _ _. refl) (λ _ _. refl) (λ _ _. refl) content
 
 pub seen-one_name_more : (content : Content) → seen (one_name_more content) ≡ seen content
-seen-one_name_more (File bytes links) = refl
-seen-one_name_more (Directory names gone) = refl
-seen-one_name_more (Link text links) = refl
+seen-one_name_more = each_kind (λ c. seen (one_name_more c) ≡ seen c) (λ _ _. refl) (λ _ _. refl) (λ _ _. refl)
 
 pub seen-one_name_less : (content : Content) → seen (one_name_less content) ≡ seen content
-seen-one_name_less (File bytes links) = refl
-seen-one_name_less (Directory names gone) = refl
-seen-one_name_less (Link text links) = refl
+seen-one_name_less = each_kind (λ c. seen (one_name_less c) ≡ seen c) (λ _ _. refl) (λ _ _. refl) (λ _ _. refl)
 
 pub seen-made_gone : (content : Content) → seen (made_gone content) ≡ seen content
-seen-made_gone (File bytes links) = refl
-seen-made_gone (Directory names gone) = refl
-seen-made_gone (Link text links) = refl
+seen-made_gone = each_kind (λ c. seen (made_gone c) ≡ seen c) (λ _ _. refl) (λ _ _. refl) (λ _ _. refl)
 
 pub seen-name_lost : (content : Content) → seen (name_lost content) ≡ seen content
-seen-name_lost (File bytes links) = refl
-seen-name_lost (Directory names gone) = refl
-seen-name_lost (Link text links) = refl
+seen-name_lost = each_kind (λ c. seen (name_lost c) ≡ seen c) (λ _ _. refl) (λ _ _. refl) (λ _ _. refl)
 
 -- a node in which the same is seen as in a sound one, among as many nodes or more
 sound_by : (count more : ℕ) (sound other : Node) → seen other.content ≡ seen sound.content → count ≤ more
@@ -105,6 +94,16 @@ bare count node none no_link = record {
   named = λ name n is. absurd (unnamed (names_of node.content) name n none is);
   text = λ link. absurd (true≢false (sym link ∙ no_link));
 }
+
+-- where a name can hold no node there is no name
+pub no_names : (node : Node) → IsSoundNode 0 node → names_of node.content ≡ empty
+no_names node sound =
+    same_names (names_of node.content) empty
+    (λ q. none q (get (names_of node.content) q) refl ∙ sym (get-no_names q))
+  where
+    none : (q : List ℕ) (found : Option ℕ) → get (names_of node.content) q ≡ found → get (names_of node.content) q ≡ None
+    none q None is = is
+    none q (Some n) is = let within = sound.below q n is in absurd (omega (arith, within))
 
 -- a link of a text that a link may have
 pub sound_link : (count : ℕ) (text : List ℕ) → IsSoundText text → IsSoundNode count (new_link text)
@@ -178,31 +177,27 @@ module _ (t : Tree) (d : ℕ) (name : List ℕ) (new : Node) (directory : is_dir
 
 -- ---- what stays
 
-pub stays_same : (t u : Tree) → u ≡ t → Stays t u
-stays_same t u same = subst (Stays t) (sym same) (record { next = omega arith; files = λ n h. refl })
+pub stays_same : (t u : Tree) → u ≡ t → NodesStay t u
+stays_same t u same = subst (NodesStay t) (sym same) (record { next = omega arith; files = λ n h. refl })
 
 pub stays_changed : (t : Tree) (n : ℕ) (node : Node) (worked : Nodes) → n < next_of t
-    → is_file node.content ≡ is_file (node_at t n).content → Stays t (changed t n node worked)
+    → is_file node.content ≡ is_file (node_at t n).content → NodesStay t (changed t n node worked)
 stays_changed t n node worked within same = record {
   next = omega (arith, next_of-changed t n node worked);
   files = λ k h. node_at-same t n node worked within (λ x. is_file x.content) same k;
 }
 
-pub stays_then : {t u v : Tree} → Stays t u → Stays u v → Stays t v
-stays_then first second = record {
-  next = omega (arith, first.next, second.next);
-  files = λ n h. second.files n (omega (arith, h, first.next)) ∙ first.files n h;
-}
+-- what is neither a directory nor a link
+file_seen : (content : Content) → is_file content ≡ (not (is_directory content) && not (is_link content))
+file_seen = each_kind (λ c. is_file c ≡ (not (is_directory c) && not (is_link c))) (λ _ _. refl) (λ _ _. refl)
+    (λ _ _. refl)
 
-pub file-name_lost : (content : Content) → is_file (name_lost content) ≡ is_file content
-file-name_lost (File bytes links) = refl
-file-name_lost (Directory names gone) = refl
-file-name_lost (Link text links) = refl
-
-pub file-one_name_more : (content : Content) → is_file (one_name_more content) ≡ is_file content
-file-one_name_more (File bytes links) = refl
-file-one_name_more (Directory names gone) = refl
-file-one_name_more (Link text links) = refl
+-- a node is another one in which the same is seen
+pub stays_seen : (t : Tree) (n : ℕ) (node : Node) (worked : Nodes) → n < next_of t
+    → seen node.content ≡ seen (node_at t n).content → NodesStay t (changed t n node worked)
+stays_seen t n node worked within same =
+    stays_changed t n node worked within
+    (file_seen node.content ∙ ap (λ (s : Seen). not s.0.1 && not s.1.0) same ∙ sym (file_seen (node_at t n).content))
 
 pub no_file : (content : Content) → is_directory content ≡ true → is_file content ≡ false
 no_file (File bytes links) is = absurd (cc)
@@ -210,7 +205,7 @@ no_file (Directory names gone) is = refl
 no_file (Link text links) is = refl
 
 pub stays_made : (t : Tree) (d : ℕ) (name : List ℕ) (new : Node) → is_directory (node_at t d).content ≡ true
-    → Stays t (node_made t d name new)
+    → NodesStay t (node_made t d name new)
 stays_made t d name new directory =
     let within : d < next_of t = directory_within t d directory in
     record {

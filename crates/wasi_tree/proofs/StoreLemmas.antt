@@ -49,22 +49,6 @@ open_refused t d name o code directory accepted name_refused = grind (arith)
 
 -- ---- a look at a name
 
--- a row for the name refuses a look at it
-pub look_refused : (t : Tree) (d : ℕ) (name : List ℕ) (code : ErrorCode) → is_directory (node_at t d).content ≡ true
-    → first_row (name_rows t d name) ≡ Some code → refusal t (StatAt d name) ≡ Some code
-unfolding refusal
-look_refused t d name code directory name_refused = grind (arith)
-
-pub look_missing : (t : Tree) (d : ℕ) (name : List ℕ) → is_directory (node_at t d).content ≡ true
-    → first_row (name_rows t d name) ≡ None → child t d name ≡ None → refusal t (StatAt d name) ≡ Some codes.NoEntry
-unfolding refusal
-look_missing t d name directory named missing = grind (arith)
-
-pub look_free : (t : Tree) (d n : ℕ) (name : List ℕ) → is_directory (node_at t d).content ≡ true
-    → first_row (name_rows t d name) ≡ None → child t d name ≡ Some n → refusal t (StatAt d name) ≡ None
-unfolding refusal
-look_free t d n name directory named found = grind (arith)
-
 -- the metadata of what is found
 pub stat_at_is : (t : Tree) (d n : ℕ) (name : List ℕ) (metadata : Metadata) → refusal t (StatAt d name) ≡ None
     → child t d name ≡ Some n → metadata ≡ metadata_of t n → stat_at_answer t d name ≡ Ok metadata
@@ -72,10 +56,6 @@ unfolding reached
 stat_at_is t d n name metadata free found is =
     ap (λ r. unless r (metadata_of t (or_next (child t d name) (next_of t)))) free
     ∙ ap (λ f. Ok (metadata_of t (or_next f (next_of t)))) found ∙ ap Ok (sym is)
-
-pub stat_at_refused : (t : Tree) (d : ℕ) (name : List ℕ) (code : ErrorCode) → refusal t (StatAt d name) ≡ Some code
-    → stat_at_answer t d name ≡ Err code
-stat_at_refused t d name code refused = ap (λ r. unless r (metadata_of t (reached t d name))) refused
 
 -- what refuses a look at a name's metadata refuses to read it as a link
 refused_link : (t : Tree) (d : ℕ) (name : List ℕ) (code : ErrorCode) → refusal t (StatAt d name) ≡ Some code

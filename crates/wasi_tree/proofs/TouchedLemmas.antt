@@ -1,27 +1,26 @@
 -- Lemmas on a tree with its touched nodes.
-use Rattle.std.proofs.Common.{◌≡◌, ◌<◌, ℕ, Bool, true, false, cond, List, [], ◌∷◌, ◌++◌, Option, Some, None, Result, Ok, Err, refl, sym, ap, ◌∙◌, arith}
-use Rattle.std.proofs.lemmas.List.{append-nil}
-use Rattle.std.specs.Prelude.{is_none, option_to_list, MatchResult}
+use Rattle.std.proofs.Common.{◌≡◌, ◌<◌, ℕ, Bool, true, false, cond, List, [], ◌∷◌, ◌++◌, Option, Some, None, Ok, refl, sym, ap, ◌∙◌, arith}
+use Rattle.std.specs.Prelude.{is_none, option_to_list}
 use Rattle.std.specs.FinSet.{insert}
 use Rattle.wasi_host.specs.Options.{Options, is_path_only}
-use Rattle.wasi_host.specs.Tree.{Tree, Content, File, Directory, Link, node_at, next_of, child, is_file, is_directory, is_link}
-use Rattle.wasi_host.specs.HostCall.{OpenAt, StatAt, ReadLinkAt, MakeDirAt, SymlinkAt, Stat, SetTimes}
+use Rattle.wasi_host.specs.Tree.{Tree, Nodes, Content, File, Directory, Link, node_at, next_of, child, is_file, is_directory, is_link}
+use Rattle.wasi_host.specs.HostCall.{OpenAt, Stat, SetTimes}
 use Rattle.wasi_host.specs.Refusal.{refusal, can_write}
-use Rattle.wasi_host.specs.Step.{new_file, is_cut, file_cut, file_made, opened_step, open_step, with_nodes, times_set}
-use Rattle.wasi_host.specs.Answer.{access_of, unless, reached, or_next, metadata_of, stat_at_answer, link_answer}
-use Rattle.wasi_host.specs.Meaning.{IsHeld, hosted}
-use Rattle.wasi_host.specs.declared.errors.ErrorCode.{ErrorCode}
+use Rattle.wasi_host.specs.Step.{new_file, is_cut, file_cut, file_made, opened_step, open_step, found_under, with_nodes, times_set}
+use Rattle.wasi_host.specs.Answer.{access_of, unless, reached, or_next, metadata_of}
+use Rattle.wasi_host.specs.Meaning.{IsHeld}
 use Rattle.wasi_host.specs.declared.held.AccessMode.TheVariants.{Read, Write, ReadWrite, PathOnly}
 use Rattle.wasi_host.specs.declared.held.Held.{Held}
 use Rattle.wasi_host.specs.declared.metadata.Metadata.{Metadata}
 use Rattle.wasi_host.specs.declared.system_time.SystemTime.{SystemTime}
 use Rattle.wasi_host.proofs.Changes.{node_at-made, next_of-made, directory_within}
-use Rattle.wasi_host.proofs.ValidSteps.{open_directory}
-use Rattle.wasi_tree.specs.Sound.{Stays, IsSoundText}
-use Rattle.wasi_tree.specs.TouchedTree.{Touched, Answers, Does}
+use Rattle.wasi_host.proofs.ValidSteps.{can_open}
+use Rattle.wasi_tree.specs.Sound.{NodesStay}
+use Rattle.wasi_tree.proofs.LinkLemmas.{with_nodes-append}
+use Rattle.wasi_tree.specs.TouchedTree.{Touched, AnsweredByTable}
 
 -- what is held stays held
-pub held_stays : {t u : Tree} {held : Held} → Stays t u → IsHeld t held → IsHeld u held
+pub held_stays : {t u : Tree} {held : Held} → NodesStay t u → IsHeld t held → IsHeld u held
 held_stays {held = held} stays is = record {
   within = omega (arith, is.within, stays.next);
   writes_file = λ writes. stays.files held.node is.within ∙ is.writes_file writes;
@@ -55,7 +54,7 @@ no_directory t d n name o none found writes = grind arith
 
 module _ {t : Tree} {d : ℕ} {name : List ℕ} {o : Options} (free : IsFree t d name o) where
   pub free_directory : is_directory (node_at t d).content ≡ true
-  free_directory = (open_directory t d name o free.none).0
+  free_directory = (can_open t d name o free.none).directory
 
   pub found_held : (n : ℕ) → child t d name ≡ Some n → n < next_of t
       → IsHeld t (record { node = n; mode = access_of o })
@@ -87,7 +86,7 @@ comes_to t d found = (d ∷ option_to_list found) ++ cond (is_none found) (next_
 module _ {s u : Touched} {d : ℕ} {name : List ℕ} {o : Options} (free : IsFree s.tree d name o) where
   opens : (found : Option ℕ) → child s.tree d name ≡ found → u.tree ≡ opened_step s.tree d name o found
       → u.touched ≡ with_nodes s.touched (comes_to s.tree d found)
-      → Answers s u (OpenAt d name o) (handle_of s.tree o found)
+      → AnsweredByTable s u (OpenAt d name o) (handle_of s.tree o found)
   unfolding reached open_step handle_of comes_to
   opens found is tree touched = record {
     meant =
@@ -100,13 +99,13 @@ module _ {s u : Touched} {d : ℕ} {name : List ℕ} {o : Options} (free : IsFre
   pub opens_found : (n : ℕ) → child s.tree d name ≡ Some n
       → u.tree ≡ cond (is_cut o (node_at s.tree n).content) (file_cut s.tree n) s.tree
       → u.touched ≡ with_nodes s.touched (d ∷ n ∷ [])
-      → Answers s u (OpenAt d name o) (record { node = n; mode = access_of o })
+      → AnsweredByTable s u (OpenAt d name o) (record { node = n; mode = access_of o })
   unfolding handle_of comes_to
   opens_found n is tree touched = opens (Some n) is tree touched
 
   pub opens_made : child s.tree d name ≡ None → u.tree ≡ file_made s.tree d name
       → u.touched ≡ with_nodes s.touched (d ∷ next_of s.tree ∷ [])
-      → Answers s u (OpenAt d name o) (record { node = next_of s.tree; mode = access_of o })
+      → AnsweredByTable s u (OpenAt d name o) (record { node = next_of s.tree; mode = access_of o })
   unfolding handle_of comes_to
   opens_made is tree touched = opens None is tree touched
 
@@ -118,58 +117,23 @@ none_of (Some x) never = absurd (never x refl)
 -- ---- a look at a node
 
 pub stats : (s u : Touched) (n : ℕ) (metadata : Metadata) → metadata ≡ metadata_of s.tree n → u.tree ≡ s.tree
-    → u.touched ≡ insert s.touched n → Answers s u (Stat n) metadata
+    → u.touched ≡ insert s.touched n → AnsweredByTable s u (Stat n) metadata
 unfolding refusal
 stats s u n metadata is tree touched = record { meant = ap Ok (sym is); tree = tree; touched = touched }
 
 pub sets_times : (s u : Touched) (n : ℕ) (atime mtime : Option SystemTime) → u.tree ≡ times_set s.tree n atime mtime
-    → u.touched ≡ insert s.touched n → Answers s u (SetTimes n atime mtime) tt
+    → u.touched ≡ insert s.touched n → AnsweredByTable s u (SetTimes n atime mtime) tt
 unfolding refusal
 sets_times s u n atime mtime tree touched = record { meant = refl; tree = tree; touched = touched }
 
--- ---- a look at a name
-
--- nothing was stepped, and what the call comes to is touched
-pub record LooksAt (s u : Touched) (d : ℕ) (name : List ℕ) : Type 0 where
-  pub tree : u.tree ≡ s.tree
-  pub touched : u.touched ≡ with_nodes s.touched (d ∷ option_to_list (child s.tree d name))
-
-module _ {s u : Touched} {d : ℕ} {name : List ℕ} (looks : LooksAt s u d name) where
-  and_none : u.touched ≡ with_nodes s.touched ((d ∷ option_to_list (child s.tree d name)) ++ [])
-  and_none = looks.touched ∙ ap (with_nodes s.touched) (sym (append-nil (d ∷ option_to_list (child s.tree d name))))
-
-  pub stats_at : (result : Result Metadata ErrorCode)
-      → MatchResult result (λ metadata. stat_at_answer s.tree d name ≡ Ok metadata)
-      (λ code. stat_at_answer s.tree d name ≡ Err code)
-      → Does s u (StatAt d name) (λ metadata. metadata) (hosted result)
-  stats_at (Ok metadata) is = record { meant = is; tree = looks.tree; touched = and_none }
-  stats_at (Err code) is = record { meant = is; tree = looks.tree; touched = looks.touched }
-
-  pub reads_link : {A : Type 0} (text : List ℕ) (shown : A → List ℕ) (a : A) → link_answer s.tree d name ≡ Ok text
-      → shown a ≡ text → Does s u (ReadLinkAt d name) shown (Ok a)
-  reads_link text shown a is copied = record {
-    meant = is ∙ ap Ok (sym copied);
-    tree = looks.tree;
-    touched = and_none;
-  }
-
 -- ---- a new node
 
-pub makes_in_directory : (t : Tree) (d : ℕ) (name : List ℕ) → refusal t (MakeDirAt d name) ≡ None
-    → is_directory (node_at t d).content ≡ true
-unfolding refusal
-makes_in_directory t d name free = grind (arith)
-
-pub links_in_directory : (t : Tree) (d : ℕ) (name text : List ℕ) → refusal t (SymlinkAt text d name) ≡ None
-    → is_directory (node_at t d).content ≡ true
-unfolding refusal
-links_in_directory t d name text free = grind (arith)
-
--- the text of a link that may be made
-pub links_text : (t : Tree) (d : ℕ) (name text : List ℕ) → refusal t (SymlinkAt text d name) ≡ None
-    → IsSoundText text
-unfolding refusal
-links_text t d name [] free = absurd (grind (arith))
-links_text t d name (byte ∷ bytes) free = record { some = omega arith; most = grind (arith) }
+-- what a name comes to is touched, and then the node that is made
+pub made_touched : {marked now : Nodes} (before : Nodes) (t : Tree) (d : ℕ) (name : List ℕ)
+    → marked ≡ with_nodes before (found_under t d name) → now ≡ insert marked (next_of t)
+    → now ≡ with_nodes before (found_under t d name ++ next_of t ∷ [])
+made_touched before t d name first last =
+    last ∙ ap (λ nodes. insert nodes (next_of t)) first
+    ∙ sym (with_nodes-append before (found_under t d name) (next_of t ∷ []))
 
 pub ruleset touched_rules = (stats, sets_times)

@@ -23,7 +23,7 @@ use Rattle.wasi_host.specs.declared.limits.TheConstants.{FILE_MAX, LINK_MAX}
 use Rattle.wasi_host.proofs.EntryLemmas.{times, numbers, find_in, entries-no_names}
 use Rattle.wasi_tree.specs.Given.{Given, given_entries, entry_count, content_from, node_from, nodes_from, tree_of, content_given, given_of}
 use Rattle.wasi_tree.specs.GivenTests.{is_dir_content, are_distinct, starts_with_directory}
-use Rattle.wasi_tree.specs.Fit.{is_fit_entry, entries_held, entries_at, IsFound, root, held, HasPlace, IsFitContent, IsFit, AreFit}
+use Rattle.wasi_tree.specs.Fit.{is_fit_entry, entries_held, entries_at, IsFound, at_zero, by_entry, HasPlace, IsFitContent, IsFit, AreFit}
 use Rattle.wasi_tree.proofs.CountLemmas.{times-numbers}
 use Rattle.wasi_tree.proofs.GivenNames.{texts}
 
@@ -138,12 +138,12 @@ module _ (t : Tree) (valid_t : IsValidTree t) where
   entries_are d = entries_listed t.nodes d
 
   reached_found : (n : ℕ) → Reached t (0 ∷ []) n → IsFound all n
-  reached_found n (valid.root m (zero, short, is)) = subst (IsFound all) is root
+  reached_found n (valid.root m (zero, short, is)) = subst (IsFound all) is at_zero
   reached_found n (valid.root m (suc k, short, is)) = absurd (omega (arith, short))
   reached_found n (valid.held d m name reached is) =
       let names = maps.entries (names_of (node_at t d).content) in
       let stands : Contains names (name, m) = stands_at name m names (sym (maps.get-entries (names_of (node_at t d).content) name) ∙ is) in
-      held d (name, m) (reached_found d reached) (subst (λ es. Contains es (name, m)) (sym (entries_are d)) stands)
+      by_entry d (name, m) (reached_found d reached) (subst (λ es. Contains es (name, m)) (sym (entries_are d)) stands)
 
   entries_fit : (es : List (List ℕ × ℕ)) → All (IsEntry t) es → list_all (is_fit_entry (length all)) es ≡ true
   entries_fit [] are = refl

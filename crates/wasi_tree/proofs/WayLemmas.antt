@@ -1,5 +1,5 @@
 -- The way up from a directory comes to what it is below.
-use Rattle.std.proofs.Common.{◌≡◌, ◌≢◌, ℕ, zero, suc, ◌+◌, ◌<◌, Bool, true, false, cond, ◌||◌, ◌&&◌, nat_eq, List, [], ◌∷◌, length, get_or, Option, Some, None, inl, inr, refl, sym, ap, ◌∙◌, subst, arith}
+use Rattle.std.proofs.Common.{◌≡◌, ◌≢◌, ℕ, zero, suc, ◌+◌, Bool, true, false, cond, ◌||◌, ◌&&◌, nat_eq, List, [], ◌∷◌, length, get_or, Option, Some, None, inl, inr, refl, sym, ap, ◌∙◌, subst, arith}
 use Rattle.std.specs.List.{list_any}
 use Rattle.std.specs.Ordering.{nat_cmp, eq_by_cmp}
 use Rattle.std.specs.Cmp.Lexicographic.{slice_cmp}
@@ -7,20 +7,12 @@ use Rattle.std.specs.FinMap as maps
 use Rattle.std.proofs.lemmas.Bool.{eqb-true, ne_eqb}
 use Rattle.wasi_host.specs.Tree.{Tree, Content, File, Directory, Link, node_at, next_of, names_of, is_directory}
 use Rattle.wasi_host.specs.Below.{is_within, is_below}
+use Rattle.wasi_host.proofs.BelowLemmas.{any_where}
 use Rattle.wasi_host.proofs.EntryLemmas.{find_in, unnamed, get_entry, nat_eq-refl}
 use Rattle.wasi_host.proofs.Touching.{or_left, or_right, one_of}
 use Rattle.wasi_tree.specs.ParentOf.{parent_of, named_at, AreParents, goes_up, is_on_way}
 
 -- ---- tests of some entry
-
--- an entry of which a test holds
-some_entry : {X : Type 0} (p : X → Bool) (xs : List X) (d : X) → list_any p xs ≡ true
-    → (i : ℕ) × (i < length xs) × (p (get_or xs i d) ≡ true)
-some_entry p [] d is = absurd (cc)
-some_entry p (x ∷ xs) d is = elim (one_of (p x) (list_any p xs) is) [
-  | inl later ↦ let found = some_entry p xs d later in (suc found.0, omega (arith, found.1), found.2)
-  | inr here ↦ (0, omega arith, here)
-]
 
 -- it holds of some where it holds of what a name holds
 named_some : (p : ℕ → Bool) (name : List ℕ) (n : ℕ) (es : List (List ℕ × ℕ)) → find_in name es ≡ Some n
@@ -85,7 +77,7 @@ module _ (t : Tree) where
   within_directory (suc k) top n directory is =
       elim (one_of (nat_eq n top) (list_any (λ e. is_within t k e.1 n) (below_of top)) is) [
         | inl later ↦
-            let found = some_entry (λ e. is_within t k e.1 n) (below_of top) ([], 0) later in
+            let found = any_where (λ e. is_within t k e.1 n) (below_of top) ([], 0) later in
             named_content (node_at t top).content (get_or (below_of top) found.0 ([], 0)).0
             (get_or (below_of top) found.0 ([], 0)).1
             (get_entry (names_of (node_at t top).content) found.0 ([], 0) found.1)
@@ -174,7 +166,7 @@ module _ {t : Tree} {parents : List (Option ℕ)} (are : AreParents t parents) w
   within_way (suc k) top n directory is =
       elim (one_of (nat_eq n top) (list_any (λ e. is_within t k e.1 n) (below_of t top)) is) [
         | inl later ↦
-            let found = some_entry (λ e. is_within t k e.1 n) (below_of t top) ([], 0) later in
+            let found = any_where (λ e. is_within t k e.1 n) (below_of t top) ([], 0) later in
             let entry : List ℕ × ℕ = get_or (below_of t top) found.0 ([], 0) in
             way_longer parents k entry.1 top n
             (are.up top entry.1 entry.0 (within_directory t k entry.1 n directory found.2)

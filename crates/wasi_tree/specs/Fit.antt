@@ -34,8 +34,8 @@ entries_at nodes n = entries_held (slice_get nodes n)
 
 -- the least set of numbers that has 0, and with a node each number that its entries give
 pub data IsFound (nodes : List Given) : ℕ → Type 0 where
-  root : IsFound nodes 0
-  held : (d : ℕ) (entry : List ℕ × ℕ) → IsFound nodes d → Contains (entries_at nodes d) entry → IsFound nodes entry.1
+  at_zero : IsFound nodes 0
+  by_entry : (d : ℕ) (entry : List ℕ × ℕ) → IsFound nodes d → Contains (entries_at nodes d) entry → IsFound nodes entry.1
 
 -- Node 0 has no name. Another directory has exactly one and is found from node 0, or it is removed: it has no name and
 -- no entries.

@@ -2,12 +2,9 @@
 use Rattle.std.specs.Prelude.{◌≡◌, ◌⊎◌, ℕ, List, refl}
 use Rattle.std.proofs.Common.{inl, inr}
 use Rattle.std.specs.Coded.{Coded, code_by, coded×, coded⊎, coded_ℕ, coded_list}
-use Rattle.wasi_host.specs.contracts.bits.Bits as bits
+use Rattle.wasi_host.specs.TreeCode.{NodeParts, node_parts_code}
 use Rattle.wasi_host.specs.contracts.limits.Limits as limits
-use Rattle.wasi_host.specs.contracts.system_time.SystemTime as time
-use Rattle.wasi_host.specs.declared.bits.Bits.{Bits}
 use Rattle.wasi_host.specs.declared.limits.Limits.{Limits}
-use Rattle.wasi_host.specs.declared.system_time.SystemTime.{SystemTime}
 use Rattle.wasi_tree.specs.Given.{Given, GivenContent, file, directory, link}
 use Rattle.wasi_tree.specs.Fit.{AreFit, name_counts}
 
@@ -21,35 +18,33 @@ pub record AreTested (limits : Limits) (nodes : List Given) (counts : List ℕ) 
   pub fit : AreFit limits nodes
   pub counted : counts ≡ name_counts nodes
 
-abbrev pub Parts : Type 0
-Parts = List ℕ ⊎ (List (List ℕ × ℕ) ⊎ List ℕ)
+abbrev pub GivenParts : Type 0
+GivenParts = List ℕ ⊎ (List (List ℕ × ℕ) ⊎ List ℕ)
 
-abbrev pub parts_of : GivenContent → Parts
-parts_of (file bytes) = inl bytes
-parts_of (directory entries) = inr (inl entries)
-parts_of (link text) = inr (inr text)
+abbrev pub given_parts : GivenContent → GivenParts
+given_parts (file bytes) = inl bytes
+given_parts (directory entries) = inr (inl entries)
+given_parts (link text) = inr (inr text)
 
-abbrev pub of_parts : Parts → GivenContent
-of_parts (inl bytes) = file bytes
-of_parts (inr (inl entries)) = directory entries
-of_parts (inr (inr text)) = link text
+abbrev pub of_given_parts : GivenParts → GivenContent
+of_given_parts (inl bytes) = file bytes
+of_given_parts (inr (inl entries)) = directory entries
+of_given_parts (inr (inr text)) = link text
 
-abbrev pub parts_back : (content : GivenContent) → of_parts (parts_of content) ≡ content
-parts_back (file bytes) = refl
-parts_back (directory entries) = refl
-parts_back (link text) = refl
+abbrev pub given_parts_back : (content : GivenContent) → of_given_parts (given_parts content) ≡ content
+given_parts_back (file bytes) = refl
+given_parts_back (directory entries) = refl
+given_parts_back (link text) = refl
 
-abbrev pub content_code : Coded GivenContent
-content_code =
-    code_by Parts
+abbrev pub given_content_code : Coded GivenContent
+given_content_code =
+    code_by GivenParts
     (coded⊎ (coded_list coded_ℕ) (coded⊎ (coded_list (coded× (coded_list coded_ℕ) coded_ℕ)) (coded_list coded_ℕ)))
-    parts_of of_parts parts_back
+    given_parts of_given_parts given_parts_back
 
 abbrev pub given_code : Coded Given
 given_code =
-    code_by (GivenContent × (Bits × (SystemTime × (SystemTime × SystemTime))))
-    (coded× content_code (coded× bits.the_row.coded (coded× time.the_row.coded (coded× time.the_row.coded time.the_row.coded))))
-    (λ g. (g.content, (g.bits, (g.atime, (g.mtime, g.btime)))))
+    code_by (NodeParts GivenContent) (node_parts_code given_content_code) (λ g. (g.content, (g.bits, (g.atime, (g.mtime, g.btime)))))
     (λ p. record { content = p.0; bits = p.1.0; atime = p.1.1.0; mtime = p.1.1.1.0; btime = p.1.1.1.1 })
     (λ _. refl)
 

@@ -34,15 +34,13 @@ given_content (new.File bytes) = file bytes.items
 given_content (new.Dir entries) = directory (map pair_of entries.items)
 given_content (new.Link text) = link (string_bytes text)
 
+abbrev pub given_with : GivenContent → Bits → SystemTime → SystemTime → SystemTime → Given
+given_with content bits atime mtime btime =
+    record { content = content; bits = bits; atime = atime; mtime = mtime; btime = btime }
+
 -- a node of a list, as plain data
 abbrev pub given : NewNode → Given
-given node = record {
-  content = given_content node.content;
-  bits = node.bits;
-  atime = node.atime;
-  mtime = node.mtime;
-  btime = node.btime;
-}
+given node = given_with (given_content node.content) node.bits node.atime node.mtime node.btime
 
 -- a new file may not be searched, or executed
 abbrev pub may_search : GivenContent → Bool
@@ -52,7 +50,7 @@ may_search (link text) = true
 
 -- a node of this content, with the bits and times that a new one has
 abbrev pub new_given : GivenContent → Given
-new_given content = record { content = content; bits = default_bits (may_search content); atime = zero_time; mtime = zero_time; btime = zero_time }
+new_given content = given_with content (default_bits (may_search content)) zero_time zero_time zero_time
 
 abbrev pub given_entries : GivenContent → List (List ℕ × ℕ)
 given_entries (file bytes) = []
@@ -95,10 +93,4 @@ content_given (Link text links) = link text
 
 -- a node of a tree as a list gives it; a directory's names stand in byte order
 abbrev pub given_of : Node → Given
-given_of node = record {
-  content = content_given node.content;
-  bits = node.bits;
-  atime = node.atime;
-  mtime = node.mtime;
-  btime = node.btime;
-}
+given_of node = given_with (content_given node.content) node.bits node.atime node.mtime node.btime

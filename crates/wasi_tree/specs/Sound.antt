@@ -30,6 +30,6 @@ pub record HoldsNodes (t : Tree) (handles : HeldMap) : Type 0 where
   pub each : (h : ℕ) → contains (live_of handles) h ≡ true → IsHeld t (held_in handles h)
 
 -- nodes stay, and those that are files stay files
-pub record Stays (t u : Tree) : Type 0 where
+pub record NodesStay (t u : Tree) : Type 0 where
   pub next : next_of t ≤ next_of u
   pub files : (n : ℕ) → n < next_of t → is_file (node_at u n).content ≡ is_file (node_at t n).content

@@ -20,7 +20,7 @@ touched_code =
     (λ s. (s.tree, s.touched)) (λ p. record { tree = p.0; touched = p.1 }) (λ _. refl)
 
 -- The answer is the table's, the step was made, and the nodes that the call comes to or made are touched.
-pub record Answers (s u : Touched) (call : HostCall) (answer : HostAnswer call) : Type 0 where
+pub record AnsweredByTable (s u : Touched) (call : HostCall) (answer : HostAnswer call) : Type 0 where
   pub meant : host_answer s.tree call ≡ Ok answer
   pub tree : u.tree ≡ step s.tree call
   pub touched : u.touched ≡ with_nodes s.touched (found_by s.tree call ++ made_by s.tree call)
@@ -31,12 +31,12 @@ MeansCode meant Memory = Unit {0}
 MeansCode meant (Code code) = meant ≡ Err code
 
 -- The tree stays, and the nodes that the call comes to are touched.
-pub record Refuses (s u : Touched) (call : HostCall) (error : HostError) : Type 0 where
+pub record RefusedByTable (s u : Touched) (call : HostCall) (error : HostError) : Type 0 where
   pub meant : MeansCode (host_answer s.tree call) error
   pub tree : u.tree ≡ s.tree
   pub touched : u.touched ≡ with_nodes s.touched (found_by s.tree call)
 
-abbrev pub Does : {A : Type 0} → Touched → Touched → (call : HostCall) → (A → HostAnswer call) → Result A HostError
+abbrev pub FollowsTable : {A : Type 0} → Touched → Touched → (call : HostCall) → (A → HostAnswer call) → Result A HostError
     → Type 0
-Does s u call shown (Ok a) = Answers s u call (shown a)
-Does s u call shown (Err error) = Refuses s u call error
+FollowsTable s u call shown (Ok a) = AnsweredByTable s u call (shown a)
+FollowsTable s u call shown (Err error) = RefusedByTable s u call error

@@ -12,7 +12,7 @@ ghost use Rattle.wasi_host.specs.declared.limits.Limits.{Limits};
 ghost use Rattle.wasi_tree.specs.Given.{Given, given, given_content, given_entries, given_of, pair_of, tree_of};
 ghost use Rattle.wasi_tree.specs.GivenTests.{is_dir_content, are_distinct, are_rising, starts_with_directory};
 ghost use Rattle.wasi_tree.specs.Fit.{is_fit_file, is_fit_text, is_fit_entry, entries_at, AreFit, IsTreeCause, name_counts};
-ghost use Rattle.wasi_tree.specs.FitTests.{entry_numbers, AreCounted, AreMarked, TellFound, unmarked_count, has_place, is_fit_content, is_fit};
+ghost use Rattle.wasi_tree.specs.FitTests.{entry_numbers, AreCounted, AreMarked, TellFound, unmarked_count, has_place, is_fit};
 
 use crate::{NewContent, NewEntry, NewNode, TreeError};
 use std::alloc::{AllocError, Global};
@@ -88,6 +88,8 @@ fn place_at(counts: &[u64], found: &[bool], number: u64) -> Place
     }
 }
 
+/// Whether a tree can have this node, by what is known of its number.
+#[tactic(auto, using(crate::proofs::FitLemmas::entry_rules))]
 fn is_fit(
     alloc: Global,
     limits: Limits,
@@ -100,20 +102,7 @@ fn is_fit(
     if place.number >= limits.nodes {
         return Ok(false);
     }
-    is_fit_content(alloc, limits, count, place, &node.content)
-}
-
-#[tactic(auto, using(crate::proofs::FitLemmas::entry_rules))]
-fn is_fit_content(
-    alloc: Global,
-    limits: Limits,
-    count: u64,
-    place: Place,
-    content: &NewContent,
-) -> Result<bool, AllocError>
-    ensures test { IfOk result (λ is. is ≡ is_fit_content limits count place (given_content content.now)) }
-{
-    match content {
+    match &node.content {
         NewContent::File(bytes) => Ok(is_fit_file(bytes) && place.names <= limits.links),
         NewContent::Dir(entries) => {
             if !has_place(place, entries) {

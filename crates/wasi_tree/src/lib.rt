@@ -4,6 +4,7 @@
 mod errors;
 mod fit;
 mod fit_nodes;
+mod looked;
 mod marks;
 mod mem_tree;
 mod node;

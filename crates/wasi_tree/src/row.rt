@@ -1,14 +1,13 @@
 //! One node, as it is stored.
 ghost use Rattle.std.specs.Prelude.{◌≡◌, ◌+◌, ◌-◌, ◌^◌, ◌<◌, ◌≤◌, List, IfOk, OnOk, OnErr, length, map, true, not, nat_eq, ◌&&◌};
 ghost use Rattle.std.specs.FinMap as maps;
-ghost use Rattle.wasi_host.specs.Tree.{Directory, is_directory, is_file, is_link, is_gone, names_of, links_of, bytes_of, text_of};
+ghost use Rattle.wasi_host.specs.Tree.{is_directory, is_file, is_link, is_gone, names_of, links_of, bytes_of, text_of};
 ghost use Rattle.std.specs.String.{string_bytes};
-ghost use Rattle.wasi_host.specs.Step.{new_node, new_file, new_directory, new_link, no_bytes, piece_in, with_piece, with_times, one_name_more};
+ghost use Rattle.wasi_host.specs.Step.{new_node, new_file, new_directory, new_link, no_bytes, piece_in, with_piece, with_times, with_entry, without_entry, one_name_more, name_lost};
 ghost use Rattle.wasi_host.specs.Numbers.{largest_file};
 ghost use Rattle.wasi_tree.specs.Given.{Given, pair_of, given, given_content, given_of, content_given, entry_count, content_from, node_from};
 ghost use Rattle.wasi_tree.specs.Lent.{lent, lent_content};
 ghost use Rattle.wasi_tree.specs.StoredTree.{names_in, stored_content};
-ghost use Rattle.wasi_tree.specs.DropRows.{name_lost};
 ghost use Rattle.wasi_host.specs.Answer.{kind_of, size_of, metadata_from};
 
 use crate::node::{LentContent, LentNode, NewContent, NewEntry, NewNode, new_bits};
@@ -210,8 +209,8 @@ impl RowContent {
     /// Puts a node under a name into a directory. Where memory is wanted, nothing has changed.
     pub fn add_name(&mut self, alloc: Global, name: &str, node: u64) -> Result<(), AllocError>
         requires { is_directory (stored_content self.old) ≡ true }
-        ensures added { let was = stored_content self.old in
-            OnOk result (stored_content self.new ≡ Directory (maps.insert (names_of was) name.now node) (is_gone was)) }
+        ensures added { OnOk result
+            (stored_content self.new ≡ with_entry name.now node (stored_content self.old)) }
         ensures kept { OnErr result (stored_content self.new ≡ stored_content self.old) }
     {
         match self {
@@ -224,8 +223,7 @@ impl RowContent {
     /// Takes a name out of a directory.
     pub fn remove_name(&mut self, name: &str)
         requires { is_directory (stored_content self.old) ≡ true }
-        ensures { let was = stored_content self.old in
-            stored_content self.new ≡ Directory (maps.remove (names_of was) name.now) (is_gone was) }
+        ensures { stored_content self.new ≡ without_entry name.now (stored_content self.old) }
     {
         match self {
             RowContent::File { .. } => unreachable!(),

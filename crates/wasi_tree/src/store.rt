@@ -1,25 +1,24 @@
 //! The nodes by number.
-ghost use Rattle.std.specs.Prelude.{◌≡◌, ◌+◌, ◌-◌, ◌<◌, ◌≤◌, ◌^◌, OnOk, Some, None, IfSome, IfOk, IfErr, OnErr, MatchResult, Ok, Err, if◌then◌else◌, take, drop, length, map, true, false, IsTrue, All};
+ghost use Rattle.std.specs.Prelude.{◌≡◌, ◌+◌, ◌-◌, ◌<◌, ◌≤◌, ◌^◌, OnOk, Some, None, IfSome, IfOk, OnErr, MatchResult, Ok, Err, if◌then◌else◌, take, drop, length, map, true, false, IsTrue, All};
 ghost use Rattle.wasi_paths.specs.Name.{name_bytes};
 ghost use Rattle.wasi_paths.specs.Text.{is_entry_name};
 ghost use Rattle.wasi_host.specs.Tree.{Tree, next_of, node_at, child, is_directory};
 ghost use Rattle.wasi_host.specs.HostCall.{OpenAt, StatAt, MakeDirAt, SymlinkAt, Access};
-ghost use Rattle.wasi_host.specs.Refusal.{refusal, first_row, name_rows, text_rows};
-ghost use Rattle.wasi_host.specs.Step.{is_cut, file_cut, node_made, file_made, directory_made, link_made, bytes_put, write_step, times_set};
+ghost use Rattle.wasi_host.specs.Refusal.{refusal, refused_with, first_row, name_rows, entry_rows, growing_rows, making_rows, text_rows, missing_rows, found_rows};
+ghost use Rattle.wasi_host.specs.Step.{is_cut, file_cut, node_made, bytes_put, write_step, times_set};
 ghost use Rattle.wasi_host.specs.Answer.{metadata_of, kind_of, stat_at_answer, link_answer, access_answer, bytes_read, bytes_taken, entry_of, listed, list_answer};
 ghost use Rattle.wasi_host.specs.Numbers.{largest_file};
-ghost use Rattle.std.specs.Option.{ForSome};
 ghost use Rattle.wasi_tree.specs.Given.{given, given_of, nodes_from, tree_of};
 ghost use Rattle.wasi_tree.specs.Fit.{name_counts};
 ghost use Rattle.wasi_tree.specs.Lent.{lent};
-ghost use Rattle.wasi_tree.specs.Sound.{Stays, IsSoundText};
+ghost use Rattle.wasi_tree.specs.Looked.{IsLooked};
+ghost use Rattle.wasi_tree.specs.Sound.{NodesStay, IsSoundText};
 ghost use Rattle.wasi_tree.specs.StoredTree.{stored_node, names_in};
 ghost use Rattle.std.specs.FinMap as maps;
-ghost use Rattle.wasi_tree.specs.OpenRows.{missing_rows, found_rows};
-ghost use Rattle.wasi_tree.specs.NewRows.{entry_rows, growing_rows, new_name_rows};
 ghost use Rattle.wasi_tree.specs.TouchedTree.{MeansCode};
 
 use crate::fit_nodes::FitNodes;
+use crate::looked::Looked;
 use crate::marks::Marks;
 use crate::node::{LentNode, NewNode};
 use crate::row::{Row, RowContent};
@@ -195,7 +194,7 @@ impl Store {
     /// The rows of an open that speak of the node that is there.
     fn refuse_found(&self, node: u64, options: &OpenOptions) -> Option<ErrorCode>
         requires { node < next_of self.now }
-        ensures { result ≡ first_row (found_rows (node_at self.now node) options.now) }
+        ensures { result ≡ first_row (found_rows self.now options.now (Some node)) }
     {
         if options.is_create_new() {
             return Some(ErrorCode::Exist);
@@ -228,159 +227,110 @@ impl Store {
 
     /// The code of the first row of an open that holds, where the name holds this node.
     #[tactic(auto, unfolding(wasi_host::specs::Refusal::refusal))]
-    pub fn refuse_open(
-        &self,
-        directory: u64,
-        name: Name<'_>,
-        found: Option<u64>,
-        options: &OpenOptions,
-    ) -> Option<ErrorCode>
-        requires within { directory < next_of self.now }
-        requires found { found ≡ child self.now directory (name_bytes name) }
-        requires below { ForSome found (λ n. n < next_of self.now) }
-        ensures { result ≡ refusal self.now (OpenAt directory (name_bytes name.entry) options.now) }
+    pub fn refuse_open(&self, looked: &Looked<'_>, options: &OpenOptions) -> Option<ErrorCode>
+        requires { IsLooked self.now looked.now }
+        ensures { result ≡ refusal self.now (OpenAt looked.now.directory (name_bytes looked.now.name) options.now) }
     {
-        if !self.row(directory).content.is_directory() {
+        if !self.row(looked.directory).content.is_directory() {
             return Some(ErrorCode::NotDirectory);
         }
         if options.are_refused() {
             return Some(ErrorCode::Invalid);
         }
-        if let Some(code) = self.refuse_name(directory, name) {
+        if let Some(code) = self.refuse_name(looked.directory, looked.name) {
             return Some(code);
         }
         if options.creates() && options.is_dir_required() {
             return Some(ErrorCode::Invalid);
         }
-        let Some(node) = found else {
-            return self.refuse_missing(directory, options);
+        let Some(node) = looked.found else {
+            return self.refuse_missing(looked.directory, options);
         };
         self.refuse_found(node, options)
     }
 
     /// The node that a name holds, where no row of a look at its metadata refuses; else the row's code.
     #[tactic(auto, unfolding(wasi_host::specs::Refusal::refusal))]
-    pub fn node_under(
-        &self,
-        directory: u64,
-        name: Name<'_>,
-        found: Option<u64>,
-    ) -> Result<u64, ErrorCode>
-        requires within { directory < next_of self.now }
-        requires found { found ≡ child self.now directory (name_bytes name) }
-        requires below { ForSome found (λ n. n < next_of self.now) }
-        ensures free { OnOk result (refusal self.now (StatAt directory (name_bytes name.entry)) ≡ None) }
-        ensures refused { IfErr result (λ code. refusal self.now (StatAt directory (name_bytes name.entry)) ≡ Some code) }
-        ensures node { IfOk result (λ n. child self.now directory (name_bytes name.entry) ≡ Some n) }
+    pub fn node_under(&self, looked: &Looked<'_>) -> Result<u64, ErrorCode>
+        requires { IsLooked self.now looked.now }
+        ensures refusal { refused_with result ≡ refusal self.now (StatAt looked.now.directory (name_bytes looked.now.name)) }
+        ensures node { IfOk result (λ n. child self.now looked.now.directory (name_bytes looked.now.name) ≡ Some n) }
         ensures below { IfOk result (λ n. n < next_of self.now) }
     {
-        if !self.row(directory).content.is_directory() {
+        if !self.row(looked.directory).content.is_directory() {
             return Err(ErrorCode::NotDirectory);
         }
-        if let Some(code) = self.refuse_name(directory, name) {
+        if let Some(code) = self.refuse_name(looked.directory, looked.name) {
             return Err(code);
         }
-        let Some(node) = found else {
+        let Some(node) = looked.found else {
             return Err(ErrorCode::NoEntry);
         };
         Ok(node)
     }
 
     /// The rows for a name that is to hold a new node.
-    fn refuse_new_name(
-        &self,
-        directory: u64,
-        name: Name<'_>,
-        found: Option<u64>,
-    ) -> Option<ErrorCode>
-        requires within { directory < next_of self.now }
-        requires found { found ≡ child self.now directory (name_bytes name) }
-        ensures { result ≡ first_row (new_name_rows self.now directory (name_bytes name.entry)) }
+    fn refuse_new_name(&self, looked: &Looked<'_>) -> Option<ErrorCode>
+        requires { IsLooked self.now looked.now }
+        ensures { result ≡ first_row (making_rows self.now looked.now.directory (name_bytes looked.now.name)) }
     {
-        if let Some(code) = self.refuse_name(directory, name) {
+        if let Some(code) = self.refuse_name(looked.directory, looked.name) {
             return Some(code);
         }
-        if found.is_some() {
+        if looked.found.is_some() {
             return Some(ErrorCode::Exist);
         }
-        self.refuse_growth(directory)
+        self.refuse_growth(looked.directory)
     }
 
     /// The code of the first row that refuses to make a directory, where the name holds this node.
     #[tactic(auto, unfolding(wasi_host::specs::Refusal::refusal))]
-    pub fn refuse_make_dir(
-        &self,
-        directory: u64,
-        name: Name<'_>,
-        found: Option<u64>,
-    ) -> Option<ErrorCode>
-        requires within { directory < next_of self.now }
-        requires found { found ≡ child self.now directory (name_bytes name) }
-        ensures { result ≡ refusal self.now (MakeDirAt directory (name_bytes name.entry)) }
+    pub fn refuse_make_dir(&self, looked: &Looked<'_>) -> Option<ErrorCode>
+        requires { IsLooked self.now looked.now }
+        ensures { result ≡ refusal self.now (MakeDirAt looked.now.directory (name_bytes looked.now.name)) }
     {
-        if !self.row(directory).content.is_directory() {
+        if !self.row(looked.directory).content.is_directory() {
             return Some(ErrorCode::NotDirectory);
         }
-        self.refuse_new_name(directory, name, found)
+        self.refuse_new_name(looked)
     }
 
     /// The code of the first row that refuses to make a link of this text, where the name holds this node.
     #[tactic(auto, unfolding(wasi_host::specs::Refusal::refusal))]
-    pub fn refuse_symlink(
-        &self,
-        target: &str,
-        directory: u64,
-        name: Name<'_>,
-        found: Option<u64>,
-    ) -> Option<ErrorCode>
-        requires within { directory < next_of self.now }
-        requires found { found ≡ child self.now directory (name_bytes name) }
-        ensures { result ≡ refusal self.now (SymlinkAt target.now directory (name_bytes name.entry)) }
+    pub fn refuse_symlink(&self, target: &str, looked: &Looked<'_>) -> Option<ErrorCode>
+        requires { IsLooked self.now looked.now }
+        ensures { result ≡ refusal self.now (SymlinkAt target.now looked.now.directory (name_bytes looked.now.name)) }
     {
-        if !self.row(directory).content.is_directory() {
+        if !self.row(looked.directory).content.is_directory() {
             return Some(ErrorCode::NotDirectory);
         }
         if let Some(code) = refuse_text(target) {
             return Some(code);
         }
-        self.refuse_new_name(directory, name, found)
+        self.refuse_new_name(looked)
     }
 
     /// The metadata of the node that a name holds, a link's own.
-    pub fn stat_at(
-        &self,
-        directory: u64,
-        name: Name<'_>,
-        found: Option<u64>,
-    ) -> Result<Metadata, ErrorCode>
-        requires within { directory < next_of self.now }
-        requires found { found ≡ child self.now directory (name_bytes name) }
-        requires below { ForSome found (λ n. n < next_of self.now) }
+    pub fn stat_at(&self, looked: &Looked<'_>) -> Result<Metadata, ErrorCode>
+        requires { IsLooked self.now looked.now }
         ensures meaning { MatchResult result
-            (λ metadata. stat_at_answer self.now directory (name_bytes name.entry) ≡ Ok metadata)
-            (λ code. stat_at_answer self.now directory (name_bytes name.entry) ≡ Err code) }
+            (λ metadata. stat_at_answer self.now looked.now.directory (name_bytes looked.now.name) ≡ Ok metadata)
+            (λ code. stat_at_answer self.now looked.now.directory (name_bytes looked.now.name) ≡ Err code) }
         ensures times { IfOk result HasTimes }
     {
-        let node = self.node_under(directory, name, found)?;
+        let node = self.node_under(looked)?;
         Ok(self.metadata(node))
     }
 
     /// The text of the link that a name holds.
-    pub fn read_link_at(
-        &self,
-        directory: u64,
-        name: Name<'_>,
-        found: Option<u64>,
-    ) -> Result<&str, ErrorCode>
-        requires within { directory < next_of self.now }
-        requires found { found ≡ child self.now directory (name_bytes name) }
-        requires below { ForSome found (λ n. n < next_of self.now) }
+    pub fn read_link_at(&self, looked: &Looked<'_>) -> Result<&str, ErrorCode>
+        requires { IsLooked self.now looked.now }
         ensures meaning { MatchResult result
-            (λ text. link_answer self.now directory (name_bytes name.entry) ≡ Ok text.now)
-            (λ code. link_answer self.now directory (name_bytes name.entry) ≡ Err code) }
+            (λ text. link_answer self.now looked.now.directory (name_bytes looked.now.name) ≡ Ok text.now)
+            (λ code. link_answer self.now looked.now.directory (name_bytes looked.now.name) ≡ Err code) }
         ensures text { IfOk result (λ text. IsSoundText text.now) }
     {
-        let node = self.node_under(directory, name, found)?;
+        let node = self.node_under(looked)?;
         let content = &self.row(node).content;
         if !content.is_link() {
             return Err(ErrorCode::Invalid);
@@ -405,7 +355,7 @@ impl Store {
         requires { node < next_of self.old }
         ensures tree { self.new
             ≡ (if is_cut options.now (node_at self.old node).content then file_cut self.old node else self.old) }
-        ensures stays { Stays self.old self.new }
+        ensures stays { NodesStay self.old self.new }
         ensures count { next_of self.new ≡ next_of self.old }
     {
         if !options.is_truncate() || !self.row(node).content.is_file() {
@@ -415,57 +365,9 @@ impl Store {
         self.worked.mark(node);
     }
 
-    /// Makes a file under a name of a directory, and gives its number. Where memory is wanted, nothing has changed.
-    pub fn make_file(&mut self, directory: u64, name: Name<'_>) -> Result<u64, AllocError>
-        requires directory { is_directory (node_at self.old directory).content ≡ true }
-        requires named { IsTrue (is_entry_name (name_bytes name)) }
-        ensures number { IfOk result (λ n. n ≡ next_of self.old) }
-        ensures made { OnOk result (self.new ≡ file_made self.old directory (name_bytes name.entry)) }
-        ensures kept { OnErr result (self.new ≡ self.old) }
-        ensures stays { Stays self.old self.new }
-    {
-        let alloc = *self.rows.allocator();
-        self.make_node(directory, name, Row::new_file(alloc))
-    }
-
-    /// Makes an empty directory under a name of a directory, and gives its number. Where memory is wanted, nothing has
-    /// changed.
-    pub fn make_directory(&mut self, directory: u64, name: Name<'_>) -> Result<u64, AllocError>
-        requires directory { is_directory (node_at self.old directory).content ≡ true }
-        requires named { IsTrue (is_entry_name (name_bytes name)) }
-        ensures number { IfOk result (λ n. n ≡ next_of self.old) }
-        ensures made { OnOk result (self.new ≡ directory_made self.old directory (name_bytes name.entry)) }
-        ensures kept { OnErr result (self.new ≡ self.old) }
-        ensures stays { Stays self.old self.new }
-    {
-        let alloc = *self.rows.allocator();
-        self.make_node(directory, name, Row::new_directory(alloc))
-    }
-
-    /// Makes a link of a text under a name of a directory, and gives its number. Where memory is wanted, nothing has
-    /// changed.
-    pub fn make_link(
-        &mut self,
-        text: &str,
-        directory: u64,
-        name: Name<'_>,
-    ) -> Result<u64, AllocError>
-        requires directory { is_directory (node_at self.old directory).content ≡ true }
-        requires named { IsTrue (is_entry_name (name_bytes name)) }
-        requires text { IsSoundText text.now }
-        ensures number { IfOk result (λ n. n ≡ next_of self.old) }
-        ensures made { OnOk result (self.new ≡ link_made self.old directory (name_bytes name.entry) text.now) }
-        ensures kept { OnErr result (self.new ≡ self.old) }
-        ensures stays { Stays self.old self.new }
-    {
-        let alloc = *self.rows.allocator();
-        let text = String::from_str(alloc, text)?;
-        self.make_node(directory, name, Row::new_link(text))
-    }
-
     /// Makes a node under a name of a directory, and gives its number. All room is taken first, so that nothing has
     /// changed where memory is wanted.
-    fn make_node(&mut self, directory: u64, name: Name<'_>, row: Row) -> Result<u64, AllocError>
+    pub fn make_node(&mut self, directory: u64, name: Name<'_>, row: Row) -> Result<u64, AllocError>
         requires directory { is_directory (node_at self.old directory).content ≡ true }
         requires named { IsTrue (is_entry_name (name_bytes name)) }
         requires sound { IsSoundNode 0 (stored_node row) }
@@ -473,12 +375,12 @@ impl Store {
         ensures made { OnOk result
             (self.new ≡ node_made self.old directory (name_bytes name.entry) (stored_node row)) }
         ensures kept { OnErr result (self.new ≡ self.old) }
-        ensures stays { Stays self.old self.new }
+        ensures stays { NodesStay self.old self.new }
     {
+        let alloc = self.allocator();
         let node = self.count();
         self.rows.reserve(1)?;
         self.worked.reserve()?;
-        let alloc = *self.rows.allocator();
         self.rows[directory as usize]
             .content
             .add_name(alloc, name.as_str(), node)?;
@@ -526,6 +428,11 @@ impl Store {
         Ok(entries)
     }
 
+    /// The allocator of its memory.
+    pub fn allocator(&self) -> Global {
+        *self.rows.allocator()
+    }
+
     /// The kind of a node; that of a file where the number is out of range.
     fn kind(&self, n: u64) -> FileType
         ensures { result ≡ kind_of (node_at self.now n).content }
@@ -540,7 +447,7 @@ impl Store {
     pub fn set_times(&mut self, node: u64, atime: Option<SystemTime>, mtime: Option<SystemTime>)
         requires { node < next_of self.old }
         ensures set { self.new ≡ times_set self.old node atime mtime }
-        ensures stays { Stays self.old self.new }
+        ensures stays { NodesStay self.old self.new }
         ensures count { next_of self.new ≡ next_of self.old }
     {
         self.rows[node as usize].set_times(atime, mtime);
@@ -587,7 +494,7 @@ impl Store {
             (MeansCode (bytes_taken self.old file offset piece.now)) }
         ensures step { OnOk result (self.new ≡ write_step self.old file.node offset piece.now) }
         ensures kept { OnErr result (self.new ≡ self.old) }
-        ensures stays { Stays self.old self.new }
+        ensures stays { NodesStay self.old self.new }
         ensures count { next_of self.new ≡ next_of self.old }
         ensures all { IfOk result (λ n. n ≡ length piece.now) }
         ensures offset { OnOk result (offset < 2 ^ 63) }
@@ -614,7 +521,7 @@ impl Store {
         requires fits { offset + length piece.now ≤ largest_file }
         ensures put { OnOk result (self.new ≡ bytes_put self.old file offset piece.now) }
         ensures kept { OnErr result (self.new ≡ self.old) }
-        ensures stays { Stays self.old self.new }
+        ensures stays { NodesStay self.old self.new }
         ensures count { next_of self.new ≡ next_of self.old }
     {
         self.rows[file as usize].content.put(offset, piece)?;

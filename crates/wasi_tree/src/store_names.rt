@@ -1,17 +1,17 @@
 //! What is done to the names of directories.
-ghost use Rattle.std.specs.Prelude.{◌≡◌, ◌-◌, ◌<◌, ◌^◌, OnOk, None, Some, IfOk, IfErr, OnErr, true, false, nat_eq, IsTrue};
+ghost use Rattle.std.specs.Prelude.{◌≡◌, ◌-◌, ◌<◌, ◌^◌, OnOk, Some, IfOk, OnErr, true, false, nat_eq, IsTrue};
 ghost use Rattle.std.specs.Option.{ForSome};
 ghost use Rattle.wasi_paths.specs.Name.{name_bytes};
 ghost use Rattle.wasi_paths.specs.Text.{is_entry_name};
 ghost use Rattle.wasi_host.specs.Tree.{next_of, node_at, child, is_directory, links_of};
 ghost use Rattle.wasi_host.specs.HostCall.{LinkAt, UnlinkAt, RemoveDirAt, TimesAt};
-ghost use Rattle.wasi_host.specs.Refusal.{refusal, first_row};
-ghost use Rattle.wasi_host.specs.Step.{name_dropped, unlink_step, remove_step, times_step, name_added};
-ghost use Rattle.wasi_tree.specs.Sound.{Stays};
-ghost use Rattle.wasi_tree.specs.DropRows.{dropping_rows, name_lost, directory_without, node_lost};
-ghost use Rattle.wasi_tree.specs.LinkRows.{both_rows, links_rows, name_put, node_gained};
-ghost use Rattle.wasi_tree.specs.RenameRows.{naming_rows, access_rows, replacing_rows, moving_by, IsMove, found_lost, name_moved_onto};
+ghost use Rattle.wasi_host.specs.Refusal.{refusal, refused_with, first_row, both_rows, links_rows, dropping_rows, naming_rows, access_rows, replacing_rows, moving_rows};
+ghost use Rattle.wasi_host.specs.Step.{with_entry, without_entry, content_changed, one_name_more, name_lost, name_dropped, unlink_step, remove_step, times_step, name_added, name_moved_onto};
+ghost use Rattle.wasi_tree.specs.Looked.{IsLooked};
+ghost use Rattle.wasi_tree.specs.Sound.{NodesStay};
+ghost use Rattle.wasi_tree.specs.Move.{IsMove, found_lost};
 
+use crate::looked::Looked;
 use crate::store::Store;
 use std::alloc::AllocError;
 use wasi_host::{ErrorCode, SystemTime};
@@ -21,97 +21,70 @@ use wasi_paths::Name;
 impl Store {
     /// The node under a name that is to be dropped, where no row refuses that looks at the name and at what has it; else
     /// the row's code. That of `.` is given.
-    fn node_to_drop(
-        &self,
-        directory: u64,
-        name: Name<'_>,
-        found: Option<u64>,
-        dot: ErrorCode,
-    ) -> Result<u64, ErrorCode>
-        requires within { directory < next_of self.now }
-        requires found { found ≡ child self.now directory (name_bytes name) }
-        requires below { ForSome found (λ n. n < next_of self.now) }
-        ensures free { OnOk result
-            (first_row (dropping_rows self.now directory (name_bytes name.entry) dot) ≡ None) }
-        ensures refused { IfErr result
-            (λ code. first_row (dropping_rows self.now directory (name_bytes name.entry) dot) ≡ Some code) }
-        ensures node { IfOk result (λ n. child self.now directory (name_bytes name.entry) ≡ Some n) }
+    fn node_to_drop(&self, looked: &Looked<'_>, dot: ErrorCode) -> Result<u64, ErrorCode>
+        requires { IsLooked self.now looked.now }
+        ensures refusal { refused_with result
+            ≡ first_row (dropping_rows self.now looked.now.directory (name_bytes looked.now.name) dot) }
+        ensures node { IfOk result (λ n. child self.now looked.now.directory (name_bytes looked.now.name) ≡ Some n) }
         ensures below { IfOk result (λ n. n < next_of self.now) }
     {
-        if !self.row(directory).content.is_directory() {
+        if !self.row(looked.directory).content.is_directory() {
             return Err(ErrorCode::NotDirectory);
         }
-        if let Some(code) = self.refuse_name(directory, name) {
+        if let Some(code) = self.refuse_name(looked.directory, looked.name) {
             return Err(code);
         }
-        if name.is_dot() {
+        if looked.name.is_dot() {
             return Err(dot);
         }
-        let Some(node) = found else {
+        let Some(node) = looked.found else {
             return Err(ErrorCode::NoEntry);
         };
-        if !self.row(directory).bits.w {
+        if !self.row(looked.directory).bits.w {
             return Err(ErrorCode::Access);
         }
         Ok(node)
     }
 
     /// What is wrong with two names in directories, the old one first.
-    fn refuse_both(
-        &self,
-        old: u64,
-        old_name: Name<'_>,
-        new: u64,
-        new_name: Name<'_>,
-    ) -> Option<ErrorCode>
-        requires old { old < next_of self.now }
-        requires new { new < next_of self.now }
+    fn refuse_both(&self, old: &Looked<'_>, new: &Looked<'_>) -> Option<ErrorCode>
+        requires old { IsLooked self.now old.now }
+        requires new { IsLooked self.now new.now }
         ensures { result
-            ≡ first_row (both_rows self.now old (name_bytes old_name.entry) new (name_bytes new_name.entry)) }
+            ≡ first_row (both_rows self.now old.now.directory (name_bytes old.now.name) new.now.directory (name_bytes new.now.name)) }
     {
-        if !self.row(old).content.is_directory() || !self.row(new).content.is_directory() {
+        if !self.row(old.directory).content.is_directory()
+            || !self.row(new.directory).content.is_directory()
+        {
             return Some(ErrorCode::NotDirectory);
         }
-        if let Some(code) = self.refuse_name(old, old_name) {
+        if let Some(code) = self.refuse_name(old.directory, old.name) {
             return Some(code);
         }
-        self.refuse_name(new, new_name)
+        self.refuse_name(new.directory, new.name)
     }
 
     /// The node under the old name, where no row refuses to give it the new one; else the row's code.
     #[tactic(auto, unfolding(wasi_host::specs::Refusal::refusal))]
-    pub fn node_to_link(
-        &self,
-        old: u64,
-        old_name: Name<'_>,
-        found: Option<u64>,
-        new: u64,
-        new_name: Name<'_>,
-        there: Option<u64>,
-    ) -> Result<u64, ErrorCode>
-        requires old { old < next_of self.now }
-        requires new { new < next_of self.now }
-        requires found { found ≡ child self.now old (name_bytes old_name) }
-        requires there { there ≡ child self.now new (name_bytes new_name) }
-        requires below { ForSome found (λ n. n < next_of self.now) }
-        ensures free { OnOk result
-            (refusal self.now (LinkAt old (name_bytes old_name.entry) new (name_bytes new_name.entry)) ≡ None) }
-        ensures refused { IfErr result (λ code.
-            refusal self.now (LinkAt old (name_bytes old_name.entry) new (name_bytes new_name.entry)) ≡ Some code) }
-        ensures node { IfOk result (λ n. child self.now old (name_bytes old_name.entry) ≡ Some n) }
+    pub fn node_to_link(&self, old: &Looked<'_>, new: &Looked<'_>) -> Result<u64, ErrorCode>
+        requires old { IsLooked self.now old.now }
+        requires new { IsLooked self.now new.now }
+        ensures refusal { refused_with result
+            ≡ refusal self.now (LinkAt old.now.directory (name_bytes old.now.name) new.now.directory (name_bytes new.now.name)) }
+        ensures node { IfOk result (λ n. child self.now old.now.directory (name_bytes old.now.name) ≡ Some n) }
         ensures below { IfOk result (λ n. n < next_of self.now) }
         ensures room { IfOk result (λ n. links_of (node_at self.now n).content < 2 ^ 64 - 1) }
     {
-        if let Some(code) = self.refuse_both(old, old_name, new, new_name) {
+        if let Some(code) = self.refuse_both(old, new) {
             return Err(code);
         }
-        let Some(node) = found else {
+        let Some(node) = old.found else {
             return Err(ErrorCode::NoEntry);
         };
-        if there.is_some() {
+        if new.found.is_some() {
             return Err(ErrorCode::Exist);
         }
-        if let Some(code) = self.refuse_entry(new) {
+        if let Some(code) = self.refuse_entry(new.directory) {
             return Err(code);
         }
         self.check_links(node)?;
@@ -121,8 +94,7 @@ impl Store {
     /// The rows for a node that is to get a name more.
     fn check_links(&self, node: u64) -> Result<(), ErrorCode>
         requires { node < next_of self.now }
-        ensures free { OnOk result (first_row (links_rows self.now node) ≡ None) }
-        ensures refused { IfErr result (λ code. first_row (links_rows self.now node) ≡ Some code) }
+        ensures refusal { refused_with result ≡ first_row (links_rows self.now (Some node)) }
         ensures room { OnOk result (links_of (node_at self.now node).content < 2 ^ 64 - 1) }
     {
         let content = &self.row(node).content;
@@ -144,7 +116,7 @@ impl Store {
         requires room { links_of (node_at self.old node).content < 2 ^ 64 - 1 }
         ensures added { OnOk result (self.new ≡ name_added self.old directory (name_bytes name.entry) node) }
         ensures kept { OnErr result (self.new ≡ self.old) }
-        ensures stays { Stays self.old self.new }
+        ensures stays { NodesStay self.old self.new }
         ensures count { next_of self.new ≡ next_of self.old }
     {
         self.put_name(directory, name, node)?;
@@ -158,13 +130,14 @@ impl Store {
         requires named { IsTrue (is_entry_name (name_bytes name)) }
         requires within { node < next_of self.old }
         requires apart { nat_eq node directory ≡ false }
-        ensures put { OnOk result (self.new ≡ name_put self.old directory (name_bytes name.entry) node) }
+        ensures put { OnOk result (self.new
+            ≡ content_changed self.old directory (with_entry (name_bytes name.entry) node)) }
         ensures other { OnOk result (node_at self.new node ≡ node_at self.old node) }
         ensures kept { OnErr result (self.new ≡ self.old) }
-        ensures stays { Stays self.old self.new }
+        ensures stays { NodesStay self.old self.new }
         ensures count { next_of self.new ≡ next_of self.old }
     {
-        let alloc = *self.rows.allocator();
+        let alloc = self.allocator();
         self.rows[directory as usize]
             .content
             .add_name(alloc, name.as_str(), node)?;
@@ -176,8 +149,8 @@ impl Store {
     fn gain_name(&mut self, node: u64)
         requires within { node < next_of self.old }
         requires room { links_of (node_at self.old node).content < 2 ^ 64 - 1 }
-        ensures gained { self.new ≡ node_gained self.old node }
-        ensures stays { Stays self.old self.new }
+        ensures gained { self.new ≡ content_changed self.old node one_name_more }
+        ensures stays { NodesStay self.old self.new }
         ensures count { next_of self.new ≡ next_of self.old }
     {
         self.rows[node as usize].content.gain_name();
@@ -188,32 +161,24 @@ impl Store {
     /// row's code.
     pub fn node_to_rename(
         &self,
-        old: u64,
-        old_name: Name<'_>,
-        found: Option<u64>,
-        new: u64,
-        new_name: Name<'_>,
+        old: &Looked<'_>,
+        new: &Looked<'_>,
         requires_dir: bool,
     ) -> Result<u64, ErrorCode>
-        requires old { old < next_of self.now }
-        requires new { new < next_of self.now }
-        requires found { found ≡ child self.now old (name_bytes old_name) }
-        requires below { ForSome found (λ n. n < next_of self.now) }
-        ensures free { OnOk result (first_row
-            (naming_rows self.now old (name_bytes old_name.entry) new (name_bytes new_name.entry) requires_dir) ≡ None) }
-        ensures refused { IfErr result (λ code. first_row
-            (naming_rows self.now old (name_bytes old_name.entry) new (name_bytes new_name.entry) requires_dir)
-            ≡ Some code) }
-        ensures node { IfOk result (λ n. child self.now old (name_bytes old_name.entry) ≡ Some n) }
+        requires old { IsLooked self.now old.now }
+        requires new { IsLooked self.now new.now }
+        ensures refusal { refused_with result ≡ first_row
+            (naming_rows self.now old.now.directory (name_bytes old.now.name) new.now.directory (name_bytes new.now.name) requires_dir) }
+        ensures node { IfOk result (λ n. child self.now old.now.directory (name_bytes old.now.name) ≡ Some n) }
         ensures below { IfOk result (λ n. n < next_of self.now) }
     {
-        if let Some(code) = self.refuse_both(old, old_name, new, new_name) {
+        if let Some(code) = self.refuse_both(old, new) {
             return Err(code);
         }
-        if old_name.is_dot() || new_name.is_dot() {
+        if old.name.is_dot() || new.name.is_dot() {
             return Err(ErrorCode::Busy);
         }
-        let Some(node) = found else {
+        let Some(node) = old.found else {
             return Err(ErrorCode::NoEntry);
         };
         if requires_dir && !self.row(node).content.is_directory() {
@@ -234,7 +199,7 @@ impl Store {
         requires new { new < next_of self.now }
         requires node { node < next_of self.now }
         requires there { ForSome there (λ n. n < next_of self.now) }
-        ensures { result ≡ first_row (moving_by self.now old new (Some node) there) }
+        ensures { result ≡ first_row (moving_rows self.now old new (Some node) there) }
     {
         if let Some(code) = self.refuse_access(old, new, node) {
             return Some(code);
@@ -300,7 +265,7 @@ impl Store {
         ensures moved { OnOk result (self.new ≡ name_moved_onto self.old old (name_bytes old_name.entry)
             new (name_bytes new_name.entry) node there) }
         ensures kept { OnErr result (self.new ≡ self.old) }
-        ensures stays { Stays self.old self.new }
+        ensures stays { NodesStay self.old self.new }
         ensures count { next_of self.new ≡ next_of self.old }
     {
         self.put_name(new, new_name, node)?;
@@ -313,7 +278,7 @@ impl Store {
     fn lose_found(&mut self, found: Option<u64>)
         requires { ForSome found (λ n. n < next_of self.old) }
         ensures lost { self.new ≡ found_lost self.old found }
-        ensures stays { Stays self.old self.new }
+        ensures stays { NodesStay self.old self.new }
         ensures count { next_of self.new ≡ next_of self.old }
     {
         if let Some(lost) = found {
@@ -322,51 +287,33 @@ impl Store {
     }
 
     /// Drops a name of a file or link.
-    pub fn unlink_at(
-        &mut self,
-        directory: u64,
-        name: Name<'_>,
-        found: Option<u64>,
-    ) -> Result<(), ErrorCode>
-        requires within { directory < next_of self.old }
-        requires found { found ≡ child self.old directory (name_bytes name) }
-        requires below { ForSome found (λ n. n < next_of self.old) }
-        ensures free { OnOk result (refusal self.old (UnlinkAt directory (name_bytes name.entry)) ≡ None) }
-        ensures refused { IfErr result
-            (λ code. refusal self.old (UnlinkAt directory (name_bytes name.entry)) ≡ Some code) }
-        ensures step { OnOk result (self.new ≡ unlink_step self.old directory (name_bytes name.entry)) }
+    pub fn unlink_at(&mut self, looked: &Looked<'_>) -> Result<(), ErrorCode>
+        requires { IsLooked self.old looked.now }
+        ensures refusal { refused_with result ≡ refusal self.old (UnlinkAt looked.now.directory (name_bytes looked.now.name)) }
+        ensures step { OnOk result (self.new ≡ unlink_step self.old looked.now.directory (name_bytes looked.now.name)) }
         ensures kept { OnErr result (self.new ≡ self.old) }
-        ensures stays { Stays self.old self.new }
+        ensures stays { NodesStay self.old self.new }
         ensures count { next_of self.new ≡ next_of self.old }
     {
-        let node = self.node_to_drop(directory, name, found, ErrorCode::IsDirectory)?;
+        let node = self.node_to_drop(looked, ErrorCode::IsDirectory)?;
         if self.row(node).content.is_directory() {
             return Err(ErrorCode::IsDirectory);
         }
-        self.drop_name(directory, name, node);
+        self.drop_name(looked.directory, looked.name, node);
         Ok(())
     }
 
     /// Drops the name of an empty directory, which is gone from then on, and gives its number.
-    pub fn remove_dir_at(
-        &mut self,
-        directory: u64,
-        name: Name<'_>,
-        found: Option<u64>,
-    ) -> Result<u64, ErrorCode>
-        requires within { directory < next_of self.old }
-        requires found { found ≡ child self.old directory (name_bytes name) }
-        requires below { ForSome found (λ n. n < next_of self.old) }
-        ensures free { OnOk result (refusal self.old (RemoveDirAt directory (name_bytes name.entry)) ≡ None) }
-        ensures refused { IfErr result
-            (λ code. refusal self.old (RemoveDirAt directory (name_bytes name.entry)) ≡ Some code) }
-        ensures step { OnOk result (self.new ≡ remove_step self.old directory (name_bytes name.entry)) }
-        ensures node { IfOk result (λ n. child self.old directory (name_bytes name.entry) ≡ Some n) }
+    pub fn remove_dir_at(&mut self, looked: &Looked<'_>) -> Result<u64, ErrorCode>
+        requires { IsLooked self.old looked.now }
+        ensures refusal { refused_with result ≡ refusal self.old (RemoveDirAt looked.now.directory (name_bytes looked.now.name)) }
+        ensures step { OnOk result (self.new ≡ remove_step self.old looked.now.directory (name_bytes looked.now.name)) }
+        ensures node { IfOk result (λ n. child self.old looked.now.directory (name_bytes looked.now.name) ≡ Some n) }
         ensures kept { OnErr result (self.new ≡ self.old) }
-        ensures stays { Stays self.old self.new }
+        ensures stays { NodesStay self.old self.new }
         ensures count { next_of self.new ≡ next_of self.old }
     {
-        let node = self.node_to_drop(directory, name, found, ErrorCode::Invalid)?;
+        let node = self.node_to_drop(looked, ErrorCode::Invalid)?;
         let row = self.row(node);
         if !row.content.is_directory() {
             return Err(ErrorCode::NotDirectory);
@@ -374,7 +321,7 @@ impl Store {
         if !row.content.is_bare() {
             return Err(ErrorCode::NotEmpty);
         }
-        self.drop_name(directory, name, node);
+        self.drop_name(looked.directory, looked.name, node);
         Ok(node)
     }
 
@@ -384,7 +331,7 @@ impl Store {
         requires within { node < next_of self.old }
         requires apart { nat_eq node directory ≡ false }
         ensures dropped { self.new ≡ name_dropped self.old directory (name_bytes name.entry) name_lost node }
-        ensures stays { Stays self.old self.new }
+        ensures stays { NodesStay self.old self.new }
         ensures count { next_of self.new ≡ next_of self.old }
     {
         self.take_name(directory, name);
@@ -394,8 +341,8 @@ impl Store {
     /// Takes a name out of a directory.
     fn take_name(&mut self, directory: u64, name: Name<'_>)
         requires { is_directory (node_at self.old directory).content ≡ true }
-        ensures taken { self.new ≡ directory_without self.old directory (name_bytes name.entry) }
-        ensures stays { Stays self.old self.new }
+        ensures taken { self.new ≡ content_changed self.old directory (without_entry (name_bytes name.entry)) }
+        ensures stays { NodesStay self.old self.new }
         ensures count { next_of self.new ≡ next_of self.old }
     {
         self.rows[directory as usize]
@@ -407,8 +354,8 @@ impl Store {
     /// Takes a name from the node that has it.
     fn lose_name(&mut self, node: u64)
         requires { node < next_of self.old }
-        ensures lost { self.new ≡ node_lost self.old node }
-        ensures stays { Stays self.old self.new }
+        ensures lost { self.new ≡ content_changed self.old node name_lost }
+        ensures stays { NodesStay self.old self.new }
         ensures count { next_of self.new ≡ next_of self.old }
     {
         self.rows[node as usize].content.lose_name();
@@ -419,24 +366,19 @@ impl Store {
     #[tactic(auto, unfolding(wasi_host::specs::Refusal::refusal))]
     pub fn times_at(
         &mut self,
-        directory: u64,
-        name: Name<'_>,
-        found: Option<u64>,
+        looked: &Looked<'_>,
         atime: Option<SystemTime>,
         mtime: Option<SystemTime>,
     ) -> Result<(), ErrorCode>
-        requires within { directory < next_of self.old }
-        requires found { found ≡ child self.old directory (name_bytes name) }
-        requires below { ForSome found (λ n. n < next_of self.old) }
-        ensures free { OnOk result (refusal self.old (TimesAt directory (name_bytes name.entry) atime mtime) ≡ None) }
-        ensures refused { IfErr result
-            (λ code. refusal self.old (TimesAt directory (name_bytes name.entry) atime mtime) ≡ Some code) }
-        ensures step { OnOk result (self.new ≡ times_step self.old directory (name_bytes name.entry) atime mtime) }
+        requires { IsLooked self.old looked.now }
+        ensures refusal { refused_with result
+            ≡ refusal self.old (TimesAt looked.now.directory (name_bytes looked.now.name) atime mtime) }
+        ensures step { OnOk result (self.new ≡ times_step self.old looked.now.directory (name_bytes looked.now.name) atime mtime) }
         ensures kept { OnErr result (self.new ≡ self.old) }
-        ensures stays { Stays self.old self.new }
+        ensures stays { NodesStay self.old self.new }
         ensures count { next_of self.new ≡ next_of self.old }
     {
-        let node = self.node_under(directory, name, found)?;
+        let node = self.node_under(looked)?;
         self.set_times(node, atime, mtime);
         Ok(())
     }

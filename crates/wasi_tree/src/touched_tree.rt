@@ -1,24 +1,30 @@
-//! A tree with its touched nodes.
-ghost use Rattle.std.specs.Prelude.{◌≡◌, ◌<◌, ◌≤◌, ◌^◌, ◌&&◌, Ok, Some, IfOk, IfErr, OnOk, OnErr, length, take, drop, map, true, All, IsTrue};
-ghost use Rattle.std.specs.FinSet.{empty};
+//! A tree with its touched nodes. What a method does, and which rows of the host's table refuse it, is said of the
+//! method of `Host` that has its name; node numbers stand in place of handles.
+ghost use Rattle.std.specs.Prelude.{◌≡◌, ◌<◌, ◌≤◌, ◌^◌, ◌&&◌, Ok, Some, IfOk, OnOk, OnErr, length, take, drop, map, true, All, IsTrue};
+ghost use Rattle.std.specs.FinSet.{empty, insert};
 ghost use Rattle.std.specs.String.{string_bytes};
 ghost use Rattle.wasi_paths.specs.Name.{name_bytes};
 ghost use Rattle.wasi_paths.specs.Text.{is_entry_name};
 ghost use Rattle.wasi_host.specs.Tree.{next_of, node_at, is_directory, hold_one};
 ghost use Rattle.wasi_host.specs.Below.{is_below};
-ghost use Rattle.wasi_host.specs.Refusal.{first_row};
+ghost use Rattle.wasi_host.specs.Refusal.{first_row, loop_rows};
 ghost use Rattle.wasi_host.specs.Answer.{entry_of};
 ghost use Rattle.wasi_host.specs.HostCall.{OpenAt, StatAt, ReadLinkAt, MakeDirAt, SymlinkAt, LinkAt, UnlinkAt, RemoveDirAt, TimesAt, Access, Stat, SetTimes, Pread, Pwrite, RenameAt, ListDir};
 ghost use Rattle.wasi_host.specs.Meaning.{IsHeld, hosted, answered};
 ghost use Rattle.wasi_host.specs.Time.{HasTimes};
 ghost use Rattle.wasi_tree.specs.Given.{tree_of};
-ghost use Rattle.wasi_tree.specs.Sound.{Stays, IsSoundText};
-ghost use Rattle.wasi_tree.specs.RenameRows.{loop_rows};
-ghost use Rattle.wasi_tree.specs.TouchedTree.{Does};
+ghost use Rattle.wasi_tree.specs.Sound.{NodesStay, IsSoundNode, IsSoundText};
+ghost use Rattle.wasi_host.specs.Step.{found_under, node_made, with_nodes};
+ghost use Rattle.wasi_tree.specs.Looked.{IsLooked, looked_at};
+ghost use Rattle.wasi_tree.specs.Move.{MayName};
+ghost use Rattle.wasi_tree.specs.StoredTree.{stored_node};
+ghost use Rattle.wasi_tree.specs.TouchedTree.{FollowsTable};
 
 use crate::fit_nodes::FitNodes;
+use crate::looked::Looked;
 use crate::marks::Marks;
 use crate::parents::Parents;
+use crate::row::Row;
 use crate::store::Store;
 use std::alloc::{AllocError, Global};
 use std::marker::Model;
@@ -86,28 +92,24 @@ impl TouchedTree {
         options: &OpenOptions,
     ) -> Result<Held, HostError>
         requires { directory < next_of self.old.tree }
-        ensures does { Does self.old self.new (OpenAt directory (name_bytes name.entry) options.now)
+        ensures does { FollowsTable self.old self.new (OpenAt directory (name_bytes name.entry) options.now)
             (λ held. held) result }
         ensures held { IfOk result (IsHeld self.new.tree) }
-        ensures stays { Stays self.old.tree self.new.tree }
+        ensures stays { NodesStay self.old.tree self.new.tree }
     {
-        let found = self.store.child(directory, name);
-        self.touched.mark_found(directory, found);
-        if let Some(code) = self.store.refuse_open(directory, name, found, options) {
+        let looked = find(&self.store, &mut self.touched, directory, name);
+        if let Some(code) = self.store.refuse_open(&looked, options) {
             return Err(HostError::Code(code));
         }
         let mode = options.access();
-        match found {
+        match looked.found {
             Some(node) => {
                 self.store.cut_where_asked(node, options);
                 Ok(Held { node, mode })
             }
             None => {
-                self.touched.reserve()?;
-                self.parents.reserve()?;
-                let node = self.store.make_file(directory, name)?;
-                self.touched.push();
-                self.parents.push(directory);
+                let alloc = self.store.allocator();
+                let node = self.make_node(directory, name, Row::new_file(alloc))?;
                 Ok(Held { node, mode })
             }
         }
@@ -116,14 +118,13 @@ impl TouchedTree {
     /// The metadata of the node under a name in a directory, a link's own.
     pub fn stat_at(&mut self, directory: u64, name: Name<'_>) -> Result<Metadata, ErrorCode>
         requires { directory < next_of self.old.tree }
-        ensures does { Does self.old self.new (StatAt directory (name_bytes name.entry))
+        ensures does { FollowsTable self.old self.new (StatAt directory (name_bytes name.entry))
             (λ metadata. metadata) (hosted result) }
         ensures times { IfOk result HasTimes }
         ensures tree { self.new.tree ≡ self.old.tree }
     {
-        let found = self.store.child(directory, name);
-        self.touched.mark_found(directory, found);
-        self.store.stat_at(directory, name, found)
+        let looked = find(&self.store, &mut self.touched, directory, name);
+        self.store.stat_at(&looked)
     }
 
     /// The text of the link under a name in a directory, in memory of its own.
@@ -134,33 +135,28 @@ impl TouchedTree {
         name: Name<'_>,
     ) -> Result<String, HostError>
         requires { directory < next_of self.old.tree }
-        ensures does { Does self.old self.new (ReadLinkAt directory (name_bytes name.entry))
+        ensures does { FollowsTable self.old self.new (ReadLinkAt directory (name_bytes name.entry))
             (λ text. string_bytes text) result }
         ensures text { IfOk result (λ text. IsSoundText (string_bytes text)) }
         ensures tree { self.new.tree ≡ self.old.tree }
     {
-        let found = self.store.child(directory, name);
-        self.touched.mark_found(directory, found);
-        let text = self.store.read_link_at(directory, name, found)?;
+        let looked = find(&self.store, &mut self.touched, directory, name);
+        let text = self.store.read_link_at(&looked)?;
         Ok(String::from_str(alloc, text)?)
     }
 
     /// Makes an empty directory under a name in a directory.
     pub fn make_dir_at(&mut self, directory: u64, name: Name<'_>) -> Result<(), HostError>
         requires { directory < next_of self.old.tree }
-        ensures does { Does self.old self.new (MakeDirAt directory (name_bytes name.entry)) (λ unit. unit) result }
-        ensures stays { Stays self.old.tree self.new.tree }
+        ensures does { FollowsTable self.old self.new (MakeDirAt directory (name_bytes name.entry)) (λ unit. unit) result }
+        ensures stays { NodesStay self.old.tree self.new.tree }
     {
-        let found = self.store.child(directory, name);
-        self.touched.mark_found(directory, found);
-        if let Some(code) = self.store.refuse_make_dir(directory, name, found) {
+        let looked = find(&self.store, &mut self.touched, directory, name);
+        if let Some(code) = self.store.refuse_make_dir(&looked) {
             return Err(HostError::Code(code));
         }
-        self.touched.reserve()?;
-        self.parents.reserve()?;
-        self.store.make_directory(directory, name)?;
-        self.touched.push();
-        self.parents.push(directory);
+        let alloc = self.store.allocator();
+        self.make_node(directory, name, Row::new_directory(alloc))?;
         Ok(())
     }
 
@@ -172,21 +168,38 @@ impl TouchedTree {
         name: Name<'_>,
     ) -> Result<(), HostError>
         requires { directory < next_of self.old.tree }
-        ensures does { Does self.old self.new (SymlinkAt target.now directory (name_bytes name.entry))
+        ensures does { FollowsTable self.old self.new (SymlinkAt target.now directory (name_bytes name.entry))
             (λ unit. unit) result }
-        ensures stays { Stays self.old.tree self.new.tree }
+        ensures stays { NodesStay self.old.tree self.new.tree }
     {
-        let found = self.store.child(directory, name);
-        self.touched.mark_found(directory, found);
-        if let Some(code) = self.store.refuse_symlink(target, directory, name, found) {
+        let looked = find(&self.store, &mut self.touched, directory, name);
+        if let Some(code) = self.store.refuse_symlink(target, &looked) {
             return Err(HostError::Code(code));
         }
+        let alloc = self.store.allocator();
+        let text = String::from_str(alloc, target)?;
+        self.make_node(directory, name, Row::new_link(text))?;
+        Ok(())
+    }
+
+    /// Makes a node under a name that a directory lacks, and gives its number. All room is taken first, so that nothing
+    /// has changed where memory is wanted.
+    fn make_node(&mut self, directory: u64, name: Name<'_>, row: Row) -> Result<u64, AllocError>
+        requires may { MayName self.old.tree directory (name_bytes name) }
+        requires sound { IsSoundNode 0 (stored_node row) }
+        ensures number { IfOk result (λ n. n ≡ next_of self.old.tree) }
+        ensures made { OnOk result
+            (self.new.tree ≡ node_made self.old.tree directory (name_bytes name.entry) (stored_node row)) }
+        ensures touched { OnOk result (self.new.touched ≡ insert self.old.touched (next_of self.old.tree)) }
+        ensures kept { OnErr result (self.new ≡ self.old) }
+        ensures stays { NodesStay self.old.tree self.new.tree }
+    {
         self.touched.reserve()?;
         self.parents.reserve()?;
-        self.store.make_link(target, directory, name)?;
+        let node = self.store.make_node(directory, name, row)?;
         self.touched.push();
         self.parents.push(directory);
-        Ok(())
+        Ok(node)
     }
 
     /// Gives the file or link under a name in a directory a name in a directory, which may be the same.
@@ -199,17 +212,13 @@ impl TouchedTree {
     ) -> Result<(), HostError>
         requires old { old < next_of self.old.tree }
         requires new { new < next_of self.old.tree }
-        ensures does { Does self.old self.new (LinkAt old (name_bytes old_name.entry) new (name_bytes new_name.entry))
+        ensures does { FollowsTable self.old self.new (LinkAt old (name_bytes old_name.entry) new (name_bytes new_name.entry))
             (λ unit. unit) result }
-        ensures stays { Stays self.old.tree self.new.tree }
+        ensures stays { NodesStay self.old.tree self.new.tree }
     {
-        let found = self.store.child(old, old_name);
-        let there = self.store.child(new, new_name);
-        self.touched.mark_found(old, found);
-        self.touched.mark_found(new, there);
-        let node = self
-            .store
-            .node_to_link(old, old_name, found, new, new_name, there)?;
+        let from = find(&self.store, &mut self.touched, old, old_name);
+        let to = find(&self.store, &mut self.touched, new, new_name);
+        let node = self.store.node_to_link(&from, &to)?;
         self.store.add_link(new, new_name, node)?;
         Ok(())
     }
@@ -225,30 +234,26 @@ impl TouchedTree {
     ) -> Result<(), HostError>
         requires old { old < next_of self.old.tree }
         requires new { new < next_of self.old.tree }
-        ensures does { Does self.old self.new
+        ensures does { FollowsTable self.old self.new
             (RenameAt old (name_bytes old_name.entry) new (name_bytes new_name.entry) requires_dir)
             (λ unit. unit) result }
-        ensures stays { Stays self.old.tree self.new.tree }
+        ensures stays { NodesStay self.old.tree self.new.tree }
     {
-        let found = self.store.child(old, old_name);
-        let there = self.store.child(new, new_name);
-        self.touched.mark_found(old, found);
-        self.touched.mark_found(new, there);
-        let node = self
-            .store
-            .node_to_rename(old, old_name, found, new, new_name, requires_dir)?;
-        if let Some(code) = self.refuse_loop(old, new, node, there) {
+        let from = find(&self.store, &mut self.touched, old, old_name);
+        let to = find(&self.store, &mut self.touched, new, new_name);
+        let node = self.store.node_to_rename(&from, &to, requires_dir)?;
+        if let Some(code) = self.refuse_loop(old, new, node, to.found) {
             return Err(HostError::Code(code));
         }
-        if holds_node(there, node) {
+        if holds_node(to.found, node) {
             return Ok(());
         }
-        if let Some(code) = self.store.refuse_move(old, new, node, there) {
+        if let Some(code) = self.store.refuse_move(old, new, node, to.found) {
             return Err(HostError::Code(code));
         }
         self.store
-            .move_name(old, old_name, new, new_name, node, there)?;
-        self.parents.replace(there, node, new);
+            .move_name(old, old_name, new, new_name, node, to.found)?;
+        self.parents.replace(to.found, node, new);
         Ok(())
     }
 
@@ -281,25 +286,23 @@ impl TouchedTree {
     /// Drops a name of a file or link in a directory.
     pub fn unlink_at(&mut self, directory: u64, name: Name<'_>) -> Result<(), ErrorCode>
         requires { directory < next_of self.old.tree }
-        ensures does { Does self.old self.new (UnlinkAt directory (name_bytes name.entry))
+        ensures does { FollowsTable self.old self.new (UnlinkAt directory (name_bytes name.entry))
             (λ unit. unit) (hosted result) }
-        ensures stays { Stays self.old.tree self.new.tree }
+        ensures stays { NodesStay self.old.tree self.new.tree }
     {
-        let found = self.store.child(directory, name);
-        self.touched.mark_found(directory, found);
-        self.store.unlink_at(directory, name, found)
+        let looked = find(&self.store, &mut self.touched, directory, name);
+        self.store.unlink_at(&looked)
     }
 
     /// Drops the name of an empty directory in a directory.
     pub fn remove_dir_at(&mut self, directory: u64, name: Name<'_>) -> Result<(), ErrorCode>
         requires { directory < next_of self.old.tree }
-        ensures does { Does self.old self.new (RemoveDirAt directory (name_bytes name.entry))
+        ensures does { FollowsTable self.old self.new (RemoveDirAt directory (name_bytes name.entry))
             (λ unit. unit) (hosted result) }
-        ensures stays { Stays self.old.tree self.new.tree }
+        ensures stays { NodesStay self.old.tree self.new.tree }
     {
-        let found = self.store.child(directory, name);
-        self.touched.mark_found(directory, found);
-        let node = self.store.remove_dir_at(directory, name, found)?;
+        let looked = find(&self.store, &mut self.touched, directory, name);
+        let node = self.store.remove_dir_at(&looked)?;
         self.parents.set(node, None);
         Ok(())
     }
@@ -313,19 +316,18 @@ impl TouchedTree {
         mtime: Option<SystemTime>,
     ) -> Result<(), ErrorCode>
         requires { directory < next_of self.old.tree }
-        ensures does { Does self.old self.new (TimesAt directory (name_bytes name.entry) atime mtime)
+        ensures does { FollowsTable self.old self.new (TimesAt directory (name_bytes name.entry) atime mtime)
             (λ unit. unit) (hosted result) }
-        ensures stays { Stays self.old.tree self.new.tree }
+        ensures stays { NodesStay self.old.tree self.new.tree }
     {
-        let found = self.store.child(directory, name);
-        self.touched.mark_found(directory, found);
-        self.store.times_at(directory, name, found, atime, mtime)
+        let looked = find(&self.store, &mut self.touched, directory, name);
+        self.store.times_at(&looked, atime, mtime)
     }
 
     /// Whether a directory may be searched.
     pub fn access(&mut self, directory: u64) -> Result<(), ErrorCode>
         requires { directory < next_of self.old.tree }
-        ensures does { Does self.old self.new (Access directory) (λ unit. unit) (hosted result) }
+        ensures does { FollowsTable self.old self.new (Access directory) (λ unit. unit) (hosted result) }
         ensures tree { self.new.tree ≡ self.old.tree }
     {
         self.touched.mark(directory);
@@ -335,7 +337,7 @@ impl TouchedTree {
     /// All names of a directory, in byte order, each with the kind of its node.
     pub fn list(&mut self, alloc: Global, directory: Held) -> Result<Vec<DirEntry>, HostError>
         requires { directory.node < next_of self.old.tree }
-        ensures does { Does self.old self.new (ListDir directory) (λ entries. map entry_of entries.items) result }
+        ensures does { FollowsTable self.old self.new (ListDir directory) (λ entries. map entry_of entries.items) result }
         ensures names { IfOk result
             (λ entries. All (λ entry. IsTrue (is_entry_name entry.0)) (map entry_of entries.items)) }
         ensures tree { self.new.tree ≡ self.old.tree }
@@ -347,7 +349,7 @@ impl TouchedTree {
     /// The metadata of a node.
     pub fn metadata(&mut self, node: u64) -> Metadata
         requires { node < next_of self.old.tree }
-        ensures does { Does self.old self.new (Stat node) (λ metadata. metadata) (Ok result) }
+        ensures does { FollowsTable self.old self.new (Stat node) (λ metadata. metadata) (Ok result) }
         ensures times { HasTimes result }
         ensures tree { self.new.tree ≡ self.old.tree }
     {
@@ -358,8 +360,8 @@ impl TouchedTree {
     /// Sets the given times of a node.
     pub fn set_times(&mut self, node: u64, atime: Option<SystemTime>, mtime: Option<SystemTime>)
         requires { node < next_of self.old.tree }
-        ensures does { Does self.old self.new (SetTimes node atime mtime) (λ unit. unit) answered }
-        ensures stays { Stays self.old.tree self.new.tree }
+        ensures does { FollowsTable self.old self.new (SetTimes node atime mtime) (λ unit. unit) answered }
+        ensures stays { NodesStay self.old.tree self.new.tree }
     {
         self.touched.mark(node);
         self.store.set_times(node, atime, mtime);
@@ -368,7 +370,7 @@ impl TouchedTree {
     /// Reads a file's bytes from an offset on into the front of `buf`, and answers how many.
     pub fn read_at(&mut self, file: Held, buf: &mut [u8], offset: u64) -> Result<usize, ErrorCode>
         requires { file.node < next_of self.old.tree }
-        ensures does { Does self.old self.new (Pread file offset (length buf.old))
+        ensures does { FollowsTable self.old self.new (Pread file offset (length buf.old))
             (λ n. take n buf.new) (hosted result) }
         ensures fits { IfOk result (λ n. n ≤ length buf.old) }
         ensures offset { OnOk result (offset < 2 ^ 63) }
@@ -383,10 +385,10 @@ impl TouchedTree {
     /// Puts a piece of bytes into a file from an offset on, and answers how many: all.
     pub fn write_at(&mut self, file: Held, piece: &[u8], offset: u64) -> Result<usize, HostError>
         requires { IsHeld self.old.tree file }
-        ensures does { Does self.old self.new (Pwrite file offset piece.now) (λ n. n) result }
+        ensures does { FollowsTable self.old self.new (Pwrite file offset piece.now) (λ n. n) result }
         ensures all { IfOk result (λ n. n ≡ length piece.now) }
         ensures offset { OnOk result (offset < 2 ^ 63) }
-        ensures stays { Stays self.old.tree self.new.tree }
+        ensures stays { NodesStay self.old.tree self.new.tree }
     {
         self.touched.mark(file.node);
         self.store.write_at(file, piece, offset)
@@ -400,5 +402,24 @@ fn holds_node(held: Option<u64>, node: u64) -> bool
     match held {
         Some(other) => node == other,
         None => false,
+    }
+}
+
+/// Looks up a name in a directory. The directory is touched, and so is the node that the name holds.
+fn find<'n>(store: &Store, touched: &mut Marks, directory: u64, name: Name<'n>) -> Looked<'n>
+    requires counted { touched.old.count ≡ next_of store.now }
+    requires within { directory < next_of store.now }
+    ensures looked { result ≡ looked_at store.now directory name.entry }
+    ensures is { IsLooked store.now result }
+    ensures count { touched.new.count ≡ touched.old.count }
+    ensures nodes { touched.new.nodes
+        ≡ with_nodes touched.old.nodes (found_under store.now directory (name_bytes name.entry)) }
+{
+    let found = store.child(directory, name);
+    touched.mark_found(directory, found);
+    Looked {
+        directory,
+        name,
+        found,
     }
 }

@@ -3,11 +3,12 @@ ghost use Rattle.std.specs.Prelude.{◌≡◌, ℕ, true, IfOk};
 ghost use Rattle.std.specs.FinSet.{contains};
 ghost use Rattle.wasi_tree.specs.MemState.{live_of};
 
-use std::alloc::{AllocError, Global};
+use std::alloc::Global;
 use wasi_host::{Handle, Host, HostError};
 use wasi_paths::Name;
 use wasi_table::{
-    answered, coded, done, number, refused, time_of, told, told_node, told_times, unknown, word,
+    Asked, Told, answered, coded, done, number, refused, time_of, told, told_node, told_times,
+    unknown, word,
 };
 use wasi_tree::{HandleError, MemTree};
 
@@ -31,40 +32,35 @@ pub fn start_of(tree: &mut MemTree, it: Handle, word: &str) -> Result<Handle, Ha
 }
 
 /// `START CALL ARGUMENTS`.
-pub fn call(alloc: Global, tree: &mut MemTree, it: Handle, text: &str) -> Result<String, AllocError>
+pub fn call(tree: &mut MemTree, it: Handle, line: &Asked<'_>) -> Told
     requires { contains (live_of tree.old.handles) it ≡ true }
     ensures { contains (live_of tree.new.handles) it ≡ true }
 {
-    let (start, rest) = word(text);
-    let (what, rest) = word(rest);
-    match start_of(tree, it, start) {
-        Ok(start) => match what {
-            "link" => pair(alloc, tree, it, start, what, rest),
-            "rename" => pair(alloc, tree, it, start, what, rest),
-            _ => change(alloc, tree, start, what, rest),
+    let asked = Asked::of(line.alloc, line.rest);
+    match start_of(tree, it, line.what) {
+        Ok(start) => match asked.what {
+            "link" => pair(tree, it, start, &asked),
+            "rename" => pair(tree, it, start, &asked),
+            _ => change(tree, start, &asked),
         },
-        Err(error) => told(alloc, &error),
+        Err(error) => told(line.alloc, &error),
     }
 }
 
 /// `NAME START NAME`, the old name first.
-fn pair(
-    alloc: Global,
-    tree: &mut MemTree,
-    it: Handle,
-    old: Handle,
-    what: &str,
-    rest: &str,
-) -> Result<String, AllocError>
+fn pair(tree: &mut MemTree, it: Handle, old: Handle, asked: &Asked<'_>) -> Told
     requires it { contains (live_of tree.old.handles) it ≡ true }
     requires old { contains (live_of tree.old.handles) old ≡ true }
     ensures { contains (live_of tree.new.handles) it ≡ true }
 {
-    let (old_name, rest) = word(rest);
+    let (old_name, rest) = word(asked.rest);
     let (new, new_name) = word(rest);
     match start_of(tree, it, new) {
-        Ok(new) => done(alloc, at_two(tree, what, old, old_name, new, new_name)),
-        Err(error) => told(alloc, &error),
+        Ok(new) => {
+            let given = at_two(tree, asked.what, old, old_name, new, new_name);
+            done(asked.alloc, given)
+        }
+        Err(error) => told(asked.alloc, &error),
     }
 }
 
@@ -96,20 +92,15 @@ fn at_two<H: Host>(
 }
 
 /// A change of what a name of a directory holds.
-fn change<H: Host>(
-    alloc: Global,
-    host: &mut H,
-    start: Handle,
-    what: &str,
-    rest: &str,
-) -> Result<String, AllocError>
+fn change<H: Host>(host: &mut H, start: Handle, asked: &Asked<'_>) -> Told
     requires { contains (H.live host.old) start ≡ true }
     ensures { H.live host.new ≡ H.live host.old }
 {
-    let (name, left) = word(rest);
+    let alloc = asked.alloc;
+    let (name, left) = word(asked.rest);
     let name = name_of(name);
     let (first, second) = word(left);
-    match what {
+    match asked.what {
         "mkdir" => done(alloc, host.make_dir_at(start, name)),
         "symlink" => done(alloc, host.symlink_at(first, start, name)),
         "unlink" => done(alloc, host.unlink_at(start, name)),
@@ -118,23 +109,18 @@ fn change<H: Host>(
             let set = host.times_at(start, name, time_of(first), time_of(second));
             done(alloc, set)
         }
-        _ => look(alloc, host, start, what, rest),
+        _ => look(host, start, asked),
     }
 }
 
 /// A look at a directory, or at what a name of it holds.
-fn look<H: Host>(
-    alloc: Global,
-    host: &mut H,
-    start: Handle,
-    what: &str,
-    rest: &str,
-) -> Result<String, AllocError>
+fn look<H: Host>(host: &mut H, start: Handle, asked: &Asked<'_>) -> Told
     requires { contains (H.live host.old) start ≡ true }
     ensures { H.live host.new ≡ H.live host.old }
 {
-    let name = name_of(rest);
-    match what {
+    let alloc = asked.alloc;
+    let name = name_of(asked.rest);
+    match asked.what {
         "stat" => told_node(alloc, host.stat_at(start, name)),
         "readlink" => {
             let link = host.read_link_at(alloc, start, name);
@@ -145,23 +131,18 @@ fn look<H: Host>(
             let entries = host.list(alloc, start);
             answered(alloc, entries)
         }
-        _ => held_call(alloc, host, start, what, rest),
+        _ => held_call(host, start, asked),
     }
 }
 
 /// A call of what a handle stands for.
-fn held_call<H: Host>(
-    alloc: Global,
-    host: &mut H,
-    held: Handle,
-    what: &str,
-    rest: &str,
-) -> Result<String, AllocError>
+fn held_call<H: Host>(host: &mut H, held: Handle, asked: &Asked<'_>) -> Told
     requires { contains (H.live host.old) held ≡ true }
     ensures { H.live host.new ≡ H.live host.old }
 {
-    let (first, second) = word(rest);
-    match what {
+    let alloc = asked.alloc;
+    let (first, second) = word(asked.rest);
+    match asked.what {
         "held" => told_node(alloc, coded(host.stat(held))),
         "when" => told_times(alloc, coded(host.stat(held))),
         "set_times" => {
@@ -178,12 +159,7 @@ fn held_call<H: Host>(
 }
 
 /// How many bytes a file gave, and a buffer of 16 bytes into which they were read.
-fn read<H: Host>(
-    alloc: Global,
-    host: &mut H,
-    file: Handle,
-    offset: u64,
-) -> Result<String, AllocError>
+fn read<H: Host>(alloc: Global, host: &mut H, file: Handle, offset: u64) -> Told
     requires { contains (H.live host.old) file ≡ true }
     ensures { H.live host.new ≡ H.live host.old }
 {

@@ -6,7 +6,7 @@ ghost use Rattle.wasi_tree.specs.MemState.{live_of};
 use crate::calls::{call, name_of, start_of};
 use std::alloc::{AllocError, Global};
 use wasi_host::{ErrorCode, Handle, Host, HostError, LookKind, OpenOptions};
-use wasi_table::{refused, word};
+use wasi_table::{Asked, Told, refused, word};
 use wasi_tree::MemTree;
 
 /// The options that the letters of a word ask for.
@@ -75,24 +75,18 @@ fn opened_by(tree: &mut MemTree, it: Handle, what: &str, text: &str) -> Result<H
 }
 
 /// `START NAME OPTIONS; CALL; CALL ..`: what is opened, or a copy of it, is `it` in the calls behind.
-pub fn with_opened(
-    alloc: Global,
-    tree: &mut MemTree,
-    it: Handle,
-    what: &str,
-    text: &str,
-) -> Result<String, AllocError>
+pub fn with_opened(tree: &mut MemTree, it: Handle, asked: &Asked<'_>) -> Told
     requires { contains (live_of tree.old.handles) it ≡ true }
 {
-    let (start, calls) = text.split_once("; ").unwrap_or((text, ""));
-    match opened_by(tree, it, what, start) {
-        Ok(it) => along(alloc, tree, it, calls),
-        Err(error) => refused(alloc, error),
+    let (start, calls) = asked.rest.split_once("; ").unwrap_or((asked.rest, ""));
+    match opened_by(tree, it, asked.what, start) {
+        Ok(it) => along(asked.alloc, tree, it, calls),
+        Err(error) => refused(asked.alloc, error),
     }
 }
 
 /// The answers of calls, between which `; ` stands, behind `ok`.
-fn along(alloc: Global, tree: &mut MemTree, it: Handle, calls: &str) -> Result<String, AllocError>
+fn along(alloc: Global, tree: &mut MemTree, it: Handle, calls: &str) -> Told
     requires { contains (live_of tree.old.handles) it ≡ true }
 {
     let mut text = String::from_str(alloc, "ok")?;
@@ -112,7 +106,7 @@ fn push_answers(
     requires { contains (live_of tree.old.handles) it ≡ true }
 {
     for one in calls.split("; ") {
-        let answer = call(alloc, tree, it, one)?;
+        let answer = call(tree, it, &Asked::of(alloc, one))?;
         write!(text, "; {answer}")?;
     }
     Ok(())

@@ -2,12 +2,12 @@
 use std::alloc::{AllocError, Global};
 use wasi_guest::{Answer, Answers, Errno, Filestat, TrapKind, Value};
 use wasi_report::{Outcome, report};
-use wasi_table::{list_of, number, word};
+use wasi_table::{Told, list_of, number, word};
 use wasi_tree::MemTree;
 
 /// `ANSWERS SHOWN STDOUT STDERR TOUCHED`, or nothing: the report of this outcome with the tree, without the newline at its
 /// end. Where nothing is given, the outcome is of no calls.
-pub fn told_report(alloc: Global, tree: &MemTree, rest: &str) -> Result<String, AllocError> {
+pub fn told_report(alloc: Global, tree: &MemTree, rest: &str) -> Told {
     let mut outcome = outcome_of(alloc)?;
     if !rest.is_empty() {
         fill(alloc, &mut outcome, rest)?;

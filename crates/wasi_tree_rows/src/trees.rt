@@ -7,7 +7,7 @@ use crate::opened::with_opened;
 use crate::reports::told_report;
 use std::alloc::{AllocError, Global};
 use wasi_host::Limits;
-use wasi_table::{Answering, number, told, word};
+use wasi_table::{Answering, Asked, Told, number, told, word};
 use wasi_tree::{MemTree, NewNode, TreeError};
 
 /// What answers the lines: the tree that the last `tree` gave.
@@ -26,20 +26,20 @@ impl TreeRows {
 }
 
 impl Answering for TreeRows {
-    fn answer(&mut self, alloc: Global, asked: &str) -> Result<String, AllocError> {
-        let (what, rest) = word(asked);
-        match what {
-            "tree" => self.begin(alloc, rest),
-            "fit" => fit(alloc, rest),
-            "chain" => chained(alloc, rest),
-            _ => ask(alloc, &mut self.tree, what, rest, asked),
+    fn answer(&mut self, alloc: Global, line: &str) -> Told {
+        let asked = Asked::of(alloc, line);
+        match asked.what {
+            "tree" => self.begin(alloc, asked.rest),
+            "fit" => fit(alloc, asked.rest),
+            "chain" => chained(alloc, asked.rest),
+            _ => ask(&mut self.tree, &asked),
         }
     }
 }
 
 impl TreeRows {
     /// `LAST NODES`: takes the tree of these nodes.
-    fn begin(&mut self, alloc: Global, rest: &str) -> Result<String, AllocError> {
+    fn begin(&mut self, alloc: Global, rest: &str) -> Told {
         let (last, nodes) = word(rest);
         match tree_of(alloc, last.parse::<u16>().unwrap_or(0), nodes) {
             Ok(tree) => {
@@ -51,11 +51,11 @@ impl TreeRows {
     }
 }
 
-fn fit(alloc: Global, rest: &str) -> Result<String, AllocError> {
+fn fit(alloc: Global, rest: &str) -> Told {
     made_of(alloc, listed(alloc, rest)?, 3)
 }
 
-fn chained(alloc: Global, rest: &str) -> Result<String, AllocError> {
+fn chained(alloc: Global, rest: &str) -> Told {
     made_of(alloc, chain(alloc, number(rest))?, 200_000)
 }
 
@@ -70,7 +70,7 @@ fn most(last: u32) -> Limits
 }
 
 /// How many nodes a tree of these nodes has within these limits, or why none is made of them.
-fn made_of(alloc: Global, nodes: Vec<NewNode>, last: u32) -> Result<String, AllocError> {
+fn made_of(alloc: Global, nodes: Vec<NewNode>, last: u32) -> Told {
     match MemTree::new(alloc, nodes, most(last)) {
         Ok(tree) => told(alloc, &tree.count()),
         Err(error) => told(alloc, &error),
@@ -78,44 +78,33 @@ fn made_of(alloc: Global, nodes: Vec<NewNode>, last: u32) -> Result<String, Allo
 }
 
 /// What is asked of the tree as a whole.
-fn ask(
-    alloc: Global,
-    tree: &mut MemTree,
-    what: &str,
-    rest: &str,
-    asked: &str,
-) -> Result<String, AllocError> {
-    match what {
+fn ask(tree: &mut MemTree, asked: &Asked<'_>) -> Told {
+    let alloc = asked.alloc;
+    match asked.what {
         "touched" => told(alloc, &tree.touched(alloc)?),
         "nodes" => told(alloc, &tree.nodes(alloc)?),
         "looks" => told_looks(alloc, tree),
-        "report" => told_report(alloc, tree, rest),
-        "many" => many(alloc, tree, rest),
-        _ => ask_root(alloc, tree, what, rest, asked),
+        "report" => told_report(alloc, tree, asked.rest),
+        "many" => many(alloc, tree, asked.rest),
+        _ => ask_root(tree, asked),
     }
 }
 
 /// What is asked by a handle of node 0.
 #[tactic(auto, using(wasi_tree::proofs::SlotLemmas::slot_rules))]
-fn ask_root(
-    alloc: Global,
-    tree: &mut MemTree,
-    what: &str,
-    rest: &str,
-    asked: &str,
-) -> Result<String, AllocError> {
+fn ask_root(tree: &mut MemTree, asked: &Asked<'_>) -> Told {
     let Ok(root) = tree.handle(0) else {
         return Err(AllocError);
     };
-    match what {
-        "open" => with_opened(alloc, tree, root, what, rest),
-        "copy" => with_opened(alloc, tree, root, what, rest),
-        _ => call(alloc, tree, root, asked),
+    match asked.what {
+        "open" => with_opened(tree, root, asked),
+        "copy" => with_opened(tree, root, asked),
+        _ => call(tree, root, asked),
     }
 }
 
 /// The kinds of the look-ups.
-fn told_looks(alloc: Global, tree: &MemTree) -> Result<String, AllocError> {
+fn told_looks(alloc: Global, tree: &MemTree) -> Told {
     let mut kinds = Vec::new(alloc);
     for lookup in tree.lookups() {
         kinds.push(lookup.kind)?;
@@ -124,11 +113,11 @@ fn told_looks(alloc: Global, tree: &MemTree) -> Result<String, AllocError> {
 }
 
 /// `CALL COUNT`, of the names `d0`, `d1` .. in node 0: how many nodes there are then.
-fn many(alloc: Global, tree: &mut MemTree, rest: &str) -> Result<String, AllocError> {
+fn many(alloc: Global, tree: &mut MemTree, rest: &str) -> Told {
     let (what, count) = word(rest);
     for i in 0..number(count) {
         let name = format!(in alloc; "0 {what} d{i}")?;
-        let answer = ask_root(alloc, tree, "0", "", name.as_str())?;
+        let answer = ask_root(tree, &Asked::of(alloc, name.as_str()))?;
         if answer.as_str() != "ok" {
             return Ok(answer);
         }

@@ -1,13 +1,13 @@
 use Rattle.std.proofs.Common.{◌≡◌, Some, None, ap, sym, ◌∙◌, arith}
 use Rattle.json.specs.Json.{after_end_array}
-use Rattle.wasi_form.specs.Atoms.{flat, flat_items}
-use Rattle.wasi_form.proofs.AtomLists.{atoms_before, atoms_before-no_items, atom_more}
-use Rattle.wasi_form.proofs.Grammar.{made_of, none_made, next_value-shorter, all_left, one_less, none_left, left_unread}
+use Rattle.wasi_form.specs.Atoms.{flat, flat_items, atom_data}
+use Rattle.wasi_form.proofs.AtomLists.{atom_more}
+use Rattle.wasi_form.proofs.Grammar.{items_before, items_before-no_items, made_of, none_made, next_value-shorter, all_left, one_less, none_left, left_unread}
 use Rattle.wasi_form.proofs.Unreads.{passed_on, unread_part}
 use Rattle.wasi_form.proofs.atoms.atoms_left.Goals as goal
 
 pub items-init : goal.items-init
-items-init c = all_left (λ ds. ap (λ list. atoms_before list (flat_items ds)) (sym c.in_ok-found.ensures.items))
+items-init c = all_left (λ ds. ap (λ list. items_before atom_data list (flat_items ds)) (sym c.in_ok-found.ensures.items))
 
 pub items-smaller : goal.items-smaller
 items-smaller c =
@@ -33,4 +33,4 @@ pub returns : goal.returns
 returns c =
     let ends : after_end_array c.items.reader ≡ Some c.take_end_array.new.self = grind arith in
     none_left c.items.invariant ends
-    ∙ ap (λ ds. Some (ds, c.take_end_array.new.self)) (atoms_before-no_items c.items.found.items)
+    ∙ ap (λ ds. Some (ds, c.take_end_array.new.self)) (items_before-no_items atom_data c.items.found.items)

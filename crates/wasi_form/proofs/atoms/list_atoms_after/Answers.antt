@@ -6,7 +6,7 @@ use Rattle.serde_json.specs.Data.{array}
 use Rattle.serde_json.specs.Find.{as_array}
 use Rattle.wasi_form.specs.Atoms.{flat_items}
 use Rattle.wasi_form.specs.Tokens.{next_value, next_items}
-use Rattle.wasi_form.proofs.Firsts.{other_has_no_items}
+use Rattle.wasi_form.proofs.Firsts.{other_is_no_list}
 use Rattle.wasi_form.proofs.Grammar.{next_array, next_deep_array, twice, none_made, remade}
 use Rattle.wasi_form.proofs.Unreads.{passed_on, unread_part}
 use Rattle.wasi_form.proofs.atoms.list_atoms_after.Goals as goal
@@ -32,4 +32,4 @@ returns-in_ok-atoms_left-in-BeginArray c =
 
 pub returns-in_ok-value_after-in_default : goal.returns-in_ok-value_after-in_default
 returns-in_ok-value_after-in_default c =
-    other_has_no_items c.args.depth c.args.token c.args.reader.now _ _ c.in_default.not-BeginArray c.in_ok-value_after-in_default.ensures
+    other_is_no_list (option_map flat_items) c.args.depth c.args.token c.args.reader.now _ _ c.in_default.not-BeginArray c.in_ok-value_after-in_default.ensures

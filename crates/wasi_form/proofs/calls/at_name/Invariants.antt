@@ -1,5 +1,5 @@
 use Rattle.std.proofs.Common.{◌≡◌, map, drop}
-use Rattle.wasi_form.specs.CallForm.{at_name}
+use Rattle.wasi_form.specs.Lists.{at_name}
 use Rattle.wasi_form.proofs.calls.at_name.Given as goal
 
 abbrev pub invariant-loop-row : goal.invariant-loop-row

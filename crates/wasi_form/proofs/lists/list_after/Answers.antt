@@ -2,7 +2,7 @@ use Rattle.std.proofs.Common.{◌∷◌, ◌-◌, ap, ◌∙◌, sym, refl, arit
 use Rattle.json.specs.Json.{parse_map}
 use Rattle.json.specs.Reads.{token_of}
 use Rattle.serde_json.specs.Data.{array}
-use Rattle.wasi_form.specs.Lists.{forms_in, forms_of}
+use Rattle.wasi_form.specs.Lists.{◌>>=◌, forms_in, forms_of}
 use Rattle.wasi_form.specs.Tokens.{next_value, next_items}
 use Rattle.wasi_form.proofs.Firsts.{other_is_no_list}
 use Rattle.wasi_form.proofs.Grammar.{next_array, next_deep_array, twice}
@@ -23,4 +23,4 @@ returns-else-depth-eq0 g c =
 
 pub returns-in_ok-value_after-in_default : goal.returns-in_ok-value_after-in_default
 returns-in_ok-value_after-in_default g c =
-    other_is_no_list g.T.Item.of c.args.depth c.args.token c.args.reader.now _ _ c.in_default.not-BeginArray c.in_ok-value_after-in_default.ensures
+    other_is_no_list (λ ds. ds >>= forms_in g.T.Item.of) c.args.depth c.args.token c.args.reader.now _ _ c.in_default.not-BeginArray c.in_ok-value_after-in_default.ensures

@@ -30,4 +30,4 @@ returns-in_ok-members_left-in-BeginObject g c =
 
 pub returns-in_ok-value_after-in_default : goal.returns-in_ok-value_after-in_default
 returns-in_ok-value_after-in_default g c =
-    other_is_no_object g.F.Fields.of c.args.depth c.args.token c.args.reader.now _ _ c.in_default.not-BeginObject c.in_ok-value_after-in_default.ensures
+    other_is_no_object (option_map g.F.Fields.of) c.args.depth c.args.token c.args.reader.now _ _ c.in_default.not-BeginObject c.in_ok-value_after-in_default.ensures

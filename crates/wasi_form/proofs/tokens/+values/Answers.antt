@@ -94,7 +94,7 @@ pub items-items-preserved : goal.items-items-preserved
 items-items-preserved t c =
     let goes_on : (after_end_array c.items.reader ≡ None) × (c.take_end_array.new.self ≡ c.items.reader) = grind arith in
     rw c.in_ok-push.ensures.items
-    (one_less c.items.invariant goes_on.0 (rw goes_on.1 at c.in_ok-item.ensures) (items_before-push c.items.found.items c.in_ok-item.item))
+    (one_less c.items.invariant goes_on.0 (rw goes_on.1 at c.in_ok-item.ensures) (items_before-push view c.items.found.items c.in_ok-item.item))
 
 pub items-returns-in_err-item : goal.items-returns-in_err-item
 items-returns-in_err-item t c =
@@ -106,7 +106,7 @@ pub items-returns : goal.items-returns
 items-returns t c =
     let ends : after_end_array c.items.reader ≡ Some c.take_end_array.new.self = grind arith in
     as_it_is (next_items c.args.depth c.args.reader.now) ∙ none_left c.items.invariant ends
-    ∙ ap (λ ds. Some (ds, c.take_end_array.new.self)) (items_before-no_items c.items.found.items)
+    ∙ ap (λ ds. Some (ds, c.take_end_array.new.self)) (items_before-no_items view c.items.found.items)
 
 -- ---- members
 

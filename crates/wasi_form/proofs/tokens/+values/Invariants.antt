@@ -1,5 +1,5 @@
 use Rattle.std.proofs.Common.{◌+◌, ◌*◌, length}
-use Rattle.serde_json.specs.View.{members_view}
+use Rattle.serde_json.specs.View.{view, members_view}
 use Rattle.wasi_form.proofs.Grammar.{ItemsLeft, MembersLeft, items_before}
 use Rattle.wasi_form.proofs.tokens.+values.Given as goal
 
@@ -16,7 +16,7 @@ abbrev pub decreases-members : goal.decreases-members
 decreases-members l = 3 * l.depth + 3
 
 abbrev pub invariant-items-items : goal.invariant-items-items
-invariant-items-items l = ItemsLeft l.depth (λ ds. ds) (items_before l.found.items) l.initial.reader l.reader
+invariant-items-items l = ItemsLeft l.depth (λ ds. ds) (items_before view l.found.items) l.initial.reader l.reader
 
 abbrev pub decreases-items-items : goal.decreases-items-items
 decreases-items-items l = length l.reader

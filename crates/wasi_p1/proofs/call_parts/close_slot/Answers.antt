@@ -1,6 +1,6 @@
 use Rattle.wasi_p1.proofs.Owning.{live_slot, owns_closed}
 use Rattle.wasi_p1.proofs.CallTracing.{traced_closed}
-use Rattle.wasi_p1.proofs.Placing.{closed_stays}
+use Rattle.wasi_p1.proofs.GuestSlots.{closed_stays}
 use Rattle.wasi_p1.proofs.call_parts.close_slot.Goals as goal
 
 pub release-requires : goal.release-requires

@@ -4,7 +4,7 @@ use Rattle.wasi_fs.specs.Calls.{opened_of}
 use Rattle.wasi_p1.proofs.CallTracing.{traced_new, traced_refused}
 use Rattle.wasi_p1.proofs.OpeningInto.{got_slot, opened_asked, unopened_stays}
 use Rattle.wasi_p1.proofs.Owning.{owns_new}
-use Rattle.wasi_p1.proofs.Placing.{opened_placed, places_stay}
+use Rattle.wasi_p1.proofs.GuestSlots.{opened_numbered, guest_slots_stay}
 use Rattle.wasi_p1.proofs.Resolving.{resolved_ok}
 use Rattle.wasi_p1.proofs.Staying.{new_stays}
 use Rattle.wasi_p1.proofs.call_parts.open_into.Goals as goal
@@ -37,7 +37,7 @@ returns-clause-front g c = λ none.
     rw (c.put.ensures.number, c.put.ensures.slots, c.reserve.ensures.slots, c.slot_of.ensures) (
       opened_of (g.H.Host.world c.args.host.now).held c.in_ok-descriptor.descriptor,
       opened_asked _ _ _ given.kind,
-      opened_placed _ _ _ _ _ refl given.perms given.mode,
+      opened_numbered _ _ _ _ _ refl given.perms given.mode,
     )
 
 pub returns-clause-told : goal.returns-clause-told
@@ -47,5 +47,5 @@ returns-clause-told g c = λ told none.
     rw (c.put.ensures.number, c.put.ensures.slots, c.reserve.ensures.slots, c.slot_of.ensures) (
       opened_of (g.H.Host.world c.open_at.new.host).held c.in_ok-descriptor.descriptor,
       resolved_ok did,
-      opened_placed _ _ _ _ _ (places_stay _ c.requires.owned did.keeps) given.perms given.mode,
+      opened_numbered _ _ _ _ _ (guest_slots_stay _ c.requires.owned did.keeps) given.perms given.mode,
     )

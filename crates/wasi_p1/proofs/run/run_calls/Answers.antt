@@ -41,19 +41,19 @@ loop-one-preserved g c = record {
   size = c.call_with-outcome.ensures.size ∙ c.loop-one.invariant.size;
   ios =
       rw c.push.ensures.answers
-      (io_counted _ _ (sym c.in-Some.ensures) c.call_with-outcome.ensures.cause c.loop-one.invariant.ios);
+      (io_counted _ _ (sym c.in-Some.ensures) c.call_with-outcome.ensures.bounds.cause c.loop-one.invariant.ios);
   goes =
       rw c.push.ensures.answers
       (goes_on-push _ _ c.loop-one.invariant.goes (sym c.ends_run.ensures ∙ c.if-ends_run.false));
-  handles = c.call_with-outcome.ensures.handles ∙ c.loop-one.invariant.handles;
+  handles = c.call_with-outcome.ensures.bounds.handles ∙ c.loop-one.invariant.handles;
   slots = stay_on c.args.calls.now.items _ c.loop-one.memory
       (rw c.deref-one-items.ensures.value (Contains-get_or _ _ _ (omega arith))) c.loop-one.invariant.slots
       c.call_with-outcome.ensures.slots;
-  lineage = traced_on _ _ c.call_with-outcome.ensures.lineage c.loop-one.invariant.lineage;
+  lineage = traced_on _ _ c.call_with-outcome.ensures.bounds.lineage c.loop-one.invariant.lineage;
   run = λ told.
       let within : c.loop-one.one-index < length c.args.calls.now.items = omega arith in
       let one = call_at c.args.fuel c.args.calls.now.items c.loop-one.one-index (ArgsGet 0 0) within in
-      let on = turned_on (sym c.in-Some.ensures) c.call_with-outcome.ensures.cause (c.call_with-outcome.ensures.turn told)
+      let on = turned_on (sym c.in-Some.ensures) c.call_with-outcome.ensures.bounds.cause (c.call_with-outcome.ensures.turn told)
       (c.loop-one.invariant.run told) (sym c.ends_run.ensures ∙ c.if-ends_run.false) in
       rw (c.push.ensures.answers, one) (rw c.deref-one-items.ensures.value at on);
   touched = λ told n was.
@@ -72,16 +72,16 @@ pub returns-in-None-clause-size : goal.returns-in-None-clause-size
 returns-in-None-clause-size g c = c.call_with-outcome.ensures.size ∙ c.loop-one.invariant.size
 
 pub returns-in-None-clause-handles : goal.returns-in-None-clause-handles
-returns-in-None-clause-handles g c = c.call_with-outcome.ensures.handles ∙ c.loop-one.invariant.handles
+returns-in-None-clause-handles g c = c.call_with-outcome.ensures.bounds.handles ∙ c.loop-one.invariant.handles
 
 pub returns-in-None-clause-lineage : goal.returns-in-None-clause-lineage
-returns-in-None-clause-lineage g c = traced_on _ _ c.call_with-outcome.ensures.lineage c.loop-one.invariant.lineage
+returns-in-None-clause-lineage g c = traced_on _ _ c.call_with-outcome.ensures.bounds.lineage c.loop-one.invariant.lineage
 
 pub returns-in-None-clause-memory : goal.returns-in-None-clause-memory
 returns-in-None-clause-memory g c = λ told.
     let n : c.len-in-None.result ≡ length c.loop-one.answers.answers = c.len-in-None.ensures.count in
     let at : c.loop-one.one-index ≡ c.len-in-None.result = sym (n ∙ c.loop-one.invariant.count) in
-    stood (sym c.in-None.ensures) c.call_with-outcome.ensures.cause (c.call_with-outcome.ensures.turn told) (sym n)
+    stood (sym c.in-None.ensures) c.call_with-outcome.ensures.bounds.cause (c.call_with-outcome.ensures.turn told) (sym n)
     (rw at at (c.loop-one.invariant.run told))
 
 pub returns-in-None-clause-slots : goal.returns-in-None-clause-slots
@@ -114,19 +114,19 @@ returns-then-ends_run-clause-answers g c =
 pub returns-then-ends_run-clause-ios : goal.returns-then-ends_run-clause-ios
 returns-then-ends_run-clause-ios g c =
     rw c.push.ensures.answers
-    (io_counted _ _ (sym c.in-Some.ensures) c.call_with-outcome.ensures.cause c.loop-one.invariant.ios)
+    (io_counted _ _ (sym c.in-Some.ensures) c.call_with-outcome.ensures.bounds.cause c.loop-one.invariant.ios)
 
 pub returns-then-ends_run-clause-handles : goal.returns-then-ends_run-clause-handles
-returns-then-ends_run-clause-handles g c = c.call_with-outcome.ensures.handles ∙ c.loop-one.invariant.handles
+returns-then-ends_run-clause-handles g c = c.call_with-outcome.ensures.bounds.handles ∙ c.loop-one.invariant.handles
 
 pub returns-then-ends_run-clause-lineage : goal.returns-then-ends_run-clause-lineage
-returns-then-ends_run-clause-lineage g c = traced_on _ _ c.call_with-outcome.ensures.lineage c.loop-one.invariant.lineage
+returns-then-ends_run-clause-lineage g c = traced_on _ _ c.call_with-outcome.ensures.bounds.lineage c.loop-one.invariant.lineage
 
 pub returns-then-ends_run-clause-run : goal.returns-then-ends_run-clause-run
 returns-then-ends_run-clause-run g c = λ told.
     let within : c.loop-one.one-index < length c.args.calls.now.items = omega arith in
     let all = calls_at c.args.fuel c.args.calls.now.items c.loop-one.one-index (ArgsGet 0 0) within in
-    let on = ended (sym c.in-Some.ensures) c.call_with-outcome.ensures.cause (c.call_with-outcome.ensures.turn told)
+    let on = ended (sym c.in-Some.ensures) c.call_with-outcome.ensures.bounds.cause (c.call_with-outcome.ensures.turn told)
     (c.loop-one.invariant.run told) (drop (c.loop-one.one-index + 1) (map (with_fuel c.args.fuel) c.args.calls.now.items))
     (sym c.ends_run.ensures ∙ c.if-ends_run.true) in
     rw (c.push.ensures.answers) (rw (c.deref-one-items.ensures.value, all) at on)

@@ -1,13 +1,11 @@
-use Rattle.wasi_host.proofs.Tracing.{traced_same}
 use Rattle.wasi_resolve.specs.AtPlace.{ReadLink}
 use Rattle.wasi_resolve.proofs.AtPlaces.{done_at_place, traced_at_place}
 use Rattle.wasi_resolve.proofs.at_place.read_link.Goals as goal
 
 pub returns-clause-lineage : goal.returns-clause-lineage
 returns-clause-lineage g c =
-    traced_same _ c.release.ensures.logged
-    (traced_at_place c.in-Ok.place _ _ c.in-Ok.ensures.live c.in-Ok.ensures.lineage
-    (rw c.handle.ensures.handle at c.unrooted_link_at-text.ensures.lineage))
+    traced_at_place c.in-Ok.place _ _ c.in-Ok.ensures.live c.in-Ok.ensures.lineage
+    (rw c.handle.ensures.handle at c.unrooted_link_at-text.ensures.lineage) c.release.ensures.logged
 
 pub returns-clause-told : goal.returns-clause-told
 returns-clause-told g c told =

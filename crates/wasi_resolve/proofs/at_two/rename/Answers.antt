@@ -1,21 +1,20 @@
 use Rattle.std.proofs.Common.{arith, refl}
-use Rattle.wasi_host.proofs.Tracing.{traced_same, traced_last, traced_two}
+use Rattle.wasi_host.proofs.Tracing.{traced_two}
 use Rattle.wasi_host.specs.declared.lookup.LookKind.TheVariants.{Rename as Renamed}
 use Rattle.wasi_resolve.specs.AtTwo.{Rename, asks_directory}
-use Rattle.wasi_resolve.proofs.AtTwoPlaces.{both_done, done_at_two, two_reads}
+use Rattle.wasi_resolve.proofs.AtTwoPlaces.{both_done, done_at_two, traced_at_two, two_reads}
 use Rattle.wasi_resolve.proofs.at_two.rename.Goals as goal
 
 pub returns-clause-lineage : goal.returns-clause-lineage
 returns-clause-lineage g c =
-    traced_same _ c.release_both.ensures.logged
-    (traced_last (λ h has. has) c.in-Ok.ensures.lineage
-    (rw (c.handle.ensures.handle, c.handle-2.ensures.handle) at
-    (traced_two Renamed c.handle.result c.handle-2.result c.rename_at-moved.result c.rename_at-moved.ensures.logged)))
+    traced_at_two c.in-Ok.ensures.lineage (rw (c.handle.ensures.handle, c.handle-2.ensures.handle) at
+    (traced_two Renamed c.handle.result c.handle-2.result c.rename_at-moved.result c.rename_at-moved.ensures.logged))
+    c.release_both.ensures.logged
 
 pub returns-clause-links : goal.returns-clause-links
 returns-clause-links g c =
-    let reads = two_reads Renamed _ _ c.rename_at-moved.result refl c.rename_at-moved.ensures.logged in
-    rw c.release_both.ensures.logged (omega (arith, c.in-Ok.ensures.links, reads.links))
+    let reads = two_reads Renamed _ _ c.rename_at-moved.result refl c.rename_at-moved.ensures.logged c.release_both.ensures.logged in
+    omega (arith, c.in-Ok.ensures.links, reads.links)
 
 pub returns-clause-told : goal.returns-clause-told
 returns-clause-told g c told =
@@ -30,6 +29,6 @@ returns-clause-told g c told =
 
 pub returns-clause-bound : goal.returns-clause-bound
 returns-clause-bound g c told =
-    let reads = two_reads Renamed _ _ c.rename_at-moved.result refl c.rename_at-moved.ensures.logged in
+    let reads = two_reads Renamed _ _ c.rename_at-moved.result refl c.rename_at-moved.ensures.logged c.release_both.ensures.logged in
     let few = rw (c.strip_dir_suffix.ensures.text, c.strip_dir_suffix-2.ensures.text) at (c.in-Ok.ensures.bound told) in
-    rw c.release_both.ensures.logged (omega (arith, few, reads.calls))
+    omega (arith, few, reads.calls)

@@ -1,18 +1,12 @@
-use Rattle.std.proofs.Common.{Some}
-use Rattle.std.proofs.lemmas.List.Elements.{All-pop}
-use Rattle.wasi_paths.specs.TextLaws.{HasPlainName}
 use Rattle.wasi_paths.specs.Part.{component}
 use Rattle.wasi_resolve.proofs.Putting.{put_one, put_all}
 use Rattle.wasi_resolve.proofs.left.put_link.Goals as goal
 
 pub loop-part-preserved : goal.loop-part-preserved
-loop-part-preserved c = record {
-  so_far = rw c.in_ok-push.ensures.items
-      (put_one c.loop-part.left.items c.next_back.new.self c.in_ok-of_link.field-0 (component c.in-Some.part)
-      c.loop-part.invariant.so_far c.in-Some.ensures.steps c.in_ok-of_link.ensures);
-  plain = (All-pop HasPlainName _ c.next_back.new.self (Some (component c.in-Some.part)) c.in-Some.ensures.steps
-      c.loop-part.invariant.plain).0;
-}
+loop-part-preserved c =
+    rw c.in_ok-push.ensures.items
+    (put_one c.loop-part.left.items c.next_back.new.self c.in_ok-of_link.field-0 (component c.in-Some.part)
+    c.loop-part.invariant c.in-Some.ensures.steps c.in_ok-of_link.ensures)
 
 pub returns-clause-parts : goal.returns-clause-parts
 returns-clause-parts c =

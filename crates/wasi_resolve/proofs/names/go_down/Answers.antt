@@ -7,7 +7,7 @@ use Rattle.wasi_resolve.specs.Stack.{top_handle}
 use Rattle.wasi_resolve.proofs.Stacks.{top_live, stands_push}
 use Rattle.wasi_resolve.proofs.Lookups.{traced_top, traced_stays, among_more}
 use Rattle.wasi_resolve.proofs.Ascending.{fails_here}
-use Rattle.wasi_resolve.proofs.Going.{OnTop, goes_down, goes_link, goes_err}
+use Rattle.wasi_resolve.proofs.Going.{on_top, goes_down, goes_link, goes_err}
 use Rattle.wasi_resolve.proofs.names.go_down.Goals as goal
 
 pub returns-in_err-reserve-clause-lineage : goal.returns-in_err-reserve-clause-lineage
@@ -37,14 +37,7 @@ returns-in-Ok-Some-clause-lineage g c =
 
 pub returns-in-Ok-Some-clause-told : goal.returns-in-Ok-Some-clause-told
 returns-in-Ok-Some-clause-told g c told first w next rest stands walked =
-    let on : OnTop first _ w (g.H.Host.world c.args.host.now) c.args.start c.args.stack.now.items c.top_of-here.result =
-    record {
-      stands =
-          stands;
-      walked = walked;
-      at = c.top_of-here.ensures
-          ∙ ap (top_handle c.args.start) c.reserve.ensures.items;
-    } in
+    let on = on_top stands walked (c.top_of-here.ensures ∙ ap (top_handle c.args.start) c.reserve.ensures.items) in
     rw (c.push_reserved.ensures.items, c.reserve.ensures.items)
     (goes_down on (left_bytes c.args.name.text) next rest
     (rw (c.in-Ok-Some.field-0-is, c.name.ensures.bytes, c.middle_options.ensures) at (c.in-Ok-Some.ensures.told told)))
@@ -58,14 +51,7 @@ returns-in-Ok-None-clause-lineage g c =
 
 pub returns-in-Ok-None-clause-told : goal.returns-in-Ok-None-clause-told
 returns-in-Ok-None-clause-told g c told first w next rest stands walked =
-    let on : OnTop first _ w (g.H.Host.world c.args.host.now) c.args.start c.args.stack.now.items c.top_of-here.result =
-    record {
-      stands =
-          stands;
-      walked = walked;
-      at = c.top_of-here.ensures
-          ∙ ap (top_handle c.args.start) c.reserve.ensures.items;
-    } in
+    let on = on_top stands walked (c.top_of-here.ensures ∙ ap (top_handle c.args.start) c.reserve.ensures.items) in
     rw c.reserve.ensures.items
     (goes_link on (left_bytes c.args.name.text) next rest c.args.name.plain
     (rw (c.in-Ok-None.field-0-is, c.name.ensures.bytes, c.middle_options.ensures) at (c.in-Ok-None.ensures.told told)))
@@ -79,13 +65,6 @@ returns-clause-lineage g c =
 
 pub returns-clause-told : goal.returns-clause-told
 returns-clause-told g c told first w next rest stands walked =
-    let on : OnTop first _ w (g.H.Host.world c.args.host.now) c.args.start c.args.stack.now.items c.top_of-here.result =
-    record {
-      stands =
-          stands;
-      walked = walked;
-      at = c.top_of-here.ensures
-          ∙ ap (top_handle c.args.start) c.reserve.ensures.items;
-    } in
+    let on = on_top stands walked (c.top_of-here.ensures ∙ ap (top_handle c.args.start) c.reserve.ensures.items) in
     goes_err on (left_bytes c.args.name.text) next rest c.in-Err.e
     (rw (c.name.ensures.bytes, c.middle_options.ensures) at (c.in-Err.ensures.told told))

@@ -1,7 +1,7 @@
 use Rattle.std.proofs.Common.{◌≡◌, vec_len, IsTrue}
 use Rattle.wasi_host.specs.Meaning.{Handles}
 use Rattle.wasi_resolve.specs.Stack.{Stands}
-use Rattle.wasi_resolve.specs.WalkSteps.{Stayed}
+use Rattle.wasi_resolve.specs.WalkSteps.{WorldStays}
 use Rattle.wasi_resolve.proofs.stack.close_all.Given as goal
 
 abbrev pub invariant-loop-handle : goal.invariant-loop-handle
@@ -12,7 +12,7 @@ invariant-loop-handle g l = record {
   logged : g.H.Host.lookups l.host ≡ g.H.Host.lookups l.initial.host;
   told : IsTrue g.H.Host.told → (first : Handles)
       → Stands first (g.H.Host.live l.initial.host) l.fn.start l.initial.stack.items
-      → Stayed first (g.H.Host.world l.initial.host) (g.H.Host.world l.host);
+      → WorldStays first (g.H.Host.world l.initial.host) (g.H.Host.world l.host);
 }
 
 abbrev pub decreases-loop-handle : goal.decreases-loop-handle

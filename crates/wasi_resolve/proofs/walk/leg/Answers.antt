@@ -3,6 +3,7 @@ use Rattle.std.specs.Prelude.{◌==◌}
 use Rattle.std.proofs.lemmas.Result.{err_from_is_err_and}
 use Rattle.wasi_host.proofs.Tracing.{traced_none, traced_then}
 use Rattle.wasi_resolve.specs.Left.{parts_left}
+use Rattle.wasi_resolve.specs.Ways.{way}
 use Rattle.wasi_resolve.proofs.Legs.{same_here}
 use Rattle.wasi_resolve.proofs.Putting.{popped_parts}
 use Rattle.wasi_resolve.proofs.Going.{goes_then, fails_then, stops_then, goes_dot, nil_left}
@@ -41,8 +42,8 @@ returns-in_err-stopped-clause-told g c told first w stands walked =
 pub returns-in-Some-stopped-clause-told : goal.returns-in-Some-stopped-clause-told
 returns-in-Some-stopped-clause-told g c told first w stands walked =
     let so_far = c.loop-part.invariant.told told first w stands walked in
-    stops_then _ so_far (popped_parts _ c.in-Some.part c.in-Some.ensures.items) (g.H.Host.world c.step.new.host)
-    (parts_left c.pop.new.self.items) c.step.new.stack.items c.in-Some-stopped.stop
+    stops_then _ so_far (popped_parts _ c.in-Some.part c.in-Some.ensures.items)
+    (way (g.H.Host.world c.step.new.host) c.step.new.stack.items (parts_left c.pop.new.self.items)) c.in-Some-stopped.stop
     (rw c.in-Some-stopped.is at (c.in_ok-stopped.ensures.told told first w (parts_left c.pop.new.self.items)
     (nil_left c.pop.new.self.items ∙ sym (c.is_empty-is_last.ensures
     ∙ ap (λ l. length l == 0) c.as_slice.ensures.value))
@@ -77,6 +78,6 @@ loop-part-preserved g c = record {
 
 pub returns-clause-told : goal.returns-clause-told
 returns-clause-told g c told first w stands walked =
-    goes_dot c.loop-part.left.items c.pop.new.self.items (c.loop-part.invariant.told told first w stands walked)
-    (omega (arith, c.loop-part.left.ok.0, c.in_default.ensures.cases.0))
+    goes_dot c.loop-part.way.left.items c.pop.new.self.items (c.loop-part.invariant.told told first w stands walked)
+    (omega (arith, c.loop-part.way.left.ok.0, c.in_default.ensures.cases.0))
     (omega (arith, c.pop.new.self.ok.0, c.in_default.ensures.cases.1))

@@ -1,6 +1,10 @@
-use Rattle.std.proofs.Common.{inr}
-use Rattle.wasi_paths.specs.Parts.{RootDir}
-use Rattle.wasi_resolve.proofs.Legs.{root_refused, dot_same}
+use Rattle.std.proofs.Common.{◌∙◌, ◌∷◌, inr}
+use Rattle.wasi_paths.specs.Parts.{RootDir, Normal}
+use Rattle.wasi_resolve.specs.NameText.{left_bytes}
+use Rattle.wasi_resolve.specs.Ways.{begin, way}
+use Rattle.wasi_resolve.specs.WalkSteps.{TakesPart}
+use Rattle.wasi_resolve.proofs.Going.{when_more, nil_is}
+use Rattle.wasi_resolve.proofs.Legs.{root_refused, dot_same, same_here}
 use Rattle.wasi_resolve.proofs.Ascending.{fails_here}
 use Rattle.wasi_resolve.proofs.walk.step.Goals as goal
 
@@ -20,6 +24,15 @@ pub returns-in-Err-clause-told : goal.returns-in-Err-clause-told
 returns-in-Err-clause-told g c told first w rest last stands walked =
     rw c.in-ParentDir.is (c.in-Err.ensures.told told first w rest stands walked)
 
-pub returns-in-Normal-clause-told : goal.returns-in-Normal-clause-told
-returns-in-Normal-clause-told g c told first w rest last stands walked =
-    rw c.in-Normal.is (c.at_name.ensures.told told first w rest last stands walked)
+pub returns-then-is_last-clause-told : goal.returns-then-is_last-clause-told
+returns-then-is_last-clause-told g c told first w rest last stands walked =
+    rw c.in-Normal.is
+    (record { walked = walked; same = same_here _ _ _ _; none = nil_is rest (last ∙ c.if-is_last.true) })
+
+pub returns-else-is_last-clause-told : goal.returns-else-is_last-clause-told
+returns-else-is_last-clause-told g c told first w rest last stands walked =
+    rw c.in-Normal.is
+    (when_more (λ parts. TakesPart (begin first w c.args.start)
+    (way (g.H.Host.world c.args.host.now) c.args.stack.now.items (Normal (left_bytes c.in-Normal.name.text) ∷ parts))
+    (way (g.H.Host.world c.go_down.new.host) c.go_down.new.stack.items parts) c.go_down.result)
+    rest (last ∙ c.if-is_last.false) (λ next more. c.go_down.ensures.told told first w next more stands walked))

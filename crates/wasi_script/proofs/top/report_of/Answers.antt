@@ -1,4 +1,5 @@
-use Rattle.std.proofs.Common.{refl}
+use Rattle.std.proofs.Common.{refl, ap, length, ◌∙◌}
+use Rattle.wasi_guest.proofs.Ranges.{written_back}
 use Rattle.wasi_form.specs.Plan.{plan}
 use Rattle.wasi_form.proofs.BuiltScripts.{built_parts}
 use Rattle.wasi_script.proofs.Starts.{confined_at_start}
@@ -16,19 +17,22 @@ first_context-requires c = record {
 pub shown-requires : goal.shown-requires
 shown-requires c =
     let parts = built_parts (plan c.args.script) c.requires in
-    rw (c.as_slice-3.ensures.value, c.run_calls-ran.ensures.size, c.in_ok-memory.ensures.size) parts.show
+    let size = c.run_calls-ran.ensures.size ∙ ap length c.bytes_mut-bytes.ensures.value in
+    rw (c.as_slice-3.ensures.value, c.bytes.ensures.bytes, written_back _ _ size, size, c.in_ok-memory.ensures.size) parts.show
 
 pub returns : goal.returns
 returns c =
+    let value = c.bytes_mut-bytes.ensures.value in
+    let size = c.run_calls-ran.ensures.size ∙ ap length value in
     let written = rw c.as_slice.ensures.value at c.in_ok-memory.ensures.written in
     let begun = rw c.as_slice-2.ensures.value at c.in_ok-context.ensures.begun in
     let run : RanPlan (plan c.args.script) _ _ _ = record {
       first = _;
       begins = begun_at (plan c.args.script) begun written;
-      ran = c.in-Ok.ensures.run refl;
-      confined = c.in-Ok.ensures.confined refl _ (rw begun.untouched (confined_at_start _));
+      ran = rw value at (c.in-Ok.ensures.run refl);
+      confined = rw value at (c.in-Ok.ensures.confined refl _ (confined_at_start _ begun.untouched));
     } in
-    let shown-is = rw c.as_slice-3.ensures.value at c.in_ok-shown.ensures.shown in
+    let shown-is = rw (c.as_slice-3.ensures.value, c.bytes.ensures.bytes, written_back _ _ size) at c.in_ok-shown.ensures.shown in
     let ended = c.into_parts-ended.ensures in
     let outputs = c.into_outputs-outputs.ensures in
     let listed = rw c.host.ensures.host at c.in_ok-touched.ensures.nodes in

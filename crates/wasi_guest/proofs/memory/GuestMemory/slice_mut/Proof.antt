@@ -2,7 +2,7 @@ use Rattle.wasi_guest.proofs.Walk.{◌≡◌, ℕ, List, MutBor, [], ◌∷◌, 
 use Rattle.std.specs.Prelude.{Bool, slice_range, length, ◌+◌, ◌++◌, if◌then◌else◌, ◌<◌, ◌^◌}
 use Rattle.std.specs.Bool.{OnTrue, OnFalse}
 use Rattle.std.specs.Borrow.{Array}
-use Rattle.wasi_guest.specs.Range.{in_memory, place, with_bytes}
+use Rattle.wasi_guest.specs.Range.{in_memory, lent_at, with_bytes}
 use Rattle.std.specs.declared.option.Option.TheVariants.{None, Some}
 use Rattle.std.specs.contracts.option.Option as OP
 use Rattle.wasi_guest.proofs.Found.{inside, placed, value_of, outside, else_of}
@@ -27,7 +27,7 @@ slice_mut_spec 𝓤 𝓛 𝓜 𝓡 wired =
     (λ κs. (mut_vals, (uint_vals w32, (uint_vals w32, tt))))
     (λ κs. (mut_Tells (named 0) κs.0 R, (uint_Tells w32, (uint_Tells w32, tt)))) (λ κs qs bounds a _ are.
     let memory = a.0.now in let ptr = a.1.0 in let n = a.1.1.0 in let Part = MutSlice (named 0) κs.0 u8 in
-    let F = with_bytes memory (place memory ptr n) in
+    let F = with_bytes memory (lent_at memory ptr n) in
     let G = triple_of 𝓛 g.signature (g.spec 𝓛 𝓜.mem 𝓡.returns) in
     let y : W.Ghost = ((κs, qs, bounds, a, (mut_vals a.0, (uint_vals w32 ptr, (uint_vals w32 n, tt)))), tt) in
     let z : G.Ghost = ((κs, qs, bounds, a, (mut_vals a.0, (uint_vals w32 ptr, (uint_vals w32 n, tt)))), tt) in

@@ -1,13 +1,11 @@
 use Rattle.std.proofs.Common.{refl}
-use Rattle.std.proofs.lemmas.Result.{err_from_is_err_and}
 use Rattle.wasi_p1.specs.Rows.{args_get}
-use Rattle.wasi_p1.proofs.Taking.{refused}
+use Rattle.wasi_p1.proofs.Taking.{refused, on_err}
 use Rattle.wasi_p1.proofs.Texts.{unit_refused}
 use Rattle.wasi_p1.proofs.context.WasiP1Ctx.args_get.Goals as goal
 
 pub returns-in_err-args_into-clause-turn : goal.returns-in_err-args_into-clause-turn
 unfolding args_get
 returns-in_err-args_into-clause-turn g c =
-    let error = err_from_is_err_and c.from_residual.result c.from_residual.ensures.1 in
-    rw (error.1, error.2, c.in_err-args_into.ensures.same, ← c.self.view_is) (refused refl
-    (rw (← unit_refused _ c.in_err-args_into.ensures.row) refl))
+    rw (c.in_err-args_into.ensures.same, ← c.self.view_is) (on_err c.from_residual.ensures.1 (refused refl
+    (rw (← unit_refused _ c.in_err-args_into.ensures.row) refl)))

@@ -1,11 +1,10 @@
 use Rattle.std.proofs.Common.{refl}
-use Rattle.std.proofs.lemmas.Result.{err_from_is_err_and}
 use Rattle.wasi_p1.specs.Rows.{environ_sizes_get}
-use Rattle.wasi_p1.proofs.Taking.{refused}
+use Rattle.wasi_p1.proofs.Taking.{refused, on_err}
 use Rattle.wasi_p1.proofs.context.WasiP1Ctx.environ_sizes_get.Goals as goal
 
 pub returns-in_err-environ_sizes-clause-turn : goal.returns-in_err-environ_sizes-clause-turn
 unfolding environ_sizes_get
 returns-in_err-environ_sizes-clause-turn g c =
-    let error = err_from_is_err_and c.from_residual.result c.from_residual.ensures.1 in
-    rw (error.1, error.2, ← c.self.view_is) (refused refl (rw (← c.in_err-environ_sizes.ensures.row) refl))
+    rw (← c.self.view_is) (on_err c.from_residual.ensures.1 (refused refl (rw (← c.in_err-environ_sizes.ensures.row)
+    refl)))

@@ -1,4 +1,4 @@
-use Rattle.std.proofs.Common.{refl, []}
+use Rattle.std.proofs.Common.{refl, rules, []}
 use Rattle.std.proofs.lemmas.List.{map-set}
 use Rattle.wasi_host.proofs.Leaving.{Contains-here}
 use Rattle.wasi_p1.specs.Rows.{fd_close}
@@ -7,8 +7,12 @@ use Rattle.wasi_p1.proofs.Staying.{close_stays}
 use Rattle.wasi_p1.proofs.Taking.{answered}
 use Rattle.wasi_p1.proofs.context.WasiP1Ctx.fd_close.Goals as goal
 
-pub returns-clause-lineage : goal.returns-clause-lineage
-returns-clause-lineage g c = rw (← c.self.view_is) (traced_free _ c.close_slot.ensures.lineage)
+pub returns-clause-bounds : goal.returns-clause-bounds
+returns-clause-bounds g c = record {
+  cause = search rules;
+  handles = search rules;
+  lineage = rw (← c.self.view_is) (traced_free _ c.close_slot.ensures.lineage);
+}
 
 pub returns-clause-turn : goal.returns-clause-turn
 unfolding fd_close

@@ -1,32 +1,35 @@
 use Rattle.std.proofs.Common.{refl, ap, Err}
-use Rattle.std.proofs.lemmas.Result.{err_from_is_err_and}
-use Rattle.wasi_p1.proofs.RowFronts.{fd_filestat_set_times_asks, fd_filestat_set_times_refused}
+use Rattle.wasi_p1.specs.CallParts.{open_node_of}
+use Rattle.wasi_p1.specs.Request.{SetTimes}
 use Rattle.wasi_p1.proofs.Below.{changed_err, changed_ok}
 use Rattle.wasi_p1.proofs.Setting.{set_ok, set_err, not_wanted}
-use Rattle.wasi_p1.proofs.Taking.{refused}
+use Rattle.wasi_p1.proofs.Taking.{refused, unchanged, on_err}
+use Rattle.wasi_p1.specs.Rows.{fd_filestat_set_times}
 use Rattle.wasi_p1.proofs.context.WasiP1Ctx.fd_filestat_set_times.Goals as goal
 
 pub returns-in_err-set_times-clause-turn : goal.returns-in_err-set_times-clause-turn
+unfolding fd_filestat_set_times
 returns-in_err-set_times-clause-turn g c =
     let given = c.in_err-set_times.ensures in
-    rw (← c.self.view_is) (changed_err
-    (fd_filestat_set_times_asks _ _ _ _ _ _ (rw c.wall.ensures.wall at c.in_ok-times.ensures.row) c.in_ok-descriptor.ensures.row) c.self.invariant
-    (record { slots = refl; holdings = refl; memory = refl }) _ given.permit
-    (not_wanted _ given.no_memory)
-    (λ told none. (given.told told none).keeps)
-    (λ told none. set_err _ (λ is. given.cause.io (ap Err is)) (given.told told none))
-    c.from_residual-in_err-set_times.ensures.1)
+    let node = open_node_of (g.H.Host.world c.self.inside.host).held c.in_ok-descriptor.descriptor in
+    rw (← c.self.view_is) (on_err c.from_residual-in_err-set_times.ensures.1 (changed_err {r = SetTimes node.node c.in_ok-times.times.atime c.in_ok-times.times.mtime}
+    (rw (← (rw c.wall.ensures.wall at c.in_ok-times.ensures.row), ← c.in_ok-descriptor.ensures.row) refl)
+    c.self.invariant unchanged _ given.permit (not_wanted _ given.no_memory) (λ told none.
+    (given.told told none).keeps) (λ told none. set_err _ (λ is. given.cause.io (ap Err is)) (given.told told none))))
 
 pub returns-clause-turn : goal.returns-clause-turn
+unfolding fd_filestat_set_times
 returns-clause-turn g c =
     let given = c.in_ok-set_times.ensures in
-    rw (← c.self.view_is) (changed_ok
-    (fd_filestat_set_times_asks _ _ _ _ _ _ (rw c.wall.ensures.wall at c.in_ok-times.ensures.row) c.in_ok-descriptor.ensures.row) c.self.invariant
-    (record { slots = refl; holdings = refl; memory = refl }) tt tt given.permit
+    let node = open_node_of (g.H.Host.world c.self.inside.host).held c.in_ok-descriptor.descriptor in
+    rw (← c.self.view_is) (changed_ok {r = SetTimes node.node c.in_ok-times.times.atime c.in_ok-times.times.mtime}
+    (rw (← (rw c.wall.ensures.wall at c.in_ok-times.ensures.row), ← c.in_ok-descriptor.ensures.row) refl)
+    c.self.invariant
+    unchanged tt tt given.permit
     (λ told none. (given.told told none).keeps) (λ told none. set_ok (given.told told none)))
 
 pub returns-in_err-times-clause-turn : goal.returns-in_err-times-clause-turn
+unfolding fd_filestat_set_times
 returns-in_err-times-clause-turn g c =
-    let error = err_from_is_err_and c.from_residual.result c.from_residual.ensures.1 in
-    rw (error.1, error.2, ← c.self.view_is) (refused refl (fd_filestat_set_times_refused _ _ _ _ _ _
-    (rw c.wall.ensures.wall at c.in_err-times.ensures.row)))
+    rw (← c.self.view_is) (on_err c.from_residual.ensures.1 (refused refl
+    (rw (← (rw c.wall.ensures.wall at c.in_err-times.ensures.row)) refl)))

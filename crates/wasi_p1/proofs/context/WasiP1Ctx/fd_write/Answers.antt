@@ -1,26 +1,27 @@
 use Rattle.std.proofs.Common.{refl, rules, []}
-use Rattle.std.proofs.lemmas.Result.{err_from_is_err_and}
 use Rattle.wasi_host.proofs.Leaving.{Contains-here}
+use Rattle.wasi_p1.specs.Request.{Write}
+use Rattle.wasi_p1.specs.CallParts.{open_file_of}
 use Rattle.wasi_p1.specs.Row.{give}
 use Rattle.wasi_p1.specs.Rows.{fd_write}
-use Rattle.wasi_p1.proofs.Taking.{refusals, makes_err, moved_ok}
-use Rattle.wasi_p1.proofs.RowFronts.{fd_write_asks, with_position}
+use Rattle.wasi_p1.proofs.Taking.{refusals, makes_err, moved_ok, unchanged, on_err}
+use Rattle.wasi_p1.proofs.RowEnds.{with_position}
 use Rattle.wasi_p1.proofs.Writing.{writes_whole, output_whole}
 use Rattle.wasi_p1.proofs.context.WasiP1Ctx.fd_write.Goals as goal
 
 pub returns-in_err-count-clause-turn : goal.returns-in_err-count-clause-turn
+unfolding fd_write
 returns-in_err-count-clause-turn g c =
-    let error = err_from_is_err_and c.from_residual-in_err-count.result c.from_residual-in_err-count.ensures.1 in
-    rw (error.1, error.2, ← c.self.view_is) (makes_err give (with_position _ _) (fd_write_asks _ _ _ _ _
-    (rw c.in_ok-buffer.was at c.buffer_at.ensures.row) (rw c.in-File.is at c.in_ok-sink.ensures.row) c.in_ok-piece.ensures.row
-    c.in_ok-check_write.ensures.row)
+    rw (← c.self.view_is) (on_err c.from_residual-in_err-count.ensures.1 (makes_err {r = Write _ _ _} give
+    (with_position c.args.fd (open_file_of (g.H.Host.world c.self.inside.host).held c.in-File.place))
+    (rw (← (rw c.in_ok-buffer.was at c.buffer_at.ensures.row), ← (rw c.in-File.is at c.in_ok-sink.ensures.row), ← c.in_ok-piece.ensures.row, ← c.in_ok-check_write.ensures.row) refl)
     c.self.invariant c.in_err-count.ensures.front (λ _. refl)
-    (record { slots = refl; holdings = refl; memory = refl }) c.in_err-count.ensures.told)
+    unchanged c.in_err-count.ensures.told))
 
 pub returns-clause-turn : goal.returns-clause-turn
-returns-clause-turn g c = rw (← c.self.view_is) (moved_ok give (with_position _ _) (fd_write_asks _ _ _ _ _
-    (rw c.in_ok-buffer.was at c.buffer_at.ensures.row) (rw c.in-File.is at c.in_ok-sink.ensures.row) c.in_ok-piece.ensures.row
-    c.in_ok-check_write.ensures.row)
+unfolding fd_write
+returns-clause-turn g c = rw (← c.self.view_is) (moved_ok {r = Write _ _ _} give (with_position _ _)
+    (rw (← (rw c.in_ok-buffer.was at c.buffer_at.ensures.row), ← (rw c.in-File.is at c.in_ok-sink.ensures.row), ← c.in_ok-piece.ensures.row, ← c.in_ok-check_write.ensures.row) refl)
     c.self.invariant refl c.in_ok-count.ensures.front refl
     (record { slots = c.move_file.ensures.slots; holdings = refl }) (Contains-here _ [])
     (rw c.in-File.is at c.in_ok-sink.ensures.is) (rw c.in-File.is at c.in_ok-sink.ensures.live)
@@ -34,6 +35,7 @@ unfolding fd_write
 returns-in_err-check_write-clause-turn g c = rw (← c.self.view_is) (search (rules, refusals))
 
 pub returns-in-Output-clause-whole : goal.returns-in-Output-clause-whole
-returns-in-Output-clause-whole g c = λ told. rw (← c.self.view_is, c.in_ok-write-in-Output.ensures.done) (output_whole _ c.self.inside.fuel
+returns-in-Output-clause-whole g c = λ told. rw (← c.self.view_is, c.in_ok-write-in-Output.ensures.done)
+    (output_whole _ c.self.inside.fuel
     _ _ _ (rw c.in_ok-buffer.was at c.buffer_at.ensures.row) (rw c.in-Output.is at c.in_ok-sink.ensures.row)
     c.in_ok-piece.ensures.row)

@@ -1,45 +1,47 @@
 use Rattle.std.proofs.Common.{Err, inl, inr, refl, ap, sym}
-use Rattle.std.proofs.lemmas.Result.{err_from_is_err_and}
 use Rattle.wasi_resolve.specs.PathRequest.{LookPath}
+use Rattle.wasi_p1.specs.Request.{Path}
 use Rattle.wasi_p1.specs.Filestats.{stat_both, filestat_in}
-use Rattle.wasi_p1.proofs.Changing.{with_filestat}
-use Rattle.wasi_p1.proofs.RowFronts.{path_filestat_get_asks}
+use Rattle.wasi_p1.proofs.RowEnds.{with_filestat}
 use Rattle.wasi_p1.proofs.Resolving.{made_ok, made_not}
 use Rattle.wasi_p1.proofs.Stating.{stated_reply, stated_again}
-use Rattle.wasi_p1.proofs.Taking.{makes_err, makes_ok}
+use Rattle.wasi_p1.proofs.Taking.{makes_err, makes_ok, unchanged, on_err}
+use Rattle.wasi_p1.specs.Rows.{path_filestat_get}
 use Rattle.wasi_p1.proofs.context.WasiP1Ctx.path_filestat_get.Goals as goal
 
 pub returns-in_err-both-clause-turn : goal.returns-in_err-both-clause-turn
+unfolding path_filestat_get
 returns-in_err-both-clause-turn g c =
     let given = c.in_err-both.ensures in
-    let residual = c.from_residual-in_err-both in
-    let error = err_from_is_err_and residual.result residual.ensures.1 in
-    rw (error.1, error.2, ← c.self.view_is) (makes_err (λ metadata. filestat_in (stat_both metadata)) with_filestat
-    (path_filestat_get_asks _ _ _ _ _ _ c.in_ok-flags.ensures.row c.in_ok-dir.ensures.row c.in_ok-text.ensures.row)
+    rw (← c.self.view_is) (on_err c.from_residual-in_err-both.ensures.1 (makes_err {r = Path (LookPath _ _ _)} (λ metadata. filestat_in
+    (stat_both metadata)) with_filestat
+    (rw (← c.in_ok-flags.ensures.row, ← c.in_ok-dir.ensures.row, ← c.in_ok-text.ensures.row) refl)
     c.self.invariant (inl (_, refl)) (λ _. refl)
-    (record { slots = refl; holdings = refl; memory = refl }) (λ told. record {
+    unchanged (λ told. record {
       keeps = (given.told told).keeps;
       does = inl (made_not (LookPath _ _ _) stat_both _ (λ is. given.cause.io (ap Err is)) (given.told told));
-    }))
+    })))
 
 pub returns-in_err-filestat-clause-turn : goal.returns-in_err-filestat-clause-turn
+unfolding path_filestat_get
 returns-in_err-filestat-clause-turn g c =
     let given = c.in_ok-both.ensures in
-    let residual = c.from_residual-in_err-filestat in
-    let error = err_from_is_err_and residual.result residual.ensures.1 in
-    rw (error.1, error.2, ← c.self.view_is) (makes_err (λ metadata. filestat_in (stat_both metadata)) with_filestat
-    (path_filestat_get_asks _ _ _ _ _ _ c.in_ok-flags.ensures.row c.in_ok-dir.ensures.row c.in_ok-text.ensures.row)
+    rw (← c.self.view_is) (on_err c.from_residual-in_err-filestat.ensures.1 (makes_err {r = Path (LookPath _ _ _)} (λ metadata. filestat_in
+    (stat_both metadata)) with_filestat
+    (rw (← c.in_ok-flags.ensures.row, ← c.in_ok-dir.ensures.row, ← c.in_ok-text.ensures.row) refl)
     c.self.invariant (inr (stated_reply given.some (sym c.in_err-filestat.ensures.row))) (λ _. refl)
-    (record { slots = refl; holdings = refl; memory = refl }) (λ told. record {
+    unchanged (λ told. record {
       keeps = (given.told told).keeps;
-      does = inr (stated_again (made_ok (LookPath _ _ _) stat_both (given.told told)) (sym c.in_err-filestat.ensures.row));
-    }))
+      does = inr (stated_again (made_ok (LookPath _ _ _) stat_both (given.told told))
+          (sym c.in_err-filestat.ensures.row));
+    })))
 
 pub returns-clause-turn : goal.returns-clause-turn
+unfolding path_filestat_get
 returns-clause-turn g c =
     let given = c.in_ok-both.ensures in
-    rw (← c.self.view_is) (makes_ok (λ metadata. filestat_in (stat_both metadata)) with_filestat
-    (path_filestat_get_asks _ _ _ _ _ _ c.in_ok-flags.ensures.row c.in_ok-dir.ensures.row c.in_ok-text.ensures.row)
+    rw (← c.self.view_is) (makes_ok {r = Path (LookPath _ _ _)} (λ metadata. filestat_in (stat_both metadata)) with_filestat
+    (rw (← c.in_ok-flags.ensures.row, ← c.in_ok-dir.ensures.row, ← c.in_ok-text.ensures.row) refl)
     c.self.invariant refl (stated_reply given.some (sym c.in_ok-filestat.ensures.row)) refl refl (λ told. record {
       keeps = (given.told told).keeps;
       does = stated_again (made_ok (LookPath _ _ _) stat_both (given.told told)) (sym c.in_ok-filestat.ensures.row);

@@ -1,11 +1,8 @@
 use Rattle.std.proofs.Common.{◌≡◌, ◌∙◌, true, cond, sym, ap}
-use Rattle.std.specs.FinSet.{insert}
 use Rattle.wasi_host.specs.Tree.{Tree, Node, node_at, is_file}
 use Rattle.wasi_host.specs.Step.{no_bytes, file_cut}
-use Rattle.wasi_host.proofs.Changes.{changed}
-use Rattle.wasi_host.proofs.ValidSteps.{has_no_bytes}
 use Rattle.wasi_tree.proofs.RowLemmas.{IsRow, tree_written, sound_written}
-use Rattle.wasi_tree.proofs.SoundLemmas.{seen-no_bytes, stays_changed}
+use Rattle.wasi_tree.proofs.SoundLemmas.{seen-no_bytes, stays_seen}
 use Rattle.wasi_tree.proofs.StoreLemmas.{cut_asked}
 use Rattle.wasi_tree.proofs.store.Store.cut_where_asked.Goals as goal
 
@@ -24,13 +21,11 @@ returns-clause-tree c =
     let n = c.args.node in
     let file : is_file (node_at t n).content ≡ true =
     ap (λ (node : Node). is_file node.content) c.row.ensures.node ∙ sym c.if-not-is_file.ensures in
-    tree_written (row c) no_bytes c.cut.new.self c.cut.ensures c.mark.new.self.nodes
-    ∙ ap (changed t n (record (node_at t n) { content = no_bytes (node_at t n).content }))
-    (c.mark.ensures.nodes ∙ ap (λ (u : Tree). insert u.worked n) c.self.view_is)
+    tree_written (row c) no_bytes c.cut.new.self c.cut.ensures c.mark.ensures.nodes
     ∙ sym (ap (λ b. cond b (file_cut t n) t)
     (cut_asked c.args.options.now (node_at t n).content (sym c.if-not-is_truncate.ensures.value) file))
 
 pub returns-clause-stays : goal.returns-clause-stays
 returns-clause-stays c =
-    rw (tree_written (row c) no_bytes c.cut.new.self c.cut.ensures c.mark.new.self.nodes)
-    (stays_changed _ _ _ _ c.requires (has_no_bytes (node_at c.args.self.now c.args.node).content).file)
+    rw (tree_written (row c) no_bytes c.cut.new.self c.cut.ensures c.mark.ensures.nodes)
+    (stays_seen _ _ _ _ c.requires (seen-no_bytes (node_at c.args.self.now c.args.node).content))

@@ -1,10 +1,8 @@
-use Rattle.std.proofs.Common.{◌∙◌, ◌<◌, ◌-◌, ◌^◌, ap, subst}
-use Rattle.std.specs.FinSet.{insert}
-use Rattle.wasi_host.specs.Tree.{Tree, Node, node_at, links_of}
+use Rattle.std.proofs.Common.{◌<◌, ◌-◌, ◌^◌, subst}
+use Rattle.wasi_host.specs.Tree.{Node, node_at, links_of}
 use Rattle.wasi_host.specs.Step.{one_name_more}
-use Rattle.wasi_host.proofs.Changes.{changed}
 use Rattle.wasi_tree.proofs.RowLemmas.{IsRow, row_node, tree_written, sound_written}
-use Rattle.wasi_tree.proofs.SoundLemmas.{seen-one_name_more, file-one_name_more, stays_changed}
+use Rattle.wasi_tree.proofs.SoundLemmas.{seen-one_name_more, stays_seen}
 use Rattle.wasi_tree.proofs.store.Store.gain_name.Goals as goal
 use Rattle.wasi_tree.proofs.store.Store.gain_name.Goals.{After-index_mut}
 
@@ -24,15 +22,11 @@ invariant_of-self c =
 
 pub returns-clause-gained : goal.returns-clause-gained
 returns-clause-gained c =
-    let t : Tree = c.args.self.now in
-    let n = c.args.node in
     tree_written (row (goal.at.returns-clause-gained c).After-index_mut) one_name_more c.gain_name.new.self
-    c.gain_name.ensures c.mark.new.self.nodes
-    ∙ ap (changed t n (record (node_at t n) { content = one_name_more (node_at t n).content }))
-    (c.mark.ensures.nodes ∙ ap (λ (u : Tree). insert u.worked n) c.self.view_is)
+    c.gain_name.ensures c.mark.ensures.nodes
 
 pub returns-clause-stays : goal.returns-clause-stays
 returns-clause-stays c =
     rw (tree_written (row (goal.at.returns-clause-stays c).After-index_mut) one_name_more c.gain_name.new.self
-    c.gain_name.ensures c.mark.new.self.nodes)
-    (stays_changed _ _ _ _ c.requires.within (file-one_name_more (node_at c.args.self.now c.args.node).content))
+    c.gain_name.ensures c.mark.ensures.nodes)
+    (stays_seen _ _ _ _ c.requires.within (seen-one_name_more (node_at c.args.self.now c.args.node).content))

@@ -4,11 +4,11 @@ use Rattle.std.proofs.lemmas.Result.{err_from_is_err_and}
 use Rattle.std.specs.FinSet.{insert}
 use Rattle.wasi_paths.specs.Name.{name_bytes}
 use Rattle.wasi_host.specs.Tree.{Tree, Node, Nodes, Content, next_of, is_directory}
-use Rattle.wasi_host.specs.Step.{node_made, with_nodes}
+use Rattle.wasi_host.specs.Step.{node_made, with_nodes, with_entry}
 use Rattle.wasi_host.proofs.Changes.{directory_within}
 use Rattle.wasi_tree.specs.StoredTree.{stored_content, stored_node, stored_tree}
 use Rattle.wasi_tree.proofs.SoundLemmas.{sound_made, stays_same, stays_made}
-use Rattle.wasi_tree.proofs.RowLemmas.{IsRow, rows_same, next-rows, row_node, row_kept, with_entry, tree_grown}
+use Rattle.wasi_tree.proofs.RowLemmas.{IsRow, rows_same, next-rows, row_of_directory, row_node, row_kept, tree_grown}
 use Rattle.wasi_tree.proofs.store.Store.make_node.Goals as goal
 use Rattle.wasi_tree.proofs.store.Store.make_node.Goals.{After-index_mut, After-push}
 
@@ -21,11 +21,9 @@ index_mut-requires c =
 -- the directory's row, once there is room
 row : (c : After-index_mut) → IsRow c.reserve.new.self.items c.self.inside.limits c.reserve-2.new.self.nodes
     c.args.self.now c.args.directory c.index_mut.result.now
-row c = record {
-  stands = rows_same c.reserve.ensures.items c.reserve-2.ensures.nodes c.self.view_is;
-  within = directory_within _ _ c.requires.directory;
-  read = c.index_mut.ensures.value;
-}
+row c =
+    row_of_directory (rows_same c.reserve.ensures.items c.reserve-2.ensures.nodes c.self.view_is) c.requires.directory
+    c.index_mut.ensures.value
 
 pub add_name-requires : goal.add_name-requires
 add_name-requires c =

@@ -1,16 +1,16 @@
 use Rattle.std.proofs.Common.{◌≡◌, ◌∙◌, ap}
 use Rattle.wasi_paths.specs.Name.{name_bytes}
 use Rattle.wasi_host.specs.Tree.{Tree, node_at, is_directory}
-use Rattle.wasi_tree.specs.DropRows.{directory_without}
-use Rattle.wasi_tree.specs.LinkRows.{name_put}
-use Rattle.wasi_tree.specs.RenameRows.{found_lost}
+use Rattle.wasi_host.specs.Step.{with_entry, without_entry, content_changed}
+use Rattle.wasi_tree.specs.Move.{found_lost}
 use Rattle.wasi_tree.proofs.MoveLemmas.{moved_as, put_from}
 use Rattle.wasi_tree.proofs.store.Store.move_name.Goals as goal
 use Rattle.wasi_tree.proofs.store.Store.move_name.Goals.{After-lose_found}
 
 lost : (c : After-lose_found)
     → c.lose_found.new.self
-    ≡ found_lost (name_put c.args.self.now c.args.new (name_bytes c.args.new_name) c.args.node) c.args.there
+    ≡ found_lost
+    (content_changed c.args.self.now c.args.new (with_entry (name_bytes c.args.new_name) c.args.node)) c.args.there
 lost c = c.lose_found.ensures.lost ∙ ap (λ (u : Tree). found_lost u c.args.there) c.in_ok-put_name.ensures.put
 
 pub take_name-requires : goal.take_name-requires
@@ -22,6 +22,6 @@ take_name-requires c =
 pub returns-clause-moved : goal.returns-clause-moved
 returns-clause-moved c =
     c.take_name.ensures.taken
-    ∙ ap (λ (u : Tree). directory_without u c.args.old (name_bytes c.args.old_name))
+    ∙ ap (λ (u : Tree). content_changed u c.args.old (without_entry (name_bytes c.args.old_name)))
     (lost (goal.at.returns-clause-moved c).After-lose_found)
     ∙ moved_as _ _ _ _ _ _ c.args.there c.requires

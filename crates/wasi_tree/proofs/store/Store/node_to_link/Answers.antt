@@ -5,26 +5,26 @@ use Rattle.wasi_tree.proofs.LinkLemmas.{AreNamed, none_there, names_refused, ent
 use Rattle.wasi_tree.proofs.store.Store.node_to_link.Goals as goal
 use Rattle.wasi_tree.proofs.store.Store.node_to_link.Goals.{After-refuse_entry}
 
-pub returns-in-Some-clause-refused : goal.returns-in-Some-clause-refused
-returns-in-Some-clause-refused c = names_refused _ _ _ _ _ (sym c.in-Some.ensures)
+pub returns-in-Some-clause-refusal : goal.returns-in-Some-clause-refusal
+returns-in-Some-clause-refusal c = sym (names_refused _ _ _ _ _ (sym c.in-Some.ensures))
 
 named : (c : After-refuse_entry)
-    → AreNamed c.args.self.now c.args.old (name_bytes c.args.old_name) c.args.new (name_bytes c.args.new_name)
+    → AreNamed c.args.self.now c.args.old.now.directory (name_bytes c.args.old.now.name) c.args.new.now.directory (name_bytes c.args.new.now.name)
     c.in-Some-found.node
 named c = record {
   named = sym c.in_default.ensures;
-  found = sym c.requires.found ∙ c.in-Some-found.is;
-  missing = sym c.requires.there ∙ none_there _ (sym c.if-is_some.ensures);
+  found = sym c.requires.old.found ∙ c.in-Some-found.is;
+  missing = sym c.requires.new.found ∙ none_there _ (sym c.if-is_some.ensures);
 }
 
-pub returns-in-Some-refuse_entry-clause-refused : goal.returns-in-Some-refuse_entry-clause-refused
-returns-in-Some-refuse_entry-clause-refused c =
-    entry_refused (named (goal.at.returns-in-Some-refuse_entry-clause-refused c).After-refuse_entry)
-    (sym c.in-Some-refuse_entry.ensures)
+pub returns-in-Some-refuse_entry-clause-refusal : goal.returns-in-Some-refuse_entry-clause-refusal
+returns-in-Some-refuse_entry-clause-refusal c =
+    sym (entry_refused (named (goal.at.returns-in-Some-refuse_entry-clause-refusal c).After-refuse_entry)
+    (sym c.in-Some-refuse_entry.ensures))
 
-pub returns-in_err-check_links-clause-refused : goal.returns-in_err-check_links-clause-refused
-returns-in_err-check_links-clause-refused c =
+pub returns-in_err-check_links-clause-refusal : goal.returns-in_err-check_links-clause-refusal
+returns-in_err-check_links-clause-refusal c =
     let error = err_from_is_err_and c.from_residual.result c.from_residual.ensures.1 in
     rw (error.1, error.2)
-    (links_refused (named (goal.at.returns-in_err-check_links-clause-refused c).After-refuse_entry)
-    (sym c.in_default-refuse_entry.ensures) c.in_err-check_links.ensures.refused)
+    (sym (links_refused (named (goal.at.returns-in_err-check_links-clause-refusal c).After-refuse_entry)
+    (sym c.in_default-refuse_entry.ensures) (sym c.in_err-check_links.ensures.refusal)))

@@ -1,14 +1,14 @@
 use Rattle.std.proofs.Common.{sym}
 use Rattle.wasi_paths.specs.Name.{name_bytes}
-use Rattle.wasi_tree.specs.LinkRows.{both_rows}
-use Rattle.wasi_tree.specs.RenameRows.{old_rows}
-use Rattle.wasi_tree.proofs.DropLemmas.{refused_before}
+use Rattle.wasi_host.specs.Refusal.{both_rows, source_rows}
+use Rattle.wasi_host.specs.Tree.{child}
+use Rattle.wasi_host.proofs.Refusals.{refused_before}
 use Rattle.wasi_tree.proofs.store.Store.node_to_rename.Goals as goal
 
-pub returns-in-Some-clause-refused : goal.returns-in-Some-clause-refused
-returns-in-Some-clause-refused c =
-    refused_before
-    (both_rows c.args.self.now c.args.old (name_bytes c.args.old_name) c.args.new (name_bytes c.args.new_name))
-    (old_rows c.args.self.now c.args.old (name_bytes c.args.old_name) (name_bytes c.args.new_name)
-    c.args.requires_dir)
-    (sym c.in-Some.ensures)
+pub returns-in-Some-clause-refusal : goal.returns-in-Some-clause-refusal
+returns-in-Some-clause-refusal c =
+    sym (refused_before
+    (both_rows c.args.self.now c.args.old.now.directory (name_bytes c.args.old.now.name) c.args.new.now.directory (name_bytes c.args.new.now.name))
+    (source_rows c.args.self.now (name_bytes c.args.old.now.name) (name_bytes c.args.new.now.name) c.args.requires_dir
+    (child c.args.self.now c.args.old.now.directory (name_bytes c.args.old.now.name)))
+    (sym c.in-Some.ensures))

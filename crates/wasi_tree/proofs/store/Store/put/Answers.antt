@@ -1,12 +1,9 @@
-use Rattle.std.proofs.Common.{◌∙◌, ap}
+use Rattle.std.proofs.Common.{◌∙◌}
 use Rattle.std.proofs.lemmas.Result.{err_from_is_err_and}
-use Rattle.std.specs.FinSet.{insert}
-use Rattle.wasi_host.specs.Tree.{Tree, Content, node_at}
+use Rattle.wasi_host.specs.Tree.{node_at}
 use Rattle.wasi_host.specs.Step.{piece_in}
-use Rattle.wasi_host.proofs.Changes.{changed}
-use Rattle.wasi_host.proofs.ValidSteps.{has_piece}
 use Rattle.wasi_tree.proofs.RowLemmas.{IsRow, row_kept, tree_written, sound_written}
-use Rattle.wasi_tree.proofs.SoundLemmas.{seen-piece_in, stays_same, stays_changed}
+use Rattle.wasi_tree.proofs.SoundLemmas.{seen-piece_in, stays_same, stays_seen}
 use Rattle.wasi_tree.proofs.store.Store.put.Goals as goal
 use Rattle.wasi_tree.proofs.store.Store.put.Goals.{After-index_mut}
 
@@ -43,19 +40,14 @@ invariant_of-self-2 c =
 
 pub returns-clause-put : goal.returns-clause-put
 returns-clause-put c =
-    let t : Tree = c.args.self.now in
-    let n = c.args.file in
-    let put : Content = piece_in (node_at t n).content c.args.offset c.args.piece.now in
     tree_written (row (goal.at.returns-clause-put c).After-index_mut)
     (λ content. piece_in content c.args.offset c.args.piece.now) c.put.new.self c.in_ok-put.ensures.put
-    c.mark.new.self.nodes
-    ∙ ap (changed t n (record (node_at t n) { content = put }))
-    (c.mark.ensures.nodes ∙ ap (λ (u : Tree). insert u.worked n) c.self.view_is)
+    c.mark.ensures.nodes
 
 pub returns-clause-stays : goal.returns-clause-stays
 returns-clause-stays c =
     rw (tree_written (row (goal.at.returns-clause-stays c).After-index_mut)
     (λ content. piece_in content c.args.offset c.args.piece.now) c.put.new.self c.in_ok-put.ensures.put
-    c.mark.new.self.nodes)
-    (stays_changed _ _ _ _ c.requires.within
-    (has_piece (node_at c.args.self.now c.args.file).content c.args.offset c.args.piece.now).file)
+    c.mark.ensures.nodes)
+    (stays_seen _ _ _ _ c.requires.within
+    (seen-piece_in (node_at c.args.self.now c.args.file).content c.args.offset c.args.piece.now))

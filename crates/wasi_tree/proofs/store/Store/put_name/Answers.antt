@@ -1,14 +1,13 @@
 use Rattle.std.proofs.Common.{◌≡◌, ◌∙◌, ◌<◌, sym, ap, arith, slice_set}
+use Rattle.std.proofs.lemmas.Bool.{eqb-false}
 use Rattle.std.proofs.lemmas.Grind.{common_steps}
 use Rattle.std.proofs.lemmas.Result.{err_from_is_err_and}
-use Rattle.std.specs.FinSet.{insert}
 use Rattle.wasi_paths.specs.Name.{name_bytes}
 use Rattle.wasi_host.specs.Tree.{Tree, Node, Content, next_of, node_at, is_directory}
-use Rattle.wasi_host.specs.Step.{with_name}
-use Rattle.wasi_host.proofs.Changes.{changed, directory_within}
+use Rattle.wasi_host.specs.Step.{with_entry, content_changed}
+use Rattle.wasi_host.proofs.Changes.{directory_within, node_at-other}
 use Rattle.wasi_tree.specs.StoredTree.{stored_content, stored_tree}
-use Rattle.wasi_tree.proofs.LinkLemmas.{put_apart}
-use Rattle.wasi_tree.proofs.RowLemmas.{IsRow, next-rows, row_node, row_kept, tree_sound, tree_written, with_entry}
+use Rattle.wasi_tree.proofs.RowLemmas.{IsRow, next-rows, row_of_directory, row_node, row_kept, tree_sound, tree_written}
 use Rattle.wasi_tree.proofs.SoundLemmas.{sound_put, sound_named, stays_same, stays_changed, no_file}
 use Rattle.wasi_tree.proofs.store.Store.put_name.Goals as goal
 use Rattle.wasi_tree.proofs.store.Store.put_name.Goals.{After-index_mut, After-mark}
@@ -21,11 +20,7 @@ index_mut-requires c =
 
 row : (c : After-index_mut) → IsRow c.self.inside.rows.items c.self.inside.limits c.self.inside.worked.nodes
     c.args.self.now c.args.directory c.index_mut.result.now
-row c = record {
-  stands = c.self.view_is;
-  within = directory_within _ _ c.requires.directory;
-  read = c.index_mut.ensures.value;
-}
+row c = row_of_directory c.self.view_is c.requires.directory c.index_mut.ensures.value
 
 pub add_name-requires : goal.add_name-requires
 add_name-requires c =
@@ -60,14 +55,12 @@ written : (c : After-mark)
     c.args.self.now c.args.directory c.index_mut.result.now
     → stored_tree (slice_set c.self.inside.rows.items c.args.directory
     (record c.index_mut.result.now { content = c.add_name.new.self })) c.self.inside.limits c.mark.new.self.nodes
-    ≡ changed c.args.self.now c.args.directory
-    (with_name (node_at c.args.self.now c.args.directory) (name_bytes c.args.name) c.args.node)
-    c.mark.new.self.nodes
+    ≡ content_changed c.args.self.now c.args.directory (with_entry (name_bytes c.args.name) c.args.node)
 written c is =
     let was : Content = stored_content c.index_mut.result.now.content in
     tree_written is (with_entry (name_bytes c.args.name) c.args.node) c.add_name.new.self
     (c.in_ok-add_name.ensures.added ∙ ap (λ text. with_entry text c.args.node was) c.as_str.ensures.text)
-    c.mark.new.self.nodes
+    c.mark.ensures.nodes
 
 pub invariant_of-self-2 : goal.invariant_of-self-2
 invariant_of-self-2 c =
@@ -79,18 +72,13 @@ invariant_of-self-2 c =
     c.requires.named (sound.nodes c.args.directory)))
 
 pub returns-clause-put : goal.returns-clause-put
-returns-clause-put c =
-    let t : Tree = c.args.self.now in
-    let d = c.args.directory in
-    written c (row (goal.at.returns-clause-put c).After-index_mut)
-    ∙ ap (changed t d (with_name (node_at t d) (name_bytes c.args.name) c.args.node))
-    (c.mark.ensures.nodes ∙ ap (λ (u : Tree). insert u.worked d) c.self.view_is)
+returns-clause-put c = written c (row (goal.at.returns-clause-put c).After-index_mut)
 
 pub returns-clause-other : goal.returns-clause-other
 returns-clause-other c =
     let is = row (goal.at.returns-clause-other c).After-index_mut in
     ap (λ (u : Tree). node_at u c.args.node) (written c is)
-    ∙ put_apart c.args.self.now c.args.directory c.args.node _ _ is.within c.requires.apart
+    ∙ node_at-other c.args.self.now c.args.directory _ _ is.within c.args.node (eqb-false _ _ c.requires.apart)
 
 pub returns-clause-stays : goal.returns-clause-stays
 returns-clause-stays c =

@@ -7,15 +7,15 @@ use Rattle.wasi_tree.proofs.store.Store.read_link_at.Goals as goal
 pub returns-in_err-node-clause-meaning : goal.returns-in_err-node-clause-meaning
 returns-in_err-node-clause-meaning c =
     let error = err_from_is_err_and c.from_residual.result c.from_residual.ensures.1 in
-    rw (error.1, error.2) (link_refused _ _ _ _ c.in_err-node.ensures.refused)
+    rw (error.1, error.2) (link_refused _ _ _ _ (sym c.in_err-node.ensures.refusal))
 
 pub returns-then-not-is_link-clause-meaning : goal.returns-then-not-is_link-clause-meaning
 returns-then-not-is_link-clause-meaning c =
-    no_link_refused _ _ _ _ c.in_ok-node.ensures.free c.in_ok-node.ensures.node
+    no_link_refused _ _ _ _ (sym c.in_ok-node.ensures.refusal) c.in_ok-node.ensures.node
     (ap (λ (node : Node). is_link node.content) c.row.ensures.node ∙ sym c.if-not-is_link.ensures)
 
 pub returns-clause-meaning : goal.returns-clause-meaning
 returns-clause-meaning c =
-    link_is _ _ _ _ _ c.in_ok-node.ensures.free c.in_ok-node.ensures.node
+    link_is _ _ _ _ _ (sym c.in_ok-node.ensures.refusal) c.in_ok-node.ensures.node
     (ap (λ (node : Node). is_link node.content) c.row.ensures.node ∙ sym c.if-not-is_link.ensures)
     (c.text.ensures ∙ sym (ap (λ (node : Node). text_of node.content) c.row.ensures.node))

@@ -1,7 +1,6 @@
 use Rattle.std.proofs.Common.{◌∙◌, Some, sym, ap}
-use Rattle.wasi_host.specs.Refusal.{first_row}
-use Rattle.wasi_tree.specs.RenameRows.{access_rows, replacing_rows}
-use Rattle.wasi_tree.proofs.DropLemmas.{refused_before, left_behind}
+use Rattle.wasi_host.specs.Refusal.{first_row, access_rows, replacing_rows}
+use Rattle.wasi_host.proofs.Refusals.{refused_before, left_behind}
 use Rattle.wasi_tree.proofs.store.Store.refuse_move.Goals as goal
 
 pub returns-in-Some : goal.returns-in-Some

@@ -8,36 +8,36 @@ use Rattle.wasi_tree.proofs.DropLemmas.{MayDrop, drops_bare, remove_refused, rem
 use Rattle.wasi_tree.proofs.store.Store.remove_dir_at.Goals as goal
 use Rattle.wasi_tree.proofs.store.Store.remove_dir_at.Goals.{In_ok-node}
 
-pub returns-in_err-node-clause-refused : goal.returns-in_err-node-clause-refused
-returns-in_err-node-clause-refused c =
+pub returns-in_err-node-clause-refusal : goal.returns-in_err-node-clause-refusal
+returns-in_err-node-clause-refusal c =
     let error = err_from_is_err_and c.from_residual.result c.from_residual.ensures.1 in
-    rw (error.1, error.2) (remove_refused _ _ _ c.in_err-node.ensures.refused)
+    rw (error.1, error.2) (sym (remove_refused _ _ _ (sym c.in_err-node.ensures.refusal)))
 
 may : (c : In_ok-node)
-    → MayDrop c.args.self.now c.args.directory (name_bytes c.args.name) codes.Invalid c.in_ok-node.node
-may c = record { free = c.in_ok-node.ensures.free; found = c.in_ok-node.ensures.node }
+    → MayDrop c.args.self.now c.args.looked.now.directory (name_bytes c.args.looked.now.name) codes.Invalid c.in_ok-node.node
+may c = record { free = sym c.in_ok-node.ensures.refusal; found = c.in_ok-node.ensures.node }
 
-pub returns-then-not-is_directory-clause-refused : goal.returns-then-not-is_directory-clause-refused
-returns-then-not-is_directory-clause-refused c =
-    remove_by false _ (may (goal.at.returns-then-not-is_directory-clause-refused c).In_ok-node)
-    (ap (λ (node : Node). is_directory node.content) c.row-row.ensures.node ∙ sym c.if-not-is_directory.ensures) refl
+pub returns-then-not-is_directory-clause-refusal : goal.returns-then-not-is_directory-clause-refusal
+returns-then-not-is_directory-clause-refusal c =
+    sym (remove_by false _ (may (goal.at.returns-then-not-is_directory-clause-refusal c).In_ok-node)
+    (ap (λ (node : Node). is_directory node.content) c.row-row.ensures.node ∙ sym c.if-not-is_directory.ensures) refl)
 
-pub returns-then-not-is_bare-clause-refused : goal.returns-then-not-is_bare-clause-refused
-returns-then-not-is_bare-clause-refused c =
-    remove_by true false (may (goal.at.returns-then-not-is_bare-clause-refused c).In_ok-node)
+pub returns-then-not-is_bare-clause-refusal : goal.returns-then-not-is_bare-clause-refusal
+returns-then-not-is_bare-clause-refusal c =
+    sym (remove_by true false (may (goal.at.returns-then-not-is_bare-clause-refusal c).In_ok-node)
     (ap (λ (node : Node). is_directory node.content) c.row-row.ensures.node ∙ sym c.if-not-is_directory.ensures)
-    (ap is_bare c.row-row.ensures.node ∙ sym c.if-not-is_bare.ensures)
+    (ap is_bare c.row-row.ensures.node ∙ sym c.if-not-is_bare.ensures))
 
 pub drop_name-requires-clause-apart : goal.drop_name-requires-clause-apart
 drop_name-requires-clause-apart c =
     drops_bare (may (goal.at.drop_name-requires-clause-apart c).In_ok-node)
     (ap is_bare c.row-row.ensures.node ∙ sym c.if-not-is_bare.ensures)
 
-pub returns-clause-free : goal.returns-clause-free
-returns-clause-free c =
-    remove_by true true (may (goal.at.returns-clause-free c).In_ok-node)
+pub returns-clause-refusal : goal.returns-clause-refusal
+returns-clause-refusal c =
+    sym (remove_by true true (may (goal.at.returns-clause-refusal c).In_ok-node)
     (ap (λ (node : Node). is_directory node.content) c.row-row.ensures.node ∙ sym c.if-not-is_directory.ensures)
-    (ap is_bare c.row-row.ensures.node ∙ sym c.if-not-is_bare.ensures)
+    (ap is_bare c.row-row.ensures.node ∙ sym c.if-not-is_bare.ensures))
 
 pub returns-clause-step : goal.returns-clause-step
 returns-clause-step c =

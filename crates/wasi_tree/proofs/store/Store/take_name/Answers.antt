@@ -1,12 +1,11 @@
 use Rattle.std.proofs.Common.{◌≡◌, ◌∙◌, ◌<◌, sym, ap, arith, slice_set}
 use Rattle.std.proofs.lemmas.Grind.{common_steps}
-use Rattle.std.specs.FinSet.{insert}
 use Rattle.wasi_paths.specs.Name.{name_bytes}
-use Rattle.wasi_host.specs.Tree.{Tree, Node, Content, next_of, node_at, is_directory}
-use Rattle.wasi_host.specs.Step.{without_name}
-use Rattle.wasi_host.proofs.Changes.{changed, directory_within}
+use Rattle.wasi_host.specs.Tree.{Node, Content, next_of, node_at, is_directory}
+use Rattle.wasi_host.specs.Step.{without_entry, content_changed}
+use Rattle.wasi_host.proofs.Changes.{directory_within}
 use Rattle.wasi_tree.specs.StoredTree.{stored_content, stored_tree}
-use Rattle.wasi_tree.proofs.RowLemmas.{IsRow, next-rows, row_node, tree_sound, tree_written, without_entry}
+use Rattle.wasi_tree.proofs.RowLemmas.{IsRow, next-rows, row_of_directory, row_node, tree_sound, tree_written}
 use Rattle.wasi_tree.proofs.SoundLemmas.{sound_put, sound_taken, stays_changed, no_file}
 use Rattle.wasi_tree.proofs.store.Store.take_name.Goals as goal
 use Rattle.wasi_tree.proofs.store.Store.take_name.Goals.{After-index_mut, After-mark}
@@ -19,11 +18,7 @@ index_mut-requires c =
 
 row : (c : After-index_mut) → IsRow c.self.inside.rows.items c.self.inside.limits c.self.inside.worked.nodes
     c.args.self.now c.args.directory c.index_mut.result.now
-row c = record {
-  stands = c.self.view_is;
-  within = directory_within _ _ c.requires;
-  read = c.index_mut.ensures.value;
-}
+row c = row_of_directory c.self.view_is c.requires c.index_mut.ensures.value
 
 pub remove_name-requires : goal.remove_name-requires
 remove_name-requires c =
@@ -37,12 +32,11 @@ written : (c : After-mark)
     c.args.self.now c.args.directory c.index_mut.result.now
     → stored_tree (slice_set c.self.inside.rows.items c.args.directory
     (record c.index_mut.result.now { content = c.remove_name.new.self })) c.self.inside.limits c.mark.new.self.nodes
-    ≡ changed c.args.self.now c.args.directory
-    (without_name (node_at c.args.self.now c.args.directory) (name_bytes c.args.name)) c.mark.new.self.nodes
+    ≡ content_changed c.args.self.now c.args.directory (without_entry (name_bytes c.args.name))
 written c is =
     let was : Content = stored_content c.index_mut.result.now.content in
     tree_written is (without_entry (name_bytes c.args.name)) c.remove_name.new.self
-    (c.remove_name.ensures ∙ ap (λ text. without_entry text was) c.as_str.ensures.text) c.mark.new.self.nodes
+    (c.remove_name.ensures ∙ ap (λ text. without_entry text was) c.as_str.ensures.text) c.mark.ensures.nodes
 
 pub invariant_of-self : goal.invariant_of-self
 invariant_of-self c =
@@ -53,12 +47,7 @@ invariant_of-self c =
     (sound_taken _ _ (name_bytes c.args.name) (sound.nodes c.args.directory)))
 
 pub returns-clause-taken : goal.returns-clause-taken
-returns-clause-taken c =
-    let t : Tree = c.args.self.now in
-    let d = c.args.directory in
-    written c (row (goal.at.returns-clause-taken c).After-index_mut)
-    ∙ ap (changed t d (without_name (node_at t d) (name_bytes c.args.name)))
-    (c.mark.ensures.nodes ∙ ap (λ (u : Tree). insert u.worked d) c.self.view_is)
+returns-clause-taken c = written c (row (goal.at.returns-clause-taken c).After-index_mut)
 
 pub returns-clause-stays : goal.returns-clause-stays
 returns-clause-stays c =

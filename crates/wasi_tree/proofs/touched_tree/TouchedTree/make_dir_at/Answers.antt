@@ -1,29 +1,30 @@
-use Rattle.std.proofs.Common.{◌∙◌, ◌+◌, ◌++◌, ◌∷◌, [], Some, refl, sym, ap}
+use Rattle.std.proofs.Common.{◌≡◌, ◌∙◌, None, refl, sym, ap}
 use Rattle.wasi_paths.specs.Name.{name_bytes}
+use Rattle.wasi_host.specs.Answer.{unless}
+use Rattle.wasi_host.specs.HostCall.{MakeDirAt}
+use Rattle.wasi_host.specs.Refusal.{refusal}
 use Rattle.wasi_host.specs.Step.{new_directory}
-use Rattle.wasi_tree.proofs.GoodNames.{makes_good}
-use Rattle.wasi_tree.proofs.KeptLemmas.{IsGrown, kept_grown, makes_missing}
-use Rattle.wasi_tree.proofs.TouchedLemmas.{none_of, makes_in_directory}
+use Rattle.wasi_host.proofs.ValidSteps.{can_make_directory}
+use Rattle.wasi_tree.proofs.GoodNames.{may_name}
+use Rattle.wasi_tree.proofs.SoundLemmas.{bare}
+use Rattle.wasi_tree.proofs.TouchedLemmas.{none_of, made_touched}
 use Rattle.wasi_tree.proofs.touched_tree.TouchedTree.make_dir_at.Goals as goal
+use Rattle.wasi_tree.proofs.touched_tree.TouchedTree.make_dir_at.Goals.{In_default}
 
-pub make_directory-requires-clause-named : goal.make_directory-requires-clause-named
-make_directory-requires-clause-named c =
-    makes_good _ _ _ c.args.name.is_name (sym c.refuse_make_dir.ensures ∙ none_of _ c.in_default.not-Some)
+free : (c : In_default) → refusal c.self.inside.store (MakeDirAt c.args.directory (name_bytes c.args.name)) ≡ None
+free c =
+    sym (rw c.find-looked.ensures.looked at c.refuse_make_dir.ensures) ∙ none_of _ c.in_default.not-Some
 
-pub make_directory-requires-clause-directory : goal.make_directory-requires-clause-directory
-make_directory-requires-clause-directory c =
-    makes_in_directory _ _ _ (sym c.refuse_make_dir.ensures ∙ none_of _ c.in_default.not-Some)
+pub make_node-requires-clause-may : goal.make_node-requires-clause-may
+make_node-requires-clause-may c =
+    may_name (can_make_directory _ _ _ (free (goal.at.make_node-requires-clause-may c).In_default)) c.args.name.is_name
 
-pub invariant_of-self-2 : goal.invariant_of-self-2
-invariant_of-self-2 c =
-    let free = sym c.refuse_make_dir.ensures ∙ none_of _ c.in_default.not-Some in
-    let grown : IsGrown c.self.inside.store c.make_directory.new.self c.args.directory (name_bytes c.args.name) new_directory =
-    record {
-      directory = makes_in_directory _ _ _ free;
-      missing = makes_missing _ _ _ free;
-      bare = refl;
-      made = c.in_ok-make_directory.ensures.made;
-    } in
-    kept_grown grown c.self.invariant
-    (c.push.ensures.count ∙ ap (λ k. k + 1) (c.reserve.ensures.count ∙ c.mark_found.ensures.count))
-    (c.push-2.ensures ∙ ap (λ rows. rows ++ Some c.args.directory ∷ []) c.reserve-2.ensures.same)
+pub make_node-requires-clause-sound : goal.make_node-requires-clause-sound
+make_node-requires-clause-sound c = rw c.new_directory.ensures (bare 0 new_directory refl refl)
+
+pub returns-clause-does : goal.returns-clause-does
+returns-clause-does c = rw (← c.self.view_is) (record {
+  meant = ap (λ r. unless r tt) (free (goal.at.returns-clause-does c).In_default);
+  tree = rw c.new_directory.ensures at c.in_ok-make_node.ensures.made;
+  touched = made_touched _ _ _ _ c.find-looked.ensures.nodes c.in_ok-make_node.ensures.touched;
+})

@@ -1,33 +1,33 @@
-use Rattle.std.proofs.Common.{◌∙◌, ◌+◌, ◌++◌, ◌∷◌, [], Some, refl, sym, ap}
+use Rattle.std.proofs.Common.{◌≡◌, ◌∙◌, None, sym, ap}
 use Rattle.wasi_paths.specs.Name.{name_bytes}
-use Rattle.wasi_host.specs.Step.{new_link}
-use Rattle.wasi_tree.proofs.GoodNames.{link_good}
-use Rattle.wasi_tree.proofs.KeptLemmas.{IsGrown, kept_grown, link_missing}
-use Rattle.wasi_tree.proofs.TouchedLemmas.{none_of, links_in_directory, links_text}
+use Rattle.wasi_host.specs.Answer.{unless}
+use Rattle.wasi_host.specs.HostCall.{SymlinkAt}
+use Rattle.wasi_host.specs.Refusal.{refusal}
+use Rattle.wasi_host.proofs.ValidSteps.{can_make_link}
+use Rattle.wasi_tree.proofs.GoodNames.{may_name}
+use Rattle.wasi_tree.proofs.SoundLemmas.{sound_link}
+use Rattle.wasi_tree.proofs.TouchedLemmas.{none_of, made_touched}
 use Rattle.wasi_tree.proofs.touched_tree.TouchedTree.symlink_at.Goals as goal
+use Rattle.wasi_tree.proofs.touched_tree.TouchedTree.symlink_at.Goals.{In_default}
 
-pub make_link-requires-clause-directory : goal.make_link-requires-clause-directory
-make_link-requires-clause-directory c =
-    links_in_directory _ _ _ _ (sym c.refuse_symlink.ensures ∙ none_of _ c.in_default.not-Some)
+free : (c : In_default)
+    → refusal c.self.inside.store (SymlinkAt c.args.target.now c.args.directory (name_bytes c.args.name)) ≡ None
+free c =
+    sym (rw c.find-looked.ensures.looked at c.refuse_symlink.ensures) ∙ none_of _ c.in_default.not-Some
 
-pub make_link-requires-clause-named : goal.make_link-requires-clause-named
-make_link-requires-clause-named c =
-    link_good _ _ _ _ c.args.name.is_name (sym c.refuse_symlink.ensures ∙ none_of _ c.in_default.not-Some)
+pub make_node-requires-clause-may : goal.make_node-requires-clause-may
+make_node-requires-clause-may c =
+    may_name ((can_make_link _ _ _ _ (free (goal.at.make_node-requires-clause-may c).In_default)).0) c.args.name.is_name
 
-pub make_link-requires-clause-text : goal.make_link-requires-clause-text
-make_link-requires-clause-text c =
-    links_text _ _ _ _ (sym c.refuse_symlink.ensures ∙ none_of _ c.in_default.not-Some)
+pub make_node-requires-clause-sound : goal.make_node-requires-clause-sound
+make_node-requires-clause-sound c =
+    let fits = (can_make_link _ _ _ _ (free (goal.at.make_node-requires-clause-sound c).In_default)).1 in
+    rw (c.new_link.ensures, c.in_ok-text.ensures.ok)
+    (sound_link 0 c.args.target.now (record { some = fits.0; most = fits.1 }))
 
-pub invariant_of-self-2 : goal.invariant_of-self-2
-invariant_of-self-2 c =
-    let free = sym c.refuse_symlink.ensures ∙ none_of _ c.in_default.not-Some in
-    let grown : IsGrown c.self.inside.store c.make_link.new.self c.args.directory (name_bytes c.args.name) (new_link c.args.target.now) =
-    record {
-      directory = links_in_directory _ _ _ _ free;
-      missing = link_missing _ _ _ _ free;
-      bare = refl;
-      made = c.in_ok-make_link.ensures.made;
-    } in
-    kept_grown grown c.self.invariant
-    (c.push.ensures.count ∙ ap (λ k. k + 1) (c.reserve.ensures.count ∙ c.mark_found.ensures.count))
-    (c.push-2.ensures ∙ ap (λ rows. rows ++ Some c.args.directory ∷ []) c.reserve-2.ensures.same)
+pub returns-clause-does : goal.returns-clause-does
+returns-clause-does c = rw (← c.self.view_is) (record {
+  meant = ap (λ r. unless r tt) (free (goal.at.returns-clause-does c).In_default);
+  tree = rw (c.new_link.ensures, c.in_ok-text.ensures.ok) at c.in_ok-make_node.ensures.made;
+  touched = made_touched _ _ _ _ c.find-looked.ensures.nodes c.in_ok-make_node.ensures.touched;
+})

@@ -5,8 +5,8 @@ use Rattle.wasi_tree.proofs.touched_tree.TouchedTree.times_at.Goals as goal
 
 pub invariant_of-self : goal.invariant_of-self
 invariant_of-self c =
-    kept_same c.self.invariant c.mark_found.ensures.count
+    kept_same c.self.invariant c.find-looked.ensures.count
     (names_either c.times_at.result c.times_at.ensures.step c.times_at.ensures.kept
     (names_timed_at _ _ _ _ _ (λ n is.
     subst (λ (found : Option ℕ). IfSome found (λ k. k < next_of c.self.inside.store))
-    (c.child-found.ensures.found ∙ is) c.child-found.ensures.below)))
+    (c.find-looked.ensures.is.found ∙ is) c.find-looked.ensures.is.below)))

@@ -1,0 +1,182 @@
+-- What holds of the parts of rows, and of the ends that they share.
+use Rattle.std.proofs.Common.{inl, ℕ, ◌≡◌, ◌-◌, ◌*◌, nat_le, Bool, true, false, cond, List, [], ◌∷◌, refl, ap, sym, ◌∙◌, subst, slice_get, Option, Some, None, Ok, Err}
+use Rattle.std.specs.Prelude.{Contains, IsUtf8}
+use Rattle.wasi_fs.specs.declared.perms.FsPerms.{FsPerms}
+use Rattle.wasi_fs.specs.declared.perms.FsPerms.TheVariants.{ReadOnly}
+use Rattle.wasi_guest.specs.Iovec.{first_buffer}
+use Rattle.wasi_guest.specs.Records.{text_in}
+use Rattle.wasi_guest.specs.declared.answer.Value.{Value}
+use Rattle.wasi_guest.specs.declared.answer.Value.TheVariants.{Unit as Nothing}
+use Rattle.wasi_guest.specs.declared.call.Call.{Call}
+use Rattle.wasi_guest.specs.declared.errno.Errno.TheVariants as errnos
+use Rattle.wasi_guest.specs.declared.iovec.Iovec.{Iovec}
+use Rattle.wasi_host.specs.declared.errors.ErrorCode.{ErrorCode}
+use Rattle.wasi_resolve.specs.PathRequest.{PathRequest, path_starts}
+use Rattle.wasi_p1.specs.CallTurn.{NamesReadOnly}
+use Rattle.wasi_p1.specs.Front.{Front, CallFront, onward, free, answer, ask, charge, charged_text, charged_buffer, at_path, at_buffer, tells, done_if, ◌>>=◌}
+use Rattle.wasi_p1.specs.Guest.{Guest, OpenDirectory, perms_in}
+use Rattle.wasi_p1.specs.Parts.{start_in, range, permit, from_guest}
+use Rattle.wasi_p1.specs.Request.{Request, Reply, Path, starts_at}
+use Rattle.wasi_p1.specs.Row.{Row, Program, give}
+use Rattle.wasi_p1.specs.Rows.{front, descriptors_named, opened_through}
+use Rattle.wasi_p1.specs.Stock.{Stock}
+use Rattle.wasi_p1.specs.Validity.{HasBytes}
+use Rattle.wasi_p1.specs.declared.error.P1Error.TheVariants.{Errno}
+use Rattle.wasi_host.proofs.Agreeing.{one}
+use Rattle.wasi_host.proofs.Leaving.{Contains-here}
+use Rattle.wasi_p1.proofs.Bytes.{text_utf8}
+use Rattle.wasi_p1.proofs.Changing.{named_directory, start_is, directory_perms, put_nothing}
+use Rattle.wasi_p1.proofs.Near.{IsNamed, StaysNear, AsksNear, IsNear, MayBeAsked, AreTexts, given_by}
+use Rattle.wasi_p1.proofs.Wanting.{Never, number, guest_never, start_never, permit_never, range_never}
+
+-- whatever fuel there is
+pub record AlwaysNear (g : Guest) (call : Call) (m : CallFront) : Type 0 where
+  pub near : (fuel : ℕ) → IsNear g call (m fuel).0
+
+-- of a call's row
+abbrev pub RowNear : Guest → Call → Type 0
+RowNear g call = AlwaysNear g call (front g call)
+
+-- ---- a part of a row, and what follows it
+
+pub then : {A : Type 0} {g : Guest} {call : Call} {next : A → CallFront} (m : Row A) → Never m
+    → ((x : A) → m ≡ Ok x → AlwaysNear g call (next x)) → AlwaysNear g call (free m >>= next)
+then (Ok x) never near = near x refl
+then (Err e) never near = record { near = λ fuel. never }
+
+-- what fuel is taken for, if there is enough
+abbrev pub taken : ℕ → ℕ → Bool → Row (Unit {0}) × ℕ
+taken n fuel b = cond b (Ok tt, fuel - n) (Err (Errno errnos.Nomem), fuel)
+
+abbrev then_taken : {A : Type 0} → Row A × ℕ → (A → CallFront) → Row (Program (Value × Guest))
+then_taken part next = (onward part.0 part.1 next).0
+
+-- a text
+pub then_text : {call : Call} {next : List ℕ → CallFront} (g : Guest) (at n : ℕ)
+    → ((text : List ℕ) → IsUtf8 text → AlwaysNear g call (next text))
+    → AlwaysNear g call (charged_text g.memory at n >>= next)
+unfolding charged_text charge
+then_text {call} {next} g at n near = record { near = λ fuel. by fuel (nat_le n fuel) }
+  where
+    read : Row (List ℕ)
+    read = from_guest (text_in g.memory at n)
+
+    by : (fuel : ℕ) (b : Bool)
+        → IsNear g call (then_taken (let t = taken n fuel b in onward t.0 t.1 (λ _. free read)) next)
+    by fuel true = (then read (guest_never (text_in g.memory at n))
+        (λ text is. near text (text_utf8 g.memory at n is))).near (fuel - n)
+    by fuel false = number
+
+-- a path from the directory of a number
+pub then_path : {call : Call} {next : OpenDirectory → List ℕ → CallFront} (g : Guest) (fd path len : ℕ)
+    → ((d : OpenDirectory) → start_in (slice_get g.slots fd) ≡ Ok d → (text : List ℕ) → IsUtf8 text
+    → AlwaysNear g call (next d text))
+    → AlwaysNear g call (at_path g fd path len next)
+then_path g fd path len near =
+    then (start_in (slice_get g.slots fd)) (start_never (slice_get g.slots fd)) (λ d is. then_text g path len (near d is))
+
+-- a buffer
+then_buffer : {call : Call} {next : Iovec → CallFront} (g : Guest) (iovs n : ℕ)
+    → ((buffer : Iovec) → AlwaysNear g call (next buffer))
+    → AlwaysNear g call (charged_buffer g.memory iovs n >>= next)
+unfolding charged_buffer charge
+then_buffer {call} {next} g iovs n near = record { near = λ fuel. by fuel (nat_le (8 * n) fuel) }
+  where
+    charged : Iovec → Front Iovec
+    charged buffer = λ left. (let t = taken buffer.buf_len left (nat_le buffer.buf_len left) in
+        onward t.0 t.1 (λ _. free (give buffer)))
+
+    by_buffer : (found : Row Iovec) → Never found → (left : ℕ)
+        → IsNear g call (then_taken (onward found left charged) next)
+    by_buffer (Err e) never left = never
+    by_buffer (Ok buffer) never left = by_length (nat_le buffer.buf_len left)
+      where
+        by_length : (b : Bool) → IsNear g call
+            (then_taken (let t = taken buffer.buf_len left b in onward t.0 t.1 (λ _. free (give buffer))) next)
+        by_length true = (near buffer).near (left - buffer.buf_len)
+        by_length false = number
+
+    by : (fuel : ℕ) (b : Bool) → IsNear g call (then_taken (let t = taken (8 * n) fuel b in
+        onward t.0 t.1 (λ _. free (from_guest (first_buffer g.memory iovs n)) >>= charged)) next)
+    by fuel true = by_buffer (from_guest (first_buffer g.memory iovs n)) (guest_never (first_buffer g.memory iovs n))
+        (fuel - 8 * n)
+    by fuel false = number
+
+-- and what a number stands for
+pub then_at_buffer : {A : Type 0} {call : Call} {named : Row A} {next : A → Iovec → List ℕ → CallFront} (g : Guest)
+    (iovs n : ℕ) → Never named
+    → ((what : A) → named ≡ Ok what → (buffer : Iovec) (bytes : List ℕ)
+    → range g.memory buffer.buf buffer.buf_len ≡ Ok bytes → AlwaysNear g call (next what buffer bytes))
+    → AlwaysNear g call (at_buffer g named iovs n next)
+then_at_buffer {named = named} g iovs n never near = then_buffer g iovs n (λ buffer. then named never (λ what is.
+    then (range g.memory buffer.buf buffer.buf_len) (range_never g.memory buffer.buf buffer.buf_len)
+    (near what is buffer)))
+
+-- ---- the permissions of the one descriptor that a call names
+
+pub read_only : {o : Option FsPerms} {perms : FsPerms} → o ≡ Some ReadOnly → o ≡ Some perms → perms ≡ ReadOnly
+read_only is same = cc
+
+pub only_named : (g : Guest) (fd n : ℕ) → Contains (fd ∷ []) n → perms_in (slice_get g.slots n) ≡ Some ReadOnly
+    → perms_in (slice_get g.slots fd) ≡ Some ReadOnly
+only_named g fd n is perms = ap (λ k. perms_in (slice_get g.slots k)) (one is) ∙ perms
+
+pub start_perms : {d : OpenDirectory} (g : Guest) (fd : ℕ) → start_in (slice_get g.slots fd) ≡ Ok d
+    → perms_in (slice_get g.slots fd) ≡ Some d.perms
+start_perms g fd is = directory_perms (slice_get g.slots fd) (start_is (slice_get g.slots fd) is)
+
+-- ---- ends of rows
+
+-- an answer, where descriptors stay and memory are bytes again
+pub answers_near : {g : Guest} {call : Call} (x : Value) (memory : List ℕ) (stock : Stock) → opened_through call ≡ None
+    → (HasBytes g → HasBytes (record g { memory = memory; holdings = stock }))
+    → AlwaysNear g call (answer (x, record g { memory = memory; holdings = stock }))
+answers_near {g} x memory stock through are = record {
+  near = λ fuel. record {
+    slots = subst (λ o. StaysNear g o [] (x, record g { memory = memory; holdings = stock })) (sym through)
+        (record { nodes = λ n has. inl has; perms = λ n perms has. has });
+    bytes = are;
+  };
+}
+
+-- one made of what a part gives
+pub tells_near : {A : Type 0} {g : Guest} {call : Call} (m : Row A) (shown : A → Value) → opened_through call ≡ None
+    → Never m → AlwaysNear g call (tells g m shown)
+tells_near {g = g} m shown through never =
+    then m never (λ x _. answers_near (shown x) g.memory g.holdings through (λ are. are))
+
+-- a request
+pub asks_near : {g : Guest} {call : Call} {r : Request} {next : Reply r → Row (Value × Guest)} → AsksNear g call r next
+    → AlwaysNear g call (ask r next)
+asks_near near = record { near = λ fuel. near }
+
+-- of a row that starts from a directory, and asks for something at a path
+pub starts_near : {d : OpenDirectory} {call : Call} (g : Guest) (fd n : ℕ) → Contains (descriptors_named g.memory call) fd
+    → start_in (slice_get g.slots fd) ≡ Ok d → Contains (d.node ∷ []) n → IsNamed g call n
+starts_near g fd n named is has = named_directory g fd n named (start_is (slice_get g.slots fd) is) has
+
+-- that it was done, of what isn't permitted under read-only permissions
+pub done_if_near : {g : Guest} {call : Call} (own : Option ErrorCode) (r : Request) → opened_through call ≡ None
+    → ((n : ℕ) → Contains (starts_at r) n → IsNamed g call n)
+    → ((done : Unit {0}) → permit own ≡ Ok done → NamesReadOnly g call → ⊥) → MayBeAsked r
+    → AlwaysNear g call (done_if own r g)
+done_if_near {g} {call} own r through starts never may = then (permit own) (permit_never own) (λ done permitted. asks_near (record {
+  starts = starts;
+  slots = λ reply. subst (λ o. StaysNear g o (given_by r reply) (Nothing, g)) (sym through) (put_nothing g);
+  ends = λ _ _ _. tt;
+  permits = λ names. absurd (never done permitted names);
+  asked = λ _. may;
+  bytes = λ are _ _. are;
+}))
+
+-- by a path from one directory
+pub done_if_at : {g : Guest} {call : Call} {d : OpenDirectory} (own : Option ErrorCode) (p : PathRequest) (fd : ℕ)
+    → opened_through call ≡ None → descriptors_named g.memory call ≡ fd ∷ []
+    → start_in (slice_get g.slots fd) ≡ Ok d → path_starts p ≡ d.node ∷ []
+    → ((done : Unit {0}) → permit own ≡ Ok done → d.perms ≡ ReadOnly → ⊥) → AreTexts p
+    → AlwaysNear g call (done_if own (Path p) g)
+done_if_at {g} {call} {d} own p fd through named is starts never texts = done_if_near own (Path p) through
+    (λ n has. starts_near g fd n (subst (λ fds. Contains fds fd) (sym named) (Contains-here fd [])) is
+    (subst (λ ns. Contains ns n) starts has))
+    (λ done may names. never done may (read_only (only_named g fd names.fd
+    (subst (λ fds. Contains fds names.fd) named names.named) names.perms) (start_perms g fd is))) texts

@@ -1,0 +1,9 @@
+//! The calls of a context, by family.
+
+mod descriptors;
+mod opening;
+mod places;
+mod reading_and_writing;
+mod services;
+mod times;
+mod two_places;

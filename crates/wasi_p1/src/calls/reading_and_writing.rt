@@ -1,0 +1,87 @@
+//! The calls that read and write by a descriptor.
+ghost use Rattle.std.specs.Prelude.{IsTrue, IfOk};
+ghost use Rattle.wasi_guest.specs.declared.call.Call.TheVariants.{FdRead, FdWrite};
+ghost use Rattle.wasi_p1.specs.Method.{StaysInBounds, DoesItsRow};
+ghost use Rattle.wasi_p1.specs.Guest.{state_of};
+ghost use Rattle.wasi_p1.specs.Writing.{WritesWhole};
+
+use crate::call_parts::{
+    FilePlace, Sink, Source, buffer_at, bytes_at, check_write, move_file, read_into, sink_at,
+    source_at, write_piece,
+};
+use crate::context::WasiP1Ctx;
+use crate::error::P1Error;
+use wasi_guest::Value;
+use wasi_host::Host;
+
+impl<H: Host> WasiP1Ctx<H> {
+    /// Reads a file's bytes at its position, or the next ones of the standard input, into the first buffer that has
+    /// any, of so many records at an address, and answers how many; a file's position is behind them afterwards.
+    /// Refusals, in this order: Nomem where the records, or the buffer, are more than the fuel; trap Pointer where a
+    /// record up to that one isn't aligned to 4 or leaves the memory; Badf where the number is neither a file's nor the
+    /// standard input's; trap Pointer where the buffer leaves the memory; then of a file the host's, which are those of
+    /// POSIX's `pread`, and of the standard input Intr of no bytes to fill where some are left. At or past the end, and
+    /// with no bytes of a file to fill, the answer is 0.
+    #[tactic(auto, using(crate::proofs::Taking::refusals), unfolding(crate::specs::Rows::fd_read))]
+    pub fn fd_read(
+        &mut self,
+        memory: &mut [u8],
+        fd: u32,
+        iovs: u32,
+        iovs_len: u32,
+    ) -> Result<Value, P1Error>
+        ensures bounds { StaysInBounds H.Host self.old self.new memory.old (FdRead fd iovs iovs_len) result }
+        ensures turn { DoesItsRow H.Host self.old self.new memory.old memory.new (FdRead fd iovs iovs_len) result }
+    {
+        let buffer = buffer_at(memory, &mut self.fuel, iovs, iovs_len)?;
+        let source = source_at(&self.host, &self.descriptors, fd)?;
+        bytes_at(memory, buffer.buf, buffer.buf_len)?;
+        let FilePlace { file, position } = match source {
+            Source::Input => {
+                let read = self.holdings.read_input(memory, buffer)?;
+                return Ok(Value::Number(read as u64));
+            }
+            Source::File(place) => place,
+        };
+        let handle = file.file;
+        let count = read_into(&mut self.host, memory, handle, position, buffer)?;
+        move_file(&mut self.descriptors, fd, file, position, count as u64);
+        Ok(Value::Number(count as u64))
+    }
+
+    /// Writes the first buffer that has bytes, of so many records at an address, into a file at its position, or behind
+    /// what was written to an output, and answers how many bytes it took; a file's position is behind them afterwards.
+    /// An output, and a host that tells its world, takes all of them. Refusals, in this order: Nomem where the records,
+    /// or the buffer, are more than the fuel; trap Pointer where a record up to that one isn't aligned to 4 or leaves
+    /// the memory; Badf where the number is neither a file's nor an output's; trap Pointer where the buffer leaves the
+    /// memory; then of a file Badf under read-only permissions, and the host's, which are those of POSIX's `pwrite`.
+    #[tactic(auto, using(crate::proofs::Taking::refusals), unfolding(crate::specs::Rows::fd_write))]
+    pub fn fd_write(
+        &mut self,
+        memory: &mut [u8],
+        fd: u32,
+        iovs: u32,
+        iovs_len: u32,
+    ) -> Result<Value, P1Error>
+        ensures bounds { StaysInBounds H.Host self.old self.new memory.old (FdWrite fd iovs iovs_len) result }
+        ensures turn { DoesItsRow H.Host self.old self.new memory.old memory.new (FdWrite fd iovs iovs_len) result }
+        ensures whole { IsTrue H.told → IfOk result (WritesWhole (state_of H.world self.old memory.old)
+            (state_of H.world self.new memory.new) fd iovs iovs_len) }
+    {
+        let buffer = buffer_at(memory, &mut self.fuel, iovs, iovs_len)?;
+        let sink = sink_at(&self.host, &self.descriptors, fd)?;
+        let piece = bytes_at(memory, buffer.buf, buffer.buf_len)?;
+        let FilePlace { file, position } = match sink {
+            Sink::Output(output) => {
+                self.holdings.write(output, piece)?;
+                return Ok(Value::Number(piece.len() as u64));
+            }
+            Sink::File(place) => place,
+        };
+        check_write(file.perms)?;
+        let handle = file.file;
+        let count = write_piece(&mut self.host, handle, position, piece)?;
+        move_file(&mut self.descriptors, fd, file, position, count);
+        Ok(Value::Number(count))
+    }
+}

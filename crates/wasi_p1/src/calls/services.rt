@@ -1,0 +1,194 @@
+//! The calls of a guest that ask nothing of the tree.
+ghost use Rattle.wasi_guest.specs.declared.call.Call.TheVariants.{ArgsGet, ArgsSizesGet, ClockResGet, ClockTimeGet, EnvironGet, EnvironSizesGet, ProcExit, ProcRaise, RandomGet, SchedYield, SockAccept, SockRecv, SockSend, SockShutdown};
+ghost use Rattle.wasi_p1.specs.Method.{StaysInBounds, DoesItsRow};
+
+use crate::call_parts::{bytes_at, live_at};
+use crate::context::WasiP1Ctx;
+use crate::error::P1Error;
+use crate::raw_numbers::{INVALID, exit_with, known_signal};
+use wasi_guest::{Errno, FdFlags, RiFlags, SdFlags, Value};
+use wasi_host::Host;
+
+impl<H: Host> WasiP1Ctx<H> {
+    /// Writes the addresses of the arguments from `argv` on, and the arguments, each with a zero behind it, from
+    /// `argv_buf` on. Where there are any: trap Pointer where `argv` is no multiple of 4, or one of the two ranges
+    /// leaves the memory.
+    #[tactic(auto, using(crate::proofs::Taking::refusals, crate::proofs::Taking::answered_at_once), unfolding(crate::specs::Rows::args_get))]
+    pub fn args_get(
+        &mut self,
+        memory: &mut [u8],
+        argv: u32,
+        argv_buf: u32,
+    ) -> Result<Value, P1Error>
+        ensures bounds { StaysInBounds H.Host self.old self.new memory.old (ArgsGet argv argv_buf) result }
+        ensures turn { DoesItsRow H.Host self.old self.new memory.old memory.new (ArgsGet argv argv_buf) result }
+    {
+        self.holdings.args_into(memory, argv, argv_buf)?;
+        Ok(Value::Unit)
+    }
+
+    /// How many arguments there are, and how many bytes they have with a zero behind each. Overflow where one of the
+    /// two numbers is above 2^32 - 1.
+    #[tactic(auto, using(crate::proofs::Taking::refusals, crate::proofs::Taking::answered_at_once), unfolding(crate::specs::Rows::args_sizes_get))]
+    pub fn args_sizes_get(&mut self, memory: &mut [u8]) -> Result<Value, P1Error>
+        ensures bounds { StaysInBounds H.Host self.old self.new memory.old ArgsSizesGet result }
+        ensures turn { DoesItsRow H.Host self.old self.new memory.old memory.new ArgsSizesGet result }
+    {
+        Ok(self.holdings.args_sizes()?)
+    }
+
+    /// As `args_get`, of the variables of the environment, each a text with `=` between its key and its value.
+    #[tactic(auto, using(crate::proofs::Taking::refusals, crate::proofs::Taking::answered_at_once), unfolding(crate::specs::Rows::environ_get))]
+    pub fn environ_get(
+        &mut self,
+        memory: &mut [u8],
+        environ: u32,
+        environ_buf: u32,
+    ) -> Result<Value, P1Error>
+        ensures bounds { StaysInBounds H.Host self.old self.new memory.old (EnvironGet environ environ_buf) result }
+        ensures turn { DoesItsRow H.Host self.old self.new memory.old memory.new
+            (EnvironGet environ environ_buf) result }
+    {
+        self.holdings.environ_into(memory, environ, environ_buf)?;
+        Ok(Value::Unit)
+    }
+
+    /// As `args_sizes_get`, of the variables of the environment as `environ_get` has them.
+    #[tactic(auto, using(crate::proofs::Taking::refusals, crate::proofs::Taking::answered_at_once), unfolding(crate::specs::Rows::environ_sizes_get))]
+    pub fn environ_sizes_get(&mut self, memory: &mut [u8]) -> Result<Value, P1Error>
+        ensures bounds { StaysInBounds H.Host self.old self.new memory.old EnvironSizesGet result }
+        ensures turn { DoesItsRow H.Host self.old self.new memory.old memory.new EnvironSizesGet result }
+    {
+        Ok(self.holdings.environ_sizes()?)
+    }
+
+    /// How far apart two moments of a clock are, in nanoseconds. Refusals: Inval of an unknown clock; Badf of that of a
+    /// processor; Overflow of a number that 64 bits don't hold.
+    #[tactic(auto, using(crate::proofs::Taking::refusals, crate::proofs::Taking::answered_at_once), unfolding(crate::specs::Rows::clock_res_get))]
+    pub fn clock_res_get(&mut self, memory: &mut [u8], id: u32) -> Result<Value, P1Error>
+        ensures bounds { StaysInBounds H.Host self.old self.new memory.old (ClockResGet id) result }
+        ensures turn { DoesItsRow H.Host self.old self.new memory.old memory.new (ClockResGet id) result }
+    {
+        Ok(Value::Number(self.holdings.clock_res(id)?))
+    }
+
+    /// What a clock stands at, in nanoseconds, refused as in `clock_res_get`. The precision isn't used.
+    #[tactic(auto, using(crate::proofs::Taking::refusals, crate::proofs::Taking::answered_at_once), unfolding(crate::specs::Rows::clock_time_get))]
+    pub fn clock_time_get(
+        &mut self,
+        memory: &mut [u8],
+        id: u32,
+        precision: u64,
+    ) -> Result<Value, P1Error>
+        ensures bounds { StaysInBounds H.Host self.old self.new memory.old (ClockTimeGet id precision) result }
+        ensures turn { DoesItsRow H.Host self.old self.new memory.old memory.new (ClockTimeGet id precision) result }
+    {
+        Ok(Value::Number(self.holdings.clock_time(id)?))
+    }
+
+    /// Ends the guest with a status below 126; trap ExitStatus of another.
+    #[tactic(auto, using(crate::proofs::Taking::refusals, crate::proofs::Taking::answered_at_once), unfolding(crate::specs::Rows::proc_exit))]
+    pub fn proc_exit(&mut self, memory: &mut [u8], status: u32) -> Result<Value, P1Error>
+        ensures bounds { StaysInBounds H.Host self.old self.new memory.old (ProcExit status) result }
+        ensures turn { DoesItsRow H.Host self.old self.new memory.old memory.new (ProcExit status) result }
+    {
+        Err(exit_with(status))
+    }
+
+    /// Refusals: Inval of an unknown signal; Notsup of every other.
+    #[tactic(auto, using(crate::proofs::Taking::refusals, crate::proofs::Taking::answered_at_once), unfolding(crate::specs::Rows::proc_raise))]
+    pub fn proc_raise(&mut self, memory: &mut [u8], signal: u32) -> Result<Value, P1Error>
+        ensures bounds { StaysInBounds H.Host self.old self.new memory.old (ProcRaise signal) result }
+        ensures turn { DoesItsRow H.Host self.old self.new memory.old memory.new (ProcRaise signal) result }
+    {
+        known_signal(signal)?;
+        Err(P1Error::Errno(Errno::Notsup))
+    }
+
+    /// Puts the next random bytes into a buffer: trap Pointer where it leaves the memory.
+    #[tactic(auto, using(crate::proofs::Taking::refusals, crate::proofs::Taking::answered_at_once), unfolding(crate::specs::Rows::random_get))]
+    pub fn random_get(
+        &mut self,
+        memory: &mut [u8],
+        buf: u32,
+        buf_len: u32,
+    ) -> Result<Value, P1Error>
+        ensures bounds { StaysInBounds H.Host self.old self.new memory.old (RandomGet buf buf_len) result }
+        ensures turn { DoesItsRow H.Host self.old self.new memory.old memory.new (RandomGet buf buf_len) result }
+    {
+        bytes_at(memory, buf, buf_len)?;
+        let at = buf as usize;
+        let part = &mut memory[at..at + buf_len as usize];
+        self.holdings.fill_random(part);
+        Ok(Value::Unit)
+    }
+
+    /// Lets others run: nothing is done.
+    #[tactic(auto, using(crate::proofs::Taking::refusals, crate::proofs::Taking::answered_at_once), unfolding(crate::specs::Rows::sched_yield))]
+    pub fn sched_yield(&mut self, memory: &mut [u8]) -> Result<Value, P1Error>
+        ensures bounds { StaysInBounds H.Host self.old self.new memory.old SchedYield result }
+        ensures turn { DoesItsRow H.Host self.old self.new memory.old memory.new SchedYield result }
+    {
+        Ok(Value::Unit)
+    }
+
+    /// Refusals: Inval of an unknown flag of `fdflags`; Badf where the number isn't live; Notsock of every other, since
+    /// no number is a socket's.
+    #[tactic(auto, using(crate::proofs::Taking::refusals, crate::proofs::Taking::answered_at_once), unfolding(crate::specs::Rows::sock_accept))]
+    pub fn sock_accept(&mut self, memory: &mut [u8], fd: u32, flags: u32) -> Result<Value, P1Error>
+        ensures bounds { StaysInBounds H.Host self.old self.new memory.old (SockAccept fd flags) result }
+        ensures turn { DoesItsRow H.Host self.old self.new memory.old memory.new (SockAccept fd flags) result }
+    {
+        FdFlags::from_bits(flags).ok_or(INVALID)?;
+        live_at(&self.host, &self.descriptors, fd)?;
+        Err(P1Error::Errno(Errno::Notsock))
+    }
+
+    /// Refused as in `sock_accept`, by the flags of `riflags`. No buffer is looked at.
+    #[tactic(auto, using(crate::proofs::Taking::refusals, crate::proofs::Taking::answered_at_once), unfolding(crate::specs::Rows::sock_recv))]
+    pub fn sock_recv(
+        &mut self,
+        memory: &mut [u8],
+        fd: u32,
+        iovs: u32,
+        iovs_len: u32,
+        ri_flags: u32,
+    ) -> Result<Value, P1Error>
+        ensures bounds { StaysInBounds H.Host self.old self.new memory.old (SockRecv fd iovs iovs_len ri_flags) result }
+        ensures turn { DoesItsRow H.Host self.old self.new memory.old memory.new
+            (SockRecv fd iovs iovs_len ri_flags) result }
+    {
+        RiFlags::from_bits(ri_flags).ok_or(INVALID)?;
+        live_at(&self.host, &self.descriptors, fd)?;
+        Err(P1Error::Errno(Errno::Notsock))
+    }
+
+    /// Refused as in `sock_accept`; any number is a set of `siflags`. No buffer is looked at.
+    #[tactic(auto, using(crate::proofs::Taking::refusals, crate::proofs::Taking::answered_at_once), unfolding(crate::specs::Rows::sock_send))]
+    pub fn sock_send(
+        &mut self,
+        memory: &mut [u8],
+        fd: u32,
+        iovs: u32,
+        iovs_len: u32,
+        si_flags: u32,
+    ) -> Result<Value, P1Error>
+        ensures bounds { StaysInBounds H.Host self.old self.new memory.old (SockSend fd iovs iovs_len si_flags) result }
+        ensures turn { DoesItsRow H.Host self.old self.new memory.old memory.new
+            (SockSend fd iovs iovs_len si_flags) result }
+    {
+        live_at(&self.host, &self.descriptors, fd)?;
+        Err(P1Error::Errno(Errno::Notsock))
+    }
+
+    /// Refused as in `sock_accept`, by the flags of `sdflags`.
+    #[tactic(auto, using(crate::proofs::Taking::refusals, crate::proofs::Taking::answered_at_once), unfolding(crate::specs::Rows::sock_shutdown))]
+    pub fn sock_shutdown(&mut self, memory: &mut [u8], fd: u32, how: u32) -> Result<Value, P1Error>
+        ensures bounds { StaysInBounds H.Host self.old self.new memory.old (SockShutdown fd how) result }
+        ensures turn { DoesItsRow H.Host self.old self.new memory.old memory.new (SockShutdown fd how) result }
+    {
+        SdFlags::from_bits(how).ok_or(INVALID)?;
+        live_at(&self.host, &self.descriptors, fd)?;
+        Err(P1Error::Errno(Errno::Notsock))
+    }
+}

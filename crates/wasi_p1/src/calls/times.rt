@@ -1,0 +1,78 @@
+//! The calls that set times.
+ghost use Rattle.wasi_guest.specs.declared.call.Call.TheVariants.{FdFilestatSetTimes, PathFilestatSetTimes};
+ghost use Rattle.wasi_p1.specs.Method.{StaysInBounds, DoesItsRow};
+
+use crate::call_parts::{descriptor_at, start_at, text_at};
+use crate::context::WasiP1Ctx;
+use crate::error::P1Error;
+use crate::new_times::NewTimes;
+use crate::open_with::path_flags_of;
+use wasi_guest::Value;
+use wasi_host::Host;
+
+impl<H: Host> WasiP1Ctx<H> {
+    /// Sets the times of the last read and of the last change of the node that the path in a range of memory names,
+    /// from the directory of a descriptor: each by preview1's `fstflags` to the given nanoseconds since the epoch or to
+    /// what the wall clock stands at, or not at all. SYMLINK_FOLLOW follows a link under the last name; without it a
+    /// link's times are its own. Refusals, in this order: Inval of an unknown flag; of the first and then of the second
+    /// time Inval where it is both given and the wall clock's, Overflow where the wall clock is asked for and an i64
+    /// doesn't hold its seconds; those of `path_create_directory` up to Perm; without SYMLINK_FOLLOW those of the walk
+    /// to the directory of the name, as in `path_open`, those of every host call by a name, as in
+    /// `path_create_directory`, and then that of POSIX's `utimensat`: Noent where the name is missing. With it those of
+    /// an open of the path for writing, as in `path_open`; where that is refused Acces or Isdir, those of one for
+    /// reading, of which Acces is answered Notsup.
+    #[tactic(auto, using(crate::proofs::Taking::refusals, crate::proofs::CallTracing::traced_below), unfolding(crate::specs::Rows::path_filestat_set_times))]
+    pub fn path_filestat_set_times(
+        &mut self,
+        memory: &mut [u8],
+        fd: u32,
+        flags: u32,
+        path: u32,
+        path_len: u32,
+        atim: u64,
+        mtim: u64,
+        fst_flags: u32,
+    ) -> Result<Value, P1Error>
+        ensures bounds { StaysInBounds H.Host self.old self.new memory.old
+            (PathFilestatSetTimes fd flags path path_len atim mtim fst_flags) result }
+        ensures turn { DoesItsRow H.Host self.old self.new memory.old memory.new
+            (PathFilestatSetTimes fd flags path path_len atim mtim fst_flags) result }
+    {
+        let flags = path_flags_of(flags)?;
+        let times = NewTimes::of(self.holdings.wall(), atim, mtim, fst_flags)?;
+        let dir = start_at(&self.host, &self.descriptors, fd)?;
+        let text = text_at(memory, &mut self.fuel, path, path_len)?;
+        dir.set_times_at(
+            self.alloc,
+            &mut self.host,
+            flags,
+            text,
+            times.atime,
+            times.mtime,
+        )?;
+        Ok(Value::Unit)
+    }
+
+    /// Sets the times of the node of a descriptor, as `path_filestat_set_times` does. It takes no memory. Refusals, in
+    /// this order: those of its flags and times, as there; Badf where the number isn't a directory's or file's; Perm
+    /// under read-only permissions. No host refuses it further, where POSIX's `futimens` may.
+    #[tactic(auto, using(crate::proofs::Taking::refusals), unfolding(crate::specs::Rows::fd_filestat_set_times))]
+    pub fn fd_filestat_set_times(
+        &mut self,
+        memory: &mut [u8],
+        fd: u32,
+        atim: u64,
+        mtim: u64,
+        fst_flags: u32,
+    ) -> Result<Value, P1Error>
+        ensures bounds { StaysInBounds H.Host self.old self.new memory.old
+            (FdFilestatSetTimes fd atim mtim fst_flags) result }
+        ensures turn { DoesItsRow H.Host self.old self.new memory.old memory.new
+            (FdFilestatSetTimes fd atim mtim fst_flags) result }
+    {
+        let times = NewTimes::of(self.holdings.wall(), atim, mtim, fst_flags)?;
+        let descriptor = descriptor_at(&self.host, &self.descriptors, fd)?;
+        descriptor.set_times(&mut self.host, times.atime, times.mtime)?;
+        Ok(Value::Unit)
+    }
+}

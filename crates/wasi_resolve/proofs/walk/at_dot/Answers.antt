@@ -1,0 +1,38 @@
+use Rattle.std.proofs.Common.{◌∙◌, refl, sym}
+use Rattle.std.proofs.lemmas.Result.{err_from_is_err_and}
+use Rattle.wasi_resolve.proofs.Ending.{dot_opened, dot_refused, dot_denied, dot_seen, dot_fault}
+use Rattle.wasi_resolve.proofs.walk.at_dot.Goals as goal
+
+pub returns-in_ok-handle-in-Open-clause-told : goal.returns-in_ok-handle-in-Open-clause-told
+returns-in_ok-handle-in-Open-clause-told g c told =
+    rw c.in-Open.is (dot_opened (sym c.is_write.ensures.value ∙ c.if-is_write.false)
+    c.in_ok-handle-in-Open.ensures.live.1
+    (rw c.dot.ensures.bytes at (c.in_ok-handle-in-Open.ensures.told told)))
+
+pub returns-in_err-handle-in-Open-clause-told : goal.returns-in_err-handle-in-Open-clause-told
+returns-in_err-handle-in-Open-clause-told g c told =
+    let error = err_from_is_err_and c.from_residual.result c.from_residual.ensures.1 in
+    rw (error.1, error.2, c.in-Open.is) (dot_refused (sym c.is_write.ensures.value ∙ c.if-is_write.false)
+    c.in_err-handle-in-Open.field-0.0 c.in_err-handle-in-Open.ensures.live
+    (rw c.dot.ensures.bytes at (c.in_err-handle-in-Open.ensures.told told)))
+
+pub returns-in_err-access-in-Look-clause-told : goal.returns-in_err-access-in-Look-clause-told
+returns-in_err-access-in-Look-clause-told g c told =
+    let residual = c.from_residual-in_err-access-in-Look in
+    let error = err_from_is_err_and residual.result residual.ensures.1 in
+    rw (error.1, error.2, c.in-Look.is)
+    (dot_denied c.in_err-access-in-Look.ensures.live c.in_err-access-in-Look.field-0.0
+    (c.in_err-access-in-Look.ensures.told told))
+
+pub returns-in_ok-metadata-in-Look-clause-told : goal.returns-in_ok-metadata-in-Look-clause-told
+returns-in_ok-metadata-in-Look-clause-told g c told =
+    rw c.in-Look.is (dot_seen c.access.ensures.live c.args.here refl c.requires c.in_ok-metadata-in-Look.ensures.live
+    (c.in_ok-access-in-Look.ensures.told told) (c.in_ok-metadata-in-Look.ensures.told told))
+
+pub returns-in_err-metadata-in-Look-clause-told : goal.returns-in_err-metadata-in-Look-clause-told
+returns-in_err-metadata-in-Look-clause-told g c told =
+    let residual = c.from_residual-in_err-metadata-in-Look in
+    let error = err_from_is_err_and residual.result residual.ensures.1 in
+    rw (error.1, error.2, c.in-Look.is) (dot_fault c.access.ensures.live c.args.here refl c.requires
+    c.in_err-metadata-in-Look.ensures.live (c.in_ok-access-in-Look.ensures.told told)
+    c.in_err-metadata-in-Look.field-0.0 (c.in_err-metadata-in-Look.ensures.told told))
