@@ -1,0 +1,110 @@
+//! Calls of an output stream.
+ghost use Rattle.std.specs.Prelude.{◌≡◌, true, OnOk};
+ghost use Rattle.std.specs.FinSet.{contains, remove};
+
+use bytes::Bytes;
+use std::alloc::{AllocError, Global};
+use std::fmt::Debug;
+use wasi_fs::File;
+use wasi_host::{Handle, Host};
+use wasi_streams::{FileOutputStream, StreamError};
+use wasi_table::{Asked, Told, number, refused, told, unknown};
+
+/// `OFFSET: CALL; CALL ..`: the answers of calls of a stream from this offset on, and then the file's text.
+#[tactic(auto, using(wasi_host::proofs::Chain::live_rules))]
+pub fn output_line<H: Host>(host: &mut H, file: &File, asked: &Asked<'_>) -> Told
+    requires { contains (H.live host.old) file.now.file ≡ true }
+{
+    let alloc = asked.alloc;
+    let (offset, calls) = asked.rest.split_once(": ").unwrap_or((asked.rest, ""));
+    match FileOutputStream::write_at(alloc, host, file, number(offset)) {
+        Ok(stream) => {
+            let mut text = along(host, stream, alloc, calls)?;
+            push_file(host, file.file, alloc, &mut text)?;
+            Ok(text)
+        }
+        Err(error) => refused(alloc, error),
+    }
+}
+
+/// The answers of the calls, after which the stream is closed.
+fn along<H: Host>(host: &mut H, mut stream: FileOutputStream, alloc: Global, calls: &str) -> Told
+    requires { contains (H.live host.old) stream.file ≡ true }
+    ensures { OnOk result (H.live host.new ≡ remove (H.live host.old) stream.file) }
+{
+    let mut text = String::new(alloc);
+    push_answers(host, &mut stream, alloc, calls, &mut text)?;
+    stream.close(host);
+    Ok(text)
+}
+
+fn push_answers<H: Host>(
+    host: &mut H,
+    stream: &mut FileOutputStream,
+    alloc: Global,
+    calls: &str,
+    text: &mut String,
+) -> Result<(), AllocError>
+    requires { contains (H.live host.old) stream.old.file ≡ true }
+    ensures live { H.live host.new ≡ H.live host.old }
+    ensures file { stream.new.file ≡ stream.old.file }
+{
+    for one in calls.split("; ") {
+        let answer = output_call(host, stream, &Asked::of(alloc, one))?;
+        text.push_str(answer.as_str())?;
+        text.push_str("; ")?;
+    }
+    Ok(())
+}
+
+fn output_call<H: Host>(host: &mut H, stream: &mut FileOutputStream, asked: &Asked<'_>) -> Told
+    requires { contains (H.live host.old) stream.old.file ≡ true }
+    ensures live { H.live host.new ≡ H.live host.old }
+    ensures file { stream.new.file ≡ stream.old.file }
+{
+    let alloc = asked.alloc;
+    let bytes = Bytes::copy_from_slice(alloc, asked.rest.as_bytes())?;
+    match asked.what {
+        "write" => told_done(alloc, stream.write(bytes)),
+        "blocking_write_and_flush" => {
+            let done = stream.blocking_write_and_flush(host, bytes);
+            told_done(alloc, done)
+        }
+        "flush" => told_done(alloc, stream.flush()),
+        "check_write" => told_done(alloc, stream.check_write()),
+        "ready" => {
+            stream.ready(host)?;
+            String::from_str(alloc, "()")
+        }
+        "cancel" => {
+            stream.cancel();
+            String::from_str(alloc, "()")
+        }
+        _ => unknown(alloc),
+    }
+}
+
+/// What is answered, or why nothing is.
+fn told_done<T: Debug + Drop>(alloc: Global, done: Result<T, StreamError>) -> Told {
+    match done {
+        Ok(value) => told(alloc, &value),
+        Err(StreamError::Memory) => Err(AllocError),
+        Err(error) => told(alloc, &error),
+    }
+}
+
+/// The first bytes of the file, as text.
+fn push_file<H: Host>(
+    host: &mut H,
+    file: Handle,
+    alloc: Global,
+    text: &mut String,
+) -> Result<(), AllocError>
+    requires { contains (H.live host.old) file ≡ true }
+{
+    let mut buf = [0u8; 8];
+    let count = host.pread(file, &mut buf, 0).unwrap_or(0);
+    let bytes = buf.get(..count).unwrap_or(&[]);
+    let answer = told(alloc, &str::from_utf8(bytes).unwrap_or("no text"))?;
+    text.push_str(answer.as_str())
+}

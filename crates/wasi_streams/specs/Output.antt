@@ -1,0 +1,78 @@
+-- Output streams: what each call answers and leaves, by how the stream's write stands.
+use Rattle.std.specs.Prelude.{ℕ, nat_lt, if◌then◌else◌, List, length, Result, Ok, Err}
+use Rattle.wasi_streams.specs.declared.output.OutputState.{OutputState}
+use Rattle.wasi_streams.specs.declared.output.OutputState.TheVariants.{Ready, Waiting, Error, Closed}
+use Rattle.wasi_streams.specs.declared.errors.StreamError.{StreamError}
+use Rattle.wasi_streams.specs.declared.errors.StreamError.TheVariants as errors
+use Rattle.wasi_streams.specs.declared.errors.StreamTrap.TheVariants.{Budget, NotPermitted}
+
+-- the handle that a stream writes to, the offset of the next byte that it puts, and how its write stands
+pub record Output : Type 0 where
+  pub file : ℕ
+  pub position : ℕ
+  pub state : OutputState
+
+-- an answer, and how the stream's write stands afterwards
+abbrev pub OutputAnswer : Type 0 → Type 0
+OutputAnswer A = Result A StreamError × OutputState
+
+-- a call asks nothing of the file, or writes these bytes, and its answer follows from how that write stands then
+pub data OutputRow (A : Type 0) : Type 0 where
+  answering : OutputAnswer A → OutputRow A
+  write_then : List ℕ → (OutputState → OutputRow A) → OutputRow A
+
+-- `write`
+abbrev pub write_row : OutputState → List ℕ → OutputAnswer (Unit {0})
+write_row Ready bytes =
+    if nat_lt 65536 (length bytes) then (Err (errors.Trap Budget), Ready) else (Ok tt, Waiting bytes)
+write_row (Waiting before) bytes = (Err (errors.Trap NotPermitted), Waiting before)
+write_row (Error code) bytes = (Err (errors.Trap NotPermitted), Error code)
+write_row Closed bytes = (Err errors.Closed, Closed)
+
+-- `flush`
+abbrev pub flush_row : OutputState → OutputAnswer (Unit {0})
+flush_row Ready = (Ok tt, Ready)
+flush_row (Waiting bytes) = (Ok tt, Waiting bytes)
+flush_row (Error code) = (Err (errors.LastOperationFailed code), Closed)
+flush_row Closed = (Err errors.Closed, Closed)
+
+-- `check_write`
+abbrev pub check_write_row : OutputState → OutputAnswer ℕ
+check_write_row Ready = (Ok 65536, Ready)
+check_write_row (Waiting bytes) = (Ok 0, Waiting bytes)
+check_write_row (Error code) = (Err (errors.LastOperationFailed code), Closed)
+check_write_row Closed = (Err errors.Closed, Closed)
+
+-- a write is over, but for what memory was wanted for
+abbrev pub write_made : OutputState → OutputAnswer (Unit {0})
+write_made Ready = (Ok tt, Ready)
+write_made (Waiting rest) = (Err errors.Memory, Waiting rest)
+write_made (Error code) = (Ok tt, Error code)
+write_made Closed = (Ok tt, Closed)
+
+-- the same of a call that tells the code that it was refused with
+abbrev pub flushed : OutputState → OutputAnswer (Unit {0})
+flushed Ready = (Ok tt, Ready)
+flushed (Waiting rest) = (Err errors.Memory, Waiting rest)
+flushed (Error code) = (Err (errors.LastOperationFailed code), Closed)
+flushed Closed = (Err errors.Closed, Closed)
+
+-- `ready`
+abbrev pub ready_write_row : OutputState → OutputRow (Unit {0})
+ready_write_row (Waiting bytes) = write_then bytes (λ state. answering (write_made state))
+ready_write_row Ready = answering (Ok tt, Ready)
+ready_write_row (Error code) = answering (Ok tt, Error code)
+ready_write_row Closed = answering (Ok tt, Closed)
+
+-- `blocking_write_and_flush`: what waits is written first
+abbrev pub write_now : OutputState → List ℕ → OutputRow (Unit {0})
+write_now Ready bytes = write_then bytes (λ state. answering (flushed state))
+write_now (Waiting rest) bytes = answering (flushed (Waiting rest))
+write_now (Error code) bytes = answering (flushed (Error code))
+write_now Closed bytes = answering (flushed Closed)
+
+abbrev pub blocking_write_row : OutputState → List ℕ → OutputRow (Unit {0})
+blocking_write_row Ready bytes = write_now Ready bytes
+blocking_write_row (Waiting before) bytes = write_then before (λ state. write_now state bytes)
+blocking_write_row (Error code) bytes = write_now (Error code) bytes
+blocking_write_row Closed bytes = write_now Closed bytes

@@ -1,0 +1,268 @@
+//! Streams that write a file.
+ghost use Rattle.std.specs.Prelude.{◌≡◌, ◌+◌, ℕ, true, IsTrue, Some, IfOk, length};
+ghost use Rattle.std.specs.Result.{result_map_both};
+ghost use Rattle.std.specs.FinSet.{contains, remove};
+ghost use Rattle.wasi_host.specs.HostCall.{Dup, Close};
+ghost use Rattle.wasi_host.specs.Meaning.{HasCause, LiveGot, LoggedGot, Told, answered};
+ghost use Rattle.wasi_streams.specs.Output.{write_made, write_row, flush_row, check_write_row, ready_write_row, blocking_write_row};
+ghost use Rattle.wasi_streams.specs.Reading.{host_seen, ready_of};
+ghost use Rattle.wasi_streams.specs.Writing.{Puts, WritesAll, FollowsWrite, stopped};
+
+use crate::{StreamError, StreamTrap};
+use bytes::Bytes;
+use std::alloc::{AllocError, Global};
+use std::marker::Model;
+use std::mem;
+use wasi_fs::File;
+use wasi_host::{ErrorCode, Handle, Host, HostError, LookKind};
+
+/// The most bytes that one `write` takes.
+pub const FILE_WRITE_CAPACITY: usize = 65_536;
+
+/// How the write of an output stream stands.
+#[derive(Drop)]
+pub enum OutputState {
+    /// None is to be made.
+    Ready,
+    /// One of these bytes was asked for, and isn't made.
+    Waiting(Bytes),
+    /// One was refused, which wasn't told yet.
+    Error(ErrorCode),
+    /// No more are made.
+    Closed,
+}
+
+impl OutputState {
+    /// How a write stands that was refused, with what isn't taken.
+    fn stopped(error: HostError, rest: Bytes) -> OutputState
+        ensures { result ≡ stopped error rest }
+    {
+        match error {
+            HostError::Code(code) => OutputState::Error(code),
+            HostError::Memory => OutputState::Waiting(rest),
+        }
+    }
+
+    /// Whether a write was made, but for want of memory.
+    fn made(&self) -> Result<(), AllocError>
+        ensures { (ready_of result, self.now) ≡ write_made self.now }
+    {
+        match self {
+            OutputState::Ready => Ok(()),
+            OutputState::Waiting(_) => Err(AllocError),
+            OutputState::Error(_) => Ok(()),
+            OutputState::Closed => Ok(()),
+        }
+    }
+
+    /// Whether writing goes on: a code that a write was refused with is told once.
+    fn tell(&mut self) -> Result<(), StreamError>
+        ensures row { (result, self.new) ≡ flush_row self.old }
+    {
+        match self {
+            OutputState::Ready => Ok(()),
+            OutputState::Waiting(_) => Ok(()),
+            OutputState::Error(code) => {
+                let code = *code;
+                *self = OutputState::Closed;
+                Err(StreamError::LastOperationFailed(code))
+            }
+            OutputState::Closed => Err(StreamError::Closed),
+        }
+    }
+}
+
+/// A stream of bytes into a file from an offset on: the crate's `FileOutputStream`. Contracts see the handle that it
+/// writes to, the offset of the next byte that it puts, and how its write stands.
+#[derive(Drop)]
+pub struct FileOutputStream {
+    file: Handle,
+    position: u64,
+    state: OutputState,
+}
+
+impl Model for FileOutputStream {
+    ghost use Rattle.wasi_streams.specs.Output.{Output};
+
+    ghost Value = { Output };
+
+    ghost view = { λ s. record { file = s.file; position = s.position; state = s.state } };
+}
+
+/// Asks the host once to put a piece into a file at an offset.
+fn put_at<H: Host>(
+    host: &mut H,
+    file: Handle,
+    piece: &Bytes,
+    position: u64,
+) -> Result<usize, HostError>
+    requires live { contains (H.live host.old) file ≡ true }
+    ensures live { H.live host.new ≡ H.live host.old }
+    ensures puts { Puts H.told file (host_seen H.faults H.live H.lookups H.world host.old)
+        (host_seen H.faults H.live H.lookups H.world host.new) position piece.now result }
+{
+    host.pwrite(file, piece.as_slice(), position)
+}
+
+/// Writes a piece into a file from an offset on: the host is asked at least once, and until all is taken. It gives the
+/// offset behind what was taken, and how the write stands.
+fn write_at<H: Host>(host: &mut H, file: Handle, position: u64, piece: Bytes) -> (u64, OutputState)
+    requires live { contains (H.live host.old) file ≡ true }
+    ensures live { H.live host.new ≡ H.live host.old }
+    ensures writes { WritesAll H.told file (host_seen H.faults H.live H.lookups H.world host.old) position piece
+        (host_seen H.faults H.live H.lookups H.world host.new) result.0 result.1 }
+{
+    let mut at = position;
+    let mut rest = piece;
+    loop {
+        let count = match put_at(host, file, &rest, at) {
+            Ok(count) => count,
+            Err(error) => return (at, OutputState::stopped(error, rest)),
+        };
+        if count == rest.len() {
+            return (at + count as u64, OutputState::Ready);
+        }
+        if count == 0 {
+            return (at, OutputState::Error(ErrorCode::Io));
+        }
+        at += count as u64;
+        rest.advance(count);
+    }
+}
+
+impl FileOutputStream {
+    /// A stream from an offset on, over a handle of its own of the same file. A write that waits takes no memory of its
+    /// own, so the allocator isn't used.
+    pub fn write_at<H: Host>(
+        _alloc: Global,
+        host: &mut H,
+        file: &File,
+        position: u64,
+    ) -> Result<FileOutputStream, HostError>
+        requires live { contains (H.live host.old) file.now.file ≡ true }
+        ensures cause { HasCause (H.faults host.old) (H.faults host.new) result }
+        ensures live { LiveGot (H.live host.old) (result_map_both (λ s. s.file) (λ e. e) result) (H.live host.new) }
+        ensures logged { LoggedGot (H.live host.old) (H.lookups host.old) LookKind.Dup file.now.file
+            (result_map_both (λ s. s.file) (λ e. e) result) (H.lookups host.new) }
+        ensures position { IfOk result (λ s. s.position ≡ position) }
+        ensures state { IfOk result (λ s. s.state ≡ OutputState.Ready) }
+        ensures told { IsTrue H.told → Told (H.live host.old) (H.live host.new) (H.world host.old) (H.world host.new)
+            (Dup ((H.world host.old).held file.now.file)) (λ s. (H.world host.new).held s.file) result }
+    {
+        let file = host.dup(file.file)?;
+        Ok(FileOutputStream {
+            file,
+            position,
+            state: OutputState::Ready,
+        })
+    }
+
+    /// Asks for a write of these bytes, which `ready` makes. The stream permits it where nothing waits, and of at most
+    /// 65,536 bytes; to ask for another is a trap.
+    pub fn write(&mut self, buf: Bytes) -> Result<(), StreamError>
+        ensures file { self.new.file ≡ self.old.file }
+        ensures position { self.new.position ≡ self.old.position }
+        ensures row { (result, self.new.state) ≡ write_row self.old.state buf }
+    {
+        match &self.state {
+            OutputState::Ready => {
+                if buf.len() > FILE_WRITE_CAPACITY {
+                    return Err(StreamError::Trap(StreamTrap::Budget));
+                }
+                self.state = OutputState::Waiting(buf);
+                Ok(())
+            }
+            OutputState::Waiting(_) => Err(StreamError::Trap(StreamTrap::NotPermitted)),
+            OutputState::Error(_) => Err(StreamError::Trap(StreamTrap::NotPermitted)),
+            OutputState::Closed => Err(StreamError::Closed),
+        }
+    }
+
+    /// Tells once the code that a write was refused with, and makes none.
+    pub fn flush(&mut self) -> Result<(), StreamError>
+        ensures file { self.new.file ≡ self.old.file }
+        ensures position { self.new.position ≡ self.old.position }
+        ensures row { (result, self.new.state) ≡ flush_row self.old.state }
+    {
+        self.state.tell()
+    }
+
+    /// Makes the write that was asked for.
+    pub fn ready<H: Host>(&mut self, host: &mut H) -> Result<(), AllocError>
+        requires live { contains (H.live host.old) self.old.file ≡ true }
+        ensures file { self.new.file ≡ self.old.file }
+        ensures live { H.live host.new ≡ H.live host.old }
+        ensures row { FollowsWrite H.told self.old.file (host_seen H.faults H.live H.lookups H.world host.old) self.old.position
+            (ready_write_row self.old.state) (ready_of result)
+            (host_seen H.faults H.live H.lookups H.world host.new) self.new.position self.new.state }
+    {
+        match mem::replace(&mut self.state, OutputState::Ready) {
+            OutputState::Waiting(piece) => {
+                let (position, state) = write_at(host, self.file, self.position, piece);
+                let made = state.made();
+                self.position = position;
+                self.state = state;
+                made
+            }
+            other => {
+                self.state = other;
+                Ok(())
+            }
+        }
+    }
+
+    /// Makes the write that was asked for, if one was, and then one of these bytes. It tells once the code that a write
+    /// was refused with.
+    pub fn blocking_write_and_flush<H: Host>(
+        &mut self,
+        host: &mut H,
+        buf: Bytes,
+    ) -> Result<(), StreamError>
+        requires live { contains (H.live host.old) self.old.file ≡ true }
+        ensures file { self.new.file ≡ self.old.file }
+        ensures live { H.live host.new ≡ H.live host.old }
+        ensures row { FollowsWrite H.told self.old.file (host_seen H.faults H.live H.lookups H.world host.old) self.old.position
+            (blocking_write_row self.old.state buf) result
+            (host_seen H.faults H.live H.lookups H.world host.new) self.new.position self.new.state }
+    {
+        self.ready(host)?;
+        self.state.tell()?;
+        self.state = OutputState::Waiting(buf);
+        self.ready(host)?;
+        self.state.tell()
+    }
+
+    /// How many bytes `write` takes now. It tells once the code that a write was refused with.
+    pub fn check_write(&mut self) -> Result<usize, StreamError>
+        ensures file { self.new.file ≡ self.old.file }
+        ensures position { self.new.position ≡ self.old.position }
+        ensures row { (result, self.new.state) ≡ check_write_row self.old.state }
+    {
+        self.state.tell()?;
+        match &self.state {
+            OutputState::Ready => Ok(FILE_WRITE_CAPACITY),
+            _ => Ok(0),
+        }
+    }
+
+    /// Gives the stream up: a write that was asked for isn't made.
+    pub fn cancel(&mut self)
+        ensures file { self.new.file ≡ self.old.file }
+        ensures position { self.new.position ≡ self.old.position }
+        ensures state { self.new.state ≡ OutputState.Closed }
+    {
+        self.state = OutputState::Closed;
+    }
+
+    /// Closes the stream's handle.
+    pub fn close<H: Host>(self, host: &mut H)
+        requires live { contains (H.live host.old) self.file ≡ true }
+        ensures faults { H.faults host.new ≡ H.faults host.old }
+        ensures live { H.live host.new ≡ remove (H.live host.old) self.file }
+        ensures logged { H.lookups host.new ≡ H.lookups host.old }
+        ensures told { IsTrue H.told → Told (H.live host.old) (H.live host.new) (H.world host.old) (H.world host.new)
+            Close (λ unit. unit) answered }
+    {
+        host.close(self.file);
+    }
+}
