@@ -272,6 +272,20 @@ impl Holdings {
     }
 }
 
+impl Holdings {
+    /// Fills a range of memory with the next random bytes, as `fill_random` does.
+    pub fn random_into(&mut self, memory: &mut [u8], buf: u32, buf_len: u32)
+        requires inside { IsInMemory memory.old buf buf_len }
+        ensures size { length memory.new ≡ length memory.old }
+        ensures written { memory.new ≡ with_bytes memory.old buf (random_bytes self.old buf_len) }
+        ensures taken { self.new ≡ random_taken self.old buf_len }
+    {
+        let at = buf as usize;
+        let part = &mut memory[at..at + buf_len as usize];
+        self.fill_random(part);
+    }
+}
+
 /// Fills a buffer with bytes that are given round and round, from a place on, and gives the place behind them.
 fn fill_cycled(part: &mut [u8], bytes: &[u8], at: usize) -> usize
     requires within { at < length bytes.now }

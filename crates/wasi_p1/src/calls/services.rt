@@ -117,9 +117,7 @@ impl<H: Host> WasiP1Ctx<H> {
         ensures turn { DoesItsRow H.Host self.old self.new memory.old memory.new (RandomGet buf buf_len) result }
     {
         bytes_at(memory, buf, buf_len)?;
-        let at = buf as usize;
-        let part = &mut memory[at..at + buf_len as usize];
-        self.holdings.fill_random(part);
+        self.holdings.random_into(memory, buf, buf_len);
         Ok(Value::Unit)
     }
 
