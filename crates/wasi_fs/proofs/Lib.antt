@@ -1,3 +1,5 @@
+mod Flagging
 mod Looking
+mod Once
 mod Opening
-mod Setting
+mod Syncing

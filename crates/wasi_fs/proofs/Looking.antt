@@ -2,14 +2,13 @@
 use Rattle.std.proofs.Common.{◌≡◌, inl, inr, ℕ, true, List, [], ◌∷◌, ◌++◌, Result, Ok, Err, refl, sym, ap, subst, ◌∙◌}
 use Rattle.std.specs.Prelude.{◌==◌, Bool, Contains, is_ok, if◌then◌else◌}
 use Rattle.std.specs.FinSet.{contains}
-use Rattle.std.proofs.lemmas.List.Elements.{All-append, All-nil, All-cons, All-weaker, Contains-push, Contains-append_left, Contains-append_right}
+use Rattle.std.proofs.lemmas.List.Elements.{All-append, All-weaker, Contains-append_left, Contains-append_right}
 use Rattle.wasi_host.specs.Agree.{Touches}
-use Rattle.wasi_host.specs.HostCall.{Stat}
 use Rattle.wasi_host.specs.Tree.{Tree, Nodes, node_at}
 use Rattle.wasi_host.specs.ValidTree.{Reached, root, held}
 use Rattle.wasi_host.specs.Answer.{kind_of, metadata_of, stat_answer}
 use Rattle.wasi_host.specs.Refusal.{refusal}
-use Rattle.wasi_host.specs.Meaning.{World, Handles, Told, MeansErr}
+use Rattle.wasi_host.specs.Meaning.{World, Handles, MeansErr}
 use Rattle.wasi_host.specs.declared.errors.ErrorCode.{ErrorCode}
 use Rattle.wasi_host.specs.declared.errors.ErrorCode.TheVariants.{Io}
 use Rattle.wasi_host.specs.declared.errors.HostError.{HostError}
@@ -17,7 +16,7 @@ use Rattle.wasi_host.specs.declared.errors.HostError.TheVariants.{Code, Memory}
 use Rattle.wasi_host.specs.declared.metadata.Metadata.{Metadata}
 use Rattle.wasi_host.proofs.Touching.{no_ends, touches_same}
 use Rattle.wasi_resolve.specs.Resolved.{Resolved}
-use Rattle.wasi_resolve.proofs.Calls.{call_ok, call_err, same_live}
+use Rattle.wasi_resolve.proofs.Calls.{same_live}
 use Rattle.wasi_fs.specs.Calls.{stats, Compares}
 
 -- ---- the metadata of a node
@@ -39,18 +38,6 @@ node_known t n answer = sym (ap (λ m. m.node) (given t n answer))
 pub stat_given : (t : Tree) (n : ℕ) {code : ErrorCode} → stat_answer t n ≡ Err code → ⊥
 unfolding refusal
 stat_given t n refused = (cc)
-
--- ---- one look
-
-module _ {live new : Handles} {w v : World} {n : ℕ} (same : new ≡ live) where
-  pub looked_ok : {metadata : Metadata} → Told live new w v (Stat n) (λ m. m) (Ok metadata)
-      → Resolved live w v (stats w.tree n) (λ m. m) (Ok metadata)
-  looked_ok told =
-      call_ok (n ∷ []) (All-cons (Contains (n ∷ [])) n [] (Contains-push [] n) (All-nil _)) (same_live same) told
-
-  pub looked_err : (e : HostError) → Told {A = Metadata} live new w v (Stat n) (λ m. m) (Err e)
-      → Resolved {A = Metadata} live w v (stats w.tree n) (λ m. m) (Err e)
-  looked_err e told = call_err e (n ∷ []) same told
 
 -- ---- two looks
 

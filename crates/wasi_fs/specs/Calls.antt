@@ -1,30 +1,39 @@
 -- What the calls of descriptors do: what is permitted, then what the resolver or the host does.
-use Rattle.std.specs.Prelude.{ℕ, ◌≡◌, Bool, true, false, ◌==◌, List, [], ◌∷◌, Option, Some, None, Result, Ok, Err, is_ok, if◌then◌else◌}
+use Rattle.std.specs.Prelude.{ℕ, ◌≡◌, ◌+◌, Bool, true, false, ◌==◌, List, [], ◌∷◌, codes, Option, Some, None, Result, Ok, Err, IfErr, is_ok, if◌then◌else◌}
 use Rattle.std.specs.FinSet.{contains, insert}
 use Rattle.wasi_paths.specs.Parts.{has_root}
 use Rattle.wasi_host.specs.Agree.{Touches}
 use Rattle.wasi_host.specs.Tree.{Tree}
+use Rattle.wasi_host.specs.HostCall.{HostCall, Sync, Flags}
 use Rattle.wasi_host.specs.Refusal.{first_row}
-use Rattle.wasi_host.specs.Answer.{stat_answer}
+use Rattle.wasi_host.specs.Answer.{HostAnswer, stat_answer}
 use Rattle.wasi_host.specs.Step.{times_set}
 use Rattle.wasi_host.specs.Steps.{◌>>=◌}
+use Rattle.wasi_host.specs.Lineage.{Traced, Only, Nothing}
 use Rattle.wasi_host.specs.Meaning.{World, Handles, Means}
 use Rattle.wasi_host.specs.declared.errors.ErrorCode.{ErrorCode}
 use Rattle.wasi_host.specs.declared.errors.ErrorCode.TheVariants.{Invalid, NotPermitted}
 use Rattle.wasi_host.specs.declared.errors.HostError.{HostError}
 use Rattle.wasi_host.specs.declared.errors.HostError.TheVariants.{Code, Memory}
 use Rattle.wasi_host.specs.declared.held.Held.{Held}
+use Rattle.wasi_host.specs.declared.lookup.Lookup.{Lookup}
 use Rattle.wasi_host.specs.declared.metadata.Metadata.{Metadata}
+use Rattle.wasi_host.specs.declared.sync_flags.SyncFlags.{SyncFlags}
 use Rattle.wasi_host.specs.declared.system_time.SystemTime.{SystemTime}
+use Rattle.wasi_resolve.specs.Meanings.{ends_by}
+use Rattle.wasi_resolve.specs.Paths.{opened, reading}
 use Rattle.wasi_resolve.specs.PathRequest.{PathRequest, OpenPath, LookPath, TimesPath, Opened}
-use Rattle.wasi_resolve.specs.Resolved.{Meant, Resolved}
+use Rattle.wasi_resolve.specs.Resolved.{Meant, Resolved, call_meant}
 use Rattle.wasi_fs.specs.DescriptorStat.{descriptor_type}
+use Rattle.wasi_fs.specs.OpenFlags.{descriptor_flag_bits, includes}
 use Rattle.wasi_fs.specs.OpenHow.{OpenHow, is_followed, options_of}
+use Rattle.wasi_fs.specs.OpenMode.{mode_bits}
 use Rattle.wasi_fs.specs.Perms.{is_read_only, differ}
 use Rattle.wasi_fs.specs.declared.descriptor.Descriptor.{Descriptor}
 use Rattle.wasi_fs.specs.declared.descriptor.Descriptor.TheVariants as descriptors
 use Rattle.wasi_fs.specs.declared.descriptor_stat.DescriptorType.{DescriptorType}
 use Rattle.wasi_fs.specs.declared.descriptor_stat.DescriptorType.TheVariants as types
+use Rattle.wasi_fs.specs.declared.open_flags.DescriptorFlags.{DescriptorFlags}
 use Rattle.wasi_fs.specs.declared.open_flags.PathFlags.{PathFlags}
 use Rattle.wasi_fs.specs.declared.open_mode.OpenMode.{OpenMode}
 use Rattle.wasi_fs.specs.declared.perms.FsPerms.{FsPerms}
@@ -127,6 +136,34 @@ stats t n = record { starts = n ∷ []; answer = stat_answer t n; stepped = t; e
 abbrev pub sets : Tree → ℕ → Option SystemTime → Option SystemTime → Meant (Unit {0})
 sets t n atime mtime = record { starts = n ∷ []; answer = Ok tt; stepped = times_set t n atime mtime; ends = n ∷ [] }
 
+-- one call of the host at a node
+abbrev pub asks_at : Tree → (call : HostCall) → ℕ → Meant (HostAnswer call)
+asks_at t call n = call_meant t call (n ∷ [])
+
+-- a directory is opened anew for reading, as `.` below it, and that one is come to
+abbrev pub syncs_directory : Tree → ℕ → Meant (Unit {0})
+syncs_directory t d = record {
+  starts = d ∷ [];
+  answer = opened t d (codes ".") reading true >>= (λ held. Ok tt);
+  stepped = t;
+  ends = ends_by (λ held. held.node) (opened t d (codes ".") reading true);
+}
+
+-- what a descriptor stands for is stored
+abbrev pub syncs : Tree → (ℕ → Held) → Descriptor → Meant (Unit {0})
+syncs t held (descriptors.File file) = asks_at t (Sync (held file.file).node) (held file.file).node
+syncs t held (descriptors.Dir dir) = syncs_directory t (held dir.dir).node
+
+-- a file takes no memory
+abbrev pub NeedsNone : {A : Type 0} → Descriptor → Result A HostError → Type 0
+NeedsNone (descriptors.File file) result = IfErr result NotMemory
+NeedsNone (descriptors.Dir dir) result = Unit {0}
+
+-- of a file no name is looked up; of a directory what is looked up begins from it
+abbrev pub LooksAnew : Descriptor → List Lookup → List Lookup → Type 0
+LooksAnew (descriptors.File file) old new = new ≡ old
+LooksAnew (descriptors.Dir dir) old new = Traced (Only dir.dir) Nothing Nothing old new
+
 -- Whether two nodes are one: the tree stays, no node but these two is touched, and both where it is answered; and the
 -- handles that are live stand for what they stood for
 pub record Compares (live : Handles) (w v : World) (m n : ℕ) (result : Result Bool HostError) : Type 0 where
@@ -146,3 +183,33 @@ IsTyped live w v (descriptors.Dir dir) result = (v ≡ w) × (result ≡ Ok type
 IsTyped live w v (descriptors.File file) result =
     Resolved live w v (meant_as (λ metadata. descriptor_type metadata.kind) (stats w.tree (w.held file.file).node))
     (λ kind. kind) result
+
+-- ---- what a descriptor is for
+
+-- the bits of the flags that are set, by rows of whether one is and its bit
+abbrev pub bits_set : List (Bool × ℕ) → ℕ
+bits_set [] = 0
+bits_set (row ∷ rows) = (if row.0 then row.1 else 0) + bits_set rows
+
+-- the bit of the flag that says what may be changed: WRITE of a file, MUTATE_DIRECTORY of a directory
+abbrev pub change_bit : Descriptor → ℕ
+change_bit (descriptors.File file) = 2
+change_bit (descriptors.Dir dir) = 32
+
+-- READ (1) where it was opened for reading, and the flag of changes where it was for writing; and the modes of its handle
+abbrev pub flags_of : Descriptor → SyncFlags → ℕ
+flags_of descriptor modes = bits_set (
+    (includes (mode_bits (open_mode_of descriptor)) 1, 1) ∷
+    (includes (mode_bits (open_mode_of descriptor)) 2, change_bit descriptor) ∷
+    (modes.sync, 4) ∷
+    (modes.dsync, 8) ∷
+    (modes.rsync, 16) ∷
+    [])
+
+-- they are its flags with some modes
+abbrev pub IsFlags : Descriptor → DescriptorFlags → Type 0
+IsFlags descriptor flags = (modes : SyncFlags) × (descriptor_flag_bits flags ≡ flags_of descriptor modes)
+
+-- what the flags of a descriptor mean, whose handle stands for a node
+abbrev pub tells_flags : Tree → ℕ → Descriptor → Meant ℕ
+tells_flags t n descriptor = meant_as (flags_of descriptor) (asks_at t (Flags n) n)

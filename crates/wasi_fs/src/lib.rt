@@ -4,12 +4,14 @@
 mod descriptor;
 mod descriptor_stat;
 mod dir;
+mod files;
 mod looks;
 mod metadata_hash;
 mod open_flags;
 mod open_how;
 mod open_mode;
 mod perms;
+mod syncs;
 mod times;
 mod two_places;
 

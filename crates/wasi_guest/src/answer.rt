@@ -8,6 +8,8 @@ use crate::filestat::Filestat;
 pub enum TrapKind {
     /// A range leaves the guest's memory, or a record in it isn't aligned.
     Pointer,
+    /// There would be more live descriptors than the resource table may have entries.
+    TableFull,
     /// The guest ended with a status of 126 or more.
     ExitStatus,
 }

@@ -8,18 +8,19 @@ use Rattle.std.proofs.lemmas.List.{length-set, get_or_push}
 use Rattle.std.proofs.lemmas.List.Elements.{Contains-push, Contains-push_cases}
 use Rattle.wasi_paths.specs.Text.{is_dot_text}
 use Rattle.wasi_host.specs.Options.{Options}
-use Rattle.wasi_host.specs.Tree.{Tree, Node, Nodes, Names, Content, node_at, next_of, names_of, child, hold_one, is_link, is_directory, links_of, stray}
+use Rattle.wasi_host.specs.Tree.{Tree, Node, Nodes, Names, Content, node_at, next_of, names_of, bytes_of, child, hold_one, is_link, is_directory, links_of, stray}
 use Rattle.wasi_host.specs.ValidTree.{Reached, root, held}
 use Rattle.wasi_host.specs.Below.{is_within, is_below}
 use Rattle.wasi_host.specs.Agree.{IsClosed, AgreeOn, IsMade, OrMade}
-use Rattle.wasi_host.specs.HostCall.{HostCall, OpenAt, StatAt, ReadLinkAt, MakeDirAt, SymlinkAt, LinkAt, RenameAt, UnlinkAt, RemoveDirAt, TimesAt, Access, Stat, SetTimes, Pread, Pwrite, ListDir, Dup, Close}
+use Rattle.wasi_host.specs.HostCall.{HostCall, OpenAt, StatAt, ReadLinkAt, MakeDirAt, SymlinkAt, LinkAt, RenameAt, UnlinkAt, RemoveDirAt, TimesAt, Access, Stat, SetTimes, Pread, Pwrite, Append, SetSize, Sync, Advise, Flags, ListDir, Dup, Close}
 use Rattle.wasi_host.specs.Refusal.{refusal, passes, holds, finds_above, is_bare}
-use Rattle.wasi_host.specs.Step.{step, open_step, opened_step, unlink_step, remove_step, rename_step, moved_step, link_step, added_step, times_step, times_set, times_set_if, dropped_step, node_made, file_cut, name_dropped, is_cut, with_name, without_name, with_times, with_nodes, new_file, new_directory, new_link, name_lost, name_taken, name_moved, one_name_more, one_name_less, made_gone, write_step}
-use Rattle.wasi_host.specs.Answer.{kind_of, reached, or_next, unless, text_held, link_text, listed, listing}
+use Rattle.wasi_host.specs.Step.{step, open_step, opened_step, unlink_step, remove_step, rename_step, moved_step, link_step, added_step, times_step, times_set, times_set_if, dropped_step, node_made, file_cut, name_dropped, is_cut, with_name, without_name, with_times, with_nodes, new_file, new_directory, new_link, name_lost, name_taken, name_moved, one_name_more, one_name_less, made_gone, content_changed, other_bytes, with_size, with_piece, append_step, write_step, starts_of}
+use Rattle.wasi_host.specs.Answer.{kind_of, reached, or_next, unless, metadata_of, text_held, link_text, listed, listing, host_answer}
 use Rattle.wasi_host.specs.declared.errors.ErrorCode.{ErrorCode}
 use Rattle.wasi_host.specs.declared.system_time.SystemTime.{SystemTime}
 use Rattle.wasi_host.proofs.EntryLemmas.{get_entry}
-use Rattle.wasi_host.proofs.Leaving.{LeavesNear, next_of-moved, next_of-dropped_step, Contains-here, named_in, no_name, made_next, next_is_made, emptied, put_into, node_put, starts_of}
+use Rattle.wasi_host.proofs.Changes.{node_at-past}
+use Rattle.wasi_host.proofs.Leaving.{LeavesNear, next_of-moved, next_of-dropped_step, Contains-here, named_in, no_name, made_next, next_is_made, rewritten, node_put}
 
 map_same : {X Y : Type 0} (f g : X → Y) (xs : List X)
     → ((i : ℕ) (d : X) → i < length xs → f (get_or xs i d) ≡ g (get_or xs i d)) → map f xs ≡ map g xs
@@ -318,6 +319,11 @@ module _ {Seen : ℕ → Type 0} {t u : Tree} (closed : IsClosed Seen t) (agree 
   refused_same (SetTimes n atime mtime) from = refl
   refused_same (Pread file offset n) from = rw (agree.nodes file.node (from file.node (Contains-push [] file.node))) refl
   refused_same (Pwrite file offset piece) from = refl
+  refused_same (Append file piece) from = rw (agree.nodes file.node (from file.node (Contains-push [] file.node))) refl
+  refused_same (SetSize file size) from = refl
+  refused_same (Sync n) from = refl
+  refused_same (Advise n offset length advice) from = refl
+  refused_same (Flags n) from = refl
   refused_same (ListDir stands) from = rw (agree.nodes stands.node (from stands.node (Contains-push [] stands.node))) refl
   refused_same (Dup copied) from = refl
   refused_same Close from = refl
@@ -351,6 +357,51 @@ module _ {Seen : ℕ → Type 0} {t u : Tree} (closed : IsClosed Seen t) (agree 
   pub reached_same : (d : ℕ) (name : List ℕ) → Seen d → reached t d name ≡ reached u d name
   unfolding reached
   reached_same d name seen = rw (child_same d name seen, agree.next) refl
+
+  -- what is told of the node under a name is alike, and of a number past the nodes that of none
+  told_same : (d : ℕ) (name : List ℕ) → Seen d → metadata_of t (reached t d name) ≡ metadata_of u (reached u d name)
+  unfolding metadata_of reached
+  told_same d name seen = rw (← child_same d name seen) (by (child t d name) refl)
+    where
+      by : (c : Option ℕ) → child t d name ≡ c → metadata_of t (or_next c (next_of t)) ≡ metadata_of u (or_next c (next_of u))
+      by None is =
+          rw (node_at-past t (next_of t) (omega arith), node_at-past u (next_of u) (omega arith), agree.next) refl
+      by (Some n) is = rw (agree.nodes n (child_seen closed d n name seen is)) refl
+
+  -- a call is answered alike
+  pub answer_same : (call : HostCall) → ((n : ℕ) → Contains (starts_of call) n → Seen n)
+      → host_answer t call ≡ host_answer u call
+  unfolding metadata_of
+  answer_same (OpenAt d name o) from =
+      rw (refused_same (OpenAt d name o) from, reached_same d name (from d (Contains-here d []))) refl
+  answer_same (StatAt d name) from =
+      ap (λ c. unless c (metadata_of t (reached t d name))) (refused_same (StatAt d name) from)
+      ∙ ap (unless (refusal u (StatAt d name))) (told_same d name (from d (Contains-here d [])))
+  answer_same (ReadLinkAt d name) from =
+      rw (refused_same (ReadLinkAt d name) from, text_same d name (from d (Contains-here d []))) refl
+  answer_same (MakeDirAt d name) from = rw (refused_same (MakeDirAt d name) from) refl
+  answer_same (SymlinkAt text d name) from = rw (refused_same (SymlinkAt text d name) from) refl
+  answer_same (LinkAt old old_name new new_name) from = rw (refused_same (LinkAt old old_name new new_name) from) refl
+  answer_same (RenameAt old old_name new new_name requires_dir) from =
+      rw (refused_same (RenameAt old old_name new new_name requires_dir) from) refl
+  answer_same (UnlinkAt d name) from = rw (refused_same (UnlinkAt d name) from) refl
+  answer_same (RemoveDirAt d name) from = rw (refused_same (RemoveDirAt d name) from) refl
+  answer_same (TimesAt d name atime mtime) from = rw (refused_same (TimesAt d name atime mtime) from) refl
+  answer_same (Access d) from = rw (refused_same (Access d) from) refl
+  answer_same (Stat n) from = rw (refused_same (Stat n) from, agree.nodes n (from n (Contains-here n []))) refl
+  answer_same (SetTimes n atime mtime) from = rw (refused_same (SetTimes n atime mtime) from) refl
+  answer_same (Pread file offset n) from =
+      rw (refused_same (Pread file offset n) from, agree.nodes file.node (from file.node (Contains-here file.node []))) refl
+  answer_same (Pwrite file offset piece) from = rw (refused_same (Pwrite file offset piece) from) refl
+  answer_same (Append file piece) from = rw (refused_same (Append file piece) from) refl
+  answer_same (SetSize file size) from = rw (refused_same (SetSize file size) from) refl
+  answer_same (Sync n) from = rw (refused_same (Sync n) from) refl
+  answer_same (Advise n offset length advice) from = rw (refused_same (Advise n offset length advice) from) refl
+  answer_same (Flags n) from = rw (refused_same (Flags n) from) refl
+  answer_same (ListDir stands) from =
+      rw (refused_same (ListDir stands) from, listing_same stands.node (from stands.node (Contains-here stands.node []))) refl
+  answer_same (Dup copied) from = refl
+  answer_same Close from = refl
 
   pub same_agree : AgreeOn (OrMade Seen t t) t u
   same_agree = record { nodes = λ n has. agree.nodes n (none_made Seen has); next = agree.next; limits = agree.limits }
@@ -401,16 +452,27 @@ module _ {Seen : ℕ → Type 0} {t u : Tree} (closed : IsClosed Seen t) (agree 
       unmade_agree t (length-set (slice_set t.nodes d x) n y ∙ length-set t.nodes d x)
       (put_same one n y (second (node_at u n)) worked worked' (ap second (agree.nodes n has)))
 
-  cut_agree : (m : ℕ) → Seen m → AgreeOn (OrMade Seen t (file_cut t m)) (file_cut t m) (file_cut u m)
-  cut_agree m seen = put_agree m emptied (with_nodes t.worked (m ∷ [])) (with_nodes u.worked (m ∷ [])) seen
+  -- a file gets the same bytes
+  bytes_agree : (m : ℕ) (change : List ℕ → List ℕ) → Seen m
+      → AgreeOn (OrMade Seen t (content_changed t m (other_bytes change))) (content_changed t m (other_bytes change))
+      (content_changed u m (other_bytes change))
+  bytes_agree m change seen =
+      put_agree m (rewritten change) (with_nodes t.worked (m ∷ [])) (with_nodes u.worked (m ∷ [])) seen
 
   write_agree : (m offset : ℕ) (piece : List ℕ) → Seen m
       → AgreeOn (OrMade Seen t (write_step t m offset piece)) (write_step t m offset piece)
       (write_step u m offset piece)
   unfolding write_step
   write_agree m offset [] seen = same_agree
-  write_agree m offset (byte ∷ bytes) seen =
-      put_agree m (put_into offset (byte ∷ bytes)) (with_nodes t.worked (m ∷ [])) (with_nodes u.worked (m ∷ [])) seen
+  write_agree m offset (byte ∷ bytes) seen = bytes_agree m (λ old. with_piece old offset (byte ∷ bytes)) seen
+
+  append_agree : (m : ℕ) (piece : List ℕ) → Seen m
+      → AgreeOn (OrMade Seen t (append_step t m piece)) (append_step t m piece) (append_step u m piece)
+  append_agree m piece seen =
+      let step : Tree = append_step t m piece in
+      subst (λ (x : Node). AgreeOn (OrMade Seen t step) step (write_step u m (length (bytes_of x.content)) piece))
+      (agree.nodes m seen)
+      (write_agree m (length (bytes_of (node_at t m).content)) piece seen)
 
   pub opened_agree : (d : ℕ) (name : List ℕ) (o : Options) → Seen d
       → AgreeOn (OrMade Seen t (open_step t d name o)) (open_step t d name o) (open_step u d name o)
@@ -419,7 +481,7 @@ module _ {Seen : ℕ → Type 0} {t u : Tree} (closed : IsClosed Seen t) (agree 
     where
       cut_or : (n : ℕ) (cut : Bool) → Seen n
           → AgreeOn (OrMade Seen t (cond cut (file_cut t n) t)) (cond cut (file_cut t n) t) (cond cut (file_cut u n) u)
-      cut_or n true has = cut_agree n has
+      cut_or n true has = bytes_agree n (with_size 0) has
       cut_or n false has = same_agree
 
       by : (c : Option ℕ) → child t d name ≡ c
@@ -546,6 +608,12 @@ module _ {Seen : ℕ → Type 0} {t u : Tree} (closed : IsClosed Seen t) (agree 
   step_agree (SetTimes n atime mtime) from = times_agree n atime mtime (from n (Contains-push [] n))
   step_agree (Pread file offset n) from = same_agree
   step_agree (Pwrite file offset piece) from = write_agree file.node offset piece (from file.node (Contains-push [] file.node))
+  step_agree (Append file piece) from = append_agree file.node piece (from file.node (Contains-push [] file.node))
+  step_agree (SetSize file size) from =
+      bytes_agree file.node (with_size size) (from file.node (Contains-push [] file.node))
+  step_agree (Sync n) from = same_agree
+  step_agree (Advise n offset length advice) from = same_agree
+  step_agree (Flags n) from = same_agree
   step_agree (ListDir stands) from = same_agree
   step_agree (Dup copied) from = same_agree
   step_agree Close from = same_agree

@@ -1,5 +1,5 @@
 -- What a step leaves of any tree: which nodes the names hold after it.
-use Rattle.std.proofs.Common.{ℕ, zero, suc, ◌+◌, ◌≤◌, ◌≡◌, ◌⊎◌, inl, inr, true, false, cond, Bool, List, [], ◌∷◌, ◌++◌, refl, ap, sym, ◌∙◌, subst, arith, Option, Some, None, slice_set, slice_index_or, length-append}
+use Rattle.std.proofs.Common.{length, ℕ, zero, suc, ◌+◌, ◌≤◌, ◌≡◌, ◌⊎◌, inl, inr, true, false, cond, Bool, List, [], ◌∷◌, ◌++◌, refl, ap, sym, ◌∙◌, subst, arith, Option, Some, None, slice_set, slice_index_or, length-append}
 use Rattle.std.specs.Prelude.{Contains}
 use Rattle.std.specs.Cmp.Lexicographic.{slice_cmp}
 use Rattle.std.specs.Ordering.{nat_cmp, eq_by_cmp}
@@ -8,12 +8,12 @@ use Rattle.std.proofs.lemmas.List.{length-set}
 use Rattle.std.specs.FinMap as maps
 use Rattle.wasi_paths.specs.Text.{is_dot_text}
 use Rattle.wasi_host.specs.Options.{Options}
-use Rattle.wasi_host.specs.Tree.{Tree, Node, Nodes, Names, Content, File, Directory, Link, node_at, next_of, names_of, child, hold_one, stray}
+use Rattle.wasi_host.specs.Tree.{Tree, Node, Nodes, Names, Content, File, Directory, Link, node_at, next_of, names_of, bytes_of, child, hold_one, stray}
 use Rattle.wasi_host.specs.ValidTree.{Reached, root, held}
 use Rattle.wasi_host.specs.Agree.{IsMade}
-use Rattle.wasi_host.specs.HostCall.{HostCall, OpenAt, StatAt, ReadLinkAt, MakeDirAt, SymlinkAt, LinkAt, RenameAt, UnlinkAt, RemoveDirAt, TimesAt, Access, Stat, SetTimes, Pread, Pwrite, ListDir, Dup, Close}
+use Rattle.wasi_host.specs.HostCall.{HostCall, OpenAt, StatAt, ReadLinkAt, MakeDirAt, SymlinkAt, LinkAt, RenameAt, UnlinkAt, RemoveDirAt, TimesAt, Access, Stat, SetTimes, Pread, Pwrite, Append, SetSize, Sync, Advise, Flags, ListDir, Dup, Close}
 use Rattle.wasi_host.specs.declared.system_time.SystemTime.{SystemTime}
-use Rattle.wasi_host.specs.Step.{step, open_step, opened_step, unlink_step, remove_step, rename_step, moved_step, link_step, added_step, times_step, times_set, times_set_if, dropped_step, node_made, file_cut, name_dropped, is_cut, with_name, without_name, with_times, with_nodes, new_file, new_directory, new_link, no_bytes, name_added, name_lost, name_taken, name_given, name_moved, one_name_more, one_name_less, made_gone, piece_in, write_step}
+use Rattle.wasi_host.specs.Step.{step, open_step, opened_step, unlink_step, remove_step, rename_step, moved_step, link_step, added_step, times_step, times_set, times_set_if, dropped_step, node_made, file_cut, name_dropped, is_cut, with_name, without_name, with_times, with_nodes, new_file, new_directory, new_link, with_content, content_changed, other_bytes, with_size, with_piece, size_set, append_step, starts_of, name_added, name_lost, name_taken, name_given, name_moved, one_name_more, one_name_less, made_gone, write_step}
 
 -- the node that a name of a directory holds
 abbrev pub named_in : Node → List ℕ → Option ℕ
@@ -107,25 +107,6 @@ node_made_leaves t d name node bare = record {
   grows = omega (arith, made_next t d name node);
 }
 
--- a node without its bytes, which has the names that it had
-abbrev pub emptied : Node → Node
-emptied node = record node { content = no_bytes node.content }
-
-uncut_names : (content : Content) → names_of (no_bytes content) ≡ names_of content
-uncut_names (File bytes links) = refl
-uncut_names (Directory names gone) = refl
-uncut_names (Link text links) = refl
-
--- a node with a piece of bytes put into it, which has them too
-abbrev pub put_into : ℕ → List ℕ → Node → Node
-put_into offset piece node = record node { content = piece_in node.content offset piece }
-
-put_names : (offset : ℕ) (piece : List ℕ) (content : Content)
-    → names_of (piece_in content offset piece) ≡ names_of content
-put_names offset piece (File bytes links) = refl
-put_names offset piece (Directory names gone) = refl
-put_names offset piece (Link text links) = refl
-
 -- a node in the place of another
 abbrev pub node_put : Tree → ℕ → Node → Nodes → Tree
 node_put t n node worked = record t { nodes = slice_set t.nodes n node; worked = worked }
@@ -144,23 +125,36 @@ put_leaves t n node worked same = record {
   grows = omega (arith, length-set t.nodes n node);
 }
 
-cut_leaves : (t : Tree) (n : ℕ) → Leaves t (file_cut t n)
-cut_leaves t n =
-    put_leaves t n (emptied (node_at t n)) (with_nodes t.worked (n ∷ [])) (uncut_names (node_at t n).content)
+-- what holds of each kind of content
+pub each_kind : (P : Content → Type 0) → ((bytes : List ℕ) (links : ℕ) → P (File bytes links))
+    → ((names : Names) (gone : Bool) → P (Directory names gone)) → ((text : List ℕ) (links : ℕ) → P (Link text links))
+    → (content : Content) → P content
+each_kind P file directory link (File bytes links) = file bytes links
+each_kind P file directory link (Directory names gone) = directory names gone
+each_kind P file directory link (Link text links) = link text links
+
+-- a node with other bytes, which has the names that it had
+abbrev pub rewritten : (List ℕ → List ℕ) → Node → Node
+rewritten change node = with_content node (other_bytes change)
+
+bytes_leave : (t : Tree) (n : ℕ) (change : List ℕ → List ℕ) → Leaves t (content_changed t n (other_bytes change))
+bytes_leave t n change =
+    put_leaves t n (rewritten change (node_at t n)) (with_nodes t.worked (n ∷ []))
+    (each_kind (λ c. names_of (other_bytes change c) ≡ names_of c) (λ _ _. refl) (λ _ _. refl) (λ _ _. refl)
+    (node_at t n).content)
 
 write_leaves : (t : Tree) (n offset : ℕ) (piece : List ℕ) → Leaves t (write_step t n offset piece)
 unfolding write_step
 write_leaves t n offset [] = same_leaves t
 write_leaves t n offset (byte ∷ bytes) =
-    put_leaves t n (put_into offset (byte ∷ bytes) (node_at t n)) (with_nodes t.worked (n ∷ []))
-    (put_names offset (byte ∷ bytes) (node_at t n).content)
+    bytes_leave t n (λ old. with_piece old offset (byte ∷ bytes))
 
 opened_leaves : (t : Tree) (d : ℕ) (name : List ℕ) (o : Options) (c : Option ℕ) → Leaves t (opened_step t d name o c)
 opened_leaves t d name o None = node_made_leaves t d name new_file refl
 opened_leaves t d name o (Some n) = by (is_cut o (node_at t n).content)
   where
     by : (cut : Bool) → Leaves t (cond cut (file_cut t n) t)
-    by true = cut_leaves t n
+    by true = bytes_leave t n (with_size 0)
     by false = same_leaves t
 
 -- a directory without a name has the others
@@ -173,14 +167,6 @@ without_name_names node name q n has =
     by : (same : Bool) → cond same None (named_in node q) ≡ Some n → named_in node q ≡ Some n
     by true none = absurd (cc)
     by false is = is
-
--- what holds of each kind of content
-pub each_kind : (P : Content → Type 0) → ((bytes : List ℕ) (links : ℕ) → P (File bytes links))
-    → ((names : Names) (gone : Bool) → P (Directory names gone)) → ((text : List ℕ) (links : ℕ) → P (Link text links))
-    → (content : Content) → P content
-each_kind P file directory link (File bytes links) = file bytes links
-each_kind P file directory link (Directory names gone) = directory names gone
-each_kind P file directory link (Link text links) = link text links
 
 pub fewer_names : (content : Content) → names_of (one_name_less content) ≡ names_of content
 fewer_names = each_kind (λ c. names_of (one_name_less c) ≡ names_of c) (λ _ _. refl) (λ _ _. refl) (λ _ _. refl)
@@ -369,26 +355,31 @@ renamed_near t {Near} old old_name new new_name near =
         (dropped_leaves t new new_name name_lost (child t new new_name) lost_names)
         (near n is)
 
--- the nodes of the handles of a call
-abbrev pub starts_of : HostCall → List ℕ
-starts_of (OpenAt d name o) = d ∷ []
-starts_of (StatAt d name) = d ∷ []
-starts_of (ReadLinkAt d name) = d ∷ []
-starts_of (MakeDirAt d name) = d ∷ []
-starts_of (SymlinkAt text d name) = d ∷ []
-starts_of (LinkAt old old_name new new_name) = old ∷ new ∷ []
-starts_of (RenameAt old old_name new new_name requires_dir) = old ∷ new ∷ []
-starts_of (UnlinkAt d name) = d ∷ []
-starts_of (RemoveDirAt d name) = d ∷ []
-starts_of (TimesAt d name atime mtime) = d ∷ []
-starts_of (Access d) = d ∷ []
-starts_of (Stat n) = n ∷ []
-starts_of (SetTimes n atime mtime) = n ∷ []
-starts_of (Pread file offset n) = file.node ∷ []
-starts_of (Pwrite file offset piece) = file.node ∷ []
-starts_of (ListDir stands) = stands.node ∷ []
-starts_of (Dup stands) = stands.node ∷ []
-starts_of Close = []
+-- a call starts at some node, or leaves every tree
+pub starts_or_stays : (call : HostCall) → ((n : ℕ) × Contains (starts_of call) n) ⊎ ((t : Tree) → step t call ≡ t)
+starts_or_stays (OpenAt d name o) = inl (d, Contains-here d [])
+starts_or_stays (StatAt d name) = inl (d, Contains-here d [])
+starts_or_stays (ReadLinkAt d name) = inl (d, Contains-here d [])
+starts_or_stays (MakeDirAt d name) = inl (d, Contains-here d [])
+starts_or_stays (SymlinkAt text d name) = inl (d, Contains-here d [])
+starts_or_stays (LinkAt old old_name new new_name) = inl (old, Contains-here old (new ∷ []))
+starts_or_stays (RenameAt old old_name new new_name requires_dir) = inl (old, Contains-here old (new ∷ []))
+starts_or_stays (UnlinkAt d name) = inl (d, Contains-here d [])
+starts_or_stays (RemoveDirAt d name) = inl (d, Contains-here d [])
+starts_or_stays (TimesAt d name atime mtime) = inl (d, Contains-here d [])
+starts_or_stays (Access d) = inl (d, Contains-here d [])
+starts_or_stays (Stat n) = inl (n, Contains-here n [])
+starts_or_stays (SetTimes n atime mtime) = inl (n, Contains-here n [])
+starts_or_stays (Pread file offset n) = inl (file.node, Contains-here file.node [])
+starts_or_stays (Pwrite file offset piece) = inl (file.node, Contains-here file.node [])
+starts_or_stays (Append file piece) = inl (file.node, Contains-here file.node [])
+starts_or_stays (SetSize file size) = inl (file.node, Contains-here file.node [])
+starts_or_stays (Sync n) = inl (n, Contains-here n [])
+starts_or_stays (Advise n offset length advice) = inl (n, Contains-here n [])
+starts_or_stays (Flags n) = inl (n, Contains-here n [])
+starts_or_stays (ListDir stands) = inl (stands.node, Contains-here stands.node [])
+starts_or_stays (Dup stands) = inl (stands.node, Contains-here stands.node [])
+starts_or_stays Close = inr (λ t. refl)
 
 -- the step of any call leaves the names so, and gives up no number
 pub step_leaves : (t : Tree) (call : HostCall) → LeavesNear t (starts_of call) (step t call)
@@ -410,6 +401,12 @@ step_leaves t (Stat n) = stays_near
 step_leaves t (SetTimes n atime mtime) = leaves_near (times_leaves t n atime mtime)
 step_leaves t (Pread file offset n) = stays_near
 step_leaves t (Pwrite file offset piece) = leaves_near (write_leaves t file.node offset piece)
+step_leaves t (Append file piece) =
+    leaves_near (write_leaves t file.node (length (bytes_of (node_at t file.node).content)) piece)
+step_leaves t (SetSize file size) = leaves_near (bytes_leave t file.node (with_size size))
+step_leaves t (Sync n) = stays_near
+step_leaves t (Advise n offset length advice) = stays_near
+step_leaves t (Flags n) = stays_near
 step_leaves t (ListDir stands) = stays_near
 step_leaves t (Dup stands) = stays_near
 step_leaves t Close = stays_near

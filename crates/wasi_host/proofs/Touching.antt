@@ -11,11 +11,11 @@ use Rattle.wasi_host.specs.Options.{Options}
 use Rattle.wasi_host.specs.Tree.{Tree, Nodes, next_of, child}
 use Rattle.wasi_host.specs.ValidTree.{Reached, root, held}
 use Rattle.wasi_host.specs.Agree.{IsMade, OrMade, Touches}
-use Rattle.wasi_host.specs.HostCall.{HostCall, OpenAt, StatAt, ReadLinkAt, MakeDirAt, SymlinkAt, LinkAt, RenameAt, UnlinkAt, RemoveDirAt, TimesAt, Access, Stat, SetTimes, Pread, Pwrite, ListDir, Dup, Close}
+use Rattle.wasi_host.specs.HostCall.{HostCall, OpenAt, StatAt, ReadLinkAt, MakeDirAt, SymlinkAt, LinkAt, RenameAt, UnlinkAt, RemoveDirAt, TimesAt, Access, Stat, SetTimes, Pread, Pwrite, Append, SetSize, Sync, Advise, Flags, ListDir, Dup, Close}
 use Rattle.wasi_host.specs.Answer.{reached, or_next}
-use Rattle.wasi_host.specs.Step.{step, open_step, opened_step, directory_made, link_made, new_file, new_directory, new_link, with_nodes, found_under, found_by, made_by}
+use Rattle.wasi_host.specs.Step.{step, open_step, opened_step, directory_made, link_made, new_file, new_directory, new_link, with_nodes, found_under, found_by, made_by, starts_of}
 use Rattle.wasi_host.proofs.Chain.{contains-with_nodes}
-use Rattle.wasi_host.proofs.Leaving.{next_is_made, child_near, Contains-here, starts_of}
+use Rattle.wasi_host.proofs.Leaving.{next_is_made, child_near, Contains-here}
 
 pub or_right : (a b : Bool) → b ≡ true → (a || b) ≡ true
 or_right true b is = refl
@@ -141,6 +141,11 @@ found_near t (Stat m) n has = root n has
 found_near t (SetTimes m atime mtime) n has = root n has
 found_near t (Pread file offset m) n has = root n has
 found_near t (Pwrite file offset piece) n has = root n has
+found_near t (Append file piece) n has = root n has
+found_near t (SetSize file size) n has = root n has
+found_near t (Sync m) n has = root n has
+found_near t (Advise m offset length advice) n has = root n has
+found_near t (Flags m) n has = root n has
 found_near t (ListDir stands) n has = root n has
 found_near t (Dup stands) n has = none_in has
 found_near t Close n has = none_in has
@@ -171,6 +176,11 @@ made_new t (Stat m) n has = none_in has
 made_new t (SetTimes m atime mtime) n has = none_in has
 made_new t (Pread file offset m) n has = none_in has
 made_new t (Pwrite file offset piece) n has = none_in has
+made_new t (Append file piece) n has = none_in has
+made_new t (SetSize file size) n has = none_in has
+made_new t (Sync m) n has = none_in has
+made_new t (Advise m offset length advice) n has = none_in has
+made_new t (Flags m) n has = none_in has
 made_new t (ListDir stands) n has = none_in has
 made_new t (Dup stands) n has = none_in has
 made_new t Close n has = none_in has

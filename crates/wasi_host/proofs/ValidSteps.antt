@@ -7,13 +7,13 @@ use Rattle.std.proofs.lemmas.Bool.{true≢false, cases_eq, cases_lt}
 use Rattle.std.proofs.lemmas.List.{set_past}
 use Rattle.std.proofs.lemmas.List.Sums.{sum_by-set}
 use Rattle.wasi_paths.specs.Text.{is_dot_text, is_name_text, is_long, IsName}
-use Rattle.wasi_host.specs.Tree.{Tree, Node, Nodes, Content, File, Directory, Link, node_at, next_of, names_of, is_file, is_directory, is_gone, links_of, stray, child, hold_one}
+use Rattle.wasi_host.specs.Tree.{Tree, Node, Nodes, Content, File, Directory, Link, node_at, next_of, names_of, bytes_of, is_file, is_directory, is_gone, links_of, stray, child, hold_one}
 use Rattle.wasi_host.specs.Below.{is_below}
 use Rattle.wasi_host.specs.ValidTree.{are_bytes, has_nul, is_entry_name, names_for, name_count, Reached, IsValidContent, IsValidTree}
 use Rattle.wasi_host.specs.Options.{Options}
-use Rattle.wasi_host.specs.HostCall.{HostCall, OpenAt, StatAt, ReadLinkAt, MakeDirAt, SymlinkAt, LinkAt, RenameAt, UnlinkAt, RemoveDirAt, TimesAt, Access, Stat, SetTimes, Pread, Pwrite, ListDir, Dup, Close, CanBeAsked}
-use Rattle.wasi_host.specs.Refusal.{refusal, first_row, directory_row, name_rows, both_rows, growing_rows, making_rows, linking_rows, source_rows, naming_rows, loop_rows, moving_rows, renaming_rows, text_rows}
-use Rattle.wasi_host.specs.Step.{with_nodes, directory_made, link_made, no_bytes, is_cut, file_cut, opened_step, open_step, piece_in, bytes_put, write_step, one_name_less, made_gone, dropped_step, unlink_step, remove_step, rename_step, moved_step, name_lost, name_moved, link_step, added_step, with_times, times_set, times_set_if, times_step, step, with_piece}
+use Rattle.wasi_host.specs.HostCall.{HostCall, OpenAt, StatAt, ReadLinkAt, MakeDirAt, SymlinkAt, LinkAt, RenameAt, UnlinkAt, RemoveDirAt, TimesAt, Access, Stat, SetTimes, Pread, Pwrite, Append, SetSize, Sync, Advise, Flags, ListDir, Dup, Close, CanBeAsked}
+use Rattle.wasi_host.specs.Refusal.{refusal, first_row, is_too_large, directory_row, name_rows, both_rows, growing_rows, making_rows, linking_rows, source_rows, naming_rows, loop_rows, moving_rows, renaming_rows, text_rows}
+use Rattle.wasi_host.specs.Step.{with_nodes, directory_made, link_made, with_content, content_changed, other_bytes, with_size, size_set, is_cut, file_cut, opened_step, open_step, bytes_put, write_step, one_name_less, made_gone, dropped_step, unlink_step, remove_step, rename_step, moved_step, name_lost, name_moved, link_step, added_step, with_times, times_set, times_set_if, times_step, step, with_piece}
 use Rattle.wasi_host.specs.declared.errors.ErrorCode.{ErrorCode}
 use Rattle.wasi_host.specs.declared.errors.ErrorCode.TheVariants.{Exist}
 use Rattle.wasi_host.specs.declared.held.Held.{Held}
@@ -21,7 +21,7 @@ use Rattle.wasi_host.specs.declared.system_time.SystemTime.{SystemTime}
 use Rattle.wasi_host.specs.Numbers.{largest_file, longest_link}
 use Rattle.wasi_host.proofs.Changes as changes
 use Rattle.wasi_host.proofs.Changes.{changed, next_of-changed, directory_within}
-use Rattle.wasi_host.proofs.Pieces.{length-with_piece, are_bytes-with_piece}
+use Rattle.wasi_host.proofs.Pieces.{length-with_piece, are_bytes-with_piece, length-with_size, are_bytes-with_size}
 use Rattle.wasi_host.proofs.EntryLemmas.{times, nat_eq-refl}
 use Rattle.wasi_host.proofs.Carrying.{Carries, content_still, valid_still, reached_still, named_within}
 use Rattle.wasi_host.proofs.Making.{Lacks, valid-file, valid-directory, valid-link}
@@ -40,30 +40,22 @@ pub record HasBytes (old new : Content) : Type 0 where
   pub directory : is_directory new ≡ is_directory old
   pub gone : is_gone new ≡ is_gone old
 
-pub has_no_bytes : (content : Content) → HasBytes content (no_bytes content)
-has_no_bytes (File bytes links) = record { names = refl; file = refl; directory = refl; gone = refl }
-has_no_bytes (Directory names gone) = record { names = refl; file = refl; directory = refl; gone = refl }
-has_no_bytes (Link text links) = record { names = refl; file = refl; directory = refl; gone = refl }
+pub has_bytes : (change : List ℕ → List ℕ) (content : Content) → HasBytes content (other_bytes change content)
+has_bytes change (File bytes links) = record { names = refl; file = refl; directory = refl; gone = refl }
+has_bytes change (Directory names gone) = record { names = refl; file = refl; directory = refl; gone = refl }
+has_bytes change (Link text links) = record { names = refl; file = refl; directory = refl; gone = refl }
 
-pub has_piece : (content : Content) (offset : ℕ) (piece : List ℕ) → HasBytes content (piece_in content offset piece)
-has_piece (File bytes links) offset piece = record { names = refl; file = refl; directory = refl; gone = refl }
-has_piece (Directory names gone) offset piece = record { names = refl; file = refl; directory = refl; gone = refl }
-has_piece (Link text links) offset piece = record { names = refl; file = refl; directory = refl; gone = refl }
+-- a change that makes of a file's bytes a file's bytes
+FitsFile : (List ℕ → List ℕ) → Type 0
+FitsFile change = (bytes : List ℕ) → are_bytes bytes ≡ true → length bytes ≤ largest_file
+    → (are_bytes (change bytes) ≡ true) × (length (change bytes) ≤ largest_file)
 
-valid-no_bytes : (t : Tree) (n : ℕ) (content : Content) → IsValidContent t n content
-    → IsValidContent t n (no_bytes content)
-valid-no_bytes t n (File bytes links) v = (refl, omega arith, v.2, v.3)
-valid-no_bytes t n (Directory names gone) v = v
-valid-no_bytes t n (Link text links) v = v
-
-valid-piece_in : (t : Tree) (n : ℕ) (content : Content) (offset : ℕ) (piece : List ℕ) → IsTrue (are_bytes piece)
-    → offset + length piece ≤ largest_file → IsValidContent t n content → IsValidContent t n (piece_in content offset piece)
-valid-piece_in t n (File bytes links) offset piece are fits v =
-    let short : length (with_piece bytes offset piece) ≤ largest_file =
-    omega (arith, length-with_piece bytes offset piece, v.1, fits) in
-    (are_bytes-with_piece bytes offset piece v.0 are, short, v.2, v.3)
-valid-piece_in t n (Directory names gone) offset piece are fits v = v
-valid-piece_in t n (Link text links) offset piece are fits v = v
+valid-bytes : (t : Tree) (n : ℕ) (content : Content) (change : List ℕ → List ℕ) → FitsFile change
+    → IsValidContent t n content → IsValidContent t n (other_bytes change content)
+unfolding FitsFile
+valid-bytes t n (File bytes links) change fits v = let now = fits bytes v.0 v.1 in (now.0, now.1, v.2, v.3)
+valid-bytes t n (Directory names gone) change fits v = v
+valid-bytes t n (Link text links) change fits v = v
 
 -- validity doesn't look at what was worked on
 valid-worked : (t : Tree) (worked : Nodes) → IsValidTree t → IsValidTree (record t { worked = worked })
@@ -137,19 +129,28 @@ module _ (t : Tree) (n : ℕ) (other : Node) (worked : Nodes)
         (valid-worked t worked valid)
   ]
 
-valid-cut : (t : Tree) (n : ℕ) → IsValidTree t → IsValidTree (file_cut t n)
-valid-cut t n valid =
-    let content : Content = (node_at t n).content in
-    valid-written t n (record (node_at t n) { content = no_bytes content }) (with_nodes t.worked (n ∷ []))
-    (has_no_bytes content) valid (λ within. valid-no_bytes t n content (valid.nodes n within))
+valid-rewritten : (t : Tree) (n : ℕ) (change : List ℕ → List ℕ) → FitsFile change → IsValidTree t
+    → IsValidTree (content_changed t n (other_bytes change))
+valid-rewritten t n change fits valid =
+    let node : Node = node_at t n in
+    valid-written t n (with_content node (other_bytes change)) (with_nodes t.worked (n ∷ []))
+    (has_bytes change node.content) valid (λ within. valid-bytes t n node.content change fits (valid.nodes n within))
+
+valid-sized : (t : Tree) (n size : ℕ) → size ≤ largest_file → IsValidTree t → IsValidTree (size_set t n size)
+unfolding FitsFile
+valid-sized t n size fits valid =
+    valid-rewritten t n (with_size size)
+    (λ bytes are short. (are_bytes-with_size size bytes are, omega (arith, length-with_size size bytes, fits))) valid
 
 valid-put : (t : Tree) (n offset : ℕ) (piece : List ℕ) → IsTrue (are_bytes piece) → offset + length piece ≤ largest_file
     → IsValidTree t → IsValidTree (bytes_put t n offset piece)
+unfolding FitsFile
 valid-put t n offset piece are fits valid =
-    let content : Content = (node_at t n).content in
-    valid-written t n (record (node_at t n) { content = piece_in content offset piece }) (with_nodes t.worked (n ∷ []))
-    (has_piece content offset piece) valid
-    (λ within. valid-piece_in t n content offset piece are fits (valid.nodes n within))
+    valid-rewritten t n (λ bytes. with_piece bytes offset piece)
+    (λ bytes old short. (
+      are_bytes-with_piece bytes offset piece old are,
+      omega (arith, length-with_piece bytes offset piece, short, fits),
+    )) valid
 
 valid-times : (t : Tree) (n : ℕ) (atime mtime : Option SystemTime) → IsValidTree t
     → IsValidTree (times_set t n atime mtime)
@@ -428,7 +429,7 @@ valid-opened t d name o valid is none None missing =
     valid-file (lacks_name t d name is may) valid may.room
 valid-opened t d name o valid is none (Some n) found =
     elim (is_cut o (node_at t n).content) as (λ b. IsValidTree (cond b (file_cut t n) t)) [
-      | true ↦ valid-cut t n valid
+      | true ↦ valid-sized t n 0 (omega arith) valid
       | false ↦ valid
     ]
 
@@ -558,18 +559,31 @@ valid-times_if : (t : Tree) (atime mtime : Option SystemTime) (found : Option �
 valid-times_if t atime mtime None valid = valid
 valid-times_if t atime mtime (Some n) valid = valid-times t n atime mtime valid
 
--- a write that isn't refused, of some bytes, ends within the largest file
-write_fits : (t : Tree) (file : Held) (offset byte : ℕ) (bytes : List ℕ)
-    → refusal t (Pwrite file offset (byte ∷ bytes)) ≡ None → offset + length (byte ∷ bytes) ≤ largest_file
+-- a write that isn't refused doesn't make a file too large
+write_fits : (t : Tree) (file : Held) (offset : ℕ) (piece : List ℕ) → refusal t (Pwrite file offset piece) ≡ None
+    → is_too_large offset piece ≡ false
 unfolding refusal
-write_fits t file offset byte bytes none = grind arith
+write_fits t file offset piece none = grind arith
 
-valid-write : (t : Tree) (file : Held) (offset : ℕ) (piece : List ℕ) → IsValidTree t → IsTrue (are_bytes piece)
-    → refusal t (Pwrite file offset piece) ≡ None → IsValidTree (write_step t file.node offset piece)
+append_fits : (t : Tree) (file : Held) (piece : List ℕ) → refusal t (Append file piece) ≡ None
+    → is_too_large (length (bytes_of (node_at t file.node).content)) piece ≡ false
+unfolding refusal
+append_fits t file piece none = grind arith
+
+size_fits : (t : Tree) (file : Held) (size : ℕ) → refusal t (SetSize file size) ≡ None → size ≤ largest_file
+unfolding refusal
+size_fits t file size none = grind arith
+
+ends_within : (offset byte : ℕ) (bytes : List ℕ) → is_too_large offset (byte ∷ bytes) ≡ false
+    → offset + length (byte ∷ bytes) ≤ largest_file
+ends_within offset byte bytes fits = grind arith
+
+valid-write : (t : Tree) (n offset : ℕ) (piece : List ℕ) → IsValidTree t → IsTrue (are_bytes piece)
+    → is_too_large offset piece ≡ false → IsValidTree (write_step t n offset piece)
 unfolding write_step
-valid-write t file offset [] valid are none = valid
-valid-write t file offset (byte ∷ bytes) valid are none =
-    valid-put t file.node offset (byte ∷ bytes) are (write_fits t file offset byte bytes none) valid
+valid-write t n offset [] valid are fits = valid
+valid-write t n offset (byte ∷ bytes) valid are fits =
+    valid-put t n offset (byte ∷ bytes) are (ends_within offset byte bytes fits) valid
 
 pub valid-step : (t : Tree) (call : HostCall) → IsValidTree t → CanBeAsked call → refusal t call ≡ None
     → IsValidTree (step t call)
@@ -590,7 +604,14 @@ valid-step t (Access d) valid asked none = valid
 valid-step t (Stat n) valid asked none = valid
 valid-step t (SetTimes n atime mtime) valid asked none = valid-times t n atime mtime valid
 valid-step t (Pread file offset n) valid asked none = valid
-valid-step t (Pwrite file offset piece) valid asked none = valid-write t file offset piece valid asked none
+valid-step t (Pwrite file offset piece) valid asked none =
+    valid-write t file.node offset piece valid asked (write_fits t file offset piece none)
+valid-step t (Append file piece) valid asked none =
+    valid-write t file.node (length (bytes_of (node_at t file.node).content)) piece valid asked (append_fits t file piece none)
+valid-step t (SetSize file size) valid asked none = valid-sized t file.node size (size_fits t file size none) valid
+valid-step t (Sync n) valid asked none = valid
+valid-step t (Advise n offset length advice) valid asked none = valid
+valid-step t (Flags n) valid asked none = valid
 valid-step t (ListDir directory) valid asked none = valid
 valid-step t (Dup handle) valid asked none = valid
 valid-step t Close valid asked none = valid

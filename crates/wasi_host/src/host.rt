@@ -5,14 +5,17 @@ ghost use Rattle.std.specs.String.{string_bytes};
 ghost use Rattle.std.specs.FinSet.{FinSet, contains, remove};
 ghost use Rattle.wasi_paths.specs.Name.{name_bytes};
 ghost use Rattle.wasi_paths.specs.Text.{is_entry_name};
-ghost use Rattle.wasi_host.specs.HostCall.{OpenAt, StatAt, ReadLinkAt, MakeDirAt, SymlinkAt, LinkAt, RenameAt, UnlinkAt, RemoveDirAt, TimesAt, Access, Stat, SetTimes, Pread, Pwrite, ListDir, Dup, Close};
+ghost use Rattle.wasi_host.specs.HostCall.{OpenAt, StatAt, ReadLinkAt, MakeDirAt, SymlinkAt, LinkAt, RenameAt, UnlinkAt, RemoveDirAt, TimesAt, Access, Stat, SetTimes, Pread, Pwrite, Append, SetSize, Sync, Advise, Flags, ListDir, Dup, Close};
 ghost use Rattle.wasi_host.specs.Answer.{entry_of};
 ghost use Rattle.wasi_host.specs.Meaning.{World, AllHeld, HasCause, Rose, LiveGot, Told, Logged, LoggedGot, one_looked, both_looked, hosted, answered};
 ghost use Rattle.wasi_host.specs.Numbers.{longest_link};
 ghost use Rattle.wasi_host.specs.declared.lookup.Lookup.{Lookup};
 ghost use Rattle.wasi_host.specs.Time.{HasTimes};
 
-use crate::{DirEntry, ErrorCode, Handle, HostError, LookKind, Metadata, OpenOptions, SystemTime};
+use crate::{
+    Advice, DirEntry, ErrorCode, Handle, HostError, LookKind, Metadata, OpenOptions, SyncFlags,
+    SystemTime,
+};
 use std::alloc::Global;
 use wasi_paths::Name;
 
@@ -295,6 +298,71 @@ pub trait Host {
         ensures told { IsTrue told → Told (live self.old) (live self.new) (world self.old) (world self.new)
             (Pwrite ((world self.old).held file) offset piece.now)
             (λ n. n) result };
+
+    /// Puts a piece of bytes behind a file's last one, and answers how many it took, which is all where the host tells
+    /// its world. No bytes change nothing. A call that takes nothing of a piece that isn't empty has failed, and the
+    /// count of faults rose. Refusals: BadDescriptor without write access; FileTooLarge where the file would have more
+    /// than 2^30 bytes.
+    fn append(&mut self, file: Handle, piece: &[u8]) -> Result<usize, HostError>
+        requires { contains (live self.old) file ≡ true }
+        ensures cause { HasCause (faults self.old) (faults self.new) result }
+        ensures live { live self.new ≡ live self.old }
+        ensures logged { lookups self.new ≡ lookups self.old }
+        ensures fits { IfOk result (λ n. n ≤ length piece.now) }
+        ensures takes { result ≡ Ok 0 → 0 < length piece.now → Rose (faults self.old) (faults self.new) }
+        ensures told { IsTrue told → Told (live self.old) (live self.new) (world self.old) (world self.new)
+            (Append ((world self.old).held file) piece.now)
+            (λ n. n) result };
+
+    /// Cuts a file to so many bytes, or fills it up to them with zeros, as POSIX's `ftruncate` does. Refusals: Invalid
+    /// without write access, and for a size of 2^63 or more; FileTooLarge for more than 2^30 bytes.
+    fn set_size(&mut self, file: Handle, size: u64) -> Result<(), HostError>
+        requires { contains (live self.old) file ≡ true }
+        ensures cause { HasCause (faults self.old) (faults self.new) result }
+        ensures live { live self.new ≡ live self.old }
+        ensures logged { lookups self.new ≡ lookups self.old }
+        ensures told { IsTrue told → Told (live self.old) (live self.new) (world self.old) (world self.new)
+            (SetSize ((world self.old).held file) size)
+            (λ unit. unit) result };
+
+    /// Waits until what a handle stands for is stored, as POSIX's `fsync` does. It takes no memory, and no row refuses
+    /// it.
+    fn sync(&mut self, handle: Handle) -> Result<(), ErrorCode>
+        requires { contains (live self.old) handle ≡ true }
+        ensures cause { HasCause (faults self.old) (faults self.new) (hosted result) }
+        ensures live { live self.new ≡ live self.old }
+        ensures logged { lookups self.new ≡ lookups self.old }
+        ensures told { IsTrue told → Told (live self.old) (live self.new) (world self.old) (world self.new)
+            (Sync ((world self.old).held handle).node)
+            (λ unit. unit) (hosted result) };
+
+    /// Tells how the bytes from an offset on will be used, as POSIX's `posix_fadvise` does. Nothing changes. It takes no
+    /// memory, and no row refuses it.
+    fn advise(
+        &mut self,
+        file: Handle,
+        offset: u64,
+        len: u64,
+        advice: Advice,
+    ) -> Result<(), ErrorCode>
+        requires { contains (live self.old) file ≡ true }
+        ensures cause { HasCause (faults self.old) (faults self.new) (hosted result) }
+        ensures live { live self.new ≡ live self.old }
+        ensures logged { lookups self.new ≡ lookups self.old }
+        ensures told { IsTrue told → Told (live self.old) (live self.new) (world self.old) (world self.new)
+            (Advise ((world self.old).held file).node offset len advice)
+            (λ unit. unit) (hosted result) };
+
+    /// The synchronized modes of a handle: none, where the host tells its world. It takes no memory, and no row refuses
+    /// it.
+    fn flags(&mut self, handle: Handle) -> Result<SyncFlags, ErrorCode>
+        requires { contains (live self.old) handle ≡ true }
+        ensures cause { HasCause (faults self.old) (faults self.new) (hosted result) }
+        ensures live { live self.new ≡ live self.old }
+        ensures logged { lookups self.new ≡ lookups self.old }
+        ensures told { IsTrue told → Told (live self.old) (live self.new) (world self.old) (world self.new)
+            (Flags ((world self.old).held handle).node)
+            (λ flags. flags) (hosted result) };
 
     /// The handle isn't live any more. It can't fail, and takes no memory.
     fn close(&mut self, handle: Handle)

@@ -31,7 +31,7 @@ use Rattle.wasi_p1.proofs.RowEnds.{tail, with_nothing}
 use Rattle.wasi_p1.proofs.GuestSlots.{guest_slots_stay}
 use Rattle.wasi_p1.proofs.Staying.{all_stay}
 use Rattle.wasi_p1.proofs.Resolving.{resolved_ok, resolved_err}
-use Rattle.wasi_p1.proofs.Taking.{left_same, refused_at, wanted, unchanged, does_err, does_ok, makes_err, makes_ok, Did}
+use Rattle.wasi_p1.proofs.Taking.{refused_at, wanted, unchanged, does_err, does_ok, makes_err, makes_ok, Did}
 
 -- what a directory doesn't permit is refused by the error number of its code
 pub refused_by : (A B : Type 0) {H : Type 0} (own : Option ErrorCode) (e : HostError) (old new : H)
@@ -51,7 +51,12 @@ KeepsHeld live w v = (h : ℕ) → contains live h ≡ true → v.held h ≡ w.h
 same_view : {H : Type 0} {old new : View H} {before after : List ℕ} → new.host ≡ old.host → Kept old new before after
     → new ≡ record old { fuel = new.fuel }
 same_view {old = old} {new = new} host kept =
-    λ i. record (record old { fuel = new.fuel }) { host = host i; slots = kept.slots i; holdings = kept.holdings i }
+    λ i. record (record old { fuel = new.fuel }) {
+      host = host i;
+      slots = kept.slots i;
+      table_max = kept.table_max i;
+      holdings = kept.holdings i;
+    }
 
 module _ {H : Type 0} {told : Bool} {world : H → World} {faults : H → ℕ} {lookups : H → List Lookup}
     {old new : View H} {before after : List ℕ} {call : Call} where
@@ -67,7 +72,7 @@ module _ {H : Type 0} {told : Bool} {world : H → World} {faults : H → ℕ} {
         | inl is ↦
             subst (λ r. FollowsRow told world faults lookups old then before before call r) (sym is) (refused_at refl at)
         | inr is ↦ subst (λ r. FollowsRow told world faults lookups old then before before call r) (sym is)
-            (wanted (may (cc)) (left_same at))
+            (wanted (may (cc)) at)
       ]))
     where
       then : View H
@@ -158,6 +163,7 @@ module _ {H : Type 0} {told : Bool} {world : H → World} {faults : H → ℕ} {
           Nothing,
           record {
             slots = (sym same ∙ ap (guest_slots stands) (sym kept.slots)) i;
+            table_max = sym kept.table_max i;
             memory = sym kept.memory i;
             holdings = sym kept.holdings i;
           },

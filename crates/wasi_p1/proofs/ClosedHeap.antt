@@ -103,7 +103,7 @@ module _ {heap : List ℕ} {table : List Slot} (holds : HoldsClosed heap table) 
     popped : (n : ℕ) → times n heap ≡ one_if (top == n) + times n rest
     popped n = sym (sum_by-IsPermutation (λ k. cond (k == n) 1 0) heap (top ∷ rest) moved) ∙ times-cons top n rest
 
-    top_closed : closed_at top ≡ true
+    pub top_closed : passes_at is_closed_slot table top ≡ true
     top_closed = one_true _ (let is = ap one_if (itself top) in omega (arith, popped top, holds.each top, is))
 
     pub top_within : top < length table

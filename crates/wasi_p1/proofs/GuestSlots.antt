@@ -4,7 +4,7 @@ use Rattle.std.proofs.lemmas.List.{map-set}
 use Rattle.std.specs.FinSet.{contains}
 use Rattle.wasi_host.specs.Meaning.{World, Handles}
 use Rattle.wasi_host.specs.declared.held.Held.{Held}
-use Rattle.wasi_p1.specs.Numbering.{free_number, with_new}
+use Rattle.wasi_p1.specs.Numbering.{free_number, with_new, live_count}
 use Rattle.wasi_p1.specs.Slots.{is_closed_slot, slot_of}
 use Rattle.wasi_p1.specs.Guest.{GuestSlot, guest_slot, guest_slots, directory_by, file_by, is_closed, new_number, with_guest_slot, directory, file}
 use Rattle.wasi_p1.specs.Owners.{handle_in, handles, uses_in, uses, without, Owned}
@@ -18,7 +18,7 @@ use Rattle.wasi_fs.specs.declared.open_mode.OpenMode.{OpenMode}
 use Rattle.wasi_fs.specs.declared.perms.FsPerms.{FsPerms}
 use Rattle.wasi_p1.specs.declared.context.Slot.{Slot}
 use Rattle.wasi_p1.specs.declared.context.Slot.TheVariants as slots
-use Rattle.wasi_p1.proofs.Numbers.{free_number-map, with_new-map}
+use Rattle.wasi_p1.proofs.Numbers.{free_number-map, with_new-map, live_count-map}
 use Rattle.wasi_p1.proofs.Counting.{uses-cons, uses_itself, handles-cons}
 use Rattle.wasi_p1.proofs.Owning.{used_live, without_live, owns_closed}
 
@@ -79,6 +79,11 @@ closed_mapped held slots.Closed = refl
 closed_mapped held (slots.Stream s) = refl
 closed_mapped held (slots.Directory dir) = refl
 closed_mapped held (slots.File f position) = refl
+
+-- as many are live
+pub live_guests : (held : ℕ → Held) (table : List Slot)
+    → live_count is_closed (guest_slots held table) ≡ live_count is_closed_slot table
+live_guests held table = live_count-map (guest_slot held) is_closed_slot is_closed (closed_mapped held) table
 
 -- its number is that of the guest's slot
 number_kept : (held : ℕ → Held) (table : List Slot)

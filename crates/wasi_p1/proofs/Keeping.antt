@@ -3,10 +3,7 @@ use Rattle.std.proofs.Common.{ℕ, ◌≡◌, true, false, cond, Bool, List, ref
 use Rattle.wasi_fs.specs.declared.perms.FsPerms.TheVariants.{ReadOnly, ReadWrite}
 use Rattle.wasi_fs.specs.declared.perms.FsPerms.{FsPerms}
 use Rattle.wasi_host.specs.Options.{Options, creates}
-use Rattle.wasi_host.specs.Tree.{Tree, Content, File, Directory, Link, child, node_at}
-use Rattle.wasi_host.specs.HostCall.{OpenAt}
-use Rattle.wasi_host.specs.Refusal.{refusal}
-use Rattle.wasi_host.specs.Step.{open_step, opened_step, is_cut, file_cut}
+use Rattle.wasi_host.specs.Tree.{Tree}
 use Rattle.wasi_host.proofs.Chain.{free}
 use Rattle.std.specs.Prelude.{codes}
 use Rattle.wasi_host.specs.declared.errors.ErrorCode.{ErrorCode}
@@ -19,29 +16,11 @@ use Rattle.wasi_resolve.specs.AtPlace.{ReadLink, place_for, step_in}
 use Rattle.wasi_resolve.specs.Paths.{Opening, Place, opening_of, opening, step_of}
 use Rattle.wasi_resolve.specs.PathRequest.{AtPlace, Opened, answer_at, as_asked}
 use Rattle.wasi_resolve.proofs.Requests.{as_opened}
+use Rattle.wasi_resolve.proofs.Tables.{open_leaves}
 use Rattle.wasi_p1.specs.Request.{Path, reply_of, after as tree_after}
 use Rattle.wasi_p1.specs.Parts.{permit, may_write}
 
 -- ---- an open that neither makes nor cuts
-
-missing : (t : Tree) (d : ℕ) (name : List ℕ) (o : Options) → creates o ≡ false → refusal t (OpenAt d name o) ≡ None
-    → child t d name ≡ None → ⊥
-unfolding refusal
-missing t d name o makes_not none is = grind (arith)
-
-uncut : (o : Options) (content : Content) → o.truncate ≡ false → is_cut o content ≡ false
-uncut o (File bytes links) keeps = keeps
-uncut o (Directory names gone) keeps = refl
-uncut o (Link text links) keeps = refl
-
-step_keeps : (t : Tree) (d : ℕ) (name : List ℕ) (o : Options) → creates o ≡ false → o.truncate ≡ false
-    → refusal t (OpenAt d name o) ≡ None → open_step t d name o ≡ t
-unfolding open_step
-step_keeps t d name o makes_not cuts_not none = by (child t d name) refl
-  where
-    by : (c : Option ℕ) → child t d name ≡ c → opened_step t d name o c ≡ t
-    by None is = absurd (missing t d name o makes_not none is)
-    by (Some n) is = ap (λ b. cond b (file_cut t n) t) (uncut o (node_at t n).content cuts_not)
 
 -- what an open may ask for where it changes nothing
 pub record AsksNothing (how : OpenHow) : Type 0 where
@@ -85,8 +64,8 @@ open_keeps t d text how {found} nothing answered = by (opening t d text (options
         → (m >>= answer_at t >>= as_asked how.directory) ≡ Ok found → step_of t m ≡ t
     by (Ok e) at is =
         let asks = opening_asks t d text (options_of how) how.follow at in
-        step_keeps t e.directory e.name e.options (asks.0 ∙ makes_not) (asks.1 ∙ nothing.cuts_not)
-        (free _ _ _ (as_opened how.directory (answer_at t e) is))
+        open_leaves t e.directory e.name e.options (free _ _ _ (as_opened how.directory (answer_at t e) is))
+        (asks.0 ∙ makes_not) (asks.1 ∙ nothing.cuts_not)
     by (Err code) at is = refl
 
 -- ---- what is permitted under read-only permissions

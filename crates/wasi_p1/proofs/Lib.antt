@@ -1,6 +1,8 @@
 mod Near
 mod Numbers
 mod ClosedHeap
+mod Naming
+mod Tabled
 mod RequestsLeave
 mod RequestsAgree
 mod RowEnds
@@ -15,7 +17,6 @@ pub mod Permitting
 mod Turns
 mod Taking
 mod Below
-mod Standing
 mod Resolving
 mod Setting
 mod Reading

@@ -5,6 +5,8 @@
 use Rattle.std.specs.Prelude.{ℕ, ◌≡◌, ◌⊎◌, List, [], slice_get, Contains, IsUtf8, Option, Ok, Err, OnErr}
 use Rattle.wasi_fs.specs.declared.perms.FsPerms.{FsPerms}
 use Rattle.wasi_host.specs.Tree.{Tree}
+use Rattle.wasi_host.specs.HostCall.{HostCall, Pread, CanBeAsked}
+use Rattle.wasi_host.specs.Answer.{HostAnswer}
 pub use Rattle.wasi_p1.specs.Validity.{AreBytes}
 use Rattle.wasi_p1.specs.Validity.{HasBytes}
 use Rattle.wasi_guest.specs.declared.answer.Answer.TheVariants as answers
@@ -13,7 +15,7 @@ use Rattle.wasi_guest.specs.declared.call.Call.{Call}
 use Rattle.wasi_p1.specs.CallParts.{WantsNoMemory}
 use Rattle.wasi_p1.specs.CallTurn.{NamesReadOnly}
 use Rattle.wasi_p1.specs.Guest.{Guest, node_in, open_nodes}
-use Rattle.wasi_p1.specs.Request.{Request, Reply, Path, Read, Write, reply_of, after, starts_at}
+use Rattle.wasi_p1.specs.Request.{Request, Reply, Path, Direct, reply_of, after, starts_at}
 use Rattle.wasi_p1.specs.Row.{Row, Program, done, asking}
 use Rattle.wasi_p1.specs.Stems.{stems_through, HasPerms}
 use Rattle.wasi_resolve.specs.AtPlace.{ReadLink}
@@ -26,7 +28,7 @@ use Rattle.wasi_p1.specs.Rows.{descriptors_named, opened_through}
 -- the nodes that an answer gives
 abbrev pub given_by : (r : Request) → Reply r → List ℕ
 given_by (Path p) found = path_gives p found
-given_by r reply = []
+given_by (Direct call) answer = []
 
 -- what the types of the calls that make it give of every request: a path is a text, as is that of a link, and what is
 -- written are bytes
@@ -39,8 +41,7 @@ AreTexts (AtTwo old old_text new new_text what) = IsUtf8 old_text × IsUtf8 new_
 
 abbrev pub MayBeAsked : Request → Type 0
 MayBeAsked (Path p) = AreTexts p
-MayBeAsked (Write f offset piece) = AreBytes piece
-MayBeAsked r = Unit {0}
+MayBeAsked (Direct call) = CanBeAsked call
 
 -- a link's text are bytes
 abbrev pub PathGivesBytes : (p : PathRequest) → PathReply p → Type 0
@@ -48,10 +49,13 @@ PathGivesBytes (AtPlace s text ReadLink) link = AreBytes link
 PathGivesBytes p found = Unit {0}
 
 -- what is read are bytes
+abbrev pub AnswerIsBytes : (call : HostCall) → HostAnswer call → Type 0
+AnswerIsBytes (Pread f offset n) bytes = AreBytes bytes
+AnswerIsBytes call answer = Unit {0}
+
 abbrev pub GivesBytes : (r : Request) → Reply r → Type 0
 GivesBytes (Path p) found = PathGivesBytes p found
-GivesBytes (Read f offset n) bytes = AreBytes bytes
-GivesBytes r reply = Unit {0}
+GivesBytes (Direct call) answer = AnswerIsBytes call answer
 
 -- ---- of an answer
 

@@ -1,9 +1,13 @@
 -- Which numbers of a table pass a test, as the table changes.
-use Rattle.std.proofs.Common.{ℕ, zero, suc, ◌<◌, ◌≤◌, ◌≡◌, ◌≢◌, Bool, true, false, List, [], ◌∷◌, ◌++◌, length, map, get_or, slice_set, Option, Some, None, refl, ap, ◌∙◌, subst, arith}
+use Rattle.std.proofs.Common.{ℕ, zero, suc, ◌+◌, ◌<◌, ◌≤◌, ◌≡◌, ◌≢◌, Bool, true, false, not, cond, List, [], ◌∷◌, ◌++◌, length, map, get_or, slice_set, Option, Some, None, refl, ap, ◌∙◌, subst, arith}
+use Rattle.std.specs.Prelude.{count_by}
 use Rattle.std.proofs.lemmas.List.{map-append, map-set, length-map}
+use Rattle.std.proofs.lemmas.List.Sums.{sum_by-cons}
 use Rattle.wasi_p1.specs.Slots.{first_slots, given_slot, is_closed_slot}
 use Rattle.wasi_p1.specs.declared.context.P1Preopen.{P1Preopen}
-use Rattle.wasi_p1.specs.Numbering.{passes_at, later_or_here, last_where, put_at, free_number, with_new}
+use Rattle.wasi_p1.specs.Numbering.{passes_at, later_or_here, last_where, put_at, free_number, with_new, live_count}
+use Rattle.wasi_p1.specs.declared.context.Slot.TheVariants.{Stream}
+use Rattle.wasi_p1.specs.declared.context.Stream.TheVariants.{Input, Output, Error}
 
 pub not_true : (b : Bool) → (b ≡ true → ⊥) → b ≡ false
 not_true true h = absurd (h refl)
@@ -79,6 +83,26 @@ module _ {A : Type 0} (p : A → Bool) where
   unfolding free_number with_new
   new_under xs i y is top = rw (last_where-is xs i is top) (refl, refl)
 
+  -- an item is live or closed
+  pub live_and_closed : (xs : List A) → live_count p xs + count_by p xs ≡ length xs
+  unfolding live_count
+  live_and_closed [] = refl
+  live_and_closed (x ∷ xs) =
+      let live = sum_by-cons (λ y. cond (not (p y)) 1 0) x xs in
+      let closed = sum_by-cons (λ y. cond (p y) 1 0) x xs in
+      omega (arith, live, closed, live_and_closed xs, either (p x))
+    where
+      either : (b : Bool) → cond (not b) 1 0 + cond b 1 0 ≡ 1
+      either true = refl
+      either false = refl
+
+  pub live_more : (x : A) (xs : List A) → p x ≡ false → live_count p (x ∷ xs) ≡ live_count p xs + 1
+  unfolding live_count
+  live_more x xs live =
+      let cons = sum_by-cons (λ y. cond (not (p y)) 1 0) x xs in
+      let one = ap {B = ℕ} (λ b. cond (not b) 1 0) live in
+      omega (arith, cons, one)
+
 -- ---- a table whose items are seen in another way
 
 module _ {A B : Type 0} (f : A → B) (p : A → Bool) (q : B → Bool) (same : (x : A) → q (f x) ≡ p x) where
@@ -99,6 +123,15 @@ module _ {A B : Type 0} (f : A → B) (p : A → Bool) (q : B → Bool) (same : 
       by (Some n) = map-set f xs n y
       by None = map-append f xs (y ∷ [])
 
+  pub live_count-map : (xs : List A) → live_count q (map f xs) ≡ live_count p xs
+  unfolding live_count
+  live_count-map [] = refl
+  live_count-map (x ∷ xs) =
+      let seen = sum_by-cons (λ y. cond (not (q y)) 1 0) (f x) (map f xs) in
+      let was = sum_by-cons (λ y. cond (not (p y)) 1 0) x xs in
+      let one = ap {B = ℕ} (λ b. cond (not b) 1 0) (same x) in
+      omega (arith, seen, was, one, live_count-map xs)
+
 -- ---- the first descriptors, of which none is closed
 
 none_given : (preopens : List P1Preopen) → last_where is_closed_slot (map given_slot preopens) ≡ None
@@ -112,3 +145,18 @@ unfolding with_new
 given_more preopens p =
     let none = ap (λ o. later_or_here false (later_or_here false (later_or_here false o))) (none_given preopens) in
     rw (none, map-append given_slot preopens (p ∷ [])) refl
+
+given_live : (preopens : List P1Preopen) → live_count is_closed_slot (map given_slot preopens) ≡ length preopens
+unfolding live_count
+given_live [] = refl
+given_live (p ∷ ps) = omega (arith, live_more is_closed_slot (given_slot p) (map given_slot ps) refl, given_live ps)
+
+-- and all are live
+pub first_live : (preopens : List P1Preopen) → live_count is_closed_slot (first_slots preopens) ≡ 3 + length preopens
+first_live preopens = omega (
+  arith,
+  live_more is_closed_slot (Stream Input) (Stream Output ∷ Stream Error ∷ map given_slot preopens) refl,
+  live_more is_closed_slot (Stream Output) (Stream Error ∷ map given_slot preopens) refl,
+  live_more is_closed_slot (Stream Error) (map given_slot preopens) refl,
+  given_live preopens,
+)

@@ -5,7 +5,7 @@ use Rattle.std.specs.Prelude.{Contains, MatchBool}
 use Rattle.wasi_fs.specs.declared.perms.FsPerms.{FsPerms}
 use Rattle.wasi_host.specs.Meaning.{World}
 use Rattle.wasi_host.specs.Tree.{Tree}
-use Rattle.wasi_host.proofs.Leaving.{Contains-here}
+use Rattle.wasi_host.proofs.Leaving.{Contains-here, starts_or_stays}
 use Rattle.wasi_guest.specs.declared.call.Call.{Call}
 use Rattle.wasi_p1.specs.Front.{FueledCall}
 use Rattle.wasi_guest.specs.declared.answer.Value.{Value}
@@ -13,7 +13,7 @@ use Rattle.wasi_resolve.specs.PathRequest.{PathRequest, OpenPath, LookPath, AtPl
 use Rattle.wasi_p1.specs.CallTurn.{Turns, NamesReadOnly, in_world}
 use Rattle.wasi_p1.specs.Guest.{Guest, State, GuestSlot, directory, file, node_in, perms_in}
 use Rattle.wasi_p1.specs.ReadOnly.{IsReadOnlyGuest, ReadOnlyTurnsLeaveTheTree}
-use Rattle.wasi_p1.specs.Request.{Request, Path, Read, Write, SetTimes, starts_at}
+use Rattle.wasi_p1.specs.Request.{Request, Path, Direct, after, starts_at}
 use Rattle.wasi_p1.specs.Row.{Row, Program, done, asking}
 use Rattle.wasi_p1.specs.Rows.{row, turn}
 use Rattle.wasi_p1.specs.Run.{Turned, Run, Played, Faulted, ends}
@@ -60,7 +60,7 @@ turned_permits t took names =
 
 -- ---- a guest whose directories and files are all read-only
 
--- each request starts at some node
+-- each request starts at some node, as all through paths do
 path_starts_at : (p : PathRequest) → (n : ℕ) × Contains (path_starts p) n
 path_starts_at (OpenPath s text o follow is_dir) = (s, Contains-here s [])
 path_starts_at (LookPath s text follow) = (s, Contains-here s [])
@@ -68,11 +68,10 @@ path_starts_at (AtPlace s text what) = (s, Contains-here s [])
 path_starts_at (TimesPath s text follow atime mtime) = (s, Contains-here s [])
 path_starts_at (AtTwo old old_text new new_text what) = (old, Contains-here old (new ∷ []))
 
-starts_somewhere : (r : Request) → (n : ℕ) × Contains (starts_at r) n
-starts_somewhere (Path p) = path_starts_at p
-starts_somewhere (Read f offset n) = (f.node, Contains-here f.node [])
-starts_somewhere (Write f offset piece) = (f.node, Contains-here f.node [])
-starts_somewhere (SetTimes n atime mtime) = (n, Contains-here n [])
+-- or leaves every tree
+starts_somewhere : (r : Request) → ((n : ℕ) × Contains (starts_at r) n) ⊎ ((t : Tree) → after t r ≡ t)
+starts_somewhere (Path p) = inl (path_starts_at p)
+starts_somewhere (Direct call) = starts_or_stays call
 
 -- what has a node has permissions
 node_perms : (p : Option GuestSlot) (n : ℕ) → Contains (node_in p) n → (perms : FsPerms) × (perms_in p ≡ Some perms)
@@ -90,8 +89,10 @@ answer_leaves : (g : Guest) (call : Call) (t : Tree) (m : Row (Program (Value ×
     → IsReadOnlyGuest g → IsNear g call m → row_on t m ≡ Ok p → p.1.tree ≡ t
 answer_leaves g call t (Ok (done q)) p only near is = over_tree (Ok q) is
 answer_leaves g call t (Ok (asking r next)) p only near is =
-    let (n, at) = starts_somewhere r in
-    answer_keeps g call t (Ok (asking r next)) p (names_read_only only (near.starts n at)) near is
+    elim (starts_somewhere r) [
+      | inl (n, at) ↦ answer_keeps g call t (Ok (asking r next)) p (names_read_only only (near.starts n at)) near is
+      | inr stays ↦ (replied_by t r next is).tree ∙ stays t
+    ]
 answer_leaves g call t (Err e) p only near is = absurd (cc)
 
 turned_leaves : (t : Turned) → Played t ⊎ Faulted t → IsReadOnlyGuest t.before.guest → t.after.tree ≡ t.before.tree

@@ -1,7 +1,6 @@
 -- Reading into memory, and writing from it.
 use Rattle.std.proofs.Common.{inl, sym, ◌∙◌, ap, subst, ℕ, List, ◌+◌, ◌≤◌, ◌≡◌, true, Result, Ok, Err, refl, arith, length, take, drop, slice_range}
 use Rattle.std.proofs.lemmas.List.{length-take-le}
-use Rattle.std.proofs.lemmas.List.Elements.{All-nil}
 use Rattle.std.specs.FinSet.{contains}
 use Rattle.wasi_host.specs.HostCall.{Pread, Pwrite}
 use Rattle.wasi_host.specs.Meaning.{World, Handles, Keeps, Told, hosted}
@@ -16,7 +15,7 @@ use Rattle.wasi_p1.specs.CallParts.{ReadsInto, WritesPiece, filled_at}
 use Rattle.wasi_p1.specs.declared.error.P1Error.TheVariants.{Errno}
 use Rattle.wasi_guest.proofs.Ranges.{with_filled}
 use Rattle.wasi_host.proofs.Agreeing.{unless_value}
-use Rattle.wasi_p1.proofs.Standing.{read_stands, write_stands, asked_of_ok, asked_of_err}
+use Rattle.wasi_p1.proofs.Resolving.{asked_ok, asked_err}
 
 -- a read over a told host of so many bytes, into the front of a buffer
 abbrev pub ReadTold : Handles → Handles → World → World → Held → ℕ → List ℕ → Result ℕ ErrorCode → ℕ → Type 0
@@ -67,7 +66,7 @@ read_ok {rose} {old} {new} {w} {v} {f} {position} {at} {size} {memory} {buf} {n}
       keeps = keeps_all w v same told'.keeps;
       does = (
         take n buf,
-        asked_of_ok (read_stands w.tree f position size) told'.meaning told'.after (All-nil _),
+        asked_ok same told',
         filled_front filled,
       );
     }
@@ -83,7 +82,7 @@ read_err {old = old} {new = new} {w = w} {v = v} {f = f} {position = position} {
     {code = code} at before after same sized io told =
     let told' = subst (ReadTold old new w v f position buf (Err code)) sized told in record {
       keeps = keeps_all w v same told'.keeps;
-      does = inl (asked_of_err (read_stands w.tree f position size) (Code code) (λ e. io (ap Err e)) told');
+      does = inl (asked_err same (Code code) (λ e. io (ap Err e)) told');
     }
 
 -- ---- a write
@@ -98,7 +97,7 @@ pub write_ok : {rose : Type 0} {old new : Handles} {w v : World} {f : Held} {pos
     → WritesPiece rose old w v f position piece (Ok n)
 write_ok {w = w} {v = v} {f = f} {position = position} {piece = piece} {n = n} same told = record {
   keeps = keeps_all w v same told.keeps;
-  does = (n, asked_of_ok (write_stands w.tree f position piece) told.meaning told.after (All-nil _), refl);
+  does = (n, asked_ok same told, refl);
 }
 
 pub write_err : {rose : Type 0} {old new : Handles} {w v : World} {f : Held} {position : ℕ} {piece : List ℕ}
@@ -107,7 +106,7 @@ pub write_err : {rose : Type 0} {old new : Handles} {w v : World} {f : Held} {po
     → WritesPiece rose old w v f position piece (Err (error_of e))
 write_err {w = w} {v = v} {f = f} {position = position} {piece = piece} e same io told = record {
   keeps = keeps_all w v same told.keeps;
-  does = inl (asked_of_err (write_stands w.tree f position piece) e (λ x. io (ap Err x)) told);
+  does = inl (asked_err same e (λ x. io (ap Err x)) told);
 }
 
 -- it takes the whole piece

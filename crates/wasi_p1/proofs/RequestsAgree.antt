@@ -1,16 +1,12 @@
 -- A request is answered alike over two trees with equal nodes where it starts, and leaves them with equal nodes there.
 use Rattle.std.proofs.Common.{ℕ, ◌≡◌, inl, inr, List, [], refl, arith, Some, Ok}
 use Rattle.std.specs.Prelude.{Contains}
-use Rattle.std.proofs.lemmas.List.Elements.{Contains-push}
 use Rattle.wasi_host.specs.Tree.{Tree, node_at}
 use Rattle.wasi_host.specs.Agree.{IsClosed, AgreeOn, OrMade}
-use Rattle.wasi_host.specs.HostCall.{Pwrite}
-use Rattle.wasi_host.specs.HostCall as calls
-use Rattle.wasi_host.specs.Refusal.{refusal}
 use Rattle.wasi_host.proofs.Leaving.{named_in}
-use Rattle.wasi_host.proofs.Agreeing.{step_agree, same_agree, reach_closed, none_past}
+use Rattle.wasi_host.proofs.Agreeing.{step_agree, answer_same, reach_closed, none_past}
 use Rattle.wasi_resolve.proofs.Requests.{path_reply_same, path_after_agree, path_given_seen}
-use Rattle.wasi_p1.specs.Request.{Request, Reply, Path, Read, Write, SetTimes, reply_of, after, starts_at}
+use Rattle.wasi_p1.specs.Request.{Request, Reply, Path, Direct, reply_of, after, starts_at}
 use Rattle.wasi_p1.proofs.Near.{given_by}
 use Rattle.wasi_p1.proofs.RequestsLeave.{request_leaves}
 
@@ -35,23 +31,16 @@ module _ {Seen : ℕ → Type 0} {t : Tree} (closed : IsClosed Seen t) where
       → reply_of t r ≡ Ok reply
       → (n : ℕ) → Contains (given_by r reply) n → OrMade Seen t (after t r) n
   given_seen (Path p) reply from is n has = path_given_seen closed p reply from is n has
-  given_seen (Read f offset k) reply from is n has = absurd (omega (arith, has.1))
-  given_seen (Write f offset piece) reply from is n has = absurd (omega (arith, has.1))
-  given_seen (SetTimes m atime mtime) reply from is n has = absurd (omega (arith, has.1))
+  given_seen (Direct call) reply from is n has = absurd (omega (arith, has.1))
 
 module _ {Seen : ℕ → Type 0} {t u : Tree} (closed : IsClosed Seen t) (agree : AgreeOn Seen t u) where
   -- the trees after a request are again equal on the set and on what was made
   pub after_agree : (r : Request) → ((n : ℕ) → Contains (starts_at r) n → Seen n)
       → AgreeOn (OrMade Seen t (after t r)) (after t r) (after u r)
   after_agree (Path p) from = path_after_agree closed agree p from
-  after_agree (Read f offset n) from = same_agree closed agree
-  after_agree (Write f offset piece) from = step_agree closed agree (Pwrite f offset piece) from
-  after_agree (SetTimes n atime mtime) from = step_agree closed agree (calls.SetTimes n atime mtime) from
+  after_agree (Direct call) from = step_agree closed agree call from
 
   -- equal answers
   pub reply_same : (r : Request) → ((n : ℕ) → Contains (starts_at r) n → Seen n) → reply_of t r ≡ reply_of u r
-  unfolding refusal
   reply_same (Path p) from = path_reply_same closed agree p from
-  reply_same (Read f offset n) from = rw (agree.nodes f.node (from f.node (Contains-push [] f.node))) refl
-  reply_same (Write f offset piece) from = refl
-  reply_same (SetTimes n atime mtime) from = refl
+  reply_same (Direct call) from = answer_same closed agree call from

@@ -1,8 +1,11 @@
--- What a call below a directory does, as the request through a path that it stands for.
-use Rattle.std.proofs.Common.{◌≡◌, inl, inr, true, Result, Ok, Err, refl, sym, ap}
+-- What a call of the resolver or of the host does, as the request that it stands for.
+use Rattle.std.proofs.Common.{◌≡◌, inl, inr, true, [], Result, Ok, Err, refl, sym, ap}
+use Rattle.std.proofs.lemmas.List.Elements.{All-nil}
 use Rattle.std.specs.Prelude.{is_ok}
 use Rattle.wasi_fs.specs.Calls.{meant_as}
-use Rattle.wasi_host.specs.Meaning.{World, Handles, MeansErr}
+use Rattle.wasi_host.specs.Answer.{HostAnswer}
+use Rattle.wasi_host.specs.HostCall.{HostCall}
+use Rattle.wasi_host.specs.Meaning.{World, Handles, MeansErr, Told}
 use Rattle.wasi_host.specs.Steps.{◌>>=◌}
 use Rattle.wasi_host.specs.Tree.{Tree}
 use Rattle.wasi_host.specs.declared.errors.ErrorCode.{ErrorCode}
@@ -13,33 +16,34 @@ use Rattle.wasi_resolve.specs.PathRequest.{PathRequest, PathReply, path_reply, m
 use Rattle.wasi_resolve.specs.Resolved.{Resolved, TreeAfter}
 use Rattle.wasi_p1.specs.Asked.{Asked, Hidden}
 use Rattle.wasi_p1.specs.Errnos.{error_of}
-use Rattle.wasi_p1.specs.Request.{Path, after}
+use Rattle.wasi_resolve.proofs.Calls.{call_ok, call_err, same_live}
+use Rattle.wasi_p1.specs.Request.{Request, Reply, Path, Direct, after, reply_of, meant_of}
 use Rattle.wasi_p1.specs.Row.{from_host}
 
 -- it would have been answered
-hidden : (t t' : Tree) (p : PathRequest) → is_ok (path_reply t p) ≡ true → t' ≡ after t (Path p) → Hidden t t' (Path p)
-hidden t t' p free stepped = by (path_reply t p) refl free
+hidden : (t t' : Tree) (r : Request) → is_ok (reply_of t r) ≡ true → t' ≡ after t r → Hidden t t' r
+hidden t t' r free stepped = by (reply_of t r) refl free
   where
-    by : (m : Result (PathReply p) ErrorCode) → path_reply t p ≡ m → is_ok m ≡ true → Hidden t t' (Path p)
+    by : (m : Result (Reply r) ErrorCode) → reply_of t r ≡ m → is_ok m ≡ true → Hidden t t' r
     by (Ok reply) at free = record { reply = reply; answered = at; stepped = stepped }
     by (Err code) at free = absurd (cc)
 
-module _ {A : Type 0} {live : Handles} {w v : World} {p : PathRequest} {shown : A → PathReply p} where
+module _ {A : Type 0} {live : Handles} {w v : World} {r : Request} {shown : A → Reply r} where
   -- an answer is the request's reply
-  pub resolved_ok : {rose : Type 0} {a : A} → Resolved live w v (meant_by w.tree p) shown (Ok a)
-      → Asked rose w v (Path p) (Ok (shown a))
+  pub resolved_ok : {rose : Type 0} {a : A} → Resolved live w v (meant_of w.tree r) shown (Ok a)
+      → Asked rose w v r (Ok (shown a))
   resolved_ok did = record { reply = inl (ap from_host (sym did.answer)); tree = did.tree; touched = did.touched }
 
   -- it wasn't answered
   pub resolved_err : {rose : Type 0} (e : HostError) → (e ≡ Code Io → rose)
-      → Resolved live w v (meant_by w.tree p) shown (Err e)
-      → Asked rose w v (Path p) (Err (error_of e))
+      → Resolved live w v (meant_of w.tree r) shown (Err e)
+      → Asked rose w v r (Err (error_of e))
   resolved_err Memory io did = record { reply = inr (inl refl); tree = inl did.tree; touched = did.touched }
   resolved_err (Code Io) io did = record {
     reply = inr (inr (refl, io refl));
     tree = elim did.tree [
       | inl same ↦ inl same
-      | inr (free, stepped) ↦ inr (refl, hidden w.tree v.tree p free stepped)
+      | inr (free, stepped) ↦ inr (refl, hidden w.tree v.tree r free stepped)
     ];
     touched = did.touched;
   }
@@ -48,6 +52,16 @@ module _ {A : Type 0} {live : Handles} {w v : World} {p : PathRequest} {shown : 
     tree = inl did.tree;
     touched = did.touched;
   }
+
+-- a call of the host is the request for it
+module _ {rose A : Type 0} {old new : Handles} {w v : World} {call : HostCall} {shown : A → HostAnswer call}
+    (same : new ≡ old) where
+  pub asked_ok : {a : A} → Told old new w v call shown (Ok a) → Asked rose w v (Direct call) (Ok (shown a))
+  asked_ok told = resolved_ok {r = Direct call} {shown = shown} (call_ok [] (All-nil _) (same_live same) told)
+
+  pub asked_err : (e : HostError) → (e ≡ Code Io → rose) → Told old new w v call shown (Err e)
+      → Asked rose w v (Direct call) (Err (error_of e))
+  asked_err e io told = resolved_err {r = Direct call} {shown = shown} e io (call_err e [] same told)
 
 -- ---- where something is made of the answer
 
@@ -78,7 +92,7 @@ module _ {B : Type 0} {live : Handles} {w v : World} (p : PathRequest) (f : Path
   pub made_not : {rose : Type 0} (e : HostError) → (e ≡ Code Io → rose)
       → Resolved live w v (meant_as f (meant_by w.tree p)) (λ b. b) (Err e)
       → Asked rose w v (Path p) (Err (error_of e))
-  made_not e io did = resolved_err {A = PathReply p} {live = live} {shown = λ reply. reply} e io (record {
+  made_not e io did = resolved_err {A = PathReply p} {live = live} {r = Path p} {shown = λ reply. reply} e io (record {
     answer = answer e did.answer;
     tree = tree e did.tree;
     touched = did.touched;

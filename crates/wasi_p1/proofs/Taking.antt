@@ -10,7 +10,7 @@ use Rattle.wasi_host.specs.declared.lookup.Lookup.{Lookup}
 use Rattle.wasi_p1.specs.Slots.{View}
 use Rattle.wasi_p1.specs.Guest.{Guest, guest_slots, guest_of, guest_by}
 use Rattle.wasi_p1.specs.Request.{Request, Reply}
-use Rattle.wasi_p1.specs.Row.{Row, Program, give, done, asking, made_of_reply}
+use Rattle.wasi_p1.specs.Row.{Row, Program, give, done, made_of_reply}
 use Rattle.wasi_p1.specs.Front.{with_fuel, ask}
 use Rattle.wasi_p1.specs.Parts.{moved}
 use Rattle.wasi_p1.specs.Rows.{front, row, fuel_left, descriptors_named, may_want}
@@ -24,8 +24,8 @@ use Rattle.wasi_guest.specs.declared.answer.Value.{Value}
 use Rattle.wasi_guest.specs.declared.answer.Value.TheVariants.{Number}
 use Rattle.wasi_p1.specs.declared.call_parts.FilePlace.{FilePlace}
 use Rattle.wasi_p1.specs.declared.context.Slot.TheVariants.{File}
-use Rattle.wasi_p1.specs.declared.error.P1Error.TheVariants.{Memory}
-use Rattle.wasi_host.specs.declared.errors.HostError.TheVariants.{Memory as Wanted}
+use Rattle.wasi_guest.specs.declared.errno.Errno.{Errno as ErrorNumber}
+use Rattle.wasi_p1.specs.declared.error.P1Error.TheVariants.{Errno, Memory}
 use Rattle.wasi_p1.proofs.Near.{IsNear}
 use Rattle.wasi_p1.proofs.Nearness.{row_near}
 use Rattle.wasi_p1.proofs.Permitting.{turn_permits}
@@ -44,7 +44,7 @@ never_ok is = absurd (cc)
 row_same : {p q : Row (Program (Value × Guest)) × ℕ} → p ≡ q → p.0 ≡ q.0
 row_same at = ap (λ (p : Row (Program (Value × Guest)) × ℕ). p.0) at
 
-pub left_same : {p q : Row (Program (Value × Guest)) × ℕ} → p ≡ q → p.1 ≡ q.1
+left_same : {p q : Row (Program (Value × Guest)) × ℕ} → p ≡ q → p.1 ≡ q.1
 left_same at = ap (λ (p : Row (Program (Value × Guest)) × ℕ). p.1) at
 
 -- a refusal before the host, which took this much of the fuel
@@ -56,7 +56,7 @@ refused_at {H} {told} {world} {faults} {lookups} {inside} {view} {memory} {call}
     subst (λ v. FollowsRow told world faults lookups v (record inside { fuel = left }) memory memory call (Err e)) same
     (record {
       size = refl;
-      kept = record { slots = refl; holdings = refl; memory = refl };
+      kept = record { slots = refl; table_max = refl; holdings = refl; memory = refl };
       wants = λ want. absurd (never (reason want));
       slots = all_stay refl;
       fuel = left_same at;
@@ -92,7 +92,7 @@ pub ruleset refusals = (refused, refused_at)
 -- what is the guest's own stays, where nothing changed but the host and the fuel
 pub unchanged : {H : Type 0} {view : View H} {memory : List ℕ} {host : H} {fuel : ℕ}
     → Kept view (record view { host = host; fuel = fuel }) memory memory
-unchanged = record { slots = refl; holdings = refl; memory = refl }
+unchanged = record { slots = refl; table_max = refl; holdings = refl; memory = refl }
 
 -- a refusal by its error, as the exit of a `?` gives it
 pub on_err : {H : Type 0} {told : Bool} {world : H → World} {faults : H → ℕ} {lookups : H → List Lookup}
@@ -101,31 +101,25 @@ pub on_err : {H : Type 0} {told : Bool} {world : H → World} {faults : H → �
     → FollowsRow told world faults lookups old new before after call result
 on_err {result = result} is follows = let error = err_from_is_err_and result is in rw (error.1, error.2) follows
 
--- memory was wanted before anything was asked
+-- memory was wanted in the place of an error number, before anything was asked
 pub wanted : {H : Type 0} {told : Bool} {world : H → World} {faults : H → ℕ} {lookups : H → List Lookup}
-    {view : View H} {memory : List ℕ} {call : Call} {left : ℕ} → IsTrue (may_want call)
-    → left ≡ fuel_left (guest_of world view memory) (with_fuel view.fuel call)
+    {view : View H} {memory : List ℕ} {call : Call} {number : ErrorNumber} {left : ℕ} → IsTrue (may_want call)
+    → (Err (Errno number), left) ≡ front (guest_of world view memory) call view.fuel
     → FollowsRow told world faults lookups view (record view { fuel = left }) memory memory call (Err Memory)
-wanted {H} {told} {world} {faults} {lookups} {view} {memory} {call} {left} may took = record {
+wanted {H} {told} {world} {faults} {lookups} {view} {memory} {call} {number} {left} may at = record {
   size = refl;
-  kept = record { slots = refl; holdings = refl; memory = refl };
+  kept = record { slots = refl; table_max = refl; holdings = refl; memory = refl };
   wants = λ _. may;
   slots = all_stay refl;
-  fuel = took;
-  front = front_wants (row (guest_of world view memory) (with_fuel view.fuel call));
+  fuel = left_same at;
+  front = subst (AtFront (Same view new memory memory) (Quiet faults lookups view new) (guest_of world view memory)
+      (Err Memory)) (row_same at) (inr (refl, refl), (refl, refl));
   turn = λ told. turns.wants_memory;
   permits = λ told names. refl;
 }
   where
     new : View H
     new = record view { fuel = left }
-
-    front_wants : (m : Row (Program (Value × Guest)))
-        → AtFront (Same view new memory memory) (Quiet faults lookups view new) (guest_of world view memory)
-        (Err Memory) m
-    front_wants (Err e) = (inr refl, (refl, refl))
-    front_wants (Ok (done p)) = (refl, (refl, refl))
-    front_wants (Ok (asking r next)) = inl (Wanted, refl)
 
 -- the guest's slots stay: for a host that is told, where the handles stand for the same afterwards
 abbrev pub GuestSlotsStay : {H : Type 0} → Bool → (H → World) → View H → View H → Type 0
@@ -139,7 +133,7 @@ guest_then world old new after = guest_by (world old.host).held new after
 same_guest : {H : Type 0} {old new : View H} {before after : List ℕ} (world : H → World) → Kept old new before after
     → guest_slots (world new.host).held new.slots ≡ guest_slots (world old.host).held old.slots
     → guest_of world new after ≡ guest_of world old before
-same_guest world kept slots = rw (slots, kept.holdings, kept.memory) refl
+same_guest world kept slots = rw (slots, kept.table_max, kept.holdings, kept.memory) refl
 
 -- the row without the tree, and the turn over a host that tells
 abbrev AtHost : {H : Type 0} → (H → World) → (H → ℕ) → (H → List Lookup) → View H → View H → List ℕ → List ℕ
@@ -167,6 +161,7 @@ Made world faults old new live r next result =
 -- a file's descriptor is put back further on
 pub record Moved {H : Type 0} (old new : View H) (fd : ℕ) (file : FilePlace) (n : ℕ) : Type 0 where
   pub slots : new.slots ≡ slice_set old.slots fd (File file.file (file.position + n))
+  pub table_max : new.table_max ≡ old.table_max
   pub holdings : new.holdings ≡ old.holdings
 
 abbrev guest_moved : {H : Type 0} → (ℕ → Held) → View H → ℕ → FilePlace → ℕ → List ℕ → Guest
@@ -305,6 +300,7 @@ module _ {H : Type 0} {told : Bool} {world : H → World} {faults : H → ℕ} {
                 Number n,
                 record {
                   slots = sym placed i;
+                  table_max = sym moved.table_max i;
                   memory = after;
                   holdings = sym moved.holdings i;
                 },

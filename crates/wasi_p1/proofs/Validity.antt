@@ -14,7 +14,7 @@ use Rattle.wasi_host.proofs.Changes.{node_at-past}
 use Rattle.wasi_host.proofs.ValidSteps.{valid-step}
 use Rattle.wasi_p1.specs.CallTurn.{Turns, in_world}
 use Rattle.wasi_p1.specs.Guest.{Guest, State}
-use Rattle.wasi_host.specs.HostCall.{OpenAt, Pwrite}
+use Rattle.wasi_host.specs.HostCall.{OpenAt, Pread}
 use Rattle.wasi_host.specs.HostCall as calls
 use Rattle.wasi_host.specs.declared.held.Held.{Held}
 use Rattle.wasi_host.specs.Steps.{◌>>=◌}
@@ -22,13 +22,14 @@ use Rattle.wasi_host.specs.declared.errors.ErrorCode.{ErrorCode}
 use Rattle.wasi_host.specs.Answer.{unless, link_text}
 use Rattle.wasi_host.specs.Refusal.{refusal}
 use Rattle.wasi_host.proofs.Chain.{free}
+use Rattle.wasi_host.proofs.Refusals.{free_of}
 use Rattle.wasi_resolve.specs.AtPlace.{PlaceCall, PlaceAnswer, CreateDir, RemoveFile, RemoveDir, Symlink, ReadLink, call_at, unrooted, answer_in, place_for, step_in}
 use Rattle.wasi_resolve.specs.AtPlace as at_place
 use Rattle.wasi_resolve.specs.AtTwo.{Places, places_for, asks_directory, call_at_two, answer_at_two, step_at_two}
 use Rattle.wasi_resolve.specs.Paths.{Opening, Place, opening, step_of, timed}
 use Rattle.wasi_resolve.specs.PathRequest.{PathRequest, OpenPath, LookPath, AtPlace, TimesPath, AtTwo, PathReply, answer_at, as_asked, times_through, path_reply, path_after}
 use Rattle.wasi_resolve.proofs.Requests.{as_opened}
-use Rattle.wasi_p1.specs.Request.{Request, Reply, Path, Read, Write, SetTimes, reply_of, after}
+use Rattle.wasi_p1.specs.Request.{Request, Reply, Path, Direct, reply_of, after}
 use Rattle.wasi_p1.specs.Row.{Row, Program, done, asking}
 use Rattle.wasi_p1.specs.Rows.{row, turn}
 use Rattle.wasi_p1.specs.Run.{Turned, Run, ends}
@@ -85,7 +86,7 @@ path_gives_bytes t p reply valid is = tt
 
 gives_bytes : (t : Tree) (r : Request) (reply : Reply r) → IsValidTree t → reply_of t r ≡ Ok reply → GivesBytes r reply
 gives_bytes t (Path p) reply valid is = path_gives_bytes t p reply valid is
-gives_bytes t (Read f offset n) bytes valid is =
+gives_bytes t (Direct (Pread f offset n)) bytes valid is =
     let whole = content_bytes t f.node valid in
     subst AreBytes (unless_value _ is) (cut n _ (cut offset (bytes_of (node_at t f.node).content) whole).1).0
 gives_bytes t r reply valid is = tt
@@ -163,9 +164,7 @@ path_valid t (AtTwo old old_text new new_text what) {reply} valid texts answered
 request_valid : (t : Tree) (r : Request) {reply : Reply r} → IsValidTree t → MayBeAsked r → reply_of t r ≡ Ok reply
     → IsValidTree (after t r)
 request_valid t (Path p) valid may is = path_valid t p valid may is
-request_valid t (Read f offset n) valid may is = valid
-request_valid t (Write f offset piece) valid may is = valid-step t (Pwrite f offset piece) valid may (free _ _ _ is)
-request_valid t (SetTimes n atime mtime) valid may is = times_valid t n atime mtime valid
+request_valid t (Direct call) valid may is = valid-step t call valid may (free_of t call is)
 
 -- ---- a turn
 

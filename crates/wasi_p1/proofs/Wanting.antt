@@ -15,11 +15,12 @@ use Rattle.wasi_host.specs.declared.errors.ErrorCode.{ErrorCode}
 use Rattle.wasi_guest.specs.declared.errno.Errno.{Errno as ErrorNumber}
 use Rattle.wasi_guest.specs.declared.errno.Errno.TheVariants as errnos
 use Rattle.wasi_p1.specs.CallParts.{WantsNoMemory, is_failure}
-use Rattle.wasi_p1.specs.Guest.{GuestSlot, stream, directory, file}
+use Rattle.wasi_p1.specs.Guest.{GuestSlot, stream, directory, file, is_closed}
+use Rattle.wasi_p1.specs.Numbering.{live_count}
 use Rattle.wasi_p1.specs.NewTimes.{time_of, new_time, times_asked}
 use Rattle.wasi_p1.specs.RawFlags.{or_inval, open_how, follow_asked}
 use Rattle.wasi_p1.specs.Row.{Row}
-use Rattle.wasi_p1.specs.Parts.{live_in, directory_in, start_in, source_in, sink_in, open_node_in, range, may_write, permit, fault_of, from_guest}
+use Rattle.wasi_p1.specs.Parts.{live_in, directory_in, start_in, source_in, sink_in, open_node_in, range, may_write, room_for, permit, fault_of, from_guest}
 use Rattle.wasi_p1.specs.declared.error.P1Error.{P1Error}
 use Rattle.wasi_guest.specs.Enums.{clockid_of, is_signal}
 use Rattle.wasi_guest.specs.declared.enums.Clockid.{Clockid}
@@ -93,6 +94,10 @@ write_never perms = by (is_read_only perms)
     by : (b : Bool) → Never (let m : Row (Unit {0}) = cond b (Err (Errno errnos.Badf)) (Ok tt) in m)
     by true = number
     by false = tt
+
+pub room_never : (slots : List GuestSlot) (table_max more : ℕ) → Never (room_for slots table_max more)
+unfolding room_for
+room_never slots table_max more = when (nat_le (live_count is_closed slots + more) table_max) _ trapped
 
 pub live_never : (p : Option GuestSlot) → Never (live_in p)
 live_never (Some (directory d)) = tt

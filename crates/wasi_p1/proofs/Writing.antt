@@ -1,11 +1,12 @@
 -- What an answered write did.
 use Rattle.std.proofs.Common.{ℕ, ◌≡◌, refl, ap, sym, ◌∙◌, List, length, slice_get, slice_set, Ok}
 use Rattle.wasi_host.specs.Tree.{Tree}
+use Rattle.wasi_host.specs.HostCall.{Pwrite}
 use Rattle.wasi_guest.specs.declared.answer.Value.{Value}
 use Rattle.wasi_guest.specs.declared.answer.Value.TheVariants.{Number}
 use Rattle.wasi_guest.specs.declared.iovec.Iovec.{Iovec}
 use Rattle.wasi_p1.specs.Guest.{Guest, State}
-use Rattle.wasi_p1.specs.Request.{Write}
+use Rattle.wasi_p1.specs.Request.{Direct}
 use Rattle.wasi_p1.specs.Row.{Row, done}
 use Rattle.wasi_p1.specs.Parts.{Sink, output, into, sink_in, range, may_write, held_by, moved}
 use Rattle.wasi_p1.specs.Front.{charged_buffer}
@@ -55,7 +56,7 @@ writes_whole s s' fuel fd iovs n x is =
         let (answered, after) = state_is is in (answered ∙ ap (λ k. Number k) long, after)
     puts buffer left piece long (into f) is =
         let (may, allowed, four) = gave s.tree (may_write f.perms) _ left is in
-        let did = replied_by s.tree (Write (held_by f) f.position piece) _ four in
+        let did = replied_by s.tree (Direct (Pwrite (held_by f) f.position piece)) _ four in
         let whole : did.reply ≡ length piece = sym (unless_value _ did.is) in
         let gives = number_is did.gives in (
           gives.0 ∙ ap (λ k. Number k) (whole ∙ long),

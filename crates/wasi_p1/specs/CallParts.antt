@@ -5,13 +5,14 @@ use Rattle.wasi_fs.specs.Calls.{opens, handle_of, perms_of}
 use Rattle.wasi_fs.specs.OpenHow.{OpenHow, mode_of}
 use Rattle.wasi_fs.specs.declared.descriptor.Descriptor.{Descriptor}
 use Rattle.wasi_fs.specs.declared.descriptor.Dir.{Dir}
+use Rattle.wasi_host.specs.HostCall.{Pread, Pwrite}
 use Rattle.wasi_host.specs.Meaning.{World, Handles, Keeps}
 use Rattle.wasi_host.specs.declared.errors.HostError.{HostError}
 use Rattle.wasi_host.specs.declared.errors.ErrorCode.{ErrorCode}
 use Rattle.wasi_host.specs.declared.held.Held.{Held}
 use Rattle.wasi_p1.specs.Asked.{Does}
 use Rattle.wasi_p1.specs.Errnos.{errno_of, error_of}
-use Rattle.wasi_p1.specs.Request.{Request, Reply, MayReply, Path, Read, Write}
+use Rattle.wasi_p1.specs.Request.{Request, Reply, MayReply, Path, Direct}
 use Rattle.wasi_p1.specs.Row.{Row, give}
 use Rattle.wasi_p1.specs.Parts.{OpenNode, opened_among, Source, input, from, Sink, output, into}
 use Rattle.wasi_guest.specs.Range.{with_bytes}
@@ -68,11 +69,11 @@ filled_at memory buf bytes = give (length bytes, with_bytes memory buf bytes)
 -- a read into memory
 abbrev pub ReadsInto : Type 0 → Handles → World → World → Held → ℕ → ℕ → ℕ → List ℕ → List ℕ → Row ℕ → Type 0
 ReadsInto rose old w v f position buf size before after result =
-    Makes rose old w v (Read f position size) (filled_at before buf) (with_after result after)
+    Makes rose old w v (Direct (Pread f position size)) (filled_at before buf) (with_after result after)
 
 -- a write of a piece
 abbrev pub WritesPiece : Type 0 → Handles → World → World → Held → ℕ → List ℕ → Row ℕ → Type 0
-WritesPiece rose old w v f position piece result = Makes rose old w v (Write f position piece) give result
+WritesPiece rose old w v f position piece result = Makes rose old w v (Direct (Pwrite f position piece)) give result
 
 -- what is read or written by a number, with what a file's handle stands for in place of the handle
 abbrev pub source_of : (ℕ → Held) → ReadPlace → Source
@@ -112,6 +113,11 @@ IsReplied r next (Err e) = IsFromHost e ⊎ Follows r next (Err e)
 -- another refusal than want of memory
 abbrev pub WantsNoMemory : P1Error → Type 0
 WantsNoMemory e = e ≡ Memory → ⊥
+
+-- whether a refusal is an error number, and no trap
+abbrev pub is_errno : P1Error → Bool
+is_errno (Errno number) = true
+is_errno e = false
 
 -- whether a refusal is the failure of a host
 abbrev pub is_failure : P1Error → Bool

@@ -1,12 +1,12 @@
 -- What a call of the context does.
-use Rattle.std.specs.Prelude.{ℕ, ◌≡◌, ◌≤◌, ◌⊎◌, Bool, IsTrue, List, [], length, slice_get, Contains, Some, Result, Ok, Err, OnErr, is_ok, if◌then◌else◌}
+use Rattle.std.specs.Prelude.{ℕ, ◌≡◌, ◌≤◌, ◌⊎◌, Bool, true, IsTrue, List, [], length, slice_get, Contains, Some, Result, Ok, Err, OnErr, is_ok, if◌then◌else◌}
 use Rattle.wasi_host.specs.Agree.{Touches}
 use Rattle.wasi_fs.specs.declared.perms.FsPerms.TheVariants.{ReadOnly}
 use Rattle.wasi_host.specs.Meaning.{World, Handles, Rose}
 use Rattle.wasi_host.specs.declared.lookup.Lookup.{Lookup}
 use Rattle.wasi_p1.specs.Slots.{View}
 use Rattle.wasi_p1.specs.Owners.{handles, unowned, CallTraced, SlotsOfCall}
-use Rattle.wasi_p1.specs.CallParts.{IsReplied, with_after}
+use Rattle.wasi_p1.specs.CallParts.{IsReplied, with_after, is_errno}
 use Rattle.wasi_p1.specs.Guest.{Guest, State, perms_in, guest_of, guest_by}
 use Rattle.wasi_p1.specs.Row.{Row, Program, done, asking}
 use Rattle.wasi_p1.specs.Front.{FueledCall, with_fuel}
@@ -57,6 +57,7 @@ Same old new before after = (new ≡ record old { fuel = new.fuel }) × (after �
 -- what is the guest's own stays
 pub record Kept {H : Type 0} (old new : View H) (before after : List ℕ) : Type 0 where
   pub slots : new.slots ≡ old.slots
+  pub table_max : new.table_max ≡ old.table_max
   pub holdings : new.holdings ≡ old.holdings
   pub memory : after ≡ before
 
@@ -70,10 +71,11 @@ abbrev pub IsDone : Type 0 → Type 0 → Guest → Result Value P1Error → Val
 IsDone same quiet g' (Ok x) p = (p ≡ (x, g')) × quiet
 IsDone same quiet g' (Err e) p = (e ≡ Memory) × same
 
--- What a row says without the tree. A refusal before it asks is the answer, or memory was wanted, and nothing changed.
+-- What a row says without the tree. A refusal before it asks is the answer, and nothing changed; in the place of an error
+-- number, never of a trap, memory may have been wanted.
 -- Where it asks, an answer and a guest, or a refusal, are those that some reply leads to, or the host refused
 abbrev pub AtFront : Type 0 → Type 0 → Guest → Result Value P1Error → Row (Program (Value × Guest)) → Type 0
-AtFront same quiet g' result (Err e) = ((result ≡ Err e) ⊎ (result ≡ Err Memory)) × same
+AtFront same quiet g' result (Err e) = ((result ≡ Err e) ⊎ ((result ≡ Err Memory) × (is_errno e ≡ true))) × same
 AtFront same quiet g' result (Ok (done p)) = IsDone same quiet g' result p
 AtFront same quiet g' result (Ok (asking r next)) = IsReplied r next (with_after result g')
 

@@ -38,6 +38,8 @@ pub data GuestSlot : Type 0 where
 -- all of the state but the tree
 pub record Guest : Type 0 where
   pub slots : List GuestSlot
+  -- how many descriptors may be live: the largest size of the resource table
+  pub table_max : ℕ
   pub memory : List ℕ
   pub holdings : Stock
 
@@ -73,6 +75,7 @@ guest_slots held table = map (guest_slot held) table
 abbrev pub guest_by : {H : Type 0} → (ℕ → Held) → View H → List ℕ → Guest
 guest_by held context memory = record {
   slots = guest_slots held context.slots;
+  table_max = context.table_max;
   memory = memory;
   holdings = context.holdings;
 }

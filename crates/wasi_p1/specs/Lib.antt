@@ -1,5 +1,6 @@
 pub mod Stock
 pub mod Slots
+pub mod Items
 pub mod Numbering
 pub mod Descriptors
 pub mod Owners

@@ -1,5 +1,5 @@
--- Which number a new item of a table takes: the largest that is closed, else the next one.
-use Rattle.std.specs.Prelude.{ℕ, suc, Bool, true, false, List, [], ◌∷◌, ◌++◌, length, slice_get, slice_set, Option, Some, None, unwrap_or}
+-- Which number a new item of a table takes: the largest that is closed, else the next one. How many aren't closed.
+use Rattle.std.specs.Prelude.{ℕ, suc, Bool, true, false, not, List, [], ◌∷◌, ◌++◌, length, slice_get, slice_set, count_by, Option, Some, None, unwrap_or}
 use Rattle.std.specs.Option.{option_map_or}
 
 -- whether the item of a number passes a test
@@ -28,3 +28,7 @@ put_at None x xs = xs ++ x ∷ []
 -- the items with a new one, which stands under its number
 unfoldable pub with_new : {A : Type 0} → (A → Bool) → List A → A → List A
 with_new closed xs x = put_at (last_where closed xs) x xs
+
+-- how many items aren't closed
+unfoldable pub live_count : {A : Type 0} → (A → Bool) → List A → ℕ
+live_count closed xs = count_by (λ x. not (closed x)) xs

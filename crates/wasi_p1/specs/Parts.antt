@@ -1,5 +1,5 @@
 -- What the rows of the calls are made of.
-use Rattle.std.specs.Prelude.{ℕ, ◌+◌, List, length, slice_range, if◌then◌else◌, Ok, Err, Option, Some, None}
+use Rattle.std.specs.Prelude.{ℕ, ◌+◌, nat_le, List, length, slice_range, if◌then◌else◌, Ok, Err, Option, Some, None}
 use Rattle.wasi_fs.specs.Perms.{is_read_only}
 use Rattle.wasi_fs.specs.declared.open_mode.OpenMode.{OpenMode}
 use Rattle.wasi_fs.specs.declared.perms.FsPerms.{FsPerms}
@@ -13,11 +13,12 @@ use Rattle.wasi_guest.specs.Records.{Found}
 use Rattle.wasi_guest.specs.declared.guest_error.GuestError.{GuestError}
 use Rattle.wasi_guest.specs.declared.guest_error.GuestError.TheVariants as guests
 use Rattle.wasi_guest.specs.declared.errno.Errno.TheVariants as errnos
-use Rattle.wasi_guest.specs.declared.answer.TrapKind.TheVariants.{Pointer}
+use Rattle.wasi_guest.specs.declared.answer.TrapKind.TheVariants.{Pointer, TableFull}
 use Rattle.wasi_guest.specs.declared.answer.Value.{Value}
 use Rattle.wasi_guest.specs.declared.answer.Value.TheVariants.{Number, Filestat}
 use Rattle.wasi_p1.specs.Filestats.{stat_both, filestat_in}
-use Rattle.wasi_p1.specs.Guest.{Guest, GuestSlot, closed, stream, directory, file, OpenDirectory, OpenFile, new_number, with_guest_slot}
+use Rattle.wasi_p1.specs.Guest.{Guest, GuestSlot, closed, stream, directory, file, is_closed, OpenDirectory, OpenFile, new_number, with_guest_slot}
+use Rattle.wasi_p1.specs.Numbering.{live_count}
 use Rattle.wasi_p1.specs.Row.{Row, give, from_host}
 use Rattle.wasi_p1.specs.declared.context.Stream.TheVariants as streams
 use Rattle.wasi_p1.specs.declared.holdings.Output.{Output}
@@ -108,6 +109,11 @@ start_in (Some (file f)) = Err (Errno errnos.Badf)
 start_in (Some (stream s)) = Err (Errno errnos.Badf)
 start_in (Some closed) = Err (Errno errnos.Badf)
 start_in None = Err (Errno errnos.Badf)
+
+-- so many more descriptors than are live may be; else the trap
+unfoldable pub room_for : List GuestSlot → ℕ → ℕ → Row (Unit {0})
+room_for slots table_max more =
+    if nat_le (live_count is_closed slots + more) table_max then Ok tt else Err (Trap TableFull)
 
 -- what isn't permitted is refused by the error number of its code
 abbrev pub permit : Option ErrorCode → Row (Unit {0})

@@ -13,10 +13,12 @@ use Rattle.wasi_p1.specs.declared.context.Stream.TheVariants.{Input, Output, Err
 use Rattle.wasi_p1.specs.declared.context.Slot.{Slot}
 use Rattle.wasi_p1.specs.declared.context.Slot.TheVariants.{Closed, Stream, Directory, File}
 
--- the host itself, the descriptors by number, what the guest has beside them, and the fuel that is left
+-- the host itself, the descriptors by number and how many of them may be live, what the guest has beside them, and the
+-- fuel that is left
 pub record View (H : Type 0) : Type 0 where
   pub host : H
   pub slots : List Slot
+  pub table_max : ℕ
   pub holdings : Stock
   pub fuel : ℕ
 

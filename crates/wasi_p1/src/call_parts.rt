@@ -1,7 +1,8 @@
 //! What the calls of preview1 do with a host and a guest's memory, a part at a time.
-ghost use Rattle.std.specs.Prelude.{◌≡◌, ◌<◌, ◌+◌, ◌^◌, true, false, IsTrue, length, take, slice_get, slice_set, option_map, Ok, Err, IfOk, IfErr, OnOk, OnErr, Some, None};
+ghost use Rattle.std.specs.Prelude.{◌≡◌, ◌<◌, ◌≤◌, ◌+◌, ◌^◌, true, false, IsTrue, length, take, slice_get, slice_set, option_map, Ok, Err, IfOk, IfErr, OnOk, OnErr, Some, None};
 ghost use Rattle.std.specs.Result.{result_map_both};
 ghost use Rattle.std.specs.FinSet.{contains};
+ghost use Rattle.wasi_host.specs.HostCall.{Pread, Pwrite};
 ghost use Rattle.wasi_host.specs.Meaning.{HasCause, Rose};
 ghost use Rattle.wasi_host.specs.Lineage.{Traced, Only, Nothing};
 ghost use Rattle.wasi_p1.specs.CallTurn.{Causes};
@@ -9,12 +10,13 @@ ghost use Rattle.wasi_p1.specs.Owners.{handle_in, handles, without, Owned, Owns,
 ghost use Rattle.wasi_p1.specs.Guest.{guest_slot, guest_slots};
 ghost use Rattle.wasi_resolve.specs.PathRequest.{meant_by};
 ghost use Rattle.wasi_resolve.specs.Resolved.{Resolved};
-ghost use Rattle.wasi_p1.specs.Request.{Path, Read, Write};
+ghost use Rattle.wasi_p1.specs.Request.{Path, Direct};
 ghost use Rattle.wasi_fs.specs.Calls.{opens, looks, meant_as, handle_of};
 ghost use Rattle.wasi_fs.specs.OpenHow.{how_of, may_open, mode_of};
 ghost use Rattle.wasi_p1.specs.Filestats.{stat_both, IsStated};
 ghost use Rattle.wasi_p1.specs.Front.{charge, charged_text, charged_buffer};
-ghost use Rattle.wasi_p1.specs.Parts.{range, live_in, directory_in, start_in, source_in, sink_in, open_node_in, may_write, opened_among, text_to};
+ghost use Rattle.wasi_p1.specs.Parts.{range, live_in, directory_in, start_in, source_in, sink_in, open_node_in, may_write, room_for, opened_among, text_to};
+ghost use Rattle.wasi_p1.specs.Numbering.{live_count};
 ghost use Rattle.wasi_p1.specs.Slots.{is_closed_slot, slot_of, descriptor_in};
 ghost use Rattle.wasi_guest.specs.Range.{IsInMemory};
 ghost use Rattle.wasi_p1.specs.CallParts.{open_directory_of, source_of, sink_of, file_slot, OfSource, OfSink, open_node_of, Refused, ReadsInto, WritesPiece, OpensInto, filled_at, with_after, Rests, Stays, IsLive, IsReplied, WantsNoMemory, is_failure};
@@ -238,6 +240,19 @@ pub fn check_write(perms: FsPerms) -> Result<(), P1Error>
     Ok(())
 }
 
+/// Trap TableFull where so many more descriptors may not be live.
+pub fn room_at<H: Host>(host: &H, descriptors: &Descriptors, more: u32) -> Result<(), P1Error>
+    ensures fits { OnOk result (live_count is_closed_slot descriptors.now.slots + more ≤ descriptors.now.max) }
+    ensures row { result ≡ room_for (guest_slots (H.world host.now).held descriptors.now.slots)
+        descriptors.now.max more }
+    ensures refusal { IfErr result (λ e. is_failure e ≡ false) }
+{
+    if !descriptors.fits(more) {
+        return Err(P1Error::Trap(TrapKind::TableFull));
+    }
+    Ok(())
+}
+
 /// The descriptor of what was opened, a file's at its start.
 fn slot_of(descriptor: Descriptor) -> Slot
     ensures { result ≡ slot_of descriptor }
@@ -268,7 +283,7 @@ pub fn read_into<H: Host>(
     ensures same { OnErr result (memory.new ≡ memory.old) }
 
     // The row, over every host and over one that tells its world.
-    ensures front { IsReplied (Read ((H.world host.old).held file) position buffer.buf_len)
+    ensures front { IsReplied (Direct (Pread ((H.world host.old).held file) position buffer.buf_len))
         (filled_at memory.old buffer.buf) (with_after result memory.new) }
     ensures told { IsTrue H.told → ReadsInto (Rose (H.faults host.old) (H.faults host.new)) (H.live host.old)
         (H.world host.old) (H.world host.new) ((H.world host.old).held file) position buffer.buf buffer.buf_len
@@ -296,7 +311,7 @@ pub fn write_piece<H: Host>(
     ensures fits { IfOk result (λ n. position + n < 2 ^ 64) }
 
     // The row, over every host and over one that tells its world.
-    ensures front { IsReplied (Write ((H.world host.old).held file) position piece.now) give result }
+    ensures front { IsReplied (Direct (Pwrite ((H.world host.old).held file) position piece.now)) give result }
     ensures told { IsTrue H.told → WritesPiece (Rose (H.faults host.old) (H.faults host.new)) (H.live host.old)
         (H.world host.old) (H.world host.new) ((H.world host.old).held file) position piece.now result }
 {
@@ -313,12 +328,13 @@ pub fn move_file(descriptors: &mut Descriptors, fd: u32, file: File, position: u
     requires fits { position + count < 2 ^ 64 }
     ensures handles { handles descriptors.new.slots ≡ handles descriptors.old.slots }
     ensures slots { descriptors.new.slots ≡ slice_set descriptors.old.slots fd (Slot.File file (position + count)) }
+    ensures max { descriptors.new.max ≡ descriptors.old.max }
 {
-    let position = position + count;
-    descriptors.set(fd, Slot::File { file, position });
+    descriptors.set_position(fd, position + count);
 }
 
-/// Opens a path into the descriptors, and gives the new one's number. Its room is taken before the host is called.
+/// Opens a path into the descriptors, of which there may be one more, and gives the new one's number. The memory for it
+/// is taken before the host is called.
 #[tactic(auto, using(crate::proofs::Staying::all_stay))]
 pub fn open_into<H: Host>(
     alloc: Global,
@@ -330,9 +346,11 @@ pub fn open_into<H: Host>(
 ) -> Result<u64, P1Error>
     requires live { contains (H.live host.old) dir.dir ≡ true }
     requires owned { Owned (H.live host.old) (handles descriptors.old.slots) }
+    requires fits { live_count is_closed_slot descriptors.old.slots + 1 ≤ descriptors.old.max }
     ensures cause { Causes (H.faults host.old) (H.faults host.new) result }
 
     // The descriptors after it: a new one where it is answered, and else those that there were.
+    ensures max { descriptors.new.max ≡ descriptors.old.max }
     ensures used { SlotsStay Nothing Nothing descriptors.old.slots descriptors.new.slots }
     ensures kept { OnErr result (descriptors.new.slots ≡ descriptors.old.slots) }
     ensures owns { Owns (H.live host.old) (H.live host.new)
@@ -435,6 +453,7 @@ pub fn close_slot<H: Host>(host: &mut H, descriptors: &mut Descriptors, fd: u32,
     ensures faults { H.faults host.new ≡ H.faults host.old }
     ensures logged { H.lookups host.new ≡ H.lookups host.old }
     ensures slots { descriptors.new.slots ≡ slice_set descriptors.old.slots fd Slot.Closed }
+    ensures max { descriptors.new.max ≡ descriptors.old.max }
     ensures owns { Owns (H.live host.old) (H.live host.new)
         (handles descriptors.old.slots) (handles descriptors.new.slots) }
     ensures lineage { SlotsTraced Nothing descriptors.old.slots descriptors.new.slots

@@ -1,9 +1,10 @@
 //! The context of a guest's calls: its descriptors over a host.
-ghost use Rattle.std.specs.Prelude.{◌≡◌, ◌≢◌, [], true, IsTrue, All, AllPairs, IfOk, IfErr};
+ghost use Rattle.std.specs.Prelude.{◌≡◌, ◌≢◌, ◌<◌, ◌≤◌, ◌+◌, ◌↔◌, [], true, length, IsTrue, All, AllPairs, IfOk, IfErr, IsErrAnd};
 ghost use Rattle.std.specs.FinSet.{contains};
 ghost use Rattle.wasi_p1.specs.Slots.{given_directory};
 
 use crate::descriptors::Descriptors;
+use crate::error::CtxError;
 use crate::holdings::Holdings;
 use bitflags::Flags;
 use std::alloc::Global;
@@ -27,23 +28,6 @@ pub enum Slot {
     Stream(Stream),
     Directory(Dir),
     File { file: File, position: u64 },
-}
-
-impl Slot {
-    /// The same, for a call's use beside the one among the descriptors.
-    pub(crate) fn for_call(&self) -> Slot
-        ensures same { result ≡ self.now }
-    {
-        match self {
-            Slot::Closed => Slot::Closed,
-            Slot::Stream(stream) => Slot::Stream(*stream),
-            Slot::Directory(dir) => { Slot::Directory(Dir::new(dir.dir, dir.perms, dir.open_mode)) }
-            Slot::File { file, position } => Slot::File {
-                file: File::new(file.file, file.perms, file.open_mode),
-                position: *position,
-            },
-        }
-    }
 }
 
 /// A directory that a guest is given: a handle of it, what may be done below it, and the name by which the guest knows
@@ -87,6 +71,7 @@ impl<H: Host> Model for WasiP1Ctx<H> {
     ghost view = { λ c. record {
       host = c.host;
       slots = c.descriptors.slots;
+      table_max = c.descriptors.max;
       holdings = c.holdings;
       fuel = c.fuel;
     } };
@@ -97,10 +82,11 @@ impl<H: Host> Model for WasiP1Ctx<H> {
 /// The fuel of a new context.
 pub const FUEL: u64 = 134_217_728;
 
-/// No context was made, because memory was wanted. The host is handed back.
+/// No context was made, and why. The host is handed back.
 #[derive(Drop)]
 pub struct CtxRefused<H: Host> {
     pub host: H,
+    pub error: CtxError,
 }
 
 /// What stays of a context when its guest has ended.
@@ -112,14 +98,19 @@ pub struct Ended<H: Host> {
 }
 
 impl<H: Host> WasiP1Ctx<H> {
+    ghost use Rattle.wasi_p1.specs.Numbering.{live_count};
     ghost use Rattle.wasi_p1.specs.Owners.{OwnedApart, handles};
-    ghost use Rattle.wasi_p1.specs.Slots.{first_slots};
+    ghost use Rattle.wasi_p1.specs.Slots.{first_slots, is_closed_slot};
+    ghost use Rattle.wasi_p1.specs.declared.error.CtxError.TheVariants.{Full};
     ghost use Rattle.wasi_guest.specs.Services.{handed};
     ghost use Rattle.wasi_p1.specs.Stock.{first_fuel, first_stock};
 
     /// A context with the three standard streams as descriptors 0 to 2, and then the directories that the guest is
     /// given, in order, which takes their handles over. Each handle is live, and given once. Nothing is asked of the
     /// host. The names are let go, since no call tells them. The fuel left is `FUEL`.
+    ///
+    /// Each live descriptor is an entry of the resource table, which has `table_max` entries at most: Full exactly where
+    /// the streams and the directories are more.
     ///
     /// The two moments of the wall clock may be any: whole seconds are carried out of their nanoseconds, and a call is
     /// refused Overflow where it can't tell or set one.
@@ -128,6 +119,7 @@ impl<H: Host> WasiP1Ctx<H> {
         host: H,
         preopens: Vec<P1Preopen>,
         services: Services,
+        table_max: u32,
     ) -> Result<WasiP1Ctx<H>, CtxRefused<H>>
         requires live { All (λ preopen. contains (H.live host) preopen.handle ≡ true) preopens.items }
         requires once { AllPairs (λ one other. one.handle ≢ other.handle) preopens.items }
@@ -135,16 +127,20 @@ impl<H: Host> WasiP1Ctx<H> {
             ≡ record {
               host = host;
               slots = first_slots preopens.items;
+              table_max = table_max;
               holdings = first_stock (handed services);
               fuel = first_fuel;
             }) }
         ensures handed_back { IfErr result (λ refused. refused.host ≡ host) }
+        ensures full { IsErrAnd result (λ refused. refused.error ≡ Full) ↔ table_max < 3 + length preopens.items }
     {
-        let Ok(descriptors) = Descriptors::first(alloc, &preopens) else {
-            return Err(CtxRefused { host });
+        let descriptors = match Descriptors::first(alloc, table_max, &preopens) {
+            Ok(descriptors) => descriptors,
+            Err(error) => return Err(CtxRefused { host, error }),
         };
         let Ok(holdings) = Holdings::new(alloc, services) else {
-            return Err(CtxRefused { host });
+            let error = CtxError::Memory;
+            return Err(CtxRefused { host, error });
         };
         Ok(WasiP1Ctx {
             alloc,
@@ -168,6 +164,14 @@ impl<H: Host> WasiP1Ctx<H> {
         ensures apart { OwnedApart (H.live self.now.host) (handles self.now.slots) }
     {
         let _descriptors = &self.descriptors;
+    }
+
+    /// How many entries of the resource table are live: one for each live descriptor, and never more than there may be.
+    pub fn live_entries(&self) -> u32
+        ensures count { result ≡ live_count is_closed_slot self.now.slots }
+        ensures most { result ≤ self.now.table_max }
+    {
+        self.descriptors.live()
     }
 
     /// The host, as the calls so far left it.

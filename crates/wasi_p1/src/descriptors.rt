@@ -1,60 +1,103 @@
 //! The descriptors of a guest by number.
-ghost use Rattle.std.specs.Prelude.{◌≡◌, ◌≤◌, ◌<◌, ◌+◌, false, [], length, slice_get, slice_set, IsOk, IfOk, OnOk};
-ghost use Rattle.wasi_p1.specs.Numbering.{passes_at, free_number, with_new};
+ghost use Rattle.std.specs.Prelude.{◌≡◌, ◌≤◌, ◌<◌, ◌+◌, ◌↔◌, true, false, [], nat_le, length, slice_get, slice_set, Err, IsOk, IfOk, OnOk};
+ghost use Rattle.wasi_p1.specs.Items.{is_file_slot, moved_slot};
+ghost use Rattle.wasi_p1.specs.Numbering.{passes_at, free_number, with_new, live_count};
 ghost use Rattle.wasi_p1.specs.Slots.{first_slots, is_closed_slot};
+ghost use Rattle.wasi_p1.specs.declared.error.CtxError.TheVariants.{Full};
 
 use crate::context::{P1Preopen, Slot, Stream};
+use crate::error::CtxError;
+use crate::items::{
+    Item, admit, at_position, forget, item_at, item_under, reserve_entry, slot_of_item,
+};
 use std::alloc::{AllocError, Global};
 use std::collections::BinaryHeap;
 use std::marker::Model;
+use wasi_streams::ResourceTable;
 
-/// What stands under each number. The closed numbers stand in a heap beside, so that the largest is found without a
-/// look at all descriptors; its room is taken as numbers are first given, so that closing one takes no memory.
+/// How many standard streams there are.
+const STREAMS: usize = 3;
+
+/// What stands under each number, by the resource that it names. The closed numbers stand in a heap beside, so that the
+/// largest is found without a look at all descriptors; its room is taken as numbers are first given, so that closing one
+/// takes no memory.
 #[derive(Drop)]
 pub struct Descriptors {
-    slots: Vec<Slot>,
+    items: Vec<Item>,
     closed: BinaryHeap<u32>,
+    table: ResourceTable,
 }
 
 impl Model for Descriptors {
     ghost use Rattle.std.specs.Prelude.{◌+◌, ◌-◌, min};
     ghost use Rattle.std.specs.Vec.{vec_len, vec_capacity};
     ghost use Rattle.std.specs.BinaryHeap.{heap_items, heap_len, heap_capacity};
-    ghost use Rattle.wasi_p1.specs.Descriptors.{SlotTable, IsIndexed};
+    ghost use Rattle.wasi_p1.specs.Descriptors.{SlotTable, AreKept};
+    ghost use Rattle.wasi_p1.specs.Items.{slots_of};
 
     ghost Value = { SlotTable };
 
     ghost view = { λ d. record {
-      slots = d.slots.items;
-      room = heap_len d.closed + (min (vec_capacity d.slots) (heap_capacity d.closed) - vec_len d.slots);
+      slots = slots_of d.table.entries d.items.items;
+      room = min d.table.spare (heap_len d.closed + (min (vec_capacity d.items) (heap_capacity d.closed) - vec_len d.items));
+      max = d.table.max;
     } };
 
-    ghost invariant = { λ d. IsIndexed (heap_items d.closed) (heap_capacity d.closed) d.slots.items };
+    ghost invariant = { λ d. AreKept (heap_items d.closed) (heap_capacity d.closed) d.items.items d.table.entries };
 }
 
 impl Descriptors {
-    /// The three standard streams as descriptors 0 to 2.
-    fn streams(alloc: Global) -> Result<Descriptors, AllocError>
-        ensures { IfOk result (λ descriptors. descriptors.slots ≡ first_slots []) }
+    /// No descriptors, of which so many may be live.
+    fn none(alloc: Global, max: u32) -> Descriptors
+        ensures slots { result.slots ≡ [] }
+        ensures max { result.max ≡ max }
     {
-        let slots = vec![in alloc;
-            Slot::Stream(Stream::Input),
-            Slot::Stream(Stream::Output),
-            Slot::Stream(Stream::Error),
-        ]?;
-        let closed = BinaryHeap::with_capacity(alloc, slots.len())?;
-        Ok(Descriptors { slots, closed })
+        Descriptors {
+            items: Vec::new(alloc),
+            closed: BinaryHeap::new(alloc),
+            table: ResourceTable::with_max(alloc, max),
+        }
     }
 
-    /// The three standard streams as descriptors 0 to 2, and then the directories that the guest is given, in order.
-    pub fn first(alloc: Global, preopens: &[P1Preopen]) -> Result<Descriptors, AllocError>
-        ensures { IfOk result (λ descriptors. descriptors.slots ≡ first_slots preopens.now) }
+    /// The three standard streams as descriptors 0 to 2.
+    #[tactic(auto, unfolding(crate::specs::Numbering::with_new))]
+    fn streams(alloc: Global, max: u32) -> Result<Descriptors, AllocError>
+        requires fits { 3 ≤ max }
+        ensures slots { IfOk result (λ descriptors. descriptors.slots ≡ first_slots []) }
+        ensures max { IfOk result (λ descriptors. descriptors.max ≡ max) }
     {
-        let mut descriptors = Descriptors::streams(alloc)?;
+        let mut descriptors = Descriptors::none(alloc, max);
+        descriptors.add(Slot::Stream(Stream::Input))?;
+        descriptors.add(Slot::Stream(Stream::Output))?;
+        descriptors.add(Slot::Stream(Stream::Error))?;
+        Ok(descriptors)
+    }
+
+    /// The three standard streams as descriptors 0 to 2, and then the directories that the guest is given, in order, of
+    /// which there are no more than may be.
+    fn given(alloc: Global, max: u32, preopens: &[P1Preopen]) -> Result<Descriptors, AllocError>
+        requires fits { 3 + length preopens.now ≤ max }
+        ensures slots { IfOk result (λ descriptors. descriptors.slots ≡ first_slots preopens.now) }
+        ensures max { IfOk result (λ descriptors. descriptors.max ≡ max) }
+    {
+        let mut descriptors = Descriptors::streams(alloc, max)?;
         for preopen in preopens {
-            descriptors.reserve()?;
-            descriptors.put(Slot::Directory(preopen.directory()));
+            descriptors.add(Slot::Directory(preopen.directory()))?;
         }
+        Ok(descriptors)
+    }
+
+    /// The three standard streams as descriptors 0 to 2, and then the directories that the guest is given, in order; so
+    /// many may be live. Full exactly where these are more.
+    pub fn first(alloc: Global, max: u32, preopens: &[P1Preopen]) -> Result<Descriptors, CtxError>
+        ensures slots { IfOk result (λ descriptors. descriptors.slots ≡ first_slots preopens.now) }
+        ensures max { IfOk result (λ descriptors. descriptors.max ≡ max) }
+        ensures full { result ≡ Err Full ↔ max < 3 + length preopens.now }
+    {
+        if preopens.len() + STREAMS > max as usize {
+            return Err(CtxError::Full);
+        }
+        let descriptors = Descriptors::given(alloc, max, preopens)?;
         Ok(descriptors)
     }
 
@@ -62,21 +105,43 @@ impl Descriptors {
     pub fn get(&self, fd: u32) -> Option<Slot>
         ensures { result ≡ slice_get self.now.slots fd }
     {
-        Some(self.slots.get(fd as usize)?.for_call())
+        match item_at(&self.items, fd) {
+            Some(item) => Some(slot_of_item(&self.table, item)),
+            None => None,
+        }
     }
 
-    /// Takes the room for a new descriptor.
+    /// How many descriptors are live: as many as entries of the resource table.
+    pub fn live(&self) -> u32
+        ensures count { result ≡ live_count is_closed_slot self.now.slots }
+        ensures most { result ≤ self.now.max }
+    {
+        self.table.live()
+    }
+
+    /// Whether so many more may be live.
+    pub fn fits(&self, more: u32) -> bool
+        ensures { result ≡ nat_le (live_count is_closed_slot self.now.slots + more) self.now.max }
+    {
+        self.table.fits(more)
+    }
+
+    /// Takes the memory for a new descriptor, which there may be: for its number, for what is kept of it, and for its
+    /// entry.
     pub fn reserve(&mut self) -> Result<(), AllocError>
+        requires fits { live_count is_closed_slot self.old.slots + 1 ≤ self.old.max }
         ensures slots { self.new.slots ≡ self.old.slots }
+        ensures max { self.new.max ≡ self.old.max }
         ensures room { OnOk result (0 < self.new.room) }
         ensures grows { self.old.room ≤ self.new.room }
         ensures succeeds { 0 < self.old.room → IsOk result }
     {
+        reserve_entry(&mut self.table)?;
         if !self.closed.is_empty() {
             return Ok(());
         }
-        self.closed.reserve(self.slots.len() + 1)?;
-        self.slots.reserve(1)
+        self.closed.reserve(self.items.len() + 1)?;
+        self.items.reserve(1)
     }
 
     /// Puts a new descriptor under the largest closed number, or else under the next unused one, and gives the number.
@@ -85,40 +150,58 @@ impl Descriptors {
         requires room { 0 < self.old.room }
         ensures number { result ≡ free_number is_closed_slot self.old.slots }
         ensures slots { self.new.slots ≡ with_new is_closed_slot self.old.slots slot }
+        ensures max { self.new.max ≡ self.old.max }
         ensures room { self.new.room + 1 ≡ self.old.room }
     {
+        let item = admit(&mut self.table, slot);
         match self.closed.pop() {
             Some(number) => {
-                self.slots[number as usize] = slot;
+                self.items[number as usize] = item;
                 number as u64
             }
             None => {
-                let number = self.slots.len() as u64;
-                self.slots.push_reserved(slot);
+                let number = self.items.len() as u64;
+                self.items.push_reserved(item);
                 number
             }
         }
     }
 
-    /// Puts another descriptor under a number that is in use.
-    pub fn set(&mut self, fd: u32, slot: Slot)
-        requires within { fd < length self.old.slots }
-        requires was_in_use { passes_at is_closed_slot self.old.slots fd ≡ false }
+    /// Takes the memory for a new descriptor, which there may be, and puts it there.
+    fn add(&mut self, slot: Slot) -> Result<(), AllocError>
         requires in_use { is_closed_slot slot ≡ false }
-        ensures slots { self.new.slots ≡ slice_set self.old.slots fd slot }
-        ensures room { self.new.room ≡ self.old.room }
+        requires fits { live_count is_closed_slot self.old.slots + 1 ≤ self.old.max }
+        ensures slots { OnOk result (self.new.slots ≡ with_new is_closed_slot self.old.slots slot) }
+        ensures max { self.new.max ≡ self.old.max }
     {
-        self.slots[fd as usize] = slot;
+        self.reserve()?;
+        self.put(slot);
+        Ok(())
     }
 
-    /// A number that is in use becomes closed. It takes no memory.
+    /// Puts a file's descriptor at a position.
+    pub fn set_position(&mut self, fd: u32, position: u64)
+        requires within { fd < length self.old.slots }
+        requires is { is_file_slot (slice_get self.old.slots fd) ≡ true }
+        ensures slots { self.new.slots ≡ slice_set self.old.slots fd (moved_slot (slice_get self.old.slots fd) position) }
+        ensures max { self.new.max ≡ self.old.max }
+        ensures room { self.new.room ≡ self.old.room }
+    {
+        let item = item_under(&self.items, fd);
+        self.items[fd as usize] = at_position(item, position);
+    }
+
+    /// A number that is in use becomes closed, and its entry goes. It takes no memory.
     pub fn close(&mut self, fd: u32)
         requires within { fd < length self.old.slots }
         requires was_in_use { passes_at is_closed_slot self.old.slots fd ≡ false }
         ensures slots { self.new.slots ≡ slice_set self.old.slots fd Slot.Closed }
+        ensures max { self.new.max ≡ self.old.max }
         ensures room { self.old.room < self.new.room }
     {
-        self.slots[fd as usize] = Slot::Closed;
+        let item = item_under(&self.items, fd);
+        forget(&mut self.table, item);
+        self.items[fd as usize] = Item::Closed;
         let Ok(()) = self.closed.push(fd) else {
             unreachable!()
         };

@@ -1,7 +1,8 @@
-//! Why a call isn't answered Ok.
+//! Why a call isn't answered Ok, and why no context is made.
 ghost use Rattle.std.specs.Prelude.{◌≡◌};
 ghost use Rattle.wasi_p1.specs.Errnos.{errno_of, error_of};
 ghost use Rattle.wasi_p1.specs.Parts.{fault_of};
+ghost use Rattle.wasi_p1.specs.declared.error.CtxError.TheVariants as causes;
 ghost use Rattle.wasi_p1.specs.declared.error.P1Error.TheVariants as errors;
 
 use std::alloc::AllocError;
@@ -17,6 +18,23 @@ pub enum P1Error {
     Exit(u32),
     /// Memory was wanted. All stands as before the call.
     Memory,
+}
+
+/// Why no context is made.
+#[derive(Clone, Copy, Debug, PartialEq, Eq)]
+pub enum CtxError {
+    /// The resource table is to have fewer entries than the three standard streams and the directories are.
+    Full,
+    /// Memory was wanted.
+    Memory,
+}
+
+impl From<AllocError> for CtxError {
+    ghost from_gives = { λ _ error. error ≡ causes.Memory };
+
+    fn from(_: AllocError) -> Self {
+        CtxError::Memory
+    }
 }
 
 impl From<ErrorCode> for P1Error {

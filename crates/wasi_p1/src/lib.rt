@@ -9,6 +9,7 @@ mod descriptors;
 mod error;
 mod filestats;
 mod holdings;
+mod items;
 mod laws;
 mod new_times;
 mod open_with;
@@ -16,7 +17,7 @@ mod raw_numbers;
 mod run;
 
 pub use context::{CtxRefused, Ended, FUEL, P1Preopen, Slot, Stream, WasiP1Ctx};
-pub use error::P1Error;
+pub use error::{CtxError, P1Error};
 pub use holdings::{Holdings, Output, Outputs};
 pub use laws::{
     live_handles_stay, permissions_stem, read_only_runs_leave_the_tree,

@@ -4,8 +4,10 @@ ghost use Rattle.std.specs.FinSet.{contains};
 ghost use Rattle.wasi_fs.specs.Calls.{handle_of};
 
 use std::alloc::Global;
-use wasi_fs::{Descriptor, DescriptorFlags, Dir, Flags, FsPerms, OpenFlags, OpenMode, PathFlags};
-use wasi_host::{Handle, Host};
+use wasi_fs::{
+    Descriptor, DescriptorFlags, Dir, File, Flags, FsPerms, OpenFlags, OpenMode, PathFlags,
+};
+use wasi_host::{Advice, Handle, Host, HostError};
 use wasi_table::{Asked, Told, done, refused, time_of, told, word};
 
 /// `ATIME MTIME`: sets the times of the directory itself.
@@ -16,6 +18,15 @@ pub fn set_own_times<H: Host>(host: &mut H, root: Handle, asked: &Asked<'_>) -> 
     let dir = Dir::new(root, FsPerms::ReadWrite, OpenMode::READ);
     let set = Descriptor::Dir(dir).set_times(host, time_of(atime), time_of(mtime));
     done(asked.alloc, set)
+}
+
+/// `MODE`: stores the directory itself, which was opened for this.
+pub fn store_own<H: Host>(host: &mut H, root: Handle, asked: &Asked<'_>) -> Told
+    requires { contains (H.live host.old) root ≡ true }
+{
+    let mode = OpenMode::from_bits_retain(bits(asked.rest));
+    let dir = Dir::new(root, FsPerms::ReadWrite, mode);
+    told_stored(asked.alloc, host, &Descriptor::Dir(dir))
 }
 
 fn bits(word: &str) -> usize {
@@ -42,12 +53,11 @@ pub fn opened<H: Host>(host: &mut H, root: Handle, asked: &Asked<'_>) -> Told
     let open_flags = OpenFlags::from_bits_retain(bits(open_flags));
     let flags = DescriptorFlags::from_bits_retain(bits(flags));
     match dir.open_at(alloc, host, path_flags, path, open_flags, flags) {
-        Ok(descriptor) => {
-            if asked.what == "use_at" {
-                return told_use(alloc, host, &descriptor);
-            }
-            told_opened(alloc, host, &Descriptor::Dir(dir), &descriptor)
-        }
+        Ok(descriptor) => match asked.what {
+            "use_at" => told_use(alloc, host, &descriptor),
+            "store_at" => told_stored(alloc, host, &descriptor),
+            _ => told_opened(alloc, host, &Descriptor::Dir(dir), &descriptor),
+        },
         Err(error) => refused(alloc, error),
     }
 }
@@ -92,5 +102,33 @@ fn told_use<H: Host>(alloc: Global, host: &mut H, opened: &Descriptor) -> Told
     match host.stat(handle) {
         Ok(metadata) => told(alloc, &(mode, reads, writes, metadata.len())),
         Err(code) => told(alloc, &code),
+    }
+}
+
+/// What it is for, whether it was stored, and of a file what became of it.
+fn told_stored<H: Host>(alloc: Global, host: &mut H, opened: &Descriptor) -> Told
+    requires { contains (H.live host.old) (handle_of opened.now) ≡ true }
+{
+    let flags = opened.get_flags(host);
+    let stored = opened.sync(alloc, host);
+    let data_stored = opened.sync_data(alloc, host);
+    match opened {
+        Descriptor::Dir(_) => told(alloc, &(flags, stored, data_stored)),
+        Descriptor::File(file) => {
+            let sized = sized(host, file);
+            told(alloc, &(flags, stored, data_stored, sized))
+        }
+    }
+}
+
+/// Whether the host was told how the file is used, whether it was cut or filled to 7 bytes, and its size then.
+fn sized<H: Host>(host: &mut H, file: &File) -> (Result<(), HostError>, Result<(), HostError>, u64)
+    requires { contains (H.live host.old) file.now.file ≡ true }
+{
+    let advised = file.advise(host, 1, 2, Advice::Sequential);
+    let set = file.set_size(host, 7);
+    match host.stat(file.file) {
+        Ok(metadata) => (advised, set, metadata.len()),
+        Err(_) => (advised, set, u64::MAX),
     }
 }

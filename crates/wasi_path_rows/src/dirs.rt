@@ -2,7 +2,7 @@
 ghost use Rattle.std.specs.Prelude.{◌≡◌, true};
 ghost use Rattle.std.specs.FinSet.{contains};
 
-use crate::descriptors::{opened, set_own_times};
+use crate::descriptors::{opened, set_own_times, store_own};
 use wasi_fs::{Dir, Flags, FsPerms, OpenMode, PathFlags};
 use wasi_host::{Handle, Host};
 use wasi_table::{Asked, Told, answered, done, time_of, unknown, word};
@@ -14,7 +14,9 @@ pub fn dir_call<H: Host>(host: &mut H, root: Handle, asked: &Asked<'_>) -> Told
     match asked.what {
         "open_at" => opened(host, root, asked),
         "use_at" => opened(host, root, asked),
+        "store_at" => opened(host, root, asked),
         "set_times" => set_own_times(host, root, asked),
+        "store" => store_own(host, root, asked),
         _ => {
             let dir = Dir::new(root, FsPerms::ReadWrite, OpenMode::READ);
             change(host, &dir, asked)

@@ -32,7 +32,7 @@ use Rattle.wasi_guest.specs.declared.answer.Answer.TheVariants as answers
 use Rattle.wasi_guest.specs.declared.errno.Errno.{Errno}
 use Rattle.wasi_guest.specs.declared.errno.Errno.TheVariants as errno
 use Rattle.wasi_guest.specs.declared.answer.TrapKind.{TrapKind}
-use Rattle.wasi_guest.specs.declared.answer.TrapKind.TheVariants.{Pointer, ExitStatus}
+use Rattle.wasi_guest.specs.declared.answer.TrapKind.TheVariants.{Pointer, TableFull, ExitStatus}
 use Rattle.wasi_guest.specs.declared.answer.Value.{Value}
 use Rattle.wasi_guest.specs.declared.answer.Value.TheVariants as values
 use Rattle.wasi_guest.specs.declared.filestat.Filestat.{Filestat}
@@ -177,10 +177,11 @@ named-errno_name errno.Txtbsy = refl
 named-errno_name errno.Xdev = refl
 
 abbrev trap_named : List ℕ → TrapKind
-trap_named name = named trap_name Pointer (Pointer ∷ ExitStatus ∷ []) name
+trap_named name = named trap_name Pointer (Pointer ∷ TableFull ∷ ExitStatus ∷ []) name
 
 named-trap_name : (kind : TrapKind) → trap_named (trap_name kind) ≡ kind
 named-trap_name Pointer = refl
+named-trap_name TableFull = refl
 named-trap_name ExitStatus = refl
 
 -- ---- answers, read back from their JSON

@@ -13,7 +13,7 @@ use Rattle.wasi_guest.specs.Errnos.{errno_name}
 use Rattle.wasi_guest.specs.declared.answer.Answer.{Answer}
 use Rattle.wasi_guest.specs.declared.answer.Answer.TheVariants as answers
 use Rattle.wasi_guest.specs.declared.answer.TrapKind.{TrapKind}
-use Rattle.wasi_guest.specs.declared.answer.TrapKind.TheVariants.{Pointer, ExitStatus}
+use Rattle.wasi_guest.specs.declared.answer.TrapKind.TheVariants.{Pointer, TableFull, ExitStatus}
 use Rattle.wasi_guest.specs.declared.answer.Value.{Value}
 use Rattle.wasi_guest.specs.declared.answer.Value.TheVariants as values
 use Rattle.wasi_guest.specs.declared.filestat.Filestat.{Filestat}
@@ -67,6 +67,7 @@ success_value (values.Filestat stat) = filestat_value stat
 
 abbrev pub trap_name : TrapKind → List ℕ
 trap_name Pointer = codes "pointer"
+trap_name TableFull = codes "table"
 trap_name ExitStatus = codes "exit"
 
 abbrev pub answer_value : Answer → Data

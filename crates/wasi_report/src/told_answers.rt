@@ -66,6 +66,7 @@ fn trap_name(kind: TrapKind) -> &'static str
 {
     match kind {
         TrapKind::Pointer => "pointer",
+        TrapKind::TableFull => "table",
         TrapKind::ExitStatus => "exit",
     }
 }

@@ -23,7 +23,7 @@ use Rattle.wasi_host.proofs.Leaving.{Leaves, named_in, same_leaves, node_made_le
 use Rattle.wasi_host.proofs.Tracing.{traced_same, traced_kept, traced_last}
 use Rattle.wasi_resolve.specs.Laws.{From, GivesIn}
 use Rattle.wasi_resolve.specs.Paths.{Place, place}
-use Rattle.wasi_resolve.specs.Resolved.{Resolved}
+use Rattle.wasi_resolve.specs.Resolved.{Resolved, call_meant}
 use Rattle.wasi_resolve.specs.Parents.{directory_of, places_at, released, shown_place, GotIn, LiveIn}
 use Rattle.wasi_resolve.specs.AtPlace.{PlaceCall, CreateDir, RemoveFile, RemoveDir, Symlink, ReadLink, SetTimes, PlaceAnswer, call_at, unrooted, answer_in, ends_in, done_in}
 use Rattle.wasi_resolve.specs.WalkSteps.{WorldStays}
@@ -31,7 +31,7 @@ use Rattle.wasi_resolve.specs.declared.parent.MaybeOwned.{MaybeOwned}
 use Rattle.wasi_resolve.specs.declared.parent.MaybeOwned.TheVariants.{Borrowed, Owned}
 use Rattle.wasi_resolve.specs.declared.parent.Parent.{Parent}
 use Rattle.wasi_resolve.proofs.LawProofs.{paths_stay_in_reach}
-use Rattle.wasi_resolve.proofs.Calls.{call_meant, call_ok, call_err, close_stays, err_means, looks_of, means_then, resolved_err, resolved_stay, resolved_then, same_live}
+use Rattle.wasi_resolve.proofs.Calls.{call_ok, call_err, close_stays, err_means, looks_of, means_then, resolved_err, resolved_stay, resolved_then, same_live}
 use Rattle.wasi_resolve.proofs.Stacks.{was_live}
 
 -- ---- the nodes at which a call at a place ends are touched

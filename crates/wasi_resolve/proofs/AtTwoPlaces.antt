@@ -25,7 +25,7 @@ use Rattle.wasi_paths.specs.Name.{name_bytes}
 use Rattle.wasi_resolve.specs.Laws.{From, GivesIn}
 use Rattle.wasi_resolve.specs.Paths.{Place, place}
 use Rattle.wasi_resolve.specs.Finding.{FewReads}
-use Rattle.wasi_resolve.specs.Resolved.{Meant, Resolved, is_link_read, links_read}
+use Rattle.wasi_resolve.specs.Resolved.{Meant, Resolved, is_link_read, links_read, call_meant}
 use Rattle.wasi_resolve.specs.Parents.{directory_of, places_at, released, shown_place, GotIn, LiveIn}
 use Rattle.wasi_resolve.specs.AtPlace.{ends_in}
 use Rattle.wasi_resolve.specs.AtTwo.{TwoPlaceCall, HardLink, Rename, Places, places_in, call_at_two, answer_at_two, step_at_two, ends_at_two}
@@ -37,7 +37,7 @@ use Rattle.wasi_resolve.specs.declared.parent.MaybeOwned.TheVariants.{Borrowed, 
 use Rattle.wasi_resolve.specs.declared.parent.Parent.{Parent}
 use Rattle.wasi_resolve.proofs.LawProofs.{paths_stay_in_reach}
 use Rattle.wasi_resolve.proofs.AtPlaces.{child_after, all_ends, under_here, under_name, released_live, begins_at}
-use Rattle.wasi_resolve.proofs.Calls.{call_meant, call_ok, call_err, found_ok, looks_of, looks_none, looks_stay, looks_through, means_then, resolved_err, resolved_stay, resolved_through, same_live, still_live, stayed_then}
+use Rattle.wasi_resolve.proofs.Calls.{call_ok, call_err, found_ok, looks_of, looks_none, looks_stay, looks_through, means_then, resolved_err, resolved_stay, resolved_through, same_live, still_live, stayed_then}
 
 -- ---- the nodes at which a call at two places ends are touched
 

@@ -7,51 +7,22 @@ use Rattle.std.proofs.lemmas.Bool.Decides.{nat_tests}
 use Rattle.wasi_host.specs.Tree.{Tree}
 use Rattle.wasi_host.specs.ValidTree.{Reached}
 use Rattle.wasi_host.specs.Agree.{Touches, OrMade}
-use Rattle.wasi_host.specs.HostCall.{HostCall, OpenAt, StatAt, ReadLinkAt, MakeDirAt, SymlinkAt, UnlinkAt, RemoveDirAt, LinkAt, RenameAt, TimesAt, SetTimes, ListDir, Access, Stat, Pread, Pwrite, Dup, Close}
+use Rattle.wasi_host.specs.HostCall.{HostCall, OpenAt, StatAt, ReadLinkAt, MakeDirAt, SymlinkAt, UnlinkAt, RemoveDirAt, LinkAt, RenameAt, TimesAt, SetTimes, ListDir, Access, Stat, Pread, Pwrite, Append, SetSize, Sync, Advise, Flags, Dup, Close}
 use Rattle.wasi_host.specs.Refusal.{refusal}
 use Rattle.wasi_host.specs.Answer.{HostAnswer, host_answer, unless}
-use Rattle.wasi_host.specs.Step.{step, found_by, made_by}
+use Rattle.wasi_host.specs.Step.{step, found_by, made_by, starts_of}
 use Rattle.wasi_host.specs.Steps.{◌>>=◌}
 use Rattle.wasi_host.specs.Meaning.{World, Handles, Told, Stepped, AfterErr, answered, Means, MeansErr}
 use Rattle.wasi_host.specs.declared.errors.ErrorCode.{ErrorCode}
 use Rattle.wasi_host.specs.declared.errors.ErrorCode.TheVariants.{Io}
 use Rattle.wasi_host.specs.declared.errors.HostError.{HostError}
 use Rattle.wasi_host.specs.declared.errors.HostError.TheVariants.{Code, Memory}
-use Rattle.wasi_resolve.specs.Resolved.{Meant, Resolved, TreeAfter}
+use Rattle.wasi_resolve.specs.Resolved.{Meant, Resolved, TreeAfter, call_meant}
 use Rattle.wasi_resolve.specs.WalkSteps.{OnlyLooks, WorldStays, IsFault}
+use Rattle.wasi_host.proofs.Refusals.{answer_of}
 use Rattle.wasi_host.proofs.Touching.{touches_with, touches_same, no_ends, touches_through, same_node, found_near, made_new}
-use Rattle.wasi_host.proofs.Leaving.{starts_of}
 
 -- ---- a call by itself
-
--- what a call of the host means
-abbrev pub call_meant : Tree → (call : HostCall) → List ℕ → Meant (HostAnswer call)
-call_meant t call ends =
-    record { starts = starts_of call; answer = host_answer t call; stepped = step t call; ends = ends }
-
-given : {B : Type 0} {refused : Option ErrorCode} (b : B) → refused ≡ None → is_ok (unless refused b) ≡ true
-given b is = ap (λ o. is_ok (unless o b)) is
-
--- a call that isn't refused is answered
-answers : (t : Tree) (call : HostCall) → refusal t call ≡ None → is_ok (host_answer t call) ≡ true
-answers t (OpenAt d name o) is = given _ is
-answers t (StatAt d name) is = given _ is
-answers t (ReadLinkAt d name) is = given _ is
-answers t (MakeDirAt d name) is = given _ is
-answers t (SymlinkAt text d name) is = given _ is
-answers t (UnlinkAt d name) is = given _ is
-answers t (RemoveDirAt d name) is = given _ is
-answers t (LinkAt old old_name new new_name) is = given _ is
-answers t (RenameAt old old_name new new_name requires_dir) is = given _ is
-answers t (TimesAt d name atime mtime) is = given _ is
-answers t (SetTimes n atime mtime) is = given _ is
-answers t (ListDir stands) is = given _ is
-answers t (Access d) is = given _ is
-answers t (Stat n) is = given _ is
-answers t (Pread file offset n) is = given _ is
-answers t (Pwrite file offset piece) is = given _ is
-answers t (Dup stands) is = refl
-answers t Close is = refl
 
 tree_err : (A : Type 0) (w v : World) (call : HostCall) (e : HostError) → AfterErr w call e v
     → TreeAfter {A = A} w.tree (step w.tree call) v.tree (host_answer w.tree call) (Err e)
@@ -59,7 +30,7 @@ tree_err A w v call Memory after = elim after [ inl stayed ↦ stayed.tree | inr
 tree_err A w v call (Code Io) after = elim after [
   | inl stayed ↦ inl stayed.tree
   | inr (inl looked) ↦ inl looked.tree
-  | inr (inr stepped) ↦ inr (answers w.tree call stepped.0, stepped.1.tree)
+  | inr (inr stepped) ↦ inr (ap is_ok (answer_of w.tree call stepped.0).1, stepped.1.tree)
 ]
 tree_err A w v call (Code code) after = after.tree
 

@@ -22,7 +22,7 @@ use Rattle.wasi_host.specs.declared.metadata.Metadata.{Metadata}
 use Rattle.wasi_resolve.specs.Walk.{Open, Look, Name, Dot, last_options, is_to_be_read}
 use Rattle.wasi_resolve.specs.Meanings.{ends_by, opened_node}
 use Rattle.wasi_resolve.specs.Paths.{Opening, opened_by, step_of, behind_slash, looked_at}
-use Rattle.wasi_resolve.specs.Resolved.{Meant, Resolved, TreeAfter}
+use Rattle.wasi_resolve.specs.Resolved.{Meant, Resolved, TreeAfter, call_meant}
 use Rattle.wasi_resolve.specs.Finding.{is_link_kind, is_directory_kind}
 use Rattle.wasi_resolve.specs.NameText.{left_bytes}
 use Rattle.wasi_resolve.specs.Ways.{Course}
@@ -32,7 +32,7 @@ use Rattle.wasi_resolve.specs.declared.found.Reach.{Reach}
 use Rattle.wasi_resolve.specs.declared.found.Reach.TheVariants as reach
 use Rattle.wasi_resolve.specs.declared.name_left.NameLeft.{NameLeft}
 use Rattle.wasi_host.proofs.Touching.{at_root, open_ends, name_ends}
-use Rattle.wasi_resolve.proofs.Calls.{call_meant}
+use Rattle.wasi_resolve.proofs.Calls.{}
 use Rattle.wasi_resolve.proofs.Calls.{call_ok, call_err, looks_of, looks_then, resolved_err, resolved_then, err_means, fault_means, same_live, still_live}
 use Rattle.wasi_resolve.proofs.Tables.{refused_by, looked_child, looked_free, looked_is, looked_link, looked_directory, open_to_read, look_to_read, look_reads, look_unread, met_reads}
 

@@ -15,9 +15,9 @@ use Rattle.wasi_host.specs.declared.errors.HostError.{HostError}
 use Rattle.wasi_host.specs.declared.held.Held.{Held}
 use Rattle.wasi_host.proofs.Touching.{at_root, open_ends}
 use Rattle.wasi_resolve.specs.Meanings.{listing_options, lists_at}
-use Rattle.wasi_resolve.specs.Resolved.{Meant, Resolved}
+use Rattle.wasi_resolve.specs.Resolved.{Meant, Resolved, call_meant}
 use Rattle.wasi_resolve.specs.WalkSteps.{OnlyLooks, WorldStays, open_meant}
-use Rattle.wasi_resolve.proofs.Calls.{call_meant, call_ok, call_err, looks_of, means_then, resolved_err, resolved_stay, resolved_then, same_live, still_live}
+use Rattle.wasi_resolve.proofs.Calls.{call_ok, call_err, looks_of, means_then, resolved_err, resolved_stay, resolved_then, same_live, still_live}
 use Rattle.wasi_resolve.proofs.Entering.{ok_free}
 use Rattle.wasi_resolve.proofs.Tables.{open_leaves}
 

@@ -10,12 +10,12 @@ use Rattle.wasi_host.specs.HostCall.{OpenAt, SetTimes as TimesSet}
 use Rattle.wasi_host.specs.declared.held.Held.{Held}
 use Rattle.wasi_host.specs.declared.system_time.SystemTime.{SystemTime}
 use Rattle.wasi_host.specs.Refusal.{refusal}
-use Rattle.wasi_host.specs.Step.{open_step}
+use Rattle.wasi_host.specs.Step.{open_step, starts_of}
 use Rattle.wasi_host.specs.Answer.{reached, unless, link_text, metadata_of}
 use Rattle.wasi_host.specs.Steps.{◌>>=◌}
 use Rattle.wasi_host.specs.declared.errors.ErrorCode.{ErrorCode}
 use Rattle.wasi_host.specs.declared.errors.ErrorCode.TheVariants.{NotDirectory}
-use Rattle.wasi_host.proofs.Leaving.{LeavesNear, Contains-here, stays_near, starts_of, step_leaves}
+use Rattle.wasi_host.proofs.Leaving.{LeavesNear, Contains-here, stays_near, step_leaves}
 use Rattle.wasi_host.proofs.Agreeing as host
 use Rattle.wasi_host.proofs.Agreeing.{one, unless_value, itself}
 use Rattle.wasi_resolve.specs.Laws.{GivesIn}
@@ -169,21 +169,14 @@ module _ {Seen : ℕ → Type 0} {t u : Tree} (closed : IsClosed Seen t) (agree 
 
   -- the host answers alike at a place
   place_answer_same : (what : PlaceCall) (p : Place) → Seen p.directory → answer_in t what p ≡ answer_in u what p
-  place_answer_same CreateDir p seen =
-      ap (λ c. unless c tt) (host.refused_same closed agree (call_at CreateDir p) (from_one Seen seen))
-  place_answer_same RemoveFile p seen =
-      ap (λ c. unless c tt) (host.refused_same closed agree (call_at RemoveFile p) (from_one Seen seen))
-  place_answer_same RemoveDir p seen =
-      ap (λ c. unless c tt) (host.refused_same closed agree (call_at RemoveDir p) (from_one Seen seen))
-  place_answer_same (Symlink text) p seen =
-      ap (λ c. unless c tt) (host.refused_same closed agree (call_at (Symlink text) p) (from_one Seen seen))
+  place_answer_same CreateDir p seen = host.answer_same closed agree (call_at CreateDir p) (from_one Seen seen)
+  place_answer_same RemoveFile p seen = host.answer_same closed agree (call_at RemoveFile p) (from_one Seen seen)
+  place_answer_same RemoveDir p seen = host.answer_same closed agree (call_at RemoveDir p) (from_one Seen seen)
+  place_answer_same (Symlink text) p seen = host.answer_same closed agree (call_at (Symlink text) p) (from_one Seen seen)
   place_answer_same ReadLink p seen =
-      ap (λ c. unless c (link_text t p.directory p.name) >>= unrooted) (host.refused_same closed agree
-      (call_at ReadLink p) (from_one Seen seen))
-      ∙ ap (λ text. unless (refusal u (call_at ReadLink p)) text >>= unrooted) (host.text_same closed agree p.directory
-      p.name seen)
+      ap (λ r. r >>= unrooted) (host.answer_same closed agree (call_at ReadLink p) (from_one Seen seen))
   place_answer_same (SetTimes atime mtime) p seen =
-      ap (λ c. unless c tt) (host.refused_same closed agree (call_at (SetTimes atime mtime) p) (from_one Seen seen))
+      host.answer_same closed agree (call_at (SetTimes atime mtime) p) (from_one Seen seen)
 
   place_reply_same : (s : ℕ) (text : List ℕ) (what : PlaceCall) → Seen s
       → place_for t s text what >>= answer_in t what ≡ place_for u s text what >>= answer_in u what

@@ -19,11 +19,11 @@ use Rattle.wasi_resolve.specs.Laws.{From, GivesIn}
 use Rattle.wasi_resolve.specs.Meanings.{ends_by, opens_at}
 use Rattle.wasi_resolve.specs.PathRequest.{TimesPath, meant_by, times_through}
 use Rattle.wasi_resolve.specs.Paths.{opened, reading, writing, or_else, access_unsupported, timed_again, timed}
-use Rattle.wasi_resolve.specs.Resolved.{Meant, Resolved}
+use Rattle.wasi_resolve.specs.Resolved.{Meant, Resolved, call_meant}
 use Rattle.wasi_resolve.specs.Timed.{reads_after, read_refused, read_at, timed_at}
 use Rattle.wasi_resolve.specs.WalkSteps.{OnlyLooks, WorldStays}
 use Rattle.wasi_resolve.proofs.LawProofs.{paths_stay_in_reach}
-use Rattle.wasi_resolve.proofs.Calls.{call_meant, call_ok, call_err, found_ok, looks_of, means_then, resolved_err, resolved_stay, resolved_then, same_live, still_live}
+use Rattle.wasi_resolve.proofs.Calls.{call_ok, call_err, found_ok, looks_of, means_then, resolved_err, resolved_stay, resolved_then, same_live, still_live}
 use Rattle.wasi_resolve.proofs.Parenting.{opening_leaves}
 
 -- ---- an open for reading

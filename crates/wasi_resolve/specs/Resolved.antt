@@ -3,6 +3,9 @@ use Rattle.std.specs.Prelude.{ℕ, ◌≡◌, ◌⊎◌, Bool, true, false, List
 use Rattle.std.specs.FinSet.{contains}
 use Rattle.wasi_host.specs.Tree.{Tree}
 use Rattle.wasi_host.specs.Agree.{Touches}
+use Rattle.wasi_host.specs.Answer.{HostAnswer, host_answer}
+use Rattle.wasi_host.specs.HostCall.{HostCall}
+use Rattle.wasi_host.specs.Step.{step, starts_of}
 use Rattle.wasi_host.specs.Meaning.{World, Handles, Means}
 use Rattle.wasi_host.specs.declared.errors.ErrorCode.{ErrorCode}
 use Rattle.wasi_host.specs.declared.errors.ErrorCode.TheVariants.{Io}
@@ -66,6 +69,11 @@ pub record Meant (B : Type 0) : Type 0 where
   pub answer : Result B ErrorCode
   pub stepped : Tree
   pub ends : List ℕ
+
+-- what a call of the host means by its table, where the paths end at these
+abbrev pub call_meant : Tree → (call : HostCall) → List ℕ → Meant (HostAnswer call)
+call_meant t call ends =
+    record { starts = starts_of call; answer = host_answer t call; stepped = step t call; ends = ends }
 
 -- The answer is the one that is meant, unless memory was wanted or the host failed; the tree is as before, or after the
 -- one step where it is answered; what is touched is reached from the starts, or was made; handles that were live keep

@@ -7,7 +7,7 @@ use Rattle.std.specs.FinSet.{empty, contains, insert, contains-empty, members}
 use Rattle.std.proofs.lemmas.Bool.Decides.{nat_tests}
 use Rattle.wasi_host.specs.Meaning.{Handles}
 use Rattle.std.proofs.lemmas.Bool.{cases_Bool, leb-true}
-use Rattle.std.proofs.lemmas.List.{map-append, take_more}
+use Rattle.std.proofs.lemmas.List.{length-map, map-append, take_more}
 use Rattle.std.specs.Prelude.{All}
 use Rattle.std.proofs.lemmas.List.Elements.{All-head, All-tail, All-push, All-weaker}
 use Rattle.std.proofs.lemmas.List.Quantifiers.{all_pairs_push}
@@ -24,7 +24,7 @@ use Rattle.wasi_guest.specs.Range.{with_bytes}
 use Rattle.wasi_guest.specs.Services.{Handed}
 use Rattle.wasi_p1.specs.Reach.{Confined}
 use Rattle.wasi_form.specs.Plan.{PlannedPreopen, PlannedPiece, planned_preopen, planned_piece}
-use Rattle.wasi_form.specs.Built.{are_preopens_directories, is_directory_given, is_piece_within}
+use Rattle.wasi_form.specs.Built.{default_table, are_preopens_directories, is_directory_given, is_piece_within}
 use Rattle.wasi_p1.specs.Slots.{first_slots, given_mode, given_directory, given_slot}
 use Rattle.wasi_p1.specs.Stock.{first_stock}
 use Rattle.wasi_p1.specs.declared.context.P1Preopen.{P1Preopen}
@@ -97,6 +97,12 @@ name_bytes preopen = string_bytes preopen.name
 abbrev planned_name : PlannedPreopen → List ℕ
 planned_name preopen = preopen.name
 
+-- as many as the directories
+pub given_length : {handles : HeldMap} {preopens : List PlannedPreopen} {given : List P1Preopen}
+    → AreGiven handles preopens given → length given ≡ length preopens
+given_length {preopens = preopens} {given = given} are =
+    sym (length-map given name_bytes) ∙ ap length are.names ∙ length-map preopens planned_name
+
 -- a new handle, of one directory more
 pub record IsGivenTo (old new : HeldMap) (planned : PlannedPreopen) (preopen : P1Preopen) : Type 0 where
   pub fresh : contains (live_of old) preopen.handle ≡ false
@@ -143,7 +149,13 @@ pub begun_by : {given : MemState} {tree : Tree} {preopens : List PlannedPreopen}
     {list : List P1Preopen}
     → given.tree ≡ tree → given.touched ≡ empty → AreGiven given.handles preopens list
     → IsBegun world_of
-    (record { host = given; slots = first_slots list; holdings = first_stock services; fuel = fuel })
+    (record {
+      host = given;
+      slots = first_slots list;
+      table_max = default_table;
+      holdings = first_stock services;
+      fuel = fuel;
+    })
     tree preopens services
 begun_by tree-is none are = record {
   state = λ memory. rw (tree-is, are.slots) refl;

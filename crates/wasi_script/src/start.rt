@@ -1,19 +1,19 @@
 //! The context and the memory in which the calls of a script begin, and the memory that is shown after them.
-ghost use Rattle.std.specs.Prelude.{◌≡◌, true, length, map, replicate, All, IfOk};
+ghost use Rattle.std.specs.Prelude.{◌≡◌, ◌≤◌, ◌+◌, true, length, map, replicate, All, IfOk};
 ghost use Rattle.std.specs.List.{list_all};
 ghost use Rattle.wasi_host.specs.Tree.{node_at, is_directory};
 ghost use Rattle.wasi_tree.specs.Given.{tree_of};
 ghost use Rattle.wasi_tree.specs.MemState.{world_of};
 ghost use Rattle.wasi_guest.specs.Services.{handed};
 ghost use Rattle.wasi_form.specs.Plan.{planned_piece, planned_preopen};
-ghost use Rattle.wasi_form.specs.Built.{are_preopens_directories, is_piece_within, is_shown_within};
+ghost use Rattle.wasi_form.specs.Built.{default_table, are_preopens_directories, is_piece_within, is_shown_within};
 ghost use Rattle.wasi_script.specs.Start.{with_pieces, IsBegun, AreGiven};
 ghost use Rattle.wasi_script.specs.Headline.{bytes_shown};
 
 use std::alloc::{AllocError, Global};
-use wasi_form::{Piece, ScriptPreopen, Shown};
+use wasi_form::{DEFAULT_TABLE, Piece, ScriptPreopen, Shown};
 use wasi_guest::{GuestMemory, Services, slice_at};
-use wasi_p1::{P1Preopen, WasiP1Ctx};
+use wasi_p1::{CtxError, P1Preopen, WasiP1Ctx};
 use wasi_tree::{FitNodes, HandleError, MemTree};
 
 /// A handle of each directory that the guest is given, in order.
@@ -45,7 +45,8 @@ fn given_handles(
     Ok(given)
 }
 
-/// A context over the tree of these nodes, in which the guest is handed in these services and given these directories.
+/// A context over the tree of these nodes, in which the guest is handed in these services and given these directories,
+/// and as many descriptors may be live as a script has that doesn't say it.
 pub fn first_context(
     alloc: Global,
     nodes: FitNodes,
@@ -53,14 +54,18 @@ pub fn first_context(
     preopens: &[ScriptPreopen],
 ) -> Result<WasiP1Ctx<MemTree>, AllocError>
     requires directories { are_preopens_directories nodes.nodes (map planned_preopen preopens.now) ≡ true }
+    requires table { 3 + length preopens.now ≤ default_table }
     ensures begun { IfOk result (λ c. IsBegun world_of c (tree_of nodes.nodes nodes.limits)
         (map planned_preopen preopens.now) (handed services)) }
 {
     let mut tree = MemTree::of(alloc, nodes)?;
     let given = given_handles(alloc, &mut tree, preopens)?;
-    match WasiP1Ctx::new(alloc, tree, given, services) {
+    match WasiP1Ctx::new(alloc, tree, given, services, DEFAULT_TABLE) {
         Ok(context) => Ok(context),
-        Err(_) => Err(AllocError),
+        Err(refused) => match refused.error {
+            CtxError::Memory => Err(AllocError),
+            CtxError::Full => unreachable!(),
+        },
     }
 }
 

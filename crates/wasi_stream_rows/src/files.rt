@@ -3,6 +3,7 @@ ghost use Rattle.std.specs.Prelude.{◌≡◌, true};
 ghost use Rattle.std.specs.FinSet.{contains};
 ghost use Rattle.wasi_tree.specs.MemState.{live_of};
 
+use crate::amounts::{copy_line, turns_line};
 use crate::inputs::input_line;
 use crate::outputs::output_line;
 use crate::tables::table_line;
@@ -22,6 +23,8 @@ impl Answering for StreamRows {
         let asked = Asked::of(alloc, line);
         match asked.what {
             "table" => table_line(&asked),
+            "turns" => turns_line(&asked),
+            "copy" => copy_line(&asked),
             _ => with_tree(&asked),
         }
     }

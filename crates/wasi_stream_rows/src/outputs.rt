@@ -1,23 +1,26 @@
 //! Calls of an output stream.
 ghost use Rattle.std.specs.Prelude.{◌≡◌, true, OnOk};
 ghost use Rattle.std.specs.FinSet.{contains, remove};
+ghost use Rattle.std.specs.Result.{result_map_both};
+ghost use Rattle.wasi_host.specs.Meaning.{LiveGot};
 
 use bytes::Bytes;
 use std::alloc::{AllocError, Global};
 use std::fmt::Debug;
 use wasi_fs::File;
-use wasi_host::{Handle, Host};
+use wasi_host::{Handle, Host, HostError};
 use wasi_streams::{FileOutputStream, StreamError};
 use wasi_table::{Asked, Told, number, refused, told, unknown};
 
-/// `OFFSET: CALL; CALL ..`: the answers of calls of a stream from this offset on, and then the file's text.
+/// `OFFSET: CALL; CALL ..`: the answers of calls of a stream from this offset on, and then the file's text. The offset
+/// `end` is behind the file's last byte.
 #[tactic(auto, using(wasi_host::proofs::Chain::live_rules))]
 pub fn output_line<H: Host>(host: &mut H, file: &File, asked: &Asked<'_>) -> Told
     requires { contains (H.live host.old) file.now.file ≡ true }
 {
     let alloc = asked.alloc;
     let (offset, calls) = asked.rest.split_once(": ").unwrap_or((asked.rest, ""));
-    match FileOutputStream::write_at(alloc, host, file, number(offset)) {
+    match stream_at(host, file, alloc, offset) {
         Ok(stream) => {
             let mut text = along(host, stream, alloc, calls)?;
             push_file(host, file.file, alloc, &mut text)?;
@@ -25,6 +28,21 @@ pub fn output_line<H: Host>(host: &mut H, file: &File, asked: &Asked<'_>) -> Tol
         }
         Err(error) => refused(alloc, error),
     }
+}
+
+fn stream_at<H: Host>(
+    host: &mut H,
+    file: &File,
+    alloc: Global,
+    offset: &str,
+) -> Result<FileOutputStream, HostError>
+    requires { contains (H.live host.old) file.now.file ≡ true }
+    ensures { LiveGot (H.live host.old) (result_map_both (λ s. s.file) (λ e. e) result) (H.live host.new) }
+{
+    if offset == "end" {
+        return FileOutputStream::append(alloc, host, file);
+    }
+    FileOutputStream::write_at(alloc, host, file, number(offset))
 }
 
 /// The answers of the calls, after which the stream is closed.

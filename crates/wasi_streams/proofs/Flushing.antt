@@ -3,6 +3,7 @@ use Rattle.std.proofs.Common.{◌≡◌, ℕ, Bool, List, Result, Ok, Err, refl,
 use Rattle.wasi_streams.specs.Output.{answering, OutputAnswer, write_made, flush_row, flushed, ready_write_row, write_now, blocking_write_row}
 use Rattle.wasi_streams.specs.Reading.{HostSeen}
 use Rattle.wasi_streams.specs.Writing.{FollowsWrite}
+use Rattle.wasi_streams.specs.declared.output.FileOutputMode.{FileOutputMode}
 use Rattle.wasi_streams.specs.declared.output.OutputState.{OutputState}
 use Rattle.wasi_streams.specs.declared.output.OutputState.TheVariants.{Ready, Waiting, Error, Closed}
 use Rattle.wasi_streams.specs.declared.errors.StreamError.{StreamError}
@@ -44,11 +45,11 @@ goes_on (Waiting rest) s t is tells = not_refused errors.Memory _ _ is
 goes_on (Error code) s t is tells = not_refused (errors.LastOperationFailed code) _ _ (tells ∙ ap flush_row (same_left (Error code) s is))
 goes_on Closed s t is tells = not_refused errors.Closed _ _ (tells ∙ ap flush_row (same_left Closed s is))
 
-module _ (told : Bool) (file : ℕ) (old : HostSeen) (position : ℕ) (piece : List ℕ) where
+module _ (told : Bool) (file : ℕ) (old : HostSeen) (mode : FileOutputMode) (piece : List ℕ) where
   -- memory was wanted for what waited
-  pub first_failed : (s : OutputState) (new : HostSeen) (end : ℕ) (state : OutputState)
-      → FollowsWrite {A = Unit {0}} told file old position (ready_write_row s) (Err errors.Memory) new end state
-      → FollowsWrite {A = Unit {0}} told file old position (blocking_write_row s piece) (Err errors.Memory) new end state
+  pub first_failed : (s : OutputState) (new : HostSeen) (end : FileOutputMode) (state : OutputState)
+      → FollowsWrite {A = Unit {0}} told file old mode (ready_write_row s) (Err errors.Memory) new end state
+      → FollowsWrite {A = Unit {0}} told file old mode (blocking_write_row s piece) (Err errors.Memory) new end state
   first_failed Ready new end state f = not_refused errors.Memory _ _ (sym f.2)
   first_failed (Waiting before) new end state (mid, at, left, writes, f) = (mid, at, left, writes, failed left f)
     where
@@ -63,11 +64,11 @@ module _ (told : Bool) (file : ℕ) (old : HostSeen) (position : ℕ) (piece : L
   first_failed Closed new end state f = not_refused errors.Memory _ _ (sym f.2)
 
   -- what waited was written, and then the rest
-  ready_then : (s : OutputState) (mid : HostSeen) (at : ℕ) (s1 : OutputState) (result : Result (Unit {0}) StreamError)
-      (new : HostSeen) (end : ℕ) (state : OutputState)
-      → FollowsWrite {A = Unit {0}} told file old position (ready_write_row s) (Ok tt) mid at s1
+  ready_then : (s : OutputState) (mid : HostSeen) (at : FileOutputMode) (s1 : OutputState) (result : Result (Unit {0}) StreamError)
+      (new : HostSeen) (end : FileOutputMode) (state : OutputState)
+      → FollowsWrite {A = Unit {0}} told file old mode (ready_write_row s) (Ok tt) mid at s1
       → FollowsWrite told file mid at (write_now s1 piece) result new end state
-      → FollowsWrite told file old position (blocking_write_row s piece) result new end state
+      → FollowsWrite told file old mode (blocking_write_row s piece) result new end state
   ready_then Ready mid at s1 result new end state f g = rw (f.0, f.1, same_left Ready s1 f.2) at g
   ready_then (Waiting before) mid at s1 result new end state (m, a, left, writes, f) g =
       (m, a, left, writes, rw (f.0, f.1, same_left left s1 f.2) at g)
@@ -75,10 +76,10 @@ module _ (told : Bool) (file : ℕ) (old : HostSeen) (position : ℕ) (piece : L
   ready_then Closed mid at s1 result new end state f g = rw (f.0, f.1, same_left Closed s1 f.2) at g
 
   -- its code was told
-  pub first_refused : (s : OutputState) (mid : HostSeen) (at : ℕ) (s1 : OutputState) (e : StreamError) (state : OutputState)
-      → FollowsWrite {A = Unit {0}} told file old position (ready_write_row s) (Ok tt) mid at s1
+  pub first_refused : (s : OutputState) (mid : HostSeen) (at : FileOutputMode) (s1 : OutputState) (e : StreamError) (state : OutputState)
+      → FollowsWrite {A = Unit {0}} told file old mode (ready_write_row s) (Ok tt) mid at s1
       → ◌≡◌ {A = Said} (Err e, state) (flush_row s1)
-      → FollowsWrite {A = Unit {0}} told file old position (blocking_write_row s piece) (Err e) mid at state
+      → FollowsWrite {A = Unit {0}} told file old mode (blocking_write_row s piece) (Err e) mid at state
   first_refused s mid at s1 e state f tells = ready_then s mid at s1 (Err e) mid at state f (refused s1 tells)
     where
       refused : (s1 : OutputState) → ◌≡◌ {A = Said} (Err e, state) (flush_row s1)
@@ -88,8 +89,8 @@ module _ (told : Bool) (file : ℕ) (old : HostSeen) (position : ℕ) (piece : L
       refused (Error code) tells = (refl, refl, tells)
       refused Closed tells = (refl, refl, tells)
 
-  ready_is : (s : OutputState) (mid : HostSeen) (at : ℕ) (s1 t : OutputState)
-      → FollowsWrite {A = Unit {0}} told file old position (ready_write_row s) (Ok tt) mid at s1
+  ready_is : (s : OutputState) (mid : HostSeen) (at : FileOutputMode) (s1 t : OutputState)
+      → FollowsWrite {A = Unit {0}} told file old mode (ready_write_row s) (Ok tt) mid at s1
       → ◌≡◌ {A = Said} (Ok tt, t) (flush_row s1) → s1 ≡ Ready
   ready_is Ready mid at s1 t f tells = goes_on Ready s1 t f.2 tells
   ready_is (Waiting before) mid at s1 t (m, a, left, writes, f) tells = goes_on left s1 t f.2 tells
@@ -97,23 +98,23 @@ module _ (told : Bool) (file : ℕ) (old : HostSeen) (position : ℕ) (piece : L
   ready_is Closed mid at s1 t f tells = goes_on Closed s1 t f.2 tells
 
   -- memory was wanted for the piece
-  pub then_failed : (s : OutputState) (mid : HostSeen) (at : ℕ) (s1 t : OutputState) (new : HostSeen) (end : ℕ) (state : OutputState)
-      → FollowsWrite {A = Unit {0}} told file old position (ready_write_row s) (Ok tt) mid at s1
+  pub then_failed : (s : OutputState) (mid : HostSeen) (at : FileOutputMode) (s1 t : OutputState) (new : HostSeen) (end : FileOutputMode) (state : OutputState)
+      → FollowsWrite {A = Unit {0}} told file old mode (ready_write_row s) (Ok tt) mid at s1
       → ◌≡◌ {A = Said} (Ok tt, t) (flush_row s1)
       → FollowsWrite {A = Unit {0}} told file mid at (ready_write_row (Waiting piece)) (Err errors.Memory) new end state
-      → FollowsWrite {A = Unit {0}} told file old position (blocking_write_row s piece) (Err errors.Memory) new end state
+      → FollowsWrite {A = Unit {0}} told file old mode (blocking_write_row s piece) (Err errors.Memory) new end state
   then_failed s mid at s1 t new end state f tells (m, a, left, writes, g) =
       ready_then s mid at s1 (Err errors.Memory) new end state f
       (rw (ready_is s mid at s1 t f tells) (m, a, left, writes, (g.0, g.1, failed_then left state g.2)))
 
   -- the piece was written, and its code is told
-  pub then_told : (s : OutputState) (mid : HostSeen) (at : ℕ) (s1 t : OutputState) (new : HostSeen) (end : ℕ) (s3 : OutputState)
+  pub then_told : (s : OutputState) (mid : HostSeen) (at : FileOutputMode) (s1 t : OutputState) (new : HostSeen) (end : FileOutputMode) (s3 : OutputState)
       (result : Result (Unit {0}) StreamError) (state : OutputState)
-      → FollowsWrite {A = Unit {0}} told file old position (ready_write_row s) (Ok tt) mid at s1
+      → FollowsWrite {A = Unit {0}} told file old mode (ready_write_row s) (Ok tt) mid at s1
       → ◌≡◌ {A = Said} (Ok tt, t) (flush_row s1)
       → FollowsWrite {A = Unit {0}} told file mid at (ready_write_row (Waiting piece)) (Ok tt) new end s3
       → ◌≡◌ {A = Said} (result, state) (flush_row s3)
-      → FollowsWrite {A = Unit {0}} told file old position (blocking_write_row s piece) result new end state
+      → FollowsWrite {A = Unit {0}} told file old mode (blocking_write_row s piece) result new end state
   then_told s mid at s1 t new end s3 result state f tells (m, a, left, writes, g) last =
       ready_then s mid at s1 result new end state f
       (rw (ready_is s mid at s1 t f tells) (m, a, left, writes, (g.0, g.1, last ∙ told_then left s3 g.2)))

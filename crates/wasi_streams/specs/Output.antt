@@ -1,15 +1,17 @@
 -- Output streams: what each call answers and leaves, by how the stream's write stands.
-use Rattle.std.specs.Prelude.{ℕ, nat_lt, if◌then◌else◌, List, length, Result, Ok, Err}
+use Rattle.std.specs.Prelude.{ℕ, ◌==◌, nat_lt, if◌then◌else◌, List, length, Option, Some, None, Result, Ok, Err}
+use Rattle.wasi_host.specs.declared.errors.ErrorCode.TheVariants.{Io}
+use Rattle.wasi_streams.specs.declared.output.FileOutputMode.{FileOutputMode}
 use Rattle.wasi_streams.specs.declared.output.OutputState.{OutputState}
 use Rattle.wasi_streams.specs.declared.output.OutputState.TheVariants.{Ready, Waiting, Error, Closed}
 use Rattle.wasi_streams.specs.declared.errors.StreamError.{StreamError}
 use Rattle.wasi_streams.specs.declared.errors.StreamError.TheVariants as errors
 use Rattle.wasi_streams.specs.declared.errors.StreamTrap.TheVariants.{Budget, NotPermitted}
 
--- the handle that a stream writes to, the offset of the next byte that it puts, and how its write stands
+-- the handle that a stream writes to, where its next byte goes, and how its write stands
 pub record Output : Type 0 where
   pub file : ℕ
-  pub position : ℕ
+  pub mode : FileOutputMode
   pub state : OutputState
 
 -- an answer, and how the stream's write stands afterwards
@@ -42,6 +44,13 @@ check_write_row Ready = (Ok 65536, Ready)
 check_write_row (Waiting bytes) = (Ok 0, Waiting bytes)
 check_write_row (Error code) = (Err (errors.LastOperationFailed code), Closed)
 check_write_row Closed = (Err errors.Closed, Closed)
+
+-- how a write stands after a call of the host that took so many of so many bytes; none where it goes on
+abbrev pub stands_after : ℕ → ℕ → Option OutputState
+stands_after taken all =
+    if taken == all then Some Ready
+    else if taken == 0 then Some (Error Io)
+    else None
 
 -- a write is over, but for what memory was wanted for
 abbrev pub write_made : OutputState → OutputAnswer (Unit {0})

@@ -1,12 +1,12 @@
 //! Streams that write a file.
-ghost use Rattle.std.specs.Prelude.{◌≡◌, ◌+◌, ℕ, true, IsTrue, Some, IfOk, length};
+ghost use Rattle.std.specs.Prelude.{◌≡◌, ◌<◌, ◌^◌, true, IsTrue, IfOk, length};
 ghost use Rattle.std.specs.Result.{result_map_both};
 ghost use Rattle.std.specs.FinSet.{contains, remove};
 ghost use Rattle.wasi_host.specs.HostCall.{Dup, Close};
 ghost use Rattle.wasi_host.specs.Meaning.{HasCause, LiveGot, LoggedGot, Told, answered};
-ghost use Rattle.wasi_streams.specs.Output.{write_made, write_row, flush_row, check_write_row, ready_write_row, blocking_write_row};
+ghost use Rattle.wasi_streams.specs.Output.{stands_after, write_made, write_row, flush_row, check_write_row, ready_write_row, blocking_write_row};
 ghost use Rattle.wasi_streams.specs.Reading.{host_seen, ready_of};
-ghost use Rattle.wasi_streams.specs.Writing.{Puts, WritesAll, FollowsWrite, stopped};
+ghost use Rattle.wasi_streams.specs.Writing.{behind, stopped, IsInside, Puts, WritesAll, FollowsWrite};
 
 use crate::{StreamError, StreamTrap};
 use bytes::Bytes;
@@ -18,6 +18,29 @@ use wasi_host::{ErrorCode, Handle, Host, HostError, LookKind};
 
 /// The most bytes that one `write` takes.
 pub const FILE_WRITE_CAPACITY: usize = 65_536;
+
+/// Where an output stream puts its bytes: the crate's `FileOutputMode`.
+#[derive(Clone, Copy, Debug, PartialEq, Eq)]
+pub enum FileOutputMode {
+    /// From this offset on, which rises by what is taken.
+    Position(u64),
+    /// Behind the last byte that the file then has.
+    Append,
+}
+
+impl FileOutputMode {
+    /// Where the next byte goes, so many bytes later.
+    fn behind(self, count: usize) -> FileOutputMode
+        requires inside { IsInside self }
+        requires count { count < 2 ^ 63 }
+        ensures { result ≡ behind self count }
+    {
+        match self {
+            FileOutputMode::Position(offset) => FileOutputMode::Position(offset + count as u64),
+            FileOutputMode::Append => FileOutputMode::Append,
+        }
+    }
+}
 
 /// How the write of an output stream stands.
 #[derive(Drop)]
@@ -33,6 +56,19 @@ pub enum OutputState {
 }
 
 impl OutputState {
+    /// How a write stands once a call of the host took so many of so many bytes; None where it goes on.
+    fn after(taken: usize, all: usize) -> Option<OutputState>
+        ensures { result ≡ stands_after taken all }
+    {
+        if taken == all {
+            return Some(OutputState::Ready);
+        }
+        if taken == 0 {
+            return Some(OutputState::Error(ErrorCode::Io));
+        }
+        None
+    }
+
     /// How a write stands that was refused, with what isn't taken.
     fn stopped(error: HostError, rest: Bytes) -> OutputState
         ensures { result ≡ stopped error rest }
@@ -72,12 +108,12 @@ impl OutputState {
     }
 }
 
-/// A stream of bytes into a file from an offset on: the crate's `FileOutputStream`. Contracts see the handle that it
-/// writes to, the offset of the next byte that it puts, and how its write stands.
+/// A stream of bytes into a file, from an offset on or behind its last byte: the crate's `FileOutputStream`. Contracts see
+/// the handle that it writes to, where its next byte goes, and how its write stands.
 #[derive(Drop)]
 pub struct FileOutputStream {
     file: Handle,
-    position: u64,
+    mode: FileOutputMode,
     state: OutputState,
 }
 
@@ -86,53 +122,59 @@ impl Model for FileOutputStream {
 
     ghost Value = { Output };
 
-    ghost view = { λ s. record { file = s.file; position = s.position; state = s.state } };
+    ghost view = { λ s. record { file = s.file; mode = s.mode; state = s.state } };
 }
 
-/// Asks the host once to put a piece into a file at an offset.
-fn put_at<H: Host>(
+/// Asks the host once to put a piece into a file.
+fn put<H: Host>(
     host: &mut H,
     file: Handle,
     piece: &Bytes,
-    position: u64,
+    mode: FileOutputMode,
 ) -> Result<usize, HostError>
     requires live { contains (H.live host.old) file ≡ true }
     ensures live { H.live host.new ≡ H.live host.old }
     ensures puts { Puts H.told file (host_seen H.faults H.live H.lookups H.world host.old)
-        (host_seen H.faults H.live H.lookups H.world host.new) position piece.now result }
+        (host_seen H.faults H.live H.lookups H.world host.new) mode piece.now result }
 {
-    host.pwrite(file, piece.as_slice(), position)
+    match mode {
+        FileOutputMode::Position(offset) => host.pwrite(file, piece.as_slice(), offset),
+        FileOutputMode::Append => host.append(file, piece.as_slice()),
+    }
 }
 
-/// Writes a piece into a file from an offset on: the host is asked at least once, and until all is taken. It gives the
-/// offset behind what was taken, and how the write stands.
-fn write_at<H: Host>(host: &mut H, file: Handle, position: u64, piece: Bytes) -> (u64, OutputState)
+/// Writes a piece into a file: the host is asked at least once, and until all is taken. It gives where the byte behind
+/// what was taken goes, and how the write stands.
+fn write_all<H: Host>(
+    host: &mut H,
+    file: Handle,
+    mode: FileOutputMode,
+    piece: Bytes,
+) -> (FileOutputMode, OutputState)
     requires live { contains (H.live host.old) file ≡ true }
     ensures live { H.live host.new ≡ H.live host.old }
-    ensures writes { WritesAll H.told file (host_seen H.faults H.live H.lookups H.world host.old) position piece
+    ensures writes { WritesAll H.told file (host_seen H.faults H.live H.lookups H.world host.old) mode piece
         (host_seen H.faults H.live H.lookups H.world host.new) result.0 result.1 }
 {
-    let mut at = position;
+    let mut at = mode;
     let mut rest = piece;
     loop {
-        let count = match put_at(host, file, &rest, at) {
+        let count = match put(host, file, &rest, at) {
             Ok(count) => count,
             Err(error) => return (at, OutputState::stopped(error, rest)),
         };
-        if count == rest.len() {
-            return (at + count as u64, OutputState::Ready);
+        let end = OutputState::after(count, rest.len());
+        at = at.behind(count);
+        match end {
+            Some(state) => return (at, state),
+            None => rest.advance(count),
         }
-        if count == 0 {
-            return (at, OutputState::Error(ErrorCode::Io));
-        }
-        at += count as u64;
-        rest.advance(count);
     }
 }
 
 impl FileOutputStream {
-    /// A stream from an offset on, over a handle of its own of the same file. A write that waits takes no memory of its
-    /// own, so the allocator isn't used.
+    /// A stream from an offset on, over a handle of its own of the same file: the crate's `write_at`. A write that waits
+    /// takes no memory of its own, so the allocator isn't used.
     pub fn write_at<H: Host>(
         _alloc: Global,
         host: &mut H,
@@ -144,7 +186,44 @@ impl FileOutputStream {
         ensures live { LiveGot (H.live host.old) (result_map_both (λ s. s.file) (λ e. e) result) (H.live host.new) }
         ensures logged { LoggedGot (H.live host.old) (H.lookups host.old) LookKind.Dup file.now.file
             (result_map_both (λ s. s.file) (λ e. e) result) (H.lookups host.new) }
-        ensures position { IfOk result (λ s. s.position ≡ position) }
+        ensures mode { IfOk result (λ s. s.mode ≡ FileOutputMode.Position position) }
+        ensures state { IfOk result (λ s. s.state ≡ OutputState.Ready) }
+        ensures told { IsTrue H.told → Told (H.live host.old) (H.live host.new) (H.world host.old) (H.world host.new)
+            (Dup ((H.world host.old).held file.now.file)) (λ s. (H.world host.new).held s.file) result }
+    {
+        FileOutputStream::over(host, file, FileOutputMode::Position(position))
+    }
+
+    /// The same behind the file's last byte, wherever that is at each write: the crate's `append`.
+    pub fn append<H: Host>(
+        _alloc: Global,
+        host: &mut H,
+        file: &File,
+    ) -> Result<FileOutputStream, HostError>
+        requires live { contains (H.live host.old) file.now.file ≡ true }
+        ensures cause { HasCause (H.faults host.old) (H.faults host.new) result }
+        ensures live { LiveGot (H.live host.old) (result_map_both (λ s. s.file) (λ e. e) result) (H.live host.new) }
+        ensures logged { LoggedGot (H.live host.old) (H.lookups host.old) LookKind.Dup file.now.file
+            (result_map_both (λ s. s.file) (λ e. e) result) (H.lookups host.new) }
+        ensures mode { IfOk result (λ s. s.mode ≡ FileOutputMode.Append) }
+        ensures state { IfOk result (λ s. s.state ≡ OutputState.Ready) }
+        ensures told { IsTrue H.told → Told (H.live host.old) (H.live host.new) (H.world host.old) (H.world host.new)
+            (Dup ((H.world host.old).held file.now.file)) (λ s. (H.world host.new).held s.file) result }
+    {
+        FileOutputStream::over(host, file, FileOutputMode::Append)
+    }
+
+    fn over<H: Host>(
+        host: &mut H,
+        file: &File,
+        mode: FileOutputMode,
+    ) -> Result<FileOutputStream, HostError>
+        requires live { contains (H.live host.old) file.now.file ≡ true }
+        ensures cause { HasCause (H.faults host.old) (H.faults host.new) result }
+        ensures live { LiveGot (H.live host.old) (result_map_both (λ s. s.file) (λ e. e) result) (H.live host.new) }
+        ensures logged { LoggedGot (H.live host.old) (H.lookups host.old) LookKind.Dup file.now.file
+            (result_map_both (λ s. s.file) (λ e. e) result) (H.lookups host.new) }
+        ensures mode { IfOk result (λ s. s.mode ≡ mode) }
         ensures state { IfOk result (λ s. s.state ≡ OutputState.Ready) }
         ensures told { IsTrue H.told → Told (H.live host.old) (H.live host.new) (H.world host.old) (H.world host.new)
             (Dup ((H.world host.old).held file.now.file)) (λ s. (H.world host.new).held s.file) result }
@@ -152,7 +231,7 @@ impl FileOutputStream {
         let file = host.dup(file.file)?;
         Ok(FileOutputStream {
             file,
-            position,
+            mode,
             state: OutputState::Ready,
         })
     }
@@ -161,7 +240,7 @@ impl FileOutputStream {
     /// 65,536 bytes; to ask for another is a trap.
     pub fn write(&mut self, buf: Bytes) -> Result<(), StreamError>
         ensures file { self.new.file ≡ self.old.file }
-        ensures position { self.new.position ≡ self.old.position }
+        ensures mode { self.new.mode ≡ self.old.mode }
         ensures row { (result, self.new.state) ≡ write_row self.old.state buf }
     {
         match &self.state {
@@ -181,7 +260,7 @@ impl FileOutputStream {
     /// Tells once the code that a write was refused with, and makes none.
     pub fn flush(&mut self) -> Result<(), StreamError>
         ensures file { self.new.file ≡ self.old.file }
-        ensures position { self.new.position ≡ self.old.position }
+        ensures mode { self.new.mode ≡ self.old.mode }
         ensures row { (result, self.new.state) ≡ flush_row self.old.state }
     {
         self.state.tell()
@@ -192,15 +271,15 @@ impl FileOutputStream {
         requires live { contains (H.live host.old) self.old.file ≡ true }
         ensures file { self.new.file ≡ self.old.file }
         ensures live { H.live host.new ≡ H.live host.old }
-        ensures row { FollowsWrite H.told self.old.file (host_seen H.faults H.live H.lookups H.world host.old) self.old.position
+        ensures row { FollowsWrite H.told self.old.file (host_seen H.faults H.live H.lookups H.world host.old) self.old.mode
             (ready_write_row self.old.state) (ready_of result)
-            (host_seen H.faults H.live H.lookups H.world host.new) self.new.position self.new.state }
+            (host_seen H.faults H.live H.lookups H.world host.new) self.new.mode self.new.state }
     {
         match mem::replace(&mut self.state, OutputState::Ready) {
             OutputState::Waiting(piece) => {
-                let (position, state) = write_at(host, self.file, self.position, piece);
+                let (mode, state) = write_all(host, self.file, self.mode, piece);
                 let made = state.made();
-                self.position = position;
+                self.mode = mode;
                 self.state = state;
                 made
             }
@@ -221,9 +300,9 @@ impl FileOutputStream {
         requires live { contains (H.live host.old) self.old.file ≡ true }
         ensures file { self.new.file ≡ self.old.file }
         ensures live { H.live host.new ≡ H.live host.old }
-        ensures row { FollowsWrite H.told self.old.file (host_seen H.faults H.live H.lookups H.world host.old) self.old.position
+        ensures row { FollowsWrite H.told self.old.file (host_seen H.faults H.live H.lookups H.world host.old) self.old.mode
             (blocking_write_row self.old.state buf) result
-            (host_seen H.faults H.live H.lookups H.world host.new) self.new.position self.new.state }
+            (host_seen H.faults H.live H.lookups H.world host.new) self.new.mode self.new.state }
     {
         self.ready(host)?;
         self.state.tell()?;
@@ -235,7 +314,7 @@ impl FileOutputStream {
     /// How many bytes `write` takes now. It tells once the code that a write was refused with.
     pub fn check_write(&mut self) -> Result<usize, StreamError>
         ensures file { self.new.file ≡ self.old.file }
-        ensures position { self.new.position ≡ self.old.position }
+        ensures mode { self.new.mode ≡ self.old.mode }
         ensures row { (result, self.new.state) ≡ check_write_row self.old.state }
     {
         self.state.tell()?;
@@ -248,7 +327,7 @@ impl FileOutputStream {
     /// Gives the stream up: a write that was asked for isn't made.
     pub fn cancel(&mut self)
         ensures file { self.new.file ≡ self.old.file }
-        ensures position { self.new.position ≡ self.old.position }
+        ensures mode { self.new.mode ≡ self.old.mode }
         ensures state { self.new.state ≡ OutputState.Closed }
     {
         self.state = OutputState::Closed;

@@ -1,5 +1,5 @@
 //! The table of a guest's resources.
-ghost use Rattle.std.specs.Prelude.{◌≡◌, ◌≤◌, ◌<◌, ◌+◌, ◌⊎◌, ◌↔◌, ℕ, Ok, Err, Some, None, IsOk, IsSome, IsTrue, IfOk, IfErr, OnOk, OnErr, min};
+ghost use Rattle.std.specs.Prelude.{◌≡◌, ◌≤◌, ◌<◌, ◌+◌, ◌⊎◌, ◌↔◌, ℕ, Ok, Err, Some, None, IsOk, IsSome, IsTrue, IfOk, IfErr, OnOk, OnErr, min, nat_le};
 ghost use Rattle.std.specs.Result.{result_map_both};
 ghost use Rattle.std.specs.FinMap.{get, insert, remove, empty, len};
 ghost use Rattle.wasi_streams.specs.Found.{entry_found, descriptor_found, input_found, output_found, readdir_found};
@@ -74,6 +74,13 @@ impl ResourceTable {
         live as u32
     }
 
+    /// Whether there may be so many more entries.
+    pub fn fits(&self, more: u32) -> bool
+        ensures { result ≡ nat_le (len self.now.entries + more) self.now.max }
+    {
+        self.live() as u64 + more as u64 <= self.max as u64
+    }
+
     /// Makes sure of room for so many more entries; Full exactly where there may not be so many.
     pub fn reserve(&mut self, more: u32) -> Result<(), TableError>
         ensures entries { self.new.entries ≡ self.old.entries }
@@ -86,7 +93,7 @@ impl ResourceTable {
         ensures refusal { IfErr result (λ e. (e ≡ Full) ⊎ (e ≡ Wanted)) }
     {
         let live = self.live();
-        if more > self.max - live {
+        if !self.fits(more) {
             return Err(TableError::Full);
         }
         self.make_room(live as usize + more as usize)?;

@@ -7,7 +7,7 @@ use Rattle.wasi_paths.specs.Text.{is_dot_text}
 use Rattle.wasi_host.specs.Tree.{Tree, Node, Nodes, Content, node_at, next_of, names_of, child, is_directory}
 use Rattle.wasi_host.specs.HostCall.{UnlinkAt, RemoveDirAt}
 use Rattle.wasi_host.specs.Refusal.{refusal, refused_with}
-use Rattle.wasi_host.specs.Step.{with_content, with_entry, content_changed, node_made, file_cut, no_bytes, bytes_put, piece_in, write_step, with_times, times_set, times_set_if, times_step, name_added, name_dropped, dropped_step, one_name_less, made_gone, unlink_step, remove_step, without_name, with_name, one_name_more}
+use Rattle.wasi_host.specs.Step.{with_content, with_entry, content_changed, node_made, file_cut, other_bytes, with_piece, with_size, write_step, with_times, times_set, times_set_if, times_step, name_added, name_dropped, dropped_step, one_name_less, made_gone, unlink_step, remove_step, without_name, with_name, one_name_more}
 use Rattle.wasi_host.specs.declared.errors.ErrorCode.{ErrorCode}
 use Rattle.wasi_host.specs.declared.system_time.SystemTime.{SystemTime}
 use Rattle.wasi_host.proofs.Changes.{changed, changed_apart, directory_within, next_of-changed, next_of-made, node_at-other}
@@ -16,7 +16,7 @@ use Rattle.wasi_tree.specs.Move.{MayName}
 use Rattle.wasi_tree.specs.ParentOf.{parent_of, named_at, AreParents, IsKept}
 use Rattle.wasi_tree.proofs.LinkLemmas.{MayLink, added, links_apart}
 use Rattle.wasi_tree.proofs.ParentLemmas.{SameNames, names_same, names_changed, parents_after, parents_same, stands_leaf, taken_kinds, parents_taken, parents_put_leaf, parents_grown}
-use Rattle.wasi_tree.proofs.SoundLemmas.{Seen, seen, seen-no_bytes, seen-piece_in, seen-one_name_more, seen-one_name_less, seen-made_gone}
+use Rattle.wasi_tree.proofs.SoundLemmas.{Seen, seen, seen-other_bytes, seen-one_name_more, seen-one_name_less, seen-made_gone}
 use Rattle.wasi_tree.proofs.NameLemmas.{get-no_names}
 use Rattle.wasi_tree.proofs.StoreLemmas.{child_is}
 
@@ -34,10 +34,15 @@ pub names_seen : (t : Tree) (n : ℕ) (node : Node) (worked : Nodes) → n < nex
 names_seen t n node worked within same =
     names_changed t n node worked within (ap (λ (s : Seen). s.0.0) same) (ap (λ (s : Seen). s.0.1) same)
 
+-- a file gets other bytes
+pub names_rewritten : (t : Tree) (n : ℕ) (change : List ℕ → List ℕ) → n < next_of t
+    → SameNames t (content_changed t n (other_bytes change))
+names_rewritten t n change within =
+    names_seen t n (with_content (node_at t n) (other_bytes change)) (content_changed t n (other_bytes change)).worked
+    within (seen-other_bytes change (node_at t n).content)
+
 pub names_cut : (t : Tree) (n : ℕ) (cut : Bool) → n < next_of t → SameNames t (cond cut (file_cut t n) t)
-names_cut t n true within =
-    names_seen t n (record (node_at t n) { content = no_bytes (node_at t n).content }) (file_cut t n).worked within
-    (seen-no_bytes (node_at t n).content)
+names_cut t n true within = names_rewritten t n (with_size 0) within
 names_cut t n false within = names_same refl
 
 pub names_written : (t : Tree) (n offset : ℕ) (piece : List ℕ) → n < next_of t
@@ -45,8 +50,7 @@ pub names_written : (t : Tree) (n offset : ℕ) (piece : List ℕ) → n < next_
 unfolding write_step
 names_written t n offset [] within = names_same refl
 names_written t n offset (byte ∷ bytes) within =
-    names_seen t n (record (node_at t n) { content = piece_in (node_at t n).content offset (byte ∷ bytes) })
-    (bytes_put t n offset (byte ∷ bytes)).worked within (seen-piece_in (node_at t n).content offset (byte ∷ bytes))
+    names_rewritten t n (λ old. with_piece old offset (byte ∷ bytes)) within
 
 pub names_timed : (t : Tree) (n : ℕ) (atime mtime : Option SystemTime) → n < next_of t
     → SameNames t (times_set t n atime mtime)

@@ -4,7 +4,7 @@ use Rattle.std.proofs.lemmas.Bool.{true≢false}
 use Rattle.std.specs.Ordering.{nat_cmp}
 use Rattle.std.specs.FinSet.{contains, empty, contains-empty}
 use Rattle.wasi_host.specs.Tree.{Tree, is_directory, node_at, next_of, child, hold_one}
-use Rattle.wasi_host.specs.HostCall.{HostCall, OpenAt, StatAt, ReadLinkAt, MakeDirAt, SymlinkAt, LinkAt, RenameAt, UnlinkAt, RemoveDirAt, TimesAt, Access, Stat, SetTimes, Pread, Pwrite, ListDir, Dup, Close}
+use Rattle.wasi_host.specs.HostCall.{HostCall, OpenAt, StatAt, ReadLinkAt, MakeDirAt, SymlinkAt, LinkAt, RenameAt, UnlinkAt, RemoveDirAt, TimesAt, Access, Stat, SetTimes, Pread, Pwrite, Append, SetSize, Sync, Advise, Flags, ListDir, Dup, Close}
 use Rattle.wasi_host.specs.Refusal.{refusal, first_row, naming_rows, loop_rows, moving_rows, renaming_rows}
 use Rattle.wasi_host.specs.Answer.{HostAnswer}
 use Rattle.wasi_host.specs.Meaning.{AllHeld, IsHeld, HasCause}
@@ -95,6 +95,11 @@ never_io t (Stat n) io = grind (arith)
 never_io t (SetTimes n atime mtime) io = grind (arith)
 never_io t (Pread file offset length) io = grind (arith)
 never_io t (Pwrite file offset piece) io = grind (arith)
+never_io t (Append file piece) io = grind (arith)
+never_io t (SetSize file size) io = grind (arith)
+never_io t (Sync n) io = grind (arith)
+never_io t (Advise n offset length advice) io = grind (arith)
+never_io t (Flags n) io = grind (arith)
 never_io t (ListDir held) io = grind (arith)
 never_io t (Dup held) io = grind (arith)
 never_io t Close io = grind (arith)

@@ -3,7 +3,7 @@ use Rattle.std.proofs.Common.{◌≡◌, ◌<◌, ◌≤◌, ◌+◌, ℕ, Bool,
 use Rattle.std.proofs.lemmas.Bool.{true≢false, cases_eq, cases_lt}
 use Rattle.std.specs.FinMap.{get, empty}
 use Rattle.wasi_host.specs.Tree.{Tree, Node, Nodes, Names, Content, File, Directory, Link, node_at, next_of, stray, names_of, text_of, is_file, is_directory, is_link}
-use Rattle.wasi_host.specs.Step.{new_link, with_name, without_name, node_made, no_bytes, piece_in, one_name_more, one_name_less, made_gone, name_lost}
+use Rattle.wasi_host.specs.Step.{new_link, with_name, without_name, node_made, other_bytes, one_name_more, one_name_less, made_gone, name_lost}
 use Rattle.wasi_host.proofs.Changes.{changed, next_of-changed, node_at-changed, node_at-other, node_at-same, node_at-past, node_at-parent, node_at-apart, node_at-made, node_at-kept, next_of-made, directory_within}
 use Rattle.wasi_host.proofs.EntryLemmas.{unnamed}
 use Rattle.wasi_host.proofs.Leaving.{each_kind, without_name_names}
@@ -19,13 +19,9 @@ Seen = (Names × Bool) × (Bool × List ℕ)
 abbrev pub seen : Content → Seen
 seen content = ((names_of content, is_directory content), (is_link content, text_of content))
 
-pub seen-no_bytes : (content : Content) → seen (no_bytes content) ≡ seen content
-seen-no_bytes = each_kind (λ c. seen (no_bytes c) ≡ seen c) (λ _ _. refl) (λ _ _. refl) (λ _ _. refl)
-
-pub seen-piece_in : (content : Content) (offset : ℕ) (piece : List ℕ)
-    → seen (piece_in content offset piece) ≡ seen content
-seen-piece_in content offset piece =
-    each_kind (λ c. seen (piece_in c offset piece) ≡ seen c) (λ _ _. refl) (λ _ _. refl) (λ _ _. refl) content
+pub seen-other_bytes : (change : List ℕ → List ℕ) (content : Content) → seen (other_bytes change content) ≡ seen content
+seen-other_bytes change =
+    each_kind (λ c. seen (other_bytes change c) ≡ seen c) (λ _ _. refl) (λ _ _. refl) (λ _ _. refl)
 
 pub seen-one_name_more : (content : Content) → seen (one_name_more content) ≡ seen content
 seen-one_name_more = each_kind (λ c. seen (one_name_more c) ≡ seen c) (λ _ _. refl) (λ _ _. refl) (λ _ _. refl)

@@ -19,8 +19,8 @@ use crate::touched_tree::TouchedTree;
 use std::alloc::{AllocError, Global};
 use std::marker::Model;
 use wasi_host::{
-    AccessMode, DirEntry, ErrorCode, Handle, Held, Host, HostError, Limits, LookKind, Lookup,
-    Metadata, OpenOptions, SystemTime,
+    AccessMode, Advice, DirEntry, ErrorCode, Handle, Held, Host, HostError, Limits, LookKind,
+    Lookup, Metadata, OpenOptions, SyncFlags, SystemTime,
 };
 use wasi_paths::Name;
 
@@ -332,6 +332,39 @@ impl Host for MemTree {
     fn pwrite(&mut self, file: Handle, piece: &[u8], offset: u64) -> Result<usize, HostError> {
         let held = self.slots.held(file);
         self.tree.write_at(held, piece, offset)
+    }
+
+    fn append(&mut self, file: Handle, piece: &[u8]) -> Result<usize, HostError> {
+        let held = self.slots.held(file);
+        self.tree.append(held, piece)
+    }
+
+    fn set_size(&mut self, file: Handle, size: u64) -> Result<(), HostError> {
+        let held = self.slots.held(file);
+        self.tree.set_size(held, size)
+    }
+
+    fn sync(&mut self, handle: Handle) -> Result<(), ErrorCode> {
+        let node = self.slots.held(handle).node;
+        self.tree.sync(node);
+        Ok(())
+    }
+
+    fn advise(
+        &mut self,
+        file: Handle,
+        offset: u64,
+        len: u64,
+        advice: Advice,
+    ) -> Result<(), ErrorCode> {
+        let node = self.slots.held(file).node;
+        self.tree.advise(node, offset, len, advice);
+        Ok(())
+    }
+
+    fn flags(&mut self, handle: Handle) -> Result<SyncFlags, ErrorCode> {
+        let node = self.slots.held(handle).node;
+        Ok(self.tree.flags(node))
     }
 
     fn close(&mut self, handle: Handle) {

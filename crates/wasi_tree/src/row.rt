@@ -3,7 +3,7 @@ ghost use Rattle.std.specs.Prelude.{◌≡◌, ◌+◌, ◌-◌, ◌^◌, ◌<�
 ghost use Rattle.std.specs.FinMap as maps;
 ghost use Rattle.wasi_host.specs.Tree.{is_directory, is_file, is_link, is_gone, names_of, links_of, bytes_of, text_of};
 ghost use Rattle.std.specs.String.{string_bytes};
-ghost use Rattle.wasi_host.specs.Step.{new_node, new_file, new_directory, new_link, no_bytes, piece_in, with_piece, with_times, with_entry, without_entry, one_name_more, name_lost};
+ghost use Rattle.wasi_host.specs.Step.{new_node, new_file, new_directory, new_link, other_bytes, with_piece, with_size, with_times, with_entry, without_entry, one_name_more, name_lost};
 ghost use Rattle.wasi_host.specs.Numbers.{largest_file};
 ghost use Rattle.wasi_tree.specs.Given.{Given, pair_of, given, given_content, given_of, content_given, entry_count, content_from, node_from};
 ghost use Rattle.wasi_tree.specs.Lent.{lent, lent_content};
@@ -256,8 +256,9 @@ impl RowContent {
     }
 
     /// Cuts a file to no bytes, and gives their memory back. What is no file stays.
+    #[tactic(auto, unfolding(wasi_host::specs::Step::with_size))]
     pub fn cut(&mut self)
-        ensures { stored_content self.new ≡ no_bytes (stored_content self.old) }
+        ensures { stored_content self.new ≡ other_bytes (with_size 0) (stored_content self.old) }
     {
         match self {
             RowContent::File { bytes, .. } => {
@@ -273,11 +274,25 @@ impl RowContent {
     /// memory is wanted, nothing has changed.
     pub fn put(&mut self, offset: usize, piece: &[u8]) -> Result<(), AllocError>
         requires { offset + length piece.now ≤ largest_file }
-        ensures put { OnOk result (stored_content self.new ≡ piece_in (stored_content self.old) offset piece.now) }
+        ensures put { OnOk result
+            (stored_content self.new ≡ other_bytes (λ bytes. with_piece bytes offset piece.now) (stored_content self.old)) }
         ensures kept { OnErr result (stored_content self.new ≡ stored_content self.old) }
     {
         match self {
             RowContent::File { bytes, .. } => put_piece(bytes, offset, piece),
+            RowContent::Dir { .. } => Ok(()),
+            RowContent::Link { .. } => Ok(()),
+        }
+    }
+
+    /// Cuts a file to so many bytes, or fills it up to them with zeros. What is no file stays. Where memory is wanted,
+    /// nothing has changed.
+    pub fn resize(&mut self, size: usize) -> Result<(), AllocError>
+        ensures sized { OnOk result (stored_content self.new ≡ other_bytes (with_size size) (stored_content self.old)) }
+        ensures kept { OnErr result (stored_content self.new ≡ stored_content self.old) }
+    {
+        match self {
+            RowContent::File { bytes, .. } => resize_bytes(bytes, size),
             RowContent::Dir { .. } => Ok(()),
             RowContent::Link { .. } => Ok(()),
         }
@@ -464,4 +479,14 @@ fn put_piece(bytes: &mut Vec<u8>, offset: usize, piece: &[u8]) -> Result<(), All
     bytes.reserve(end - bytes.len())?;
     bytes.resize(offset, 0)?;
     bytes.extend_from_slice(piece)
+}
+
+/// Cuts bytes to a size, and keeps their room, or fills them up to it with zeros, in room that grows by doubling. Where
+/// memory is wanted, the bytes are as they were.
+#[tactic(auto, unfolding(wasi_host::specs::Step::with_size))]
+fn resize_bytes(bytes: &mut Vec<u8>, size: usize) -> Result<(), AllocError>
+    ensures sized { OnOk result (bytes.new.items ≡ with_size size bytes.old.items) }
+    ensures kept { OnErr result (bytes.new.items ≡ bytes.old.items) }
+{
+    bytes.resize(size, 0)
 }

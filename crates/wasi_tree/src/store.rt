@@ -3,10 +3,10 @@ ghost use Rattle.std.specs.Prelude.{◌≡◌, ◌+◌, ◌-◌, ◌<◌, ◌≤
 ghost use Rattle.wasi_paths.specs.Name.{name_bytes};
 ghost use Rattle.wasi_paths.specs.Text.{is_entry_name};
 ghost use Rattle.wasi_host.specs.Tree.{Tree, next_of, node_at, child, is_directory};
-ghost use Rattle.wasi_host.specs.HostCall.{OpenAt, StatAt, MakeDirAt, SymlinkAt, Access};
-ghost use Rattle.wasi_host.specs.Refusal.{refusal, refused_with, first_row, name_rows, entry_rows, growing_rows, making_rows, text_rows, missing_rows, found_rows};
-ghost use Rattle.wasi_host.specs.Step.{is_cut, file_cut, node_made, bytes_put, write_step, times_set};
-ghost use Rattle.wasi_host.specs.Answer.{metadata_of, kind_of, stat_at_answer, link_answer, access_answer, bytes_read, bytes_taken, entry_of, listed, list_answer};
+ghost use Rattle.wasi_host.specs.HostCall.{OpenAt, StatAt, MakeDirAt, SymlinkAt, Access, SetSize};
+ghost use Rattle.wasi_host.specs.Refusal.{refusal, refused_with, first_row, is_too_large, name_rows, entry_rows, growing_rows, making_rows, text_rows, missing_rows, found_rows};
+ghost use Rattle.wasi_host.specs.Step.{is_cut, file_cut, node_made, bytes_put, write_step, append_step, size_set, times_set};
+ghost use Rattle.wasi_host.specs.Answer.{metadata_of, kind_of, stat_at_answer, link_answer, access_answer, bytes_read, bytes_taken, bytes_appended, entry_of, listed, list_answer, host_answer};
 ghost use Rattle.wasi_host.specs.Numbers.{largest_file};
 ghost use Rattle.wasi_tree.specs.Given.{given, given_of, nodes_from, tree_of};
 ghost use Rattle.wasi_tree.specs.Fit.{name_counts};
@@ -505,14 +505,52 @@ impl Store {
         if offset >= 1 << 63 {
             return Err(HostError::Code(ErrorCode::Invalid));
         }
-        if piece.is_empty() {
-            return Ok(0);
-        }
-        if offset + piece.len() as u64 > FILE_MAX as u64 {
+        if makes_too_large(offset, piece) {
             return Err(HostError::Code(ErrorCode::FileTooLarge));
         }
-        self.put(file.node, offset as usize, piece)?;
+        self.write(file.node, offset as usize, piece)?;
         Ok(piece.len())
+    }
+
+    /// Puts a piece of bytes behind a file's last one, and answers how many: all.
+    #[tactic(auto, unfolding(wasi_host::specs::Refusal::refusal))]
+    pub fn append(&mut self, file: Held, piece: &[u8]) -> Result<usize, HostError>
+        requires { file.node < next_of self.old }
+        ensures meaning { MatchResult result
+            (λ n. bytes_appended self.old file piece.now ≡ Ok n)
+            (MeansCode (bytes_appended self.old file piece.now)) }
+        ensures step { OnOk result (self.new ≡ append_step self.old file.node piece.now) }
+        ensures kept { OnErr result (self.new ≡ self.old) }
+        ensures stays { NodesStay self.old self.new }
+        ensures count { next_of self.new ≡ next_of self.old }
+        ensures all { IfOk result (λ n. n ≡ length piece.now) }
+    {
+        if !file.mode.can_write() {
+            return Err(HostError::Code(ErrorCode::BadDescriptor));
+        }
+        let end = self.row(file.node).content.bytes().len();
+        if makes_too_large(end as u64, piece) {
+            return Err(HostError::Code(ErrorCode::FileTooLarge));
+        }
+        self.write(file.node, end, piece)?;
+        Ok(piece.len())
+    }
+
+    /// Writes a piece of bytes into a file from an offset on; no bytes change nothing. Where memory is wanted, nothing has
+    /// changed.
+    #[tactic(auto, using(crate::proofs::StoreLemmas::write_none, crate::proofs::StoreLemmas::write_some))]
+    fn write(&mut self, node: u64, offset: usize, piece: &[u8]) -> Result<(), AllocError>
+        requires within { node < next_of self.old }
+        requires fits { is_too_large offset piece.now ≡ false }
+        ensures step { OnOk result (self.new ≡ write_step self.old node offset piece.now) }
+        ensures kept { OnErr result (self.new ≡ self.old) }
+        ensures stays { NodesStay self.old self.new }
+        ensures count { next_of self.new ≡ next_of self.old }
+    {
+        if piece.is_empty() {
+            return Ok(());
+        }
+        self.put(node, offset, piece)
     }
 
     /// Puts a piece of bytes into a file from an offset on. Where memory is wanted, nothing has changed.
@@ -525,6 +563,41 @@ impl Store {
         ensures count { next_of self.new ≡ next_of self.old }
     {
         self.rows[file as usize].content.put(offset, piece)?;
+        self.worked.mark(file);
+        Ok(())
+    }
+
+    /// Cuts a file to so many bytes, or fills it up to them with zeros.
+    #[tactic(auto, unfolding(wasi_host::specs::Refusal::refusal))]
+    pub fn set_size(&mut self, file: Held, size: u64) -> Result<(), HostError>
+        requires { file.node < next_of self.old }
+        ensures meaning { MatchResult result
+            (λ unit. host_answer self.old (SetSize file size) ≡ Ok unit)
+            (MeansCode (host_answer self.old (SetSize file size))) }
+        ensures step { OnOk result (self.new ≡ size_set self.old file.node size) }
+        ensures kept { OnErr result (self.new ≡ self.old) }
+        ensures stays { NodesStay self.old self.new }
+        ensures count { next_of self.new ≡ next_of self.old }
+    {
+        if !file.mode.can_write() || size >= 1 << 63 {
+            return Err(HostError::Code(ErrorCode::Invalid));
+        }
+        if size > FILE_MAX as u64 {
+            return Err(HostError::Code(ErrorCode::FileTooLarge));
+        }
+        self.resize(file.node, size as usize)?;
+        Ok(())
+    }
+
+    /// Cuts a file to so many bytes, or fills it up to them with zeros. Where memory is wanted, nothing has changed.
+    fn resize(&mut self, file: u64, size: usize) -> Result<(), AllocError>
+        requires { file < next_of self.old }
+        ensures sized { OnOk result (self.new ≡ size_set self.old file size) }
+        ensures kept { OnErr result (self.new ≡ self.old) }
+        ensures stays { NodesStay self.old self.new }
+        ensures count { next_of self.new ≡ next_of self.old }
+    {
+        self.rows[file as usize].content.resize(size)?;
         self.worked.mark(file);
         Ok(())
     }
@@ -590,4 +663,12 @@ fn copy_front(bytes: &[u8], buf: &mut [u8]) -> usize
     let n = bytes.len().min(buf.len());
     buf[..n].copy_from_slice(&bytes[..n]);
     n
+}
+
+/// Whether bytes from an offset on would make a file too large. No bytes change nothing.
+fn makes_too_large(offset: u64, piece: &[u8]) -> bool
+    requires { offset < 2 ^ 63 }
+    ensures { result ≡ is_too_large offset piece.now }
+{
+    !piece.is_empty() && offset + piece.len() as u64 > FILE_MAX as u64
 }

@@ -9,7 +9,7 @@ ghost use Rattle.wasi_host.specs.Tree.{next_of, node_at, is_directory, hold_one}
 ghost use Rattle.wasi_host.specs.Below.{is_below};
 ghost use Rattle.wasi_host.specs.Refusal.{first_row, loop_rows};
 ghost use Rattle.wasi_host.specs.Answer.{entry_of};
-ghost use Rattle.wasi_host.specs.HostCall.{OpenAt, StatAt, ReadLinkAt, MakeDirAt, SymlinkAt, LinkAt, UnlinkAt, RemoveDirAt, TimesAt, Access, Stat, SetTimes, Pread, Pwrite, RenameAt, ListDir};
+ghost use Rattle.wasi_host.specs.HostCall.{OpenAt, StatAt, ReadLinkAt, MakeDirAt, SymlinkAt, LinkAt, UnlinkAt, RemoveDirAt, TimesAt, Access, Stat, SetTimes, Pread, Pwrite, Append, SetSize, Sync, Advise, Flags, RenameAt, ListDir};
 ghost use Rattle.wasi_host.specs.Meaning.{IsHeld, hosted, answered};
 ghost use Rattle.wasi_host.specs.Time.{HasTimes};
 ghost use Rattle.wasi_tree.specs.Given.{tree_of};
@@ -28,7 +28,9 @@ use crate::row::Row;
 use crate::store::Store;
 use std::alloc::{AllocError, Global};
 use std::marker::Model;
-use wasi_host::{DirEntry, ErrorCode, Held, HostError, Metadata, OpenOptions, SystemTime};
+use wasi_host::{
+    Advice, DirEntry, ErrorCode, Held, HostError, Metadata, OpenOptions, SyncFlags, SystemTime,
+};
 use wasi_paths::Name;
 
 /// A tree with the parents of its directories, and which of its nodes calls have touched. Contracts see the tree and the
@@ -392,6 +394,62 @@ impl TouchedTree {
     {
         self.touched.mark(file.node);
         self.store.write_at(file, piece, offset)
+    }
+
+    /// Puts a piece of bytes behind a file's last one, and answers how many: all.
+    pub fn append(&mut self, file: Held, piece: &[u8]) -> Result<usize, HostError>
+        requires { file.node < next_of self.old.tree }
+        ensures does { FollowsTable self.old self.new (Append file piece.now) (λ n. n) result }
+        ensures all { IfOk result (λ n. n ≡ length piece.now) }
+        ensures stays { NodesStay self.old.tree self.new.tree }
+    {
+        self.touched.mark(file.node);
+        self.store.append(file, piece)
+    }
+
+    /// Cuts a file to so many bytes, or fills it up to them with zeros.
+    pub fn set_size(&mut self, file: Held, size: u64) -> Result<(), HostError>
+        requires { file.node < next_of self.old.tree }
+        ensures does { FollowsTable self.old self.new (SetSize file size) (λ unit. unit) result }
+        ensures stays { NodesStay self.old.tree self.new.tree }
+    {
+        self.touched.mark(file.node);
+        self.store.set_size(file, size)
+    }
+
+    /// Stores what a node holds, which memory always has.
+    #[tactic(auto, unfolding(wasi_host::specs::Refusal::refusal))]
+    pub fn sync(&mut self, node: u64)
+        requires { node < next_of self.old.tree }
+        ensures does { FollowsTable self.old self.new (Sync node) (λ unit. unit) answered }
+        ensures tree { self.new.tree ≡ self.old.tree }
+    {
+        self.touched.mark(node);
+    }
+
+    /// Takes advice on how bytes of a node will be used, which changes nothing.
+    #[tactic(auto, unfolding(wasi_host::specs::Refusal::refusal))]
+    pub fn advise(&mut self, node: u64, offset: u64, len: u64, advice: Advice)
+        requires { node < next_of self.old.tree }
+        ensures does { FollowsTable self.old self.new (Advise node offset len advice) (λ unit. unit) answered }
+        ensures tree { self.new.tree ≡ self.old.tree }
+    {
+        self.touched.mark(node);
+    }
+
+    /// The synchronized modes of a handle of a node: none.
+    #[tactic(auto, unfolding(wasi_host::specs::Refusal::refusal))]
+    pub fn flags(&mut self, node: u64) -> SyncFlags
+        requires { node < next_of self.old.tree }
+        ensures does { FollowsTable self.old self.new (Flags node) (λ flags. flags) (Ok result) }
+        ensures tree { self.new.tree ≡ self.old.tree }
+    {
+        self.touched.mark(node);
+        SyncFlags {
+            sync: false,
+            dsync: false,
+            rsync: false,
+        }
     }
 }
 

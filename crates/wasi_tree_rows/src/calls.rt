@@ -4,7 +4,7 @@ ghost use Rattle.std.specs.FinSet.{contains};
 ghost use Rattle.wasi_tree.specs.MemState.{live_of};
 
 use std::alloc::Global;
-use wasi_host::{Handle, Host, HostError};
+use wasi_host::{Advice, Handle, Host, HostError};
 use wasi_paths::Name;
 use wasi_table::{
     Asked, Told, answered, coded, done, number, refused, time_of, told, told_node, told_times,
@@ -149,12 +149,48 @@ fn held_call<H: Host>(host: &mut H, held: Handle, asked: &Asked<'_>) -> Told
             let set = host.set_times(held, time_of(first), time_of(second));
             done(alloc, coded(set))
         }
-        "pread" => read(alloc, host, held, number(first)),
+        "sync" => done(alloc, coded(host.sync(held))),
+        "flags" => answered(alloc, coded(host.flags(held))),
+        _ => file_call(host, held, asked),
+    }
+}
+
+/// A call of a file.
+fn file_call<H: Host>(host: &mut H, file: Handle, asked: &Asked<'_>) -> Told
+    requires { contains (H.live host.old) file ≡ true }
+    ensures { H.live host.new ≡ H.live host.old }
+{
+    let alloc = asked.alloc;
+    let (first, rest) = word(asked.rest);
+    let (second, third) = word(rest);
+    match asked.what {
+        "pread" => read(alloc, host, file, number(first)),
         "pwrite" => {
-            let written = host.pwrite(held, word(second).0.as_bytes(), number(first));
+            let written = host.pwrite(file, second.as_bytes(), number(first));
             answered(alloc, written)
         }
+        "append" => {
+            let written = host.append(file, first.as_bytes());
+            answered(alloc, written)
+        }
+        "set_size" => done(alloc, host.set_size(file, number(first))),
+        "advise" => {
+            let advised = host.advise(file, number(first), number(second), advice_of(third));
+            done(alloc, coded(advised))
+        }
         _ => unknown(alloc),
+    }
+}
+
+/// The advice of a word; `Normal` where it is none.
+fn advice_of(word: &str) -> Advice {
+    match word {
+        "sequential" => Advice::Sequential,
+        "random" => Advice::Random,
+        "willneed" => Advice::WillNeed,
+        "dontneed" => Advice::DontNeed,
+        "noreuse" => Advice::NoReuse,
+        _ => Advice::Normal,
     }
 }
 

@@ -60,6 +60,7 @@ fn answer_of(word: &str) -> Answer {
         "unit" => Answer::Ok(Value::Unit),
         "noent" => Answer::Errno(Errno::Noent),
         "pointer" => Answer::Trap(TrapKind::Pointer),
+        "table" => Answer::Trap(TrapKind::TableFull),
         _ => Answer::Ok(match filestat_of(word) {
             Some(stat) => Value::Filestat(stat),
             None => Value::Number(number(word)),

@@ -3,7 +3,8 @@ use Rattle.std.proofs.Common.{ℕ, [], refl, slice_get}
 use Rattle.wasi_guest.specs.declared.call.Call.TheVariants as calls
 use Rattle.wasi_p1.specs.Guest.{Guest}
 use Rattle.wasi_resolve.specs.PathRequest.{TimesPath}
-use Rattle.wasi_p1.specs.Request.{SetTimes}
+use Rattle.wasi_host.specs.HostCall.{SetTimes}
+use Rattle.wasi_p1.specs.Request.{Direct}
 use Rattle.wasi_p1.specs.Rows.{fd_filestat_set_times, path_filestat_set_times}
 use Rattle.wasi_host.proofs.Leaving.{Contains-here}
 use Rattle.wasi_p1.proofs.Changing.{named_node, node_perms}
@@ -15,7 +16,7 @@ pub fd_filestat_set_times_near : {g : Guest} {fd atim mtim fst_flags : ℕ}
     → RowNear g (calls.FdFilestatSetTimes fd atim mtim fst_flags)
 unfolding fd_filestat_set_times
 fd_filestat_set_times_near {g} {fd} = then _ (times_never _ _ _ _) (λ times _. then _ (node_never (slice_get g.slots fd)) (λ node is.
-    done_if_near _ (SetTimes node.node times.atime times.mtime) refl (λ n has. named_node g fd n (Contains-here fd []) is has)
+    done_if_near _ (Direct (SetTimes node.node times.atime times.mtime)) refl (λ n has. named_node g fd n (Contains-here fd []) is has)
     (λ _ may names. no_change node.perms may
     (read_only (only_named g fd names.fd names.named names.perms) (node_perms (slice_get g.slots fd) is))) tt))
 

@@ -3,10 +3,11 @@ use Rattle.std.specs.Prelude.{ℕ, List, length, slice_get, slice_set}
 use Rattle.wasi_guest.specs.Range.{with_bytes}
 use Rattle.wasi_guest.specs.declared.answer.Value.TheVariants.{Number}
 use Rattle.wasi_guest.specs.declared.iovec.Iovec.{Iovec}
+use Rattle.wasi_host.specs.HostCall.{Pread, Pwrite}
 use Rattle.wasi_p1.specs.Front.{CallFront, free, answer, ask, at_buffer, ◌>>=◌}
 use Rattle.wasi_p1.specs.Guest.{Guest}
 use Rattle.wasi_p1.specs.Parts.{Source, input, from, source_in, Sink, output, into, sink_in, held_by, may_write, moved}
-use Rattle.wasi_p1.specs.Request.{Read, Write}
+use Rattle.wasi_p1.specs.Request.{Direct}
 use Rattle.wasi_p1.specs.Row.{give}
 use Rattle.wasi_p1.specs.Services.{input_into, written}
 
@@ -15,7 +16,7 @@ abbrev pub read_from : Guest → ℕ → Source → Iovec → CallFront
 read_from g fd input buffer = do
   read ← free (input_into g.memory g.holdings buffer)
   answer (Number read.0, record g { memory = read.1.0; holdings = read.1.1 })
-read_from g fd (from f) buffer = ask (Read (held_by f) f.position buffer.buf_len) (λ bytes. give (
+read_from g fd (from f) buffer = ask (Direct (Pread (held_by f) f.position buffer.buf_len)) (λ bytes. give (
   Number (length bytes),
   record g {
     memory = with_bytes g.memory buffer.buf bytes;
@@ -35,7 +36,7 @@ write_to g fd (output o) piece =
     answer (Number (length piece), record g { holdings = written g.holdings o piece })
 write_to g fd (into f) piece = do
   _ ← free (may_write f.perms)
-  ask (Write (held_by f) f.position piece) (λ count. give (
+  ask (Direct (Pwrite (held_by f) f.position piece)) (λ count. give (
     Number count,
     record g { slots = slice_set g.slots fd (moved f count) },
   ))

@@ -2,7 +2,7 @@
 ghost use Rattle.wasi_guest.specs.declared.call.Call.TheVariants.{PathOpen};
 ghost use Rattle.wasi_p1.specs.Method.{StaysInBounds, DoesItsRow};
 
-use crate::call_parts::{directory_at, open_into, text_at};
+use crate::call_parts::{directory_at, open_into, room_at, text_at};
 use crate::context::WasiP1Ctx;
 use crate::error::P1Error;
 use crate::open_with::OpenWith;
@@ -23,13 +23,13 @@ impl<H: Host> WasiP1Ctx<H> {
     ///
     /// Refusals, in this order: Inval where a flag or right is none of preview1's; Nomem where the range has more bytes
     /// than the fuel that is left; trap Pointer where it leaves the memory; Ilseq where its bytes aren't UTF-8; Badf
-    /// where the number isn't a directory's or file's, Notdir where it is a file's; Notsup of dsync, rsync and sync;
-    /// Inval of DIRECTORY beside another of its flags; Perm of creat, trunc and FD_WRITE under read-only permissions;
-    /// then those of the walk, at the part where it stops: Noent of an empty text, Perm of a leading slash, in a link's
-    /// text too, and of `..` at the start directory, Acces of `..` where a directory may not be searched, Loop of a
-    /// link past the 40th, Isdir of a path that ends in `.` or `..` where creat, trunc or FD_WRITE is asked for, and at
-    /// each name the host's, which are those of POSIX's `openat`; Notdir where DIRECTORY is asked for and no directory
-    /// was opened.
+    /// where the number isn't a directory's or file's, Notdir where it is a file's; trap TableFull where as many
+    /// descriptors are live as may be; Notsup of dsync, rsync and sync; Inval of DIRECTORY beside another of its flags;
+    /// Perm of creat, trunc and FD_WRITE under read-only permissions; then those of the walk, at the part where it
+    /// stops: Noent of an empty text, Perm of a leading slash, in a link's text too, and of `..` at the start
+    /// directory, Acces of `..` where a directory may not be searched, Loop of a link past the 40th, Isdir of a path
+    /// that ends in `.` or `..` where creat, trunc or FD_WRITE is asked for, and at each name the host's, which are
+    /// those of POSIX's `openat`; Notdir where DIRECTORY is asked for and no directory was opened.
     #[tactic(auto, using(crate::proofs::Taking::refusals, crate::proofs::CallTracing::traced_from), unfolding(crate::specs::Rows::path_open))]
     pub fn path_open(
         &mut self,
@@ -51,6 +51,7 @@ impl<H: Host> WasiP1Ctx<H> {
         let with = OpenWith::of(dirflags, oflags, base, inheriting, fdflags)?;
         let text = text_at(memory, &mut self.fuel, path, path_len)?;
         let dir = directory_at(&self.host, &self.descriptors, fd)?;
+        room_at(&self.host, &self.descriptors, 1)?;
         let number = open_into(
             self.alloc,
             &mut self.host,

@@ -1,5 +1,7 @@
-use Rattle.std.proofs.Common.{◌∙◌}
-use Rattle.wasi_script.proofs.Starts.{begun_by, directories_given}
+use Rattle.std.proofs.Common.{arith, ◌∙◌}
+use Rattle.std.proofs.lemmas.List.{length-map}
+use Rattle.wasi_form.specs.Plan.{planned_preopen}
+use Rattle.wasi_script.proofs.Starts.{begun_by, directories_given, given_length}
 use Rattle.wasi_script.proofs.start.first_context.Goals as goal
 
 pub given_handles-requires : goal.given_handles-requires
@@ -15,3 +17,12 @@ returns-in-Ok c =
     record {
       begun = rw c.in-Ok.ensures.made (begun_by (given.tree ∙ tree.tree) (given.touched ∙ tree.touched) given.given);
     }
+
+pub unreachable-requires : goal.unreachable-requires
+unreachable-requires c = absurd (omega (
+  arith,
+  c.in-Err.ensures.full.0 c.in-Full.is,
+  given_length c.in_ok-given.ensures.given,
+  length-map c.args.preopens.now planned_preopen,
+  c.requires.table,
+))

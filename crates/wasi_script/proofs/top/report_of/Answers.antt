@@ -1,6 +1,7 @@
-use Rattle.std.proofs.Common.{refl, ap, length, ◌∙◌}
+use Rattle.std.proofs.Common.{refl, ap, arith, length, ◌∙◌}
+use Rattle.std.proofs.lemmas.List.{length-map}
 use Rattle.wasi_guest.proofs.Ranges.{written_back}
-use Rattle.wasi_form.specs.Plan.{plan}
+use Rattle.wasi_form.specs.Plan.{plan, planned_preopen}
 use Rattle.wasi_form.proofs.BuiltScripts.{built_parts}
 use Rattle.wasi_script.proofs.Starts.{confined_at_start}
 use Rattle.wasi_script.proofs.Headlines.{begun_at, RanPlan, reports}
@@ -10,9 +11,12 @@ pub first_memory-requires : goal.first_memory-requires
 first_memory-requires c = rw c.as_slice.ensures.value (built_parts (plan c.args.script) c.requires).pieces
 
 pub first_context-requires : goal.first_context-requires
-first_context-requires c = record {
-  directories = rw c.as_slice-2.ensures.value (built_parts (plan c.args.script) c.requires).preopens;
-}
+first_context-requires c =
+    let parts = built_parts (plan c.args.script) c.requires in
+    record {
+      directories = rw c.as_slice-2.ensures.value parts.preopens;
+      table = rw c.as_slice-2.ensures.value (omega (arith, parts.table, length-map c.args.script.preopens.items planned_preopen));
+    }
 
 pub shown-requires : goal.shown-requires
 shown-requires c =

@@ -17,7 +17,7 @@ returns-clause-bounds g c = record {
 pub returns-clause-turn : goal.returns-clause-turn
 unfolding fd_close
 returns-clause-turn g c = rw (← c.self.view_is) (answered
-    (rw (← c.in_ok-slot.ensures.row, c.close_slot.ensures.slots, map-set) refl) refl
+    (rw (← c.in_ok-slot.ensures.row, c.close_slot.ensures.slots, c.close_slot.ensures.max, map-set) refl) refl
     (close_stays _ (Contains-here _ []) (Contains-here _ []) c.close_slot.ensures.slots)
     (record { failed = c.close_slot.ensures.faults; looked = c.close_slot.ensures.logged })
     c.close_slot.ensures.stays)

@@ -1,6 +1,7 @@
 use Rattle.std.proofs.Common.{refl, ap, Err}
 use Rattle.wasi_p1.specs.CallParts.{open_node_of}
-use Rattle.wasi_p1.specs.Request.{SetTimes}
+use Rattle.wasi_host.specs.HostCall.{SetTimes}
+use Rattle.wasi_p1.specs.Request.{Direct}
 use Rattle.wasi_p1.proofs.Below.{changed_err, changed_ok}
 use Rattle.wasi_p1.proofs.Setting.{set_ok, set_err, not_wanted}
 use Rattle.wasi_p1.proofs.Taking.{refused, unchanged, on_err}
@@ -12,7 +13,7 @@ unfolding fd_filestat_set_times
 returns-in_err-set_times-clause-turn g c =
     let given = c.in_err-set_times.ensures in
     let node = open_node_of (g.H.Host.world c.self.inside.host).held c.in_ok-descriptor.descriptor in
-    rw (← c.self.view_is) (on_err c.from_residual-in_err-set_times.ensures.1 (changed_err {r = SetTimes node.node c.in_ok-times.times.atime c.in_ok-times.times.mtime}
+    rw (← c.self.view_is) (on_err c.from_residual-in_err-set_times.ensures.1 (changed_err {r = Direct (SetTimes node.node c.in_ok-times.times.atime c.in_ok-times.times.mtime)}
     (rw (← (rw c.wall.ensures.wall at c.in_ok-times.ensures.row), ← c.in_ok-descriptor.ensures.row) refl)
     c.self.invariant unchanged _ given.permit (not_wanted _ given.no_memory) (λ told none.
     (given.told told none).keeps) (λ told none. set_err _ (λ is. given.cause.io (ap Err is)) (given.told told none))))
@@ -22,7 +23,7 @@ unfolding fd_filestat_set_times
 returns-clause-turn g c =
     let given = c.in_ok-set_times.ensures in
     let node = open_node_of (g.H.Host.world c.self.inside.host).held c.in_ok-descriptor.descriptor in
-    rw (← c.self.view_is) (changed_ok {r = SetTimes node.node c.in_ok-times.times.atime c.in_ok-times.times.mtime}
+    rw (← c.self.view_is) (changed_ok {r = Direct (SetTimes node.node c.in_ok-times.times.atime c.in_ok-times.times.mtime)}
     (rw (← (rw c.wall.ensures.wall at c.in_ok-times.ensures.row), ← c.in_ok-descriptor.ensures.row) refl)
     c.self.invariant
     unchanged tt tt given.permit

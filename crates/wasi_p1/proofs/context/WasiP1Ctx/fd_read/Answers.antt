@@ -13,7 +13,7 @@ returns-in_err-count-clause-turn g c =
     (with_memory c.args.fd (open_file_of (g.H.Host.world c.self.inside.host).held c.in-File.place))
     (rw (← (rw c.in_ok-buffer.was at c.buffer_at.ensures.row), ← (rw c.in-File.is at c.in_ok-source.ensures.row), ← c.in_ok-bytes_at.ensures.row) refl)
     c.self.invariant c.in_err-count.ensures.front (λ is. absurd (c.in_err-count.ensures.never_wants is))
-    (record { slots = refl; holdings = refl; memory = c.in_err-count.ensures.same })
+    (record { slots = refl; table_max = refl; holdings = refl; memory = c.in_err-count.ensures.same })
     c.in_err-count.ensures.told))
 
 pub returns-clause-turn : goal.returns-clause-turn
@@ -21,7 +21,8 @@ unfolding fd_read
 returns-clause-turn g c = rw (← c.self.view_is) (moved_ok (filled_at _ _) (with_memory _ _)
     (rw (← (rw c.in_ok-buffer.was at c.buffer_at.ensures.row), ← (rw c.in-File.is at c.in_ok-source.ensures.row), ← c.in_ok-bytes_at.ensures.row) refl)
     c.self.invariant c.in_ok-count.ensures.size c.in_ok-count.ensures.front refl
-    (record { slots = c.move_file.ensures.slots; holdings = refl }) (Contains-here _ [])
+    (record { slots = c.move_file.ensures.slots; table_max = c.move_file.ensures.max; holdings = refl })
+    (Contains-here _ [])
     (rw c.in-File.is at c.in_ok-source.ensures.is) (rw c.in-File.is at c.in_ok-source.ensures.live)
     c.in_ok-count.ensures.told)
 

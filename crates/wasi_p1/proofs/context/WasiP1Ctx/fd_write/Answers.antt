@@ -1,6 +1,7 @@
 use Rattle.std.proofs.Common.{refl, rules, []}
 use Rattle.wasi_host.proofs.Leaving.{Contains-here}
-use Rattle.wasi_p1.specs.Request.{Write}
+use Rattle.wasi_host.specs.HostCall.{Pwrite}
+use Rattle.wasi_p1.specs.Request.{Direct}
 use Rattle.wasi_p1.specs.CallParts.{open_file_of}
 use Rattle.wasi_p1.specs.Row.{give}
 use Rattle.wasi_p1.specs.Rows.{fd_write}
@@ -12,7 +13,7 @@ use Rattle.wasi_p1.proofs.context.WasiP1Ctx.fd_write.Goals as goal
 pub returns-in_err-count-clause-turn : goal.returns-in_err-count-clause-turn
 unfolding fd_write
 returns-in_err-count-clause-turn g c =
-    rw (← c.self.view_is) (on_err c.from_residual-in_err-count.ensures.1 (makes_err {r = Write _ _ _} give
+    rw (← c.self.view_is) (on_err c.from_residual-in_err-count.ensures.1 (makes_err {r = Direct (Pwrite _ _ _)} give
     (with_position c.args.fd (open_file_of (g.H.Host.world c.self.inside.host).held c.in-File.place))
     (rw (← (rw c.in_ok-buffer.was at c.buffer_at.ensures.row), ← (rw c.in-File.is at c.in_ok-sink.ensures.row), ← c.in_ok-piece.ensures.row, ← c.in_ok-check_write.ensures.row) refl)
     c.self.invariant c.in_err-count.ensures.front (λ _. refl)
@@ -20,10 +21,11 @@ returns-in_err-count-clause-turn g c =
 
 pub returns-clause-turn : goal.returns-clause-turn
 unfolding fd_write
-returns-clause-turn g c = rw (← c.self.view_is) (moved_ok {r = Write _ _ _} give (with_position _ _)
+returns-clause-turn g c = rw (← c.self.view_is) (moved_ok {r = Direct (Pwrite _ _ _)} give (with_position _ _)
     (rw (← (rw c.in_ok-buffer.was at c.buffer_at.ensures.row), ← (rw c.in-File.is at c.in_ok-sink.ensures.row), ← c.in_ok-piece.ensures.row, ← c.in_ok-check_write.ensures.row) refl)
     c.self.invariant refl c.in_ok-count.ensures.front refl
-    (record { slots = c.move_file.ensures.slots; holdings = refl }) (Contains-here _ [])
+    (record { slots = c.move_file.ensures.slots; table_max = c.move_file.ensures.max; holdings = refl })
+    (Contains-here _ [])
     (rw c.in-File.is at c.in_ok-sink.ensures.is) (rw c.in-File.is at c.in_ok-sink.ensures.live)
     c.in_ok-count.ensures.told)
 

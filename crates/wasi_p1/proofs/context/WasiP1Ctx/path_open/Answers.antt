@@ -16,8 +16,14 @@ returns-in_err-number-clause-turn g c =
     let given = c.in_err-number.ensures in
     rw (← c.self.view_is) (on_err c.from_residual-in_err-number.ensures.1 (permitted_err
     (opened_among _ c.in_ok-dir.dir.perms _) with_slots
-    (rw (← c.in_ok-with.ensures.row, ← c.in_ok-text.ensures.row, ← c.in_ok-dir.ensures.row) refl)
-    given.permit given.front (λ _. refl) (record { slots = given.kept; holdings = refl; memory = refl })
+    (rw (
+      ← c.in_ok-with.ensures.row,
+      ← c.in_ok-text.ensures.row,
+      ← c.in_ok-dir.ensures.row,
+      ← c.in_ok-room_at.ensures.row,
+    ) refl)
+    given.permit given.front (λ _. refl)
+    (record { slots = given.kept; table_max = given.max; holdings = refl; memory = refl })
     (λ told _. given.stays told) given.told))
 
 pub returns-clause-turn : goal.returns-clause-turn
@@ -27,8 +33,18 @@ returns-clause-turn g c =
     let with = c.in_ok-with.with in
     let how = how_of with.path_flags with.open_flags with.flags in
     rw (← c.self.view_is) (permitted_ok {r = Path (opens _ _ how)} (opened_among _ c.in_ok-dir.dir.perms _) with_slots
-    (rw (← c.in_ok-with.ensures.row, ← c.in_ok-text.ensures.row, ← c.in_ok-dir.ensures.row) refl)
-    given.permit refl (none_changes given.used) given.front refl (λ told none. (given.told told none, refl)))
+    (rw (
+      ← c.in_ok-with.ensures.row,
+      ← c.in_ok-text.ensures.row,
+      ← c.in_ok-dir.ensures.row,
+      ← c.in_ok-room_at.ensures.row,
+    ) refl)
+    given.permit refl (none_changes given.used) given.front (rw given.max refl)
+    (λ told none. (given.told told none, rw given.max refl)))
+
+pub returns-in_err-room_at-clause-turn : goal.returns-in_err-room_at-clause-turn
+unfolding path_open
+returns-in_err-room_at-clause-turn g c = rw (← c.self.view_is) (search (rules, refusals))
 
 pub returns-in_err-dir-clause-turn : goal.returns-in_err-dir-clause-turn
 unfolding path_open

@@ -25,7 +25,7 @@ returns-in_err-count-clause-turn g c =
     rw (← c.self.view_is) (on_err c.from_residual-in_err-count.ensures.1 (found_refused {p = AtPlace _ _ ReadLink} (λ link. text_to c.args.memory.now c.args.buf (take c.args.buf_len link)) with_text
     (rw (← c.in_ok-dir.ensures.row, ← c.in_ok-text.ensures.row) refl) c.self.invariant
     (given.some, given.most, given.unrooted) given.told (rw same at (sym c.in_err-count.ensures.row)) refl
-    (record { slots = refl; holdings = refl; memory = c.in_err-count.ensures.same })))
+    (record { slots = refl; table_max = refl; holdings = refl; memory = c.in_err-count.ensures.same })))
 
 pub returns-clause-turn : goal.returns-clause-turn
 unfolding path_readlink

@@ -2,25 +2,59 @@ use Rattle.std.proofs.Common.{rules, arith, ap, sym, ◌<◌, heap_len, subst}
 use Rattle.std.specs.Prelude.{IsOk}
 use Rattle.std.specs.BinaryHeap.{heap_capacity}
 use Rattle.std.proofs.lemmas.Bool.{true≢false}
-use Rattle.std.proofs.lemmas.List.{length-set}
-use Rattle.wasi_p1.proofs.ClosedHeap.{room_left, holds_closed}
+use Rattle.wasi_p1.proofs.ClosedHeap.{room_left}
+use Rattle.wasi_p1.proofs.Tabled.{is_given, live_item, left_kept, left_slots}
 use Rattle.wasi_p1.proofs.descriptors.Descriptors.close.Goals as goal
 
 pub unreachable-requires : goal.unreachable-requires
 unreachable-requires c =
-    let full = room_left c.self.invariant.closed c.args.fd (search rules) (search rules) in
+    let full = room_left c.self.invariant.indexed.closed c.args.fd (search rules) (search rules) in
     let room : heap_len c.self.inside.closed < heap_capacity c.self.inside.closed =
-    omega (arith, full, c.self.inside.closed.data.ok.0, c.self.invariant.room) in
+    omega (arith, full, c.self.inside.closed.data.ok.0, c.self.invariant.indexed.room) in
     absurd (true≢false (sym (subst IsOk c.in_default.is (c.push.ensures.succeeds room))))
 
+pub item_under-item-requires : goal.item_under-item-requires
+item_under-item-requires c =
+    let among = rw (← c.self.view_is) at c.requires.within in
+    omega (arith, is_given _ _ _ among, c.self.inside.items.ok.0)
+
+pub index_mut-requires : goal.index_mut-requires
+index_mut-requires c =
+    let among = rw (← c.self.view_is) at c.requires.within in
+    omega (arith, is_given _ _ _ among, c.self.inside.items.ok.0)
+
+pub forget-requires : goal.forget-requires
+forget-requires c =
+    let among = rw (← c.self.view_is) at c.requires.within in
+    let live = rw (← c.self.view_is) at c.requires.was_in_use in
+    record {
+      kind = rw c.item_under-item.ensures (c.self.invariant.named.kinds c.args.fd);
+      in_use = rw c.item_under-item.ensures (live_item c.self.invariant among live);
+    }
+
 pub invariant_of-self : goal.invariant_of-self
-invariant_of-self c = record {
-  closed = holds_closed c.self.invariant.closed c.args.fd (search rules) (search rules)
-      c.in-Ok.ensures.permutation (c.in-Ok.ensures.heap_order c.self.invariant.closed.order);
-  room = simp length-set (omega (arith, c.self.invariant.room, c.in-Ok.ensures.capacity));
-}
+invariant_of-self c =
+    let among = rw (← c.self.view_is) at c.requires.within in
+    let live = rw (← c.self.view_is) at c.requires.was_in_use in
+    rw (c.forget.ensures.entries, c.item_under-item.ensures)
+    (left_kept c.self.invariant among live c.in-Ok.ensures.permutation
+    (c.in-Ok.ensures.heap_order c.self.invariant.indexed.closed.order) c.in-Ok.ensures.capacity)
+
+pub returns-clause-slots : goal.returns-clause-slots
+returns-clause-slots c =
+    let among = rw (← c.self.view_is) at c.requires.within in
+    let live = rw (← c.self.view_is) at c.requires.was_in_use in
+    rw (c.forget.ensures.entries, c.item_under-item.ensures, ← c.self.view_is)
+    (left_slots c.self.invariant among live)
 
 pub returns-clause-room : goal.returns-clause-room
 returns-clause-room c =
     let room = ap (λ t. t.room) c.self.view_is in
-    grind (arith, room, c.in-Ok.ensures.len, c.in-Ok.ensures.capacity, c.self.invariant.room)
+    grind (
+      arith,
+      room,
+      c.forget.ensures.spare,
+      c.in-Ok.ensures.len,
+      c.in-Ok.ensures.capacity,
+      c.self.invariant.indexed.room,
+    )

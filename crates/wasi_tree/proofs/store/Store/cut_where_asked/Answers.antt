@@ -1,8 +1,8 @@
 use Rattle.std.proofs.Common.{◌≡◌, ◌∙◌, true, cond, sym, ap}
 use Rattle.wasi_host.specs.Tree.{Tree, Node, node_at, is_file}
-use Rattle.wasi_host.specs.Step.{no_bytes, file_cut}
+use Rattle.wasi_host.specs.Step.{other_bytes, with_size, file_cut}
 use Rattle.wasi_tree.proofs.RowLemmas.{IsRow, tree_written, sound_written}
-use Rattle.wasi_tree.proofs.SoundLemmas.{seen-no_bytes, stays_seen}
+use Rattle.wasi_tree.proofs.SoundLemmas.{seen-other_bytes, stays_seen}
 use Rattle.wasi_tree.proofs.StoreLemmas.{cut_asked}
 use Rattle.wasi_tree.proofs.store.Store.cut_where_asked.Goals as goal
 
@@ -12,8 +12,8 @@ row c = record { stands = c.self.view_is; within = c.requires; read = c.index_mu
 
 pub invariant_of-self : goal.invariant_of-self
 invariant_of-self c =
-    sound_written (row c) no_bytes c.cut.new.self c.cut.ensures c.mark.new.self.nodes
-    seen-no_bytes c.self.invariant c.mark.ensures.count
+    sound_written (row c) (other_bytes (with_size 0)) c.cut.new.self c.cut.ensures c.mark.new.self.nodes
+    (seen-other_bytes (with_size 0)) c.self.invariant c.mark.ensures.count
 
 pub returns-clause-tree : goal.returns-clause-tree
 returns-clause-tree c =
@@ -21,11 +21,11 @@ returns-clause-tree c =
     let n = c.args.node in
     let file : is_file (node_at t n).content ≡ true =
     ap (λ (node : Node). is_file node.content) c.row.ensures.node ∙ sym c.if-not-is_file.ensures in
-    tree_written (row c) no_bytes c.cut.new.self c.cut.ensures c.mark.ensures.nodes
+    tree_written (row c) (other_bytes (with_size 0)) c.cut.new.self c.cut.ensures c.mark.ensures.nodes
     ∙ sym (ap (λ b. cond b (file_cut t n) t)
     (cut_asked c.args.options.now (node_at t n).content (sym c.if-not-is_truncate.ensures.value) file))
 
 pub returns-clause-stays : goal.returns-clause-stays
 returns-clause-stays c =
-    rw (tree_written (row c) no_bytes c.cut.new.self c.cut.ensures c.mark.ensures.nodes)
-    (stays_seen _ _ _ _ c.requires (seen-no_bytes (node_at c.args.self.now c.args.node).content))
+    rw (tree_written (row c) (other_bytes (with_size 0)) c.cut.new.self c.cut.ensures c.mark.ensures.nodes)
+    (stays_seen _ _ _ _ c.requires (seen-other_bytes (with_size 0) (node_at c.args.self.now c.args.node).content))

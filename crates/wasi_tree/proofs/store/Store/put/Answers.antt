@@ -1,9 +1,9 @@
 use Rattle.std.proofs.Common.{◌∙◌}
 use Rattle.std.proofs.lemmas.Result.{err_from_is_err_and}
 use Rattle.wasi_host.specs.Tree.{node_at}
-use Rattle.wasi_host.specs.Step.{piece_in}
+use Rattle.wasi_host.specs.Step.{other_bytes, with_piece}
 use Rattle.wasi_tree.proofs.RowLemmas.{IsRow, row_kept, tree_written, sound_written}
-use Rattle.wasi_tree.proofs.SoundLemmas.{seen-piece_in, stays_same, stays_seen}
+use Rattle.wasi_tree.proofs.SoundLemmas.{seen-other_bytes, stays_same, stays_seen}
 use Rattle.wasi_tree.proofs.store.Store.put.Goals as goal
 use Rattle.wasi_tree.proofs.store.Store.put.Goals.{After-index_mut}
 
@@ -34,20 +34,21 @@ returns-in_err-put-clause-stays c =
 pub invariant_of-self-2 : goal.invariant_of-self-2
 invariant_of-self-2 c =
     sound_written (row (goal.at.invariant_of-self-2 c).After-index_mut)
-    (λ content. piece_in content c.args.offset c.args.piece.now) c.put.new.self c.in_ok-put.ensures.put
+    (other_bytes (λ bytes. with_piece bytes c.args.offset c.args.piece.now)) c.put.new.self c.in_ok-put.ensures.put
     c.mark.new.self.nodes
-    (λ content. seen-piece_in content c.args.offset c.args.piece.now) c.self.invariant c.mark.ensures.count
+    (seen-other_bytes (λ bytes. with_piece bytes c.args.offset c.args.piece.now)) c.self.invariant c.mark.ensures.count
 
 pub returns-clause-put : goal.returns-clause-put
 returns-clause-put c =
     tree_written (row (goal.at.returns-clause-put c).After-index_mut)
-    (λ content. piece_in content c.args.offset c.args.piece.now) c.put.new.self c.in_ok-put.ensures.put
+    (other_bytes (λ bytes. with_piece bytes c.args.offset c.args.piece.now)) c.put.new.self c.in_ok-put.ensures.put
     c.mark.ensures.nodes
 
 pub returns-clause-stays : goal.returns-clause-stays
 returns-clause-stays c =
     rw (tree_written (row (goal.at.returns-clause-stays c).After-index_mut)
-    (λ content. piece_in content c.args.offset c.args.piece.now) c.put.new.self c.in_ok-put.ensures.put
+    (other_bytes (λ bytes. with_piece bytes c.args.offset c.args.piece.now)) c.put.new.self c.in_ok-put.ensures.put
     c.mark.ensures.nodes)
     (stays_seen _ _ _ _ c.requires.within
-    (seen-piece_in (node_at c.args.self.now c.args.file).content c.args.offset c.args.piece.now))
+    (seen-other_bytes (λ bytes. with_piece bytes c.args.offset c.args.piece.now)
+    (node_at c.args.self.now c.args.file).content))

@@ -1,0 +1,18 @@
+use Rattle.std.proofs.Common.{[], Ok, Err}
+use Rattle.std.proofs.lemmas.List.Elements.{Contains-push}
+use Rattle.std.proofs.lemmas.Result.{err_from_is_err_and}
+use Rattle.wasi_host.specs.HostCall.{Flags}
+use Rattle.wasi_host.specs.declared.errors.HostError.TheVariants.{Code}
+use Rattle.wasi_fs.proofs.Once.{once}
+use Rattle.wasi_fs.proofs.descriptor.Descriptor.modes.Goals as goal
+
+pub returns-in_err-flags-clause-told : goal.returns-in_err-flags-clause-told
+returns-in_err-flags-clause-told g c = λ told.
+    let error = err_from_is_err_and c.from_residual.result c.from_residual.ensures.1 in
+    rw (error.1, error.2, ← c.handle.ensures.handle) (once (Flags _) _ (Err (Code c.in_err-flags.field-0.0))
+    (Contains-push [] _) c.flags.ensures.live (c.in_err-flags.ensures.told told))
+
+pub returns-clause-told : goal.returns-clause-told
+returns-clause-told g c = λ told.
+    rw (← c.handle.ensures.handle)
+    (once (Flags _) _ (Ok c.in_ok-flags.field-0) (Contains-push [] _) c.flags.ensures.live (c.in_ok-flags.ensures.told told))

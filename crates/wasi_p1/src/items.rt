@@ -1,0 +1,169 @@
+//! What is kept of a descriptor beside the resource table.
+ghost use Rattle.std.specs.Prelude.{◌≡◌, ◌<◌, ◌≤◌, ◌+◌, None, IsOk, OnOk, false, length, slice_get, slice_index_or};
+ghost use Rattle.std.specs.FinMap.{get, insert, len};
+ghost use Rattle.wasi_p1.specs.Items.{Admitted, IsOfKind, at_position, is_closed_item, slot_in, stream_entry, without_item};
+ghost use Rattle.wasi_p1.specs.Slots.{is_closed_slot};
+
+use crate::context::{Slot, Stream};
+use std::alloc::AllocError;
+use wasi_fs::{Descriptor, Dir, File};
+use wasi_streams::{Entry, Resource, ResourceTable, TableError};
+
+/// The resource of a descriptor, and what the table doesn't say of it. A position is in bytes.
+#[derive(Clone, Copy, Debug, PartialEq, Eq)]
+pub enum Item {
+    Closed,
+    Stream(Stream, Resource),
+    Directory(Resource),
+    File { resource: Resource, position: u64 },
+}
+
+/// What is kept of a number, if it was ever given.
+pub fn item_at(items: &Vec<Item>, fd: u32) -> Option<Item>
+    ensures { result ≡ slice_get items.now.items fd }
+{
+    Some(*items.get(fd as usize)?)
+}
+
+/// What is kept of a number that was given.
+pub fn item_under(items: &Vec<Item>, fd: u32) -> Item
+    requires { fd < length items.now.items }
+    ensures { result ≡ slice_index_or items.now.items fd Item.Closed }
+{
+    items[fd as usize]
+}
+
+fn entry_of(stream: Stream) -> Entry
+    ensures { result ≡ stream_entry stream }
+{
+    match stream {
+        Stream::Input => Entry::Stdin,
+        Stream::Output => Entry::Stdout,
+        Stream::Error => Entry::Stderr,
+    }
+}
+
+/// Takes the memory for one entry more, which there may be.
+pub fn reserve_entry(table: &mut ResourceTable) -> Result<(), AllocError>
+    requires fits { len table.old.entries + 1 ≤ table.old.max }
+    ensures entries { table.new.entries ≡ table.old.entries }
+    ensures max { table.new.max ≡ table.old.max }
+    ensures room { OnOk result (0 < table.new.spare) }
+    ensures grows { table.old.spare ≤ table.new.spare }
+    ensures succeeds { 0 < table.old.spare → IsOk result }
+{
+    match table.reserve(1) {
+        Ok(()) => Ok(()),
+        Err(TableError::Memory) => Err(AllocError),
+        Err(_) => unreachable!(),
+    }
+}
+
+/// Puts an entry into the table, which has room for it.
+fn put_entry(table: &mut ResourceTable, entry: Entry) -> Resource
+    requires spare { 0 < table.old.spare }
+    ensures fresh { get table.old.entries result.number ≡ None }
+    ensures entries { table.new.entries ≡ insert table.old.entries result.number entry }
+    ensures spare { table.old.spare ≡ table.new.spare + 1 }
+    ensures max { table.new.max ≡ table.old.max }
+{
+    let Ok(resource) = table.push(entry) else {
+        unreachable!()
+    };
+    resource
+}
+
+/// Puts what a descriptor stands for into the table, which has room for it.
+pub fn admit(table: &mut ResourceTable, slot: Slot) -> Item
+    requires in_use { is_closed_slot slot ≡ false }
+    requires spare { 0 < table.old.spare }
+    ensures admitted { Admitted table.old.entries table.new.entries result slot }
+    ensures spare { table.old.spare ≡ table.new.spare + 1 }
+    ensures max { table.new.max ≡ table.old.max }
+{
+    match slot {
+        Slot::Closed => unreachable!(),
+        Slot::Stream(stream) => Item::Stream(stream, put_entry(table, entry_of(stream))),
+        Slot::Directory(dir) => {
+            Item::Directory(put_entry(table, Entry::Descriptor(Descriptor::Dir(dir))))
+        }
+        Slot::File { file, position } => {
+            let resource = put_entry(table, Entry::Descriptor(Descriptor::File(file)));
+            Item::File { resource, position }
+        }
+    }
+}
+
+/// What a directory's resource stands for.
+fn directory_of(table: &ResourceTable, resource: Resource) -> Slot
+    requires { IsOfKind table.now.entries (Item.Directory resource) }
+    ensures { result ≡ slot_in table.now.entries (Item.Directory resource) }
+{
+    match table.descriptor(resource) {
+        Ok(descriptor) => match descriptor {
+            Descriptor::Dir(dir) => Slot::Directory(Dir::new(dir.dir, dir.perms, dir.open_mode)),
+            Descriptor::File(_) => unreachable!(),
+        },
+        Err(_) => unreachable!(),
+    }
+}
+
+/// What a file's resource stands for, at a position.
+fn file_of(table: &ResourceTable, resource: Resource, position: u64) -> Slot
+    requires { IsOfKind table.now.entries (Item.File resource position) }
+    ensures { result ≡ slot_in table.now.entries (Item.File resource position) }
+{
+    match table.descriptor(resource) {
+        Ok(descriptor) => match descriptor {
+            Descriptor::File(file) => Slot::File {
+                file: File::new(file.file, file.perms, file.open_mode),
+                position,
+            },
+            Descriptor::Dir(_) => unreachable!(),
+        },
+        Err(_) => unreachable!(),
+    }
+}
+
+/// What a descriptor stands for.
+pub fn slot_of_item(table: &ResourceTable, item: Item) -> Slot
+    requires { IsOfKind table.now.entries item }
+    ensures { result ≡ slot_in table.now.entries item }
+{
+    match item {
+        Item::Closed => Slot::Closed,
+        Item::Stream(stream, _) => Slot::Stream(stream),
+        Item::Directory(resource) => directory_of(table, resource),
+        Item::File { resource, position } => file_of(table, resource, position),
+    }
+}
+
+/// Takes a live descriptor's entry out of the table. It takes no memory.
+pub fn forget(table: &mut ResourceTable, item: Item)
+    requires kind { IsOfKind table.old.entries item }
+    requires in_use { is_closed_item item ≡ false }
+    ensures entries { table.new.entries ≡ without_item table.old.entries item }
+    ensures spare { table.new.spare ≡ table.old.spare + 1 }
+    ensures max { table.new.max ≡ table.old.max }
+{
+    match item {
+        Item::Closed => unreachable!(),
+        Item::Stream(_, resource) | Item::Directory(resource) | Item::File { resource, .. } => {
+            let Ok(_) = table.delete(resource) else {
+                unreachable!()
+            };
+        }
+    }
+}
+
+/// A file's descriptor at another position.
+pub fn at_position(item: Item, position: u64) -> Item
+    ensures { result ≡ at_position item position }
+{
+    match item {
+        Item::File { resource, .. } => Item::File { resource, position },
+        Item::Closed => Item::Closed,
+        Item::Stream(stream, resource) => Item::Stream(stream, resource),
+        Item::Directory(resource) => Item::Directory(resource),
+    }
+}
