@@ -24,11 +24,11 @@ use Rattle.wasi_guest.specs.Range.{with_bytes}
 use Rattle.wasi_guest.specs.Services.{Handed}
 use Rattle.wasi_p1.specs.Reach.{Confined}
 use Rattle.wasi_form.specs.Plan.{PlannedPreopen, PlannedPiece, planned_preopen, planned_piece}
-use Rattle.wasi_form.specs.Built.{default_table, are_preopens_directories, is_directory_given, is_piece_within}
+use Rattle.wasi_form.specs.Built.{are_preopens_directories, is_directory_given, is_piece_within}
 use Rattle.wasi_p1.specs.Slots.{first_slots, given_mode, given_directory, given_slot}
 use Rattle.wasi_p1.specs.Stock.{first_stock}
 use Rattle.wasi_p1.specs.declared.context.P1Preopen.{P1Preopen}
-use Rattle.wasi_script.specs.Start.{given_guest_slot, AreGiven, IsBegun, with_pieces}
+use Rattle.wasi_script.specs.Start.{given_guest_slot, most_descriptors, AreGiven, IsBegun, with_pieces}
 use Rattle.wasi_p1.specs.Guest.{State, directory as directory_slot, directory_by, guest_slot}
 use Rattle.wasi_form.specs.declared.script.Piece.{Piece}
 use Rattle.wasi_form.specs.declared.script.ScriptPreopen.{ScriptPreopen}
@@ -152,7 +152,7 @@ pub begun_by : {given : MemState} {tree : Tree} {preopens : List PlannedPreopen}
     (record {
       host = given;
       slots = first_slots list;
-      table_max = default_table;
+      table_max = most_descriptors;
       holdings = first_stock services;
       fuel = fuel;
     })

@@ -8,7 +8,6 @@ use Rattle.wasi_tree.specs.Given.{tree_of}
 use Rattle.wasi_tree.specs.MemState.{HeldMap, live_of, held_in}
 use Rattle.wasi_guest.specs.Range.{with_bytes}
 use Rattle.wasi_guest.specs.Services.{Handed}
-use Rattle.wasi_form.specs.Built.{default_table}
 use Rattle.wasi_form.specs.Plan.{Plan, PlannedPiece, PlannedPreopen}
 use Rattle.wasi_p1.specs.Slots.{View, given_mode, given_slot}
 use Rattle.wasi_p1.specs.Guest.{State, GuestSlot, stream, directory, guest_slot, state_of}
@@ -30,14 +29,17 @@ abbrev pub with_pieces : List ℕ → List PlannedPiece → List ℕ
 with_pieces memory [] = memory
 with_pieces memory (piece ∷ pieces) = with_pieces (with_bytes memory piece.offset piece.bytes) pieces
 
--- over a tree, with these directories and all that is handed in, and as many entries in the resource table as a script
--- has that doesn't say it, nothing is written out yet
+-- how many descriptors may be live: as many as have a number of 32 bits, as no script says it yet
+abbrev pub most_descriptors : ℕ
+most_descriptors = 4294967295
+
+-- over a tree, with these directories and all that is handed in, nothing is written out yet
 abbrev pub begun : Tree → List PlannedPreopen → Handed → List ℕ → State
 begun tree preopens services memory = record {
   tree = tree;
   guest = record {
     slots = first_guest_slots preopens;
-    table_max = default_table;
+    table_max = most_descriptors;
     memory = memory;
     holdings = first_stock services;
   };

@@ -11,7 +11,7 @@ ghost use Rattle.wasi_script.specs.Start.{with_pieces, IsBegun, AreGiven};
 ghost use Rattle.wasi_script.specs.Headline.{bytes_shown};
 
 use std::alloc::{AllocError, Global};
-use wasi_form::{DEFAULT_TABLE, Piece, ScriptPreopen, Shown};
+use wasi_form::{Piece, ScriptPreopen, Shown};
 use wasi_guest::{GuestMemory, Services, slice_at};
 use wasi_p1::{CtxError, P1Preopen, WasiP1Ctx};
 use wasi_tree::{FitNodes, HandleError, MemTree};
@@ -45,8 +45,10 @@ fn given_handles(
     Ok(given)
 }
 
-/// A context over the tree of these nodes, in which the guest is handed in these services and given these directories,
-/// and as many descriptors may be live as a script has that doesn't say it.
+/// How many descriptors of a script may be live: as many as have numbers, as no script says it yet.
+const MOST_DESCRIPTORS: u32 = 4_294_967_295;
+
+/// A context over the tree of these nodes, in which the guest is handed in these services and given these directories.
 pub fn first_context(
     alloc: Global,
     nodes: FitNodes,
@@ -60,7 +62,7 @@ pub fn first_context(
 {
     let mut tree = MemTree::of(alloc, nodes)?;
     let given = given_handles(alloc, &mut tree, preopens)?;
-    match WasiP1Ctx::new(alloc, tree, given, services, DEFAULT_TABLE) {
+    match WasiP1Ctx::new(alloc, tree, given, services, MOST_DESCRIPTORS) {
         Ok(context) => Ok(context),
         Err(refused) => match refused.error {
             CtxError::Memory => Err(AllocError),
