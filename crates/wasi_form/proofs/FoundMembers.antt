@@ -1,7 +1,7 @@
 -- The members of a script and of its memory, found one after another.
-use Rattle.std.proofs.Common.{◌≡◌, ℕ, List, [], ◌∷◌, ◌++◌, false, Option, Some, None, refl, inl, inr, codes}
+use Rattle.std.proofs.Common.{◌≡◌, ℕ, List, [], ◌∷◌, ◌++◌, false, Option, Some, None, refl, codes}
 use Rattle.std.specs.Str.{bytes_eq}
-use Rattle.std.proofs.lemmas.Bool.{cases_Bool, or_parts}
+use Rattle.std.proofs.lemmas.Bool.{or_parts}
 use Rattle.serde_json.specs.Data.{Data, Members, put}
 use Rattle.wasi_form.specs.Shapes.{has_key}
 use Rattle.wasi_form.specs.Lists.{names}
@@ -9,10 +9,9 @@ use Rattle.wasi_form.specs.ServicesForm.{service_keys, service_key}
 use Rattle.wasi_form.specs.declared.services.ServiceKey.{ServiceKey}
 use Rattle.wasi_form.specs.declared.services.ServiceKey.TheVariants.{Args, Env, Stdin, Wall, WallResolution, Monotonic, MonotonicResolution, Random}
 use Rattle.wasi_form.specs.MemoryForm.{memory_rows, memory_in}
-use Rattle.wasi_form.specs.WaitingForm.{waiting_keys, waiting_key, waiting_in}
 use Rattle.wasi_form.specs.ScriptForm.{part_rows, script_keys, found_in}
-use Rattle.wasi_form.specs.FoundParts.{with_service, with_waiting, with_beside, with_member, with_memory_member}
-use Rattle.wasi_form.proofs.Members.{all_keys-put, puts, at_key, stays, by_rows}
+use Rattle.wasi_form.specs.FoundParts.{with_service, with_beside, with_member, with_memory_member}
+use Rattle.wasi_form.proofs.Members.{all_keys-put, puts, stays, by_rows}
 use Rattle.wasi_form.proofs.ServiceMembers.{name_of, at_service, in_no_row}
 
 -- a key that is in none of two lists
@@ -26,7 +25,7 @@ in_none (key ∷ keys) more k none nor =
 -- a member at the key of a part of the services
 at_its_key : (service : ServiceKey) (d : Data) (ms : Members)
     → found_in (put (name_of service) d ms) ≡ with_service service d (found_in ms)
-unfolding script_keys waiting_in
+unfolding script_keys
 at_its_key Args d ms = simp puts
 at_its_key Env d ms = simp puts
 at_its_key Stdin d ms = simp puts
@@ -39,45 +38,27 @@ at_its_key Random d ms = simp puts
 -- a member at no key of a script
 at_no_key : (k : List ℕ) (d : Data) (ms : Members) → has_key script_keys k ≡ false
     → found_in (put k d ms) ≡ record (found_in ms) { known = false }
-unfolding script_keys waiting_in
+unfolding script_keys
 at_no_key k d ms none =
     let still = stays script_keys k d ms none in
     rw (all_keys-put, none)
-    (rw (still (codes "nodes") refl, still (codes "preopens") refl, still (codes "calls") refl, still (codes "memory") refl, still (codes "show") refl, still (codes "limits") refl, still (codes "fuel") refl)
-    (rw (still (codes "args") refl, still (codes "env") refl, still (codes "stdin") refl, still (codes "wall") refl, still (codes "wall_res") refl, still (codes "mono") refl, still (codes "mono_res") refl, still (codes "random") refl)
-    (rw (still (codes "table") refl, still (codes "faults") refl) refl)))
-
--- a member at a key that waits, or at no key of a script
-at_waiting : (k : List ℕ) (d : Data) (ms : Members)
-    → (has_key (names waiting_keys) k ≡ false → has_key script_keys k ≡ false)
-    → found_in (put k d ms) ≡ with_waiting (waiting_key k) d (found_in ms)
-unfolding script_keys waiting_in waiting_key
-at_waiting k d ms none =
-    elim (cases_Bool (bytes_eq k (codes "table"))) [
-      | inl is ↦ at_key (λ key. found_in (put key d ms) ≡ with_waiting (waiting_key key) d (found_in ms)) k (codes "table") is (simp puts)
-      | inr no_table ↦
-          elim (cases_Bool (bytes_eq k (codes "faults"))) [
-            | inl is ↦ at_key (λ key. found_in (put key d ms) ≡ with_waiting (waiting_key key) d (found_in ms)) k (codes "faults") is (simp puts)
-            | inr no_faults ↦ rw (no_table, no_faults) (at_no_key k d ms (none (rw (no_table, no_faults) refl)))
-          ]
-    ]
+    (rw (still (codes "nodes") refl, still (codes "preopens") refl, still (codes "calls") refl, still (codes "memory") refl, still (codes "show") refl, still (codes "limits") refl, still (codes "fuel") refl, still (codes "table") refl, still (codes "faults") refl)
+    (rw (still (codes "args") refl, still (codes "env") refl, still (codes "stdin") refl, still (codes "wall") refl, still (codes "wall_res") refl, still (codes "mono") refl, still (codes "mono_res") refl, still (codes "random") refl) refl))
 
 -- a member at another key than those of the parts
 at_beside : (k : List ℕ) (d : Data) (ms : Members) (service : Option ServiceKey) → has_key (names part_rows) k ≡ false
-    → service_key k ≡ service → found_in (put k d ms) ≡ with_beside service (waiting_key k) d (found_in ms)
+    → service_key k ≡ service → found_in (put k d ms) ≡ with_beside service d (found_in ms)
 unfolding script_keys service_key
 at_beside k d ms None none is =
-    at_waiting k d ms
-    (λ nor. in_none (names part_rows) (names service_keys ++ names waiting_keys) k none
-    (in_none (names service_keys) (names waiting_keys) k (in_no_row service_keys k is) nor))
+    at_no_key k d ms (in_none (names part_rows) (names service_keys) k none (in_no_row service_keys k is))
 at_beside k d ms (Some service) none is =
     at_service (λ key. found_in (put key d ms) ≡ with_service service d (found_in ms)) k service is (at_its_key service d ms)
 
 pub found_in-put : (k : List ℕ) (d : Data) (ms : Members) → found_in (put k d ms) ≡ with_member k d (found_in ms)
-unfolding with_member script_keys waiting_in
+unfolding with_member script_keys
 found_in-put k d ms =
-    by_rows (λ key. found_in (put key d ms)) part_rows (with_beside (service_key k) (waiting_key k)) d (found_in ms) k
-    (simp puts, (simp puts, (simp puts, (simp puts, (simp puts, (simp puts, (simp puts, tt)))))))
+    by_rows (λ key. found_in (put key d ms)) part_rows (with_beside (service_key k)) d (found_in ms) k
+    (simp puts, (simp puts, (simp puts, (simp puts, (simp puts, (simp puts, (simp puts, (simp puts, (simp puts, tt)))))))))
     (λ none. at_beside k d ms (service_key k) none refl)
 
 pub memory_in-put : (k : List ℕ) (d : Data) (ms : Members)

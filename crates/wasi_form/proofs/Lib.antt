@@ -11,9 +11,8 @@ pub mod Keys
 pub mod Digits
 pub mod Entries
 pub mod Lengths
-pub mod Places
 pub mod Moments
 pub mod ScriptRanges
 pub mod Names
 pub mod Values
-pub mod BuiltScripts
+pub mod Accepted

@@ -1,7 +1,6 @@
 -- What of a script is within its range: the limits of its tree, and what its wall clock stands at.
 use Rattle.std.proofs.Common.{◌≡◌, ℕ, ◌^◌, List, Bool, true, false, Option, Some, None, refl, lit≤, lit<, ◌&&◌, codes}
-use Rattle.std.specs.Prelude.{IfSome, if◌then◌else◌, is_some, nat_lt}
-use Rattle.std.specs.List.{list_any}
+use Rattle.std.specs.Prelude.{IfSome, nat_lt}
 use Rattle.std.proofs.lemmas.Bool.{and_parts, leb-true, ltb-true}
 use Rattle.serde_json.specs.Data.{Data, Members}
 use Rattle.serde_json.specs.Find as find
@@ -121,17 +120,14 @@ pub record IsInRange (p : Plan) : Type 0 where
 abbrev pub FormInRange : Option Plan → Type 0
 FormInRange form = IfSome form IsInRange
 
-unless : (waits : Bool) (form : Option Plan) → IfSome form IsInRange → IfSome (if waits then None else form) IsInRange
-unless true form is = tt
-unless false form is = is
-
-planned_in_range : (limits : Limits) (fuel : ℕ) (services : Handed) (nodes : Option (List Given))
+planned_in_range : (limits : Limits) (fuel table : ℕ) (services : Handed) (nodes : Option (List Given))
     (preopens : Option (List PlannedPreopen)) (calls : Option (List Call)) (memory : Option PlannedMemory)
-    (show : Option (List Shown)) → AreLimits limits → AreWithin services
-    → IfSome (planned limits fuel services nodes preopens calls memory show) IsInRange
-planned_in_range limits fuel services nodes preopens calls memory show are within =
-    kept IsInRange memory _ (λ m. kept IsInRange nodes _ (λ ns. kept IsInRange preopens _ (λ ps.
-    kept IsInRange show _ (λ ss. kept IsInRange calls _ (λ cs. record { limits = are; services = within })))))
+    (show : Option (List Shown)) (faults : Option (Unit {0})) → AreLimits limits → AreWithin services
+    → IfSome (planned limits fuel table services nodes preopens calls memory show faults) IsInRange
+planned_in_range limits fuel table services nodes preopens calls memory show faults are within =
+    kept IsInRange memory _ (λ m. kept IsInRange faults _ (λ _. kept IsInRange nodes _ (λ ns.
+    kept IsInRange preopens _ (λ ps. kept IsInRange show _ (λ ss. kept IsInRange calls _ (λ cs.
+    record { limits = are; services = within }))))))
 
 found_in_range : (found : ScriptFound) → IfSome found.limits AreLimits → AreWallsFound found.services
     → IfSome (script_found found) FormInRange
@@ -140,10 +136,9 @@ found_in_range found are walls =
     kept FormInRange (only_if _) _ (λ _. kept FormInRange found.nodes _ (λ nodes. kept FormInRange found.preopens _ (λ preopens.
     kept FormInRange found.calls _ (λ calls. kept FormInRange found.memory _ (λ memory.
     kept FormInRange found.show _ (λ show. kept_of FormInRange AreLimits found.limits _ are (λ limits range.
-    kept FormInRange found.fuel _ (λ fuel.
+    kept FormInRange found.fuel _ (λ fuel. kept FormInRange found.table _ (λ table. kept FormInRange found.faults _ (λ faults.
     kept_of FormInRange AreWithin (services_found found.services) _ (services_within found.services walls) (λ services within.
-    unless (list_any is_some found.waiting) _
-    (planned_in_range limits fuel services nodes preopens calls memory show range within))))))))))
+    planned_in_range limits fuel table services nodes preopens calls memory show faults range within)))))))))))
 
 -- of what is read as a script all is within its range
 pub script_in_range : (d : Data) → IfSome (script_of d) FormInRange

@@ -3,7 +3,7 @@ use Rattle.std.specs.Prelude.{ℕ, ℤ, List, [], ◌∷◌, Bool, true, false, 
 use Rattle.serde_json.specs.Data.{Data, Items, no_items, item}
 use Rattle.serde_json.specs.Find as find
 use Rattle.wasi_guest.specs.declared.call.Call.{Call}
-use Rattle.wasi_guest.specs.declared.call.Call.TheVariants.{ArgsGet, ArgsSizesGet, EnvironGet, EnvironSizesGet, ClockResGet, ClockTimeGet, FdClose, FdFilestatSetTimes, FdRead, FdWrite, PathCreateDirectory, PathFilestatGet, PathFilestatSetTimes, PathLink, PathOpen, PathReadlink, PathRemoveDirectory, PathUnlinkFile, PathRename, PathSymlink, ProcExit, ProcRaise, RandomGet, SchedYield, SockAccept, SockRecv, SockSend, SockShutdown}
+use Rattle.wasi_guest.specs.declared.call.Call.TheVariants.{ArgsGet, ArgsSizesGet, EnvironGet, EnvironSizesGet, ClockResGet, ClockTimeGet, FdAdvise, FdAllocate, FdClose, FdDatasync, FdSync, FdFdstatSetFlags, FdFilestatSetSize, FdFilestatSetTimes, FdPread, FdPrestatGet, FdPrestatDirName, FdPwrite, FdRead, FdRenumber, FdSeek, FdTell, FdWrite, PathCreateDirectory, PathFilestatGet, PathFilestatSetTimes, PathLink, PathOpen, PathReadlink, PathRemoveDirectory, PathUnlinkFile, PathRename, PathSymlink, ProcExit, ProcRaise, RandomGet, SchedYield, SockAccept, SockRecv, SockSend, SockShutdown}
 use Rattle.wasi_form.specs.declared.arguments.Argument.{Argument}
 use Rattle.wasi_form.specs.declared.arguments.Argument.TheVariants.{U32, U64, I64}
 use Rattle.wasi_form.specs.Lists.{◌>>=◌, at_name}
@@ -69,26 +69,26 @@ call_rows =
     ∷ (codes "environ_sizes_get", Built [] EnvironSizesGet)
     ∷ (codes "clock_res_get", Built (U32 ∷ []) ClockResGet)
     ∷ (codes "clock_time_get", Built (U32 ∷ U64 ∷ []) ClockTimeGet)
-    ∷ (codes "fd_advise", Waits (U32 ∷ U64 ∷ U64 ∷ U32 ∷ []))
-    ∷ (codes "fd_allocate", Waits (U32 ∷ U64 ∷ U64 ∷ []))
+    ∷ (codes "fd_advise", Built (U32 ∷ U64 ∷ U64 ∷ U32 ∷ []) FdAdvise)
+    ∷ (codes "fd_allocate", Built (U32 ∷ U64 ∷ U64 ∷ []) FdAllocate)
     ∷ (codes "fd_close", Built (U32 ∷ []) FdClose)
-    ∷ (codes "fd_datasync", Waits (U32 ∷ []))
-    ∷ (codes "fd_sync", Waits (U32 ∷ []))
+    ∷ (codes "fd_datasync", Built (U32 ∷ []) FdDatasync)
+    ∷ (codes "fd_sync", Built (U32 ∷ []) FdSync)
     ∷ (codes "fd_fdstat_get", Waits (U32 ∷ []))
-    ∷ (codes "fd_fdstat_set_flags", Waits (U32 ∷ U32 ∷ []))
+    ∷ (codes "fd_fdstat_set_flags", Built (U32 ∷ U32 ∷ []) FdFdstatSetFlags)
     ∷ (codes "fd_fdstat_set_rights", Waits (U32 ∷ U64 ∷ U64 ∷ []))
     ∷ (codes "fd_filestat_get", Waits (U32 ∷ []))
-    ∷ (codes "fd_filestat_set_size", Waits (U32 ∷ U64 ∷ []))
+    ∷ (codes "fd_filestat_set_size", Built (U32 ∷ U64 ∷ []) FdFilestatSetSize)
     ∷ (codes "fd_filestat_set_times", Built (U32 ∷ U64 ∷ U64 ∷ U32 ∷ []) FdFilestatSetTimes)
-    ∷ (codes "fd_pread", Waits (U32 ∷ U32 ∷ U32 ∷ U64 ∷ []))
-    ∷ (codes "fd_prestat_get", Waits (U32 ∷ []))
-    ∷ (codes "fd_prestat_dir_name", Waits (U32 ∷ U32 ∷ U32 ∷ []))
-    ∷ (codes "fd_pwrite", Waits (U32 ∷ U32 ∷ U32 ∷ U64 ∷ []))
+    ∷ (codes "fd_pread", Built (U32 ∷ U32 ∷ U32 ∷ U64 ∷ []) FdPread)
+    ∷ (codes "fd_prestat_get", Built (U32 ∷ []) FdPrestatGet)
+    ∷ (codes "fd_prestat_dir_name", Built (U32 ∷ U32 ∷ U32 ∷ []) FdPrestatDirName)
+    ∷ (codes "fd_pwrite", Built (U32 ∷ U32 ∷ U32 ∷ U64 ∷ []) FdPwrite)
     ∷ (codes "fd_read", Built (U32 ∷ U32 ∷ U32 ∷ []) FdRead)
     ∷ (codes "fd_readdir", Waits (U32 ∷ U32 ∷ U32 ∷ U64 ∷ []))
-    ∷ (codes "fd_renumber", Waits (U32 ∷ U32 ∷ []))
-    ∷ (codes "fd_seek", Waits (U32 ∷ I64 ∷ U32 ∷ []))
-    ∷ (codes "fd_tell", Waits (U32 ∷ []))
+    ∷ (codes "fd_renumber", Built (U32 ∷ U32 ∷ []) FdRenumber)
+    ∷ (codes "fd_seek", Built (U32 ∷ I64 ∷ U32 ∷ []) FdSeek)
+    ∷ (codes "fd_tell", Built (U32 ∷ []) FdTell)
     ∷ (codes "fd_write", Built (U32 ∷ U32 ∷ U32 ∷ []) FdWrite)
     ∷ (codes "path_create_directory", Built (U32 ∷ U32 ∷ U32 ∷ []) PathCreateDirectory)
     ∷ (codes "path_filestat_get", Built (U32 ∷ U32 ∷ U32 ∷ U32 ∷ []) PathFilestatGet)

@@ -1,5 +1,5 @@
 -- What the members of a script and of its memory are read as, one after another.
-use Rattle.std.specs.Prelude.{ℕ, List, Bool, false, ◌&&◌, map, slice_set, Option, Some, None, option_map, unwrap_or, is_some}
+use Rattle.std.specs.Prelude.{ℕ, List, false, map, Option, Some, None, option_map, unwrap_or}
 use Rattle.std.specs.String.{string_bytes}
 use Rattle.serde_json.specs.Data.{Data}
 use Rattle.wasi_tree.specs.Given.{given}
@@ -9,12 +9,10 @@ use Rattle.wasi_form.specs.declared.parts.Parts.{Parts}
 use Rattle.wasi_form.specs.declared.services.ServiceKey.{ServiceKey}
 use Rattle.wasi_form.specs.declared.services.ServiceKey.TheVariants.{Args, Env, Stdin, Wall, WallResolution, Monotonic, MonotonicResolution, Random}
 use Rattle.wasi_form.specs.declared.services.ServiceParts.{ServiceParts}
-use Rattle.wasi_form.specs.declared.waiting.Kind.{Kind}
 use Rattle.wasi_form.specs.Lists.{same, at_name, forms_seen}
 use Rattle.wasi_form.specs.Plan.{planned_preopen, planned_piece, planned_memory}
 use Rattle.wasi_form.specs.MemoryForm.{memory_rows, MemoryFound}
 use Rattle.wasi_form.specs.ServicesForm.{args_of, env_of, wall_of, service_key, ServicesFound}
-use Rattle.wasi_form.specs.WaitingForm.{has_kind, waiting_key}
 use Rattle.wasi_form.specs.Shapes.{u64_of, hex_of}
 use Rattle.wasi_form.specs.ScriptForm.{part_rows, ScriptFound}
 
@@ -42,8 +40,9 @@ found_of parts = record {
   show = forms_seen same parts.show;
   limits = option_map same parts.limits;
   fuel = option_map same parts.fuel;
+  table = option_map same parts.table;
+  faults = parts.faults;
   services = services_found_of parts.services;
-  waiting = parts.waiting.found;
 }
 
 -- what stands at the keys of the services, with a member at one of them
@@ -61,24 +60,14 @@ services_with Random d found = record found { random = hex_of d }
 abbrev pub with_service : ServiceKey → Data → ScriptFound → ScriptFound
 with_service key d found = record found { services = services_with key d found.services }
 
--- what stands at the keys that wait, with a member at the key of a place
-abbrev pub waiting_with : Option (ℕ × Kind) → Data → List (Option Bool) → List (Option Bool)
-waiting_with None d found = found
-waiting_with (Some place) d found = slice_set found place.0 (Some (has_kind place.1 d))
-
--- with a member at a key that waits, or at no key of a script
-abbrev pub with_waiting : Option (ℕ × Kind) → Data → ScriptFound → ScriptFound
-with_waiting place d found =
-    record found { known = is_some place && found.known; waiting = waiting_with place d found.waiting }
-
--- with a member at a key of the services, or at another
-abbrev pub with_beside : Option ServiceKey → Option (ℕ × Kind) → Data → ScriptFound → ScriptFound
-with_beside (Some service) place = with_service service
-with_beside None place = with_waiting place
+-- with a member at a key of the services, or at no key of a script
+abbrev pub with_beside : Option ServiceKey → Data → ScriptFound → ScriptFound
+with_beside None d found = record found { known = false }
+with_beside (Some service) d found = with_service service d found
 
 -- with one more member, which counts for those before it at its key
 unfoldable pub with_member : List ℕ → Data → ScriptFound → ScriptFound
-with_member key d found = unwrap_or (at_name part_rows key) (with_beside (service_key key) (waiting_key key)) d found
+with_member key d found = unwrap_or (at_name part_rows key) (with_beside (service_key key)) d found
 
 -- of the parts of a memory that were read
 abbrev pub memory_found_of : MemoryParts → MemoryFound

@@ -9,9 +9,9 @@ pub mod MemoryForm
 pub mod LimitsForm
 pub mod CallForm
 pub mod ServicesForm
-pub mod WaitingForm
+pub mod FaultsForm
 pub mod ScriptForm
-pub mod Built
+pub mod Within
 pub mod Verdict
 pub mod Tokens
 pub mod FoundParts

@@ -39,6 +39,7 @@ pub record Plan : Type 0 where
   pub show : List Shown
   pub calls : List Call
   pub fuel : ℕ
+  pub table : ℕ
   pub services : Handed
 
 abbrev pub planned_preopen : ScriptPreopen → PlannedPreopen
@@ -61,6 +62,7 @@ plan s = record {
   show = s.show.items;
   calls = s.calls.items;
   fuel = s.fuel;
+  table = s.table;
   services = handed s.services;
 }
 
@@ -75,5 +77,6 @@ drafted s = record {
   show = s.show.items;
   calls = s.calls.items;
   fuel = s.fuel;
+  table = s.table;
   services = handed s.services;
 }

@@ -1,6 +1,5 @@
 -- The form of a whole script: an object with a key for each part, and no others.
-use Rattle.std.specs.Prelude.{ℕ, List, [], ◌∷◌, ◌++◌, Bool, true, ◌&&◌, codes, if◌then◌else◌, Option, Some, None, is_some, unwrap_or}
-use Rattle.std.specs.List.{list_any, list_all}
+use Rattle.std.specs.Prelude.{ℕ, List, [], ◌∷◌, ◌++◌, Bool, codes, Option, Some}
 use Rattle.serde_json.specs.Data.{Data, Members}
 use Rattle.serde_json.specs.Find as find
 use Rattle.serde_json.specs.Find.{get_member}
@@ -10,7 +9,7 @@ use Rattle.wasi_host.specs.declared.limits.Limits.{Limits}
 use Rattle.wasi_tree.specs.Given.{Given}
 use Rattle.wasi_form.specs.declared.script.Shown.{Shown}
 use Rattle.wasi_form.specs.Lists.{◌>>=◌, names, only_if, needed, optional, always, forms_of}
-use Rattle.wasi_form.specs.Shapes.{u64_of, all_keys}
+use Rattle.wasi_form.specs.Shapes.{u64_of, u32_of, all_keys}
 use Rattle.wasi_form.specs.Plan.{PlannedPreopen, PlannedMemory, Plan}
 use Rattle.wasi_form.specs.NodeForm.{script_node}
 use Rattle.wasi_form.specs.PreopenForm.{preopen_of}
@@ -18,15 +17,18 @@ use Rattle.wasi_form.specs.LimitsForm.{default_limits, limits_of}
 use Rattle.wasi_form.specs.MemoryForm.{no_memory, memory_of, shown_of}
 use Rattle.wasi_form.specs.CallForm.{call_of}
 use Rattle.wasi_form.specs.ServicesForm.{service_keys, ServicesFound, services_in, services_found}
-use Rattle.wasi_form.specs.WaitingForm.{waiting_keys, waiting_in}
+use Rattle.wasi_form.specs.FaultsForm.{faults_of}
 
 -- how much fuel each call has in a script that doesn't say it
 abbrev pub default_fuel : ℕ
 default_fuel = 134217728
 
+-- how many descriptors may be live in a script that doesn't say it
+abbrev pub default_table : ℕ
+default_table = 1024
+
 -- Whether all keys are those of a script, and what stands at them. A part is `None` where it is of another shape, or is
--- missing and has to be there, and `Some None` where a form in it waits. At a key that waits: nothing, or whether what
--- stands there is of its kind.
+-- missing and has to be there, and `Some None` where a form in it waits.
 pub record ScriptFound : Type 0 where
   pub known : Bool
   pub nodes : Option (Option (List Given))
@@ -36,8 +38,9 @@ pub record ScriptFound : Type 0 where
   pub show : Option (Option (List Shown))
   pub limits : Option Limits
   pub fuel : Option ℕ
+  pub table : Option ℕ
+  pub faults : Option (Option (Unit {0}))
   pub services : ServicesFound
-  pub waiting : List (Option Bool)
 
 -- the keys of its own parts, each with what a member adds there
 abbrev pub part_rows : List (List ℕ × (Data → ScriptFound → ScriptFound))
@@ -49,10 +52,12 @@ part_rows =
     ∷ (codes "show", λ d found. record found { show = forms_of (always shown_of) d })
     ∷ (codes "limits", λ d found. record found { limits = limits_of d })
     ∷ (codes "fuel", λ d found. record found { fuel = u64_of d })
+    ∷ (codes "table", λ d found. record found { table = u32_of d })
+    ∷ (codes "faults", λ d found. record found { faults = faults_of d })
     ∷ []
 
 unfoldable pub script_keys : List (List ℕ)
-script_keys = names part_rows ++ (names service_keys ++ names waiting_keys)
+script_keys = names part_rows ++ names service_keys
 
 -- of all members
 abbrev pub found_in : Members → ScriptFound
@@ -65,15 +70,17 @@ found_in ms = record {
   show = optional (forms_of (always shown_of)) (Some []) (get_member (codes "show") ms);
   limits = optional limits_of default_limits (get_member (codes "limits") ms);
   fuel = optional u64_of default_fuel (get_member (codes "fuel") ms);
+  table = optional u32_of default_table (get_member (codes "table") ms);
+  faults = optional faults_of (Some tt) (get_member (codes "faults") ms);
   services = services_in ms;
-  waiting = waiting_in ms;
 }
 
 -- the plan of these parts, where none of them waits
-abbrev pub planned : Limits → ℕ → Handed → Option (List Given) → Option (List PlannedPreopen) → Option (List Call)
-    → Option PlannedMemory → Option (List Shown) → Option Plan
-planned limits fuel services nodes preopens calls memory show = do
+abbrev pub planned : Limits → ℕ → ℕ → Handed → Option (List Given) → Option (List PlannedPreopen) → Option (List Call)
+    → Option PlannedMemory → Option (List Shown) → Option (Unit {0}) → Option Plan
+planned limits fuel table services nodes preopens calls memory show faults = do
   m ← memory
+  _ ← faults
   ns ← nodes
   ps ← preopens
   ss ← show
@@ -87,13 +94,14 @@ planned limits fuel services nodes preopens calls memory show = do
     show = ss;
     calls = cs;
     fuel = fuel;
+    table = table;
     services = services;
   })
 
 -- the plan of what was found, where it is of the shape of a script; `Some None` where a form in it waits
 unfoldable pub script_found : ScriptFound → Option (Option Plan)
 script_found found = do
-  _ ← only_if (found.known && list_all (λ is. unwrap_or is true) found.waiting)
+  _ ← only_if found.known
   nodes ← found.nodes
   preopens ← found.preopens
   calls ← found.calls
@@ -101,8 +109,10 @@ script_found found = do
   show ← found.show
   limits ← found.limits
   fuel ← found.fuel
+  table ← found.table
+  faults ← found.faults
   services ← services_found found.services
-  Some (if list_any is_some found.waiting then None else planned limits fuel services nodes preopens calls memory show)
+  Some (planned limits fuel table services nodes preopens calls memory show faults)
 
 abbrev pub script_of : Data → Option (Option Plan)
 script_of d = find.as_object d >>= (λ ms. script_found (found_in ms))

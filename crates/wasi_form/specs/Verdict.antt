@@ -16,7 +16,7 @@ use Rattle.wasi_form.specs.declared.verdict.ScriptError.{ScriptError}
 use Rattle.wasi_form.specs.declared.verdict.ScriptError.TheVariants.{Refused, Memory}
 use Rattle.wasi_form.specs.Plan.{Plan, plan, drafted}
 use Rattle.wasi_form.specs.ScriptForm.{script_of}
-use Rattle.wasi_form.specs.Built.{is_built, is_within_limits}
+use Rattle.wasi_form.specs.Within.{is_within_limits}
 
 -- a step that refuses where the test fails
 abbrev pub refused_unless : Refusal → Bool → Result (Unit {0}) Refusal
@@ -35,19 +35,12 @@ most_script = most_bytes
 unfoldable pub value_of : List ℕ → Option Data
 value_of bytes = if is_utf8 bytes then read bytes else None
 
--- a plan whose calls are built
-abbrev pub built : Plan → Result Plan Refusal
-built p = do
-  _ ← refused_unless Later (is_built p)
-  Ok p
-
 -- the plan of a value, where all its forms are built
 abbrev pub plan_in : Option Data → Result Plan Refusal
 plan_in value = do
   d ← found Json value
   form ← found Shape (script_of d)
-  p ← found Later form
-  built p
+  found Later form
 
 -- the plan of bytes, all that is known of them but for what their nodes and numbers are
 unfoldable pub built_plan : List ℕ → Result Plan Refusal

@@ -2,7 +2,7 @@
 ghost use Rattle.std.specs.Prelude.{◌≡◌, [], option_map};
 ghost use Rattle.wasi_form.specs.Atoms.{atom_data, atoms_data, values_left};
 ghost use Rattle.wasi_form.specs.CallForm as specs;
-ghost use Rattle.wasi_form.specs.declared.arguments.Argument.TheVariants.{U32, U64};
+ghost use Rattle.wasi_form.specs.declared.arguments.Argument.TheVariants.{U32, U64, I64};
 
 use crate::atoms::Atom;
 use wasi_guest::Call;
@@ -59,6 +59,14 @@ impl<'a> Arguments<'a> {
         ensures { option_map (λ n. (n, values_left self.new)) result ≡ specs.first_number U64 (values_left self.old) }
     {
         self.next()?.as_u64()
+    }
+
+    /// The next one, where it is a whole number of 64 bits with a sign.
+    #[tactic(auto, unfolding(crate::specs::CallForm::first_number))]
+    pub fn i64(&mut self) -> Option<i64>
+        ensures { option_map (λ n. (n, values_left self.new)) result ≡ specs.first_number I64 (values_left self.old) }
+    {
+        self.next()?.as_i64()
     }
 
     /// The call, where none are left.

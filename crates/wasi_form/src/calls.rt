@@ -7,7 +7,7 @@ ghost use Rattle.wasi_form.specs.Lists as lists;
 ghost use Rattle.wasi_form.specs.Lists.{same};
 ghost use Rattle.wasi_form.specs.Shapes.{has_key};
 
-use crate::arguments::Argument::{self, I64, U32, U64};
+use crate::arguments::Argument::{self, U32, U64};
 use crate::arguments::Arguments;
 use crate::atoms::{Atom, list_atoms};
 use crate::lists::{Item, MayWait};
@@ -17,28 +17,20 @@ use std::alloc::Global;
 use wasi_guest::Call;
 
 mod descriptors;
-mod paths;
+mod opening;
+mod places;
+mod positions_and_sizes;
+mod reading_and_writing;
 mod services;
+mod times;
+mod two_places;
 
 // The calls that wait until they are built, each with the types of its arguments.
-const WAITING: [(&str, &[Argument]); 18] = [
-    ("fd_advise", &[U32, U64, U64, U32]),
-    ("fd_allocate", &[U32, U64, U64]),
-    ("fd_datasync", &[U32]),
-    ("fd_sync", &[U32]),
+const WAITING: [(&str, &[Argument]); 5] = [
     ("fd_fdstat_get", &[U32]),
-    ("fd_fdstat_set_flags", &[U32, U32]),
     ("fd_fdstat_set_rights", &[U32, U64, U64]),
     ("fd_filestat_get", &[U32]),
-    ("fd_filestat_set_size", &[U32, U64]),
-    ("fd_pread", &[U32, U32, U32, U64]),
-    ("fd_prestat_get", &[U32]),
-    ("fd_prestat_dir_name", &[U32, U32, U32]),
-    ("fd_pwrite", &[U32, U32, U32, U64]),
     ("fd_readdir", &[U32, U32, U32, U64]),
-    ("fd_renumber", &[U32, U32]),
-    ("fd_seek", &[U32, I64, U32]),
-    ("fd_tell", &[U32]),
     ("poll_oneoff", &[U32, U32, U32]),
 ];
 
@@ -67,9 +59,22 @@ fn call_with(name: &str, arguments: Arguments<'_>) -> MayWait<Call>
         "environ_sizes_get" => built(arguments.environ_sizes_get()),
         "clock_res_get" => built(arguments.clock_res_get()),
         "clock_time_get" => built(arguments.clock_time_get()),
+        "fd_advise" => built(arguments.fd_advise()),
+        "fd_allocate" => built(arguments.fd_allocate()),
         "fd_close" => built(arguments.fd_close()),
+        "fd_datasync" => built(arguments.fd_datasync()),
+        "fd_sync" => built(arguments.fd_sync()),
+        "fd_fdstat_set_flags" => built(arguments.fd_fdstat_set_flags()),
+        "fd_filestat_set_size" => built(arguments.fd_filestat_set_size()),
         "fd_filestat_set_times" => built(arguments.fd_filestat_set_times()),
+        "fd_pread" => built(arguments.fd_pread()),
+        "fd_prestat_get" => built(arguments.fd_prestat_get()),
+        "fd_prestat_dir_name" => built(arguments.fd_prestat_dir_name()),
+        "fd_pwrite" => built(arguments.fd_pwrite()),
         "fd_read" => built(arguments.fd_read()),
+        "fd_renumber" => built(arguments.fd_renumber()),
+        "fd_seek" => built(arguments.fd_seek()),
+        "fd_tell" => built(arguments.fd_tell()),
         "fd_write" => built(arguments.fd_write()),
         "path_create_directory" => built(arguments.path_create_directory()),
         "path_filestat_get" => built(arguments.path_filestat_get()),

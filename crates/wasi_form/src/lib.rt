@@ -3,8 +3,8 @@
 
 mod arguments;
 mod atoms;
-mod built;
 mod calls;
+mod faults;
 mod limits;
 mod lists;
 mod memory;
@@ -18,9 +18,8 @@ mod shapes;
 mod texts;
 mod tokens;
 mod verdict;
-mod waiting;
+mod within;
 
-pub use built::DEFAULT_TABLE;
 pub use limits::DEFAULT_LIMITS;
 pub use script::{Piece, Script, ScriptPreopen, Shown};
 pub use verdict::{Refusal, ScriptError, read_script, verdicts_are_one};

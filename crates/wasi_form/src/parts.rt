@@ -5,13 +5,13 @@ ghost use Rattle.wasi_guest.specs.Services.{handed};
 ghost use Rattle.wasi_tree.specs.Given.{given};
 ghost use Rattle.wasi_form.specs.IsRead.{IsRead};
 ghost use Rattle.wasi_form.specs.Lists.{same};
-ghost use Rattle.wasi_form.specs.FoundParts.{found_of, with_beside, with_waiting};
+ghost use Rattle.wasi_form.specs.FoundParts.{found_of, with_beside};
 ghost use Rattle.wasi_form.specs.Plan.{drafted, planned_preopen, planned_memory};
 ghost use Rattle.wasi_form.specs.ScriptForm.{planned, script_found, script_of};
 ghost use Rattle.wasi_form.specs.ServicesForm.{service_key};
 ghost use Rattle.wasi_form.specs.Tokens.{most_nesting, next_value};
-ghost use Rattle.wasi_form.specs.WaitingForm.{waiting_key};
 
+use crate::faults::faults;
 use crate::limits::DEFAULT_LIMITS;
 use crate::lists::{Forms, MayWait, list, next_shaped};
 use crate::memory::{ScriptMemory, memory, no_memory};
@@ -20,7 +20,6 @@ use crate::script::{Draft, ScriptPreopen, Shown};
 use crate::services::{ServiceKey, ServiceParts};
 use crate::shapes::Reading;
 use crate::tokens::value;
-use crate::waiting::{Waiting, is_of_kind, waiting_key};
 use json::Reader;
 use std::alloc::Global;
 use wasi_guest::{Call, Services};
@@ -32,6 +31,9 @@ const DEPTH: usize = 127;
 
 // How much fuel each call has in a script that doesn't say it.
 const DEFAULT_FUEL: u64 = 134_217_728;
+
+// How many descriptors may be live in a script that doesn't say it.
+const DEFAULT_TABLE: u32 = 1_024;
 
 // Whether all keys are those of a script, and what stands at them, or counts where nothing does.
 #[derive(Drop)]
@@ -45,8 +47,9 @@ struct Parts {
     show: Forms<Shown>,
     limits: Option<Limits>,
     fuel: Option<u64>,
+    table: Option<u32>,
+    faults: MayWait<()>,
     services: ServiceParts,
-    waiting: Waiting,
 }
 
 impl Fields for Parts {
@@ -72,8 +75,9 @@ impl Fields for Parts {
             show: Some(Some(Vec::new(alloc))),
             limits: Some(DEFAULT_LIMITS),
             fuel: Some(DEFAULT_FUEL),
+            table: Some(DEFAULT_TABLE),
+            faults: Some(Some(())),
             services: ServiceParts::none(alloc),
-            waiting: Waiting::none(),
         }
     }
 
@@ -108,6 +112,14 @@ impl Fields for Parts {
                 let fuel = next_shaped(self.alloc, reader, depth)?;
                 Ok(Parts { fuel, ..self })
             }
+            "table" => {
+                let table = next_shaped(self.alloc, reader, depth)?;
+                Ok(Parts { table, ..self })
+            }
+            "faults" => {
+                let faults = faults(self.alloc, reader, depth)?;
+                Ok(Parts { faults, ..self })
+            }
             _ => self.with_other(key, reader, depth),
         }
     }
@@ -116,8 +128,8 @@ impl Fields for Parts {
 impl Parts {
     // With the member of a key that is no part of its own.
     fn with_other(self, key: &str, reader: &mut Reader<'_>, depth: usize) -> Reading<Parts>
-        ensures { IsRead (λ parts. (found_of parts, reader.new)) result (parse_map
-            (λ d. with_beside (service_key key.now) (waiting_key key.now) d (found_of self)) (next_value depth reader.old)) }
+        ensures { IsRead (λ parts. (found_of parts, reader.new)) result
+            (parse_map (λ d. with_beside (service_key key.now) d (found_of self)) (next_value depth reader.old)) }
     {
         match ServiceKey::of(key) {
             Some(service) => {
@@ -125,21 +137,6 @@ impl Parts {
                     .services
                     .with_member(self.alloc, service, reader, depth)?;
                 Ok(Parts { services, ..self })
-            }
-            None => self.with_waiting(key, reader, depth),
-        }
-    }
-
-    // With the member of another key.
-    fn with_waiting(self, key: &str, reader: &mut Reader<'_>, depth: usize) -> Reading<Parts>
-        ensures { IsRead (λ parts. (found_of parts, reader.new)) result
-            (parse_map (λ d. with_waiting (waiting_key key.now) d (found_of self)) (next_value depth reader.old)) }
-    {
-        match waiting_key(key) {
-            Some((place, kind)) => {
-                let is = is_of_kind(self.alloc, kind, reader, depth)?;
-                let waiting = self.waiting.with(place, is);
-                Ok(Parts { waiting, ..self })
             }
             None => {
                 drop(value(self.alloc, reader, depth)?);
@@ -164,10 +161,11 @@ impl Parts {
             show,
             limits,
             fuel,
+            table,
+            faults,
             services,
-            waiting,
         } = self;
-        if !(known && waiting.are_of_their_kinds()) {
+        if !known {
             return None;
         }
         let nodes = nodes?;
@@ -177,11 +175,12 @@ impl Parts {
         let show = show?;
         let limits = limits?;
         let fuel = fuel?;
+        let table = table?;
+        let faults = faults?;
         let services = services.services()?;
-        if waiting.is_any_there() {
-            return Some(None);
-        }
-        Some(built(limits, fuel, services, nodes, preopens, calls, memory, show))
+        Some(built(
+            limits, fuel, table, services, nodes, preopens, calls, memory, show, faults,
+        ))
     }
 }
 
@@ -190,19 +189,22 @@ impl Parts {
 fn built(
     limits: Limits,
     fuel: u64,
+    table: u32,
     services: Services,
     nodes: Option<Vec<NewNode>>,
     preopens: Option<Vec<ScriptPreopen>>,
     calls: Option<Vec<Call>>,
     memory: Option<ScriptMemory>,
     show: Option<Vec<Shown>>,
+    faults: Option<()>,
 ) -> Option<Draft>
-    ensures { option_map drafted result ≡ planned limits fuel (handed services)
+    ensures { option_map drafted result ≡ planned limits fuel table (handed services)
         (option_map (λ v. map given v.items) nodes) (option_map (λ v. map planned_preopen v.items) preopens)
         (option_map (λ v. map same v.items) calls) (option_map planned_memory memory)
-        (option_map (λ v. map same v.items) show) }
+        (option_map (λ v. map same v.items) show) faults }
 {
     let ScriptMemory { size, pieces } = memory?;
+    faults?;
     Some(Draft {
         nodes: nodes?,
         limits,
@@ -212,6 +214,7 @@ fn built(
         show: show?,
         calls: calls?,
         fuel,
+        table,
         services,
     })
 }

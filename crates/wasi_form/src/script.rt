@@ -30,7 +30,8 @@ pub struct Shown {
 
 /// The nodes of a tree of files and how large it may grow, the directories that the guest is given, the size of its
 /// memory in bytes, the pieces that are written there before the run, the ranges that are shown after it, the calls, how
-/// much fuel each of them has, and what the guest is handed in beside the directories.
+/// much fuel each of them has, how many descriptors may be live, streams and preopens among them, and what the guest is
+/// handed in beside the directories.
 #[derive(Drop)]
 pub struct Script {
     pub nodes: FitNodes,
@@ -40,6 +41,7 @@ pub struct Script {
     pub show: Vec<Shown>,
     pub calls: Vec<Call>,
     pub fuel: u64,
+    pub table: u32,
     pub services: Services,
 }
 
@@ -54,5 +56,6 @@ pub struct Draft {
     pub show: Vec<Shown>,
     pub calls: Vec<Call>,
     pub fuel: u64,
+    pub table: u32,
     pub services: Services,
 }

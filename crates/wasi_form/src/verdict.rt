@@ -6,13 +6,13 @@ ghost use Rattle.wasi_form.specs.IsRead.{IsRead};
 ghost use Rattle.wasi_form.specs.Plan.{Plan, drafted};
 ghost use Rattle.wasi_form.specs.ScriptForm.{script_of};
 ghost use Rattle.wasi_form.specs.declared.verdict.Refusal.{Refusal};
-ghost use Rattle.wasi_form.specs.Verdict.{Reads, ReadsDraft, IsTestOf, IsVerdict, value_of, built, plan_in, built_plan};
+ghost use Rattle.wasi_form.specs.Verdict.{Reads, ReadsDraft, IsTestOf, IsVerdict, value_of, plan_in, built_plan};
 
-use crate::built::{is_built, is_within_limits};
 use crate::lists::MayWait;
 use crate::parts::draft;
 use crate::script::{Draft, Script};
 use crate::shapes::{Reading, Unread};
+use crate::within::is_within_limits;
 use json::{Reader, Scratch};
 use std::alloc::{AllocError, Global};
 use std::str;
@@ -34,7 +34,7 @@ pub enum Refusal {
     /// Its nodes are no tree: `MemTree::new` would refuse one of them.
     Tree,
     /// Its memory, or what is shown of it, has more than 16,777,216 bytes, a piece or a shown range leaves the memory, a
-    /// preopen isn't a directory, or there are more than 1,021 preopens.
+    /// preopen isn't a directory, or its table is larger than 65,536 or smaller than the three streams and the preopens.
     Limit,
 }
 
@@ -58,7 +58,7 @@ impl From<AllocError> for ScriptError {
 }
 
 /// The script that bytes are: the text of a JSON object with the keys `nodes`, `preopens` and `calls`, and with `memory`,
-/// `show`, `limits`, `fuel`, `args`, `env`, `stdin`, `wall`, `wall_res`, `mono`, `mono_res` and `random` where they are
+/// `show`, `limits`, `fuel`, `table`, `args`, `env`, `stdin`, `wall`, `wall_res`, `mono`, `mono_res` and `random` where they are
 /// wanted. Numbers are whole, of 64 or 32 bits. Of equal keys the last counts.
 ///
 /// A node is `{"dir": {NAME: NODE ..}}`, `{"file": HEX}` or `{"link": TEXT}`, with `"bits"` beside it, as `"r--"`, and
@@ -68,14 +68,15 @@ impl From<AllocError> for ScriptError {
 /// `[OFFSET, "hex", HEX]` or `[OFFSET, "text", TEXT]`, a shown range `[PTR, LEN]`, and a call a list of its name and its
 /// arguments. The limits of the tree are `{"nodes": NODES, "links": LINKS}`, each 1 to 2^32.
 ///
-/// The fuel is that of each call, 134,217,728 where it isn't said. The arguments are a list of texts, the environment a
+/// The fuel is that of each call, 134,217,728 where it isn't said. The table is how many descriptors may be live, the
+/// three streams and the preopens among them, 1,024 where it isn't said. The arguments are a list of texts, the environment a
 /// list of `[KEY, VALUE]`, two texts, the standard input and the bytes for random each a text in hex. What the wall clock
 /// stands at is `[SECONDS, NANOSECONDS]`, the seconds 0 to 2^63 - 1, the nanoseconds below 1,000,000,000, and so is its
 /// resolution; of the monotonic clock each is a number of nanoseconds. Where they aren't said, the clocks stand at 0, and
 /// their resolutions are a nanosecond; of the rest there is nothing.
 ///
-/// Forms that aren't built yet are refused as `Later`, where all else is of the shape of a script: the keys `table` and
-/// `faults`; calls that `wasi_guest::Call` doesn't have; and `path_open` with flags of the descriptor.
+/// Forms that aren't built yet are refused as `Later`, where all else is of the shape of a script: the key `faults`, and
+/// calls that `wasi_guest::Call` doesn't have.
 ///
 /// More than 16,777,216 bytes are refused unread.
 pub fn read_script(alloc: Global, bytes: &[u8]) -> Result<Script, ScriptError>
@@ -103,6 +104,7 @@ fn tested(alloc: Global, draft: Draft) -> Result<Script, ScriptError>
         show,
         calls,
         fuel,
+        table,
         services,
     } = draft;
     let nodes = match FitNodes::new(alloc, nodes, limits) {
@@ -118,11 +120,12 @@ fn tested(alloc: Global, draft: Draft) -> Result<Script, ScriptError>
         show,
         calls,
         fuel,
+        table,
         services,
     })
 }
 
-#[tactic(auto, using(crate::proofs::BuiltScripts::too_many, crate::proofs::BuiltScripts::reads_within))]
+#[tactic(auto, using(crate::proofs::Accepted::too_many, crate::proofs::Accepted::reads_within))]
 fn built_draft(alloc: Global, bytes: &[u8]) -> Result<Draft, ScriptError>
     ensures { ReadsDraft result (λ verdict. built_plan bytes.now ≡ verdict) }
 {
@@ -136,21 +139,12 @@ fn draft_in(alloc: Global, bytes: &[u8]) -> Result<Draft, ScriptError>
     ensures { ReadsDraft result (λ verdict. plan_in (value_of bytes.now) ≡ verdict) }
 {
     match draft_of_bytes(alloc, bytes) {
-        Ok(Some(Some(draft))) => if_built(draft),
+        Ok(Some(Some(draft))) => Ok(draft),
         Ok(Some(None)) => Err(ScriptError::Refused(Refusal::Later)),
         Ok(None) => Err(ScriptError::Refused(Refusal::Shape)),
         Err(Unread::Shape) => Err(ScriptError::Refused(Refusal::Json)),
         Err(Unread::Memory) => Err(ScriptError::Memory),
     }
-}
-
-fn if_built(draft: Draft) -> Result<Draft, ScriptError>
-    ensures { ReadsDraft result (λ verdict. built (drafted draft) ≡ verdict) }
-{
-    if !is_built(&draft) {
-        return Err(ScriptError::Refused(Refusal::Later));
-    }
-    Ok(draft)
 }
 
 // `Shape` where there is no value of JSON; `None` where it is no script, `Some(None)` where a form in it waits.

@@ -22,8 +22,33 @@ pub enum Call {
         id: u32,
         precision: u64,
     },
+    FdAdvise {
+        fd: u32,
+        offset: u64,
+        len: u64,
+        advice: u32,
+    },
+    FdAllocate {
+        fd: u32,
+        offset: u64,
+        len: u64,
+    },
     FdClose {
         fd: u32,
+    },
+    FdDatasync {
+        fd: u32,
+    },
+    FdSync {
+        fd: u32,
+    },
+    FdFdstatSetFlags {
+        fd: u32,
+        flags: u32,
+    },
+    FdFilestatSetSize {
+        fd: u32,
+        size: u64,
     },
     FdFilestatSetTimes {
         fd: u32,
@@ -31,10 +56,43 @@ pub enum Call {
         mtim: u64,
         fst_flags: u32,
     },
+    FdPread {
+        fd: u32,
+        iovs: u32,
+        iovs_len: u32,
+        offset: u64,
+    },
+    FdPrestatGet {
+        fd: u32,
+    },
+    FdPrestatDirName {
+        fd: u32,
+        path: u32,
+        path_len: u32,
+    },
+    FdPwrite {
+        fd: u32,
+        iovs: u32,
+        iovs_len: u32,
+        offset: u64,
+    },
     FdRead {
         fd: u32,
         iovs: u32,
         iovs_len: u32,
+    },
+    FdRenumber {
+        from: u32,
+        to: u32,
+    },
+    /// The offset counts from what `whence` names.
+    FdSeek {
+        fd: u32,
+        offset: i64,
+        whence: u32,
+    },
+    FdTell {
+        fd: u32,
     },
     FdWrite {
         fd: u32,

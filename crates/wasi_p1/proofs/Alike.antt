@@ -1,5 +1,5 @@
 -- What a call answers rests on the guest and on what is in its reach.
-use Rattle.std.proofs.Common.{ℕ, ◌≡◌, inl, inr, [], refl, subst, arith, Option, Result, Ok, Err}
+use Rattle.std.proofs.Common.{ℕ, ◌≡◌, inl, inr, [], refl, subst, arith, Result, Ok, Err}
 use Rattle.std.specs.Prelude.{Contains}
 use Rattle.wasi_host.specs.Tree.{Tree}
 use Rattle.wasi_host.specs.declared.errors.ErrorCode.{ErrorCode}
@@ -8,7 +8,7 @@ use Rattle.wasi_p1.specs.Request.{Request, Reply, reply_of, after, starts_at}
 use Rattle.wasi_host.specs.Steps.{◌>>=◌}
 pub use Rattle.wasi_p1.specs.Row.{row_on}
 use Rattle.wasi_p1.specs.Row.{Row, give, Program, done, asking, beside, from_host, with_tree}
-use Rattle.wasi_p1.specs.Rows.{row, turn, opened_through}
+use Rattle.wasi_p1.specs.Rows.{Stem, stem_in, row, turn}
 use Rattle.wasi_p1.proofs.Near.{given_by, KeepsSlots, StaysNear, IsNear, AsksNear}
 use Rattle.wasi_p1.specs.StatesAgree.{Alike, AnswerAlike}
 use Rattle.wasi_guest.specs.declared.call.Call.{Call}
@@ -29,9 +29,9 @@ abbrev pub replied : Tree → (r : Request) → (Reply r → Row (Value × Guest
 replied t r next a = over (after t r) (from_host a >>= next)
 
 module _ {Seen : ℕ → Type 0} {s s' : State} (alike : Alike Seen s s') where
-  done_alike : (through : Option ℕ) (p : Value × Guest) → StaysNear s.guest through [] p
+  done_alike : (stem : Stem) (p : Value × Guest) → StaysNear s.guest stem [] p
       → AnswerAlike Seen s (row_on s.tree (Ok (done p))) (row_on s'.tree (Ok (done p)))
-  done_alike through p stays = (
+  done_alike stem p stays = (
     refl,
     record {
       guest = refl;
@@ -48,7 +48,7 @@ module _ {Seen : ℕ → Type 0} {s s' : State} (alike : Alike Seen s s') where
     starts_seen n has = alike.slots n (named_has (near.starts n has))
 
     next_alike : (reply : Reply r) → reply_of s.tree r ≡ Ok reply → (m : Row (Value × Guest))
-        → KeepsSlots s.guest (opened_through call) (given_by r reply) m
+        → KeepsSlots s.guest (stem_in call) (given_by r reply) m
         → AnswerAlike Seen s (over (after s.tree r) m) (over (after s'.tree r) m)
     next_alike reply is (Err e) keep = refl
     next_alike reply is (Ok p) keep = (
@@ -75,7 +75,7 @@ module _ {Seen : ℕ → Type 0} {s s' : State} (alike : Alike Seen s s') where
 
   row_alike : (call : Call) (m : Row (Program (Value × Guest))) → IsNear s.guest call m
       → AnswerAlike Seen s (row_on s.tree m) (row_on s'.tree m)
-  row_alike call (Ok (done p)) near = done_alike (opened_through call) p near.slots
+  row_alike call (Ok (done p)) near = done_alike (stem_in call) p near.slots
   row_alike call (Ok (asking r next)) near = asking_alike near
   row_alike call (Err e) never = refl
 

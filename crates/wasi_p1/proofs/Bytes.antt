@@ -1,5 +1,5 @@
 -- Bytes of memory, and texts among them.
-use Rattle.std.proofs.Common.{zero, suc, ◌*◌, ◌/◌, ◌%◌, nat_lt, [], ◌∷◌, map, slice_index_or, ℕ, ◌+◌, ◌-◌, ◌≡◌, true, false, cond, Bool, ◌&&◌, List, ◌++◌, length, take, drop, refl, ap, sym, ◌∙◌, subst, arith, slice_range, Ok, Err}
+use Rattle.std.proofs.Common.{zero, suc, ◌*◌, ◌/◌, ◌%◌, nat_lt, [], ◌∷◌, map, slice_index_or, ℕ, ◌+◌, ◌-◌, ◌≡◌, true, false, cond, Bool, ◌&&◌, List, ◌++◌, length, take, drop, refl, ap, sym, ◌∙◌, subst, arith, slice_get, slice_range, Option, Some, None, Ok, Err}
 use Rattle.std.specs.Prelude.{IsUtf8, ◌==◌, All}
 use Rattle.std.specs.Int.{to_le_bytes, w32}
 use Rattle.std.specs.List.{range_with_len}
@@ -20,7 +20,11 @@ use Rattle.wasi_host.specs.ValidTree.{are_bytes}
 use Rattle.wasi_guest.specs.Range.{in_memory, with_bytes}
 use Rattle.wasi_host.specs.Steps.{◌>>=◌}
 use Rattle.wasi_guest.specs.declared.answer.TrapKind.TheVariants.{Pointer}
+use Rattle.std.proofs.lemmas.List.Elements.{All-head, All-tail}
+use Rattle.wasi_guest.specs.declared.errno.Errno.{Errno as ErrorNumber}
 use Rattle.wasi_guest.specs.declared.errno.Errno.TheVariants as errnos
+use Rattle.wasi_p1.specs.Files.{name_at, name_of, name_into, name_within, or_refused}
+use Rattle.wasi_p1.specs.Guest.{GuestSlot, directory}
 use Rattle.wasi_p1.specs.Row.{Row}
 use Rattle.wasi_guest.specs.Records.{Found, read_on, bytes_in, text_from, text_in}
 use Rattle.wasi_guest.specs.declared.guest_error.GuestError.TheVariants as guests
@@ -175,6 +179,7 @@ input_bytes memory stock buffer {read} is are has = by (next_input stock.stdin b
         subst (λ (r : ℕ × (List ℕ × Stock)). AreBytes r.1.0 × IsStock r.1.1) same (
           put_bytes memory bytes buffer.buf are (taken bytes at),
           record {
+            preopens = has.preopens;
             args = has.args;
             environ = has.environ;
             random = has.random;
@@ -186,9 +191,9 @@ input_bytes memory stock buffer {read} is are has = by (next_input stock.stdin b
 -- what is written changes nothing that was handed in
 pub written_stock : (stock : Stock) (o : Output) (piece : List ℕ) → IsStock stock → IsStock (written stock o piece)
 written_stock stock outputs.Stdout piece is =
-    record { args = is.args; environ = is.environ; random = is.random; stdin = is.stdin }
+    record { preopens = is.preopens; args = is.args; environ = is.environ; random = is.random; stdin = is.stdin }
 written_stock stock outputs.Stderr piece is =
-    record { args = is.args; environ = is.environ; random = is.random; stdin = is.stdin }
+    record { preopens = is.preopens; args = is.args; environ = is.environ; random = is.random; stdin = is.stdin }
 
 random_byte : (bytes : List ℕ) (i : ℕ) → AreBytes bytes → nat_lt (slice_index_or bytes i 0) 256 ≡ true
 random_byte [] i are = refl
@@ -206,4 +211,47 @@ random_are stock n is = by (range_with_len 0 n)
 
 pub taken_stock : (stock : Stock) (n : ℕ) → IsStock stock → IsStock (random_taken stock n)
 unfolding random_taken
-taken_stock stock n is = record { args = is.args; environ = is.environ; random = is.random; stdin = is.stdin }
+taken_stock stock n is = record { preopens = is.preopens; args = is.args; environ = is.environ; random = is.random; stdin = is.stdin }
+
+-- ---- the names of preopens
+
+name_in : {name : List ℕ} (names : List (List ℕ)) (slot : Option GuestSlot) → name_at names slot ≡ Some name → All AreBytes names
+    → AreBytes name
+name_in names (Some (directory d)) is all = by d.preopen is
+  where
+    at : {name : List ℕ} (names : List (List ℕ)) (i : ℕ) → slice_get names i ≡ Some name → All AreBytes names → AreBytes name
+    at [] i is all = absurd (cc)
+    at {name} (first ∷ names) zero is all =
+        let same : first ≡ name = (cc) in subst AreBytes same (All-head AreBytes first names all)
+    at (first ∷ names) (suc i) is all = at names i is (All-tail AreBytes first names all)
+
+    by : {name : List ℕ} (o : Option ℕ) → name_of names o ≡ Some name → AreBytes name
+    by None is = absurd (cc)
+    by (Some i) is = at names i is all
+name_in names slot is all = absurd (cc)
+
+-- memory into which one is put are bytes again
+pub name_bytes : {name after : List ℕ} (e : ErrorNumber) (names : List (List ℕ)) (slot : Option GuestSlot)
+    (memory : List ℕ) (at most : ℕ)
+    → or_refused e (name_at names slot) ≡ Ok name → name_into memory at name most ≡ Ok after → AreBytes memory
+    → All AreBytes names → AreBytes after
+unfolding name_into name_within
+name_bytes {name} {after} e names slot memory at most is put are all =
+    by (nat_lt most (length name)) put
+  where
+    bytes : AreBytes name
+    bytes = by (name_at names slot) refl is
+      where
+        by : (o : Option (List ℕ)) → name_at names slot ≡ o → or_refused e o ≡ Ok name → AreBytes name
+        by (Some other) at is = let same : other ≡ name = (cc) in subst AreBytes same (name_in names slot at all)
+        by None at is = absurd (cc)
+
+    placed : (m : Row (List ℕ)) → (m >>= (λ _. give (with_bytes memory at name))) ≡ Ok after → AreBytes after
+    placed (Ok range) is = let same : with_bytes memory at name ≡ after = (cc) in
+        subst AreBytes same (put_bytes memory name at are bytes)
+    placed (Err e) is = absurd (cc)
+
+    by : (b : Bool) → ((let m : Row (List ℕ) = cond b (Err (Errno errnos.Nametoolong)) (Ok name) in m)
+        >>= (λ bytes. range memory at (length bytes) >>= (λ _. give (with_bytes memory at bytes)))) ≡ Ok after → AreBytes after
+    by true is = absurd (cc)
+    by false is = placed (range memory at (length name)) is

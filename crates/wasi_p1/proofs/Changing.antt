@@ -12,19 +12,23 @@ use Rattle.wasi_guest.specs.declared.answer.Value.{Value}
 use Rattle.wasi_guest.specs.Range.{with_bytes}
 use Rattle.wasi_guest.specs.declared.call.Call.{Call}
 use Rattle.wasi_guest.specs.declared.filestat.Filestat.{Filestat}
-use Rattle.wasi_p1.specs.Guest.{Guest, GuestSlot, OpenDirectory, OpenFile, closed, stream, directory, file, is_closed, new_number, with_guest_slot, node_in, open_nodes, perms_in}
+use Rattle.wasi_p1.specs.Guest.{Guest, GuestSlot, OpenFile, closed, stream, directory, file, is_closed, new_number, with_guest_slot, node_in, open_nodes, perms_in}
 use Rattle.wasi_p1.specs.Numbering.{last_where, free_number, put_at, with_new}
 use Rattle.wasi_resolve.specs.PathRequest.{Opened}
 use Rattle.wasi_p1.specs.Row.{Row, give}
-use Rattle.wasi_p1.specs.Parts.{OpenNode, directory_in, start_in, from, source_in, into, sink_in, open_node_in, new_guest_slot}
+use Rattle.wasi_p1.specs.Files.{file_in, read_place_in}
+use Rattle.wasi_p1.specs.Parts.{OpenNode, node_of, directory_in, start_in, from, source_in, into, sink_in, open_node_in, new_guest_slot, room_for, with_file}
+use Rattle.wasi_p1.specs.declared.context.FileModes.{FileModes}
 use Rattle.wasi_p1.specs.declared.context.Stream.TheVariants as streams
+use Rattle.wasi_p1.specs.declared.file_parts.FileUse.{FileUse}
+use Rattle.wasi_p1.specs.declared.file_parts.FileUse.TheVariants.{ReadAt}
 use Rattle.wasi_p1.specs.Stems.{HasPerms}
 use Rattle.wasi_p1.specs.Validity.{HasBytes}
 use Rattle.wasi_p1.proofs.Near.{Has, IsNamed, KeepsSlots, StaysNear, AreBytes, KeepsBytes}
 use Rattle.wasi_p1.proofs.Bytes.{put_bytes}
 use Rattle.wasi_p1.proofs.Numbers.{last_passes}
 use Rattle.wasi_p1.proofs.RowEnds.{with_slots, with_text, with_filestat}
-use Rattle.wasi_p1.specs.Rows.{descriptors_named}
+use Rattle.wasi_p1.specs.Rows.{itself, through, descriptors_named}
 
 -- ---- their nodes
 
@@ -38,7 +42,7 @@ nodes-append (x ∷ xs) ys =
     ap (λ l. node_in (Some x) ++ l) (nodes-append xs ys)
     ∙ sym (append_assoc (node_in (Some x)) (open_nodes xs) (open_nodes ys))
 
-in_set : (slots : List GuestSlot) (i : ℕ) (slot : GuestSlot) (n : ℕ) → Contains (open_nodes (slice_set slots i slot)) n
+pub in_set : (slots : List GuestSlot) (i : ℕ) (slot : GuestSlot) (n : ℕ) → Contains (open_nodes (slice_set slots i slot)) n
     → OldOrThis slots slot n
 in_set [] i slot n has = inl has
 in_set (x ∷ xs) zero slot n has = elim (Contains-append_cases (node_in (Some slot)) (open_nodes xs) n has) [
@@ -73,18 +77,18 @@ in_with : (slots : List GuestSlot) (slot : GuestSlot) (n : ℕ) → Contains (op
 unfolding with_new
 in_with slots slot n has = in_put (last_where is_closed slots) slots slot n has
 
-node_for : (perms : FsPerms) (mode : OpenMode) (found : Opened) (n : ℕ)
-    → Contains (node_in (Some (new_guest_slot perms mode found))) n → Contains (found.held.node ∷ []) n
-node_for perms mode found n has = by found.is_dir has
+node_for : (perms : FsPerms) (mode : OpenMode) (modes : FileModes) (found : Opened) (n : ℕ)
+    → Contains (node_in (Some (new_guest_slot perms mode modes found))) n → Contains (found.held.node ∷ []) n
+node_for perms mode modes found n has = by found.is_dir has
   where
-    by : (b : Bool) → Contains (node_in (Some (new_guest_slot perms mode (record found { is_dir = b })))) n
+    by : (b : Bool) → Contains (node_in (Some (new_guest_slot perms mode modes (record found { is_dir = b })))) n
         → Contains (found.held.node ∷ []) n
     by true is = is
     by false is = is
 
 -- ---- the node of a descriptor that a number names
 
-slice_named : (slots : List GuestSlot) (i n : ℕ) → Contains (node_in (slice_get slots i)) n → Contains (open_nodes slots) n
+pub slice_named : (slots : List GuestSlot) (i n : ℕ) → Contains (node_in (slice_get slots i)) n → Contains (open_nodes slots) n
 slice_named [] i n has = has
 slice_named (x ∷ xs) zero n has = Contains-append_left (node_in (Some x)) (open_nodes xs) n has
 slice_named (x ∷ xs) (suc i) n has = Contains-append_right (node_in (Some x)) (open_nodes xs) n (slice_named xs i n has)
@@ -92,17 +96,17 @@ slice_named (x ∷ xs) (suc i) n has = Contains-append_right (node_in (Some x)) 
 pub named_has : {call : Call} {g : Guest} {n : ℕ} → IsNamed g call n → Has g n
 named_has {g = g} {n = n} is = slice_named g.slots is.fd n is.node
 
-directory_named : {d : OpenDirectory} (p : Option GuestSlot) (n : ℕ) → directory_in p ≡ Ok d → Contains (d.node ∷ []) n
+directory_named : {d : OpenNode} (p : Option GuestSlot) (n : ℕ) → directory_in p ≡ Ok d → Contains (d.node ∷ []) n
     → Contains (node_in p) n
 directory_named {d} (Some (directory x)) n is has =
-    let same : d ≡ x = (cc) in subst (λ (y : OpenDirectory). Contains (y.node ∷ []) n) same has
+    let same : d ≡ node_of x = (cc) in subst (λ (y : OpenNode). Contains (y.node ∷ []) n) same has
 directory_named p n is has = absurd (cc)
 
 file_named : {f : OpenFile} (p : Option GuestSlot) (n : ℕ) → p ≡ Some (file f) → Contains (f.node ∷ []) n
     → Contains (node_in p) n
 file_named p n is has = subst (λ q. Contains (node_in q) n) (sym is) has
 
-pub named_directory : {d : OpenDirectory} {call : Call} (g : Guest) (fd n : ℕ) → Contains (descriptors_named g.memory call) fd
+pub named_directory : {d : OpenNode} {call : Call} (g : Guest) (fd n : ℕ) → Contains (descriptors_named g.memory call) fd
     → directory_in (slice_get g.slots fd) ≡ Ok d → Contains (d.node ∷ []) n → IsNamed g call n
 named_directory g fd n named is has =
     record { fd = fd; named = named; node = directory_named (slice_get g.slots fd) n is has }
@@ -126,9 +130,28 @@ named_node g fd n named is has =
     record { fd = fd; named = named; node = node_named (slice_get g.slots fd) n is has }
 
 -- a start is a directory
-pub start_is : {d : OpenDirectory} (p : Option GuestSlot) → start_in p ≡ Ok d → directory_in p ≡ Ok d
+pub start_is : {d : OpenNode} (p : Option GuestSlot) → start_in p ≡ Ok d → directory_in p ≡ Ok d
 start_is (Some (directory x)) is = is
 start_is p is = absurd (cc)
+
+-- what a file is asked for of is one
+pub file_is : {f : OpenFile} (wanted : FileUse) (p : Option GuestSlot) → file_in wanted p ≡ Ok f → p ≡ Some (file f)
+file_is {f} wanted (Some (file x)) is = let same : x ≡ f = (cc) in ap (λ y. Some (file y)) same
+file_is wanted (Some (stream s)) is = absurd (cc)
+file_is wanted p is = absurd (cc)
+
+pub read_place_is : {f : OpenFile} (slots : List GuestSlot) (table_max : ℕ) (p : Option GuestSlot)
+    → read_place_in slots table_max p ≡ Ok f → p ≡ Some (file f)
+read_place_is {f} slots table_max p is = by (file_in ReadAt p) refl is
+  where
+    by : (m : Row OpenFile) → file_in ReadAt p ≡ m
+        → (m >>= (λ g. room_for slots table_max 1 >>= (λ _. give g))) ≡ Ok f → p ≡ Some (file f)
+    by (Ok g) at is = file_is ReadAt p (at ∙ roomy (room_for slots table_max 1) is)
+      where
+        roomy : (m : Row (Unit {0})) → (m >>= (λ _. give g)) ≡ Ok f → (let r : Row OpenFile = Ok g in r) ≡ Ok f
+        roomy (Ok u) is = is
+        roomy (Err e) is = absurd (cc)
+    by (Err e) at is = absurd (cc)
 
 -- what is read from, or written into, a file is a file
 pub source_is : {f : OpenFile} (p : Option GuestSlot) → source_in p ≡ Ok (from f) → p ≡ Some (file f)
@@ -143,8 +166,8 @@ sink_is p is = absurd (cc)
 
 -- ---- their permissions
 
-pub directory_perms : {d : OpenDirectory} (p : Option GuestSlot) → directory_in p ≡ Ok d → perms_in p ≡ Some d.perms
-directory_perms {d} (Some (directory x)) is = let same : x ≡ d = (cc) in ap (λ (y : OpenDirectory). Some y.perms) same
+pub directory_perms : {d : OpenNode} (p : Option GuestSlot) → directory_in p ≡ Ok d → perms_in p ≡ Some d.perms
+directory_perms {d} (Some (directory x)) is = let same : node_of x ≡ d = (cc) in ap (λ (y : OpenNode). Some y.perms) same
 directory_perms p is = absurd (cc)
 
 pub node_perms : {o : OpenNode} (p : Option GuestSlot) → open_node_in p ≡ Ok o → perms_in p ≡ Some o.perms
@@ -172,10 +195,10 @@ push_cases (x ∷ xs) (suc n) y =
     elim (push_cases xs n y) [ inl same ↦ inl same | inr new ↦ inr (ap suc new.0, new.1) ]
 
 -- a number's slot has these permissions
-abbrev PermsAt : List GuestSlot → ℕ → FsPerms → Type 0
+abbrev pub PermsAt : List GuestSlot → ℕ → FsPerms → Type 0
 PermsAt slots n perms = perms_in (slice_get slots n) ≡ Some perms
 
-set_perms : {perms : FsPerms} (slots : List GuestSlot) (i n : ℕ) (slot : GuestSlot)
+pub set_perms : {perms : FsPerms} (slots : List GuestSlot) (i n : ℕ) (slot : GuestSlot)
     → PermsAt (slice_set slots i slot) n perms
     → PermsAt slots n perms ⊎ ((n ≡ i) × (perms_in (Some slot) ≡ Some perms))
 set_perms slots i n slot has = elim (set_cases slots i n slot) [
@@ -241,27 +264,27 @@ new_stems {perms} g fd n slot same has = by (n == new_number g.slots) refl (new_
     by false is (inr (at, new)) =
         absurd (let one : (n == new_number g.slots) ≡ true = grind (arith, nat_tests) in cc)
 
-new_slot_perms : (perms : FsPerms) (mode : OpenMode) (found : Opened)
-    → perms_in (Some (new_guest_slot perms mode found)) ≡ Some perms
-new_slot_perms perms mode found = by found.is_dir
+new_slot_perms : (perms : FsPerms) (mode : OpenMode) (modes : FileModes) (found : Opened)
+    → perms_in (Some (new_guest_slot perms mode modes found)) ≡ Some perms
+new_slot_perms perms mode modes found = by found.is_dir
   where
-    by : (b : Bool) → perms_in (Some (new_guest_slot perms mode (record found { is_dir = b }))) ≡ Some perms
+    by : (b : Bool) → perms_in (Some (new_guest_slot perms mode modes (record found { is_dir = b }))) ≡ Some perms
     by true = refl
     by false = refl
 
 -- ---- what a row does to them
 
--- a file's descriptor is put back
-pub put_back : {f : OpenFile} {x : Value} {memory : List ℕ} (g : Guest) (fd position : ℕ) (given : List ℕ)
+-- a file's descriptor is put back, at another position or with other modes
+pub put_back : {f : OpenFile} {x : Value} {memory : List ℕ} (g : Guest) (fd position : ℕ) (modes : FileModes) (given : List ℕ)
     → slice_get g.slots fd ≡ Some (file f)
-    → StaysNear g None given
-    (x, record g { memory = memory; slots = slice_set g.slots fd (file (record f { position = position })) })
-put_back {f} g fd position given is = record {
-  nodes = λ n has. elim (in_set g.slots fd (file (record f { position = position })) n has) [
+    → StaysNear g itself given
+    (x, record (with_file g fd (record f { position = position; modes = modes })) { memory = memory })
+put_back {f} g fd position modes given is = record {
+  nodes = λ n has. elim (in_set g.slots fd (file (record f { position = position; modes = modes })) n has) [
     | inl was ↦ inl was
     | inr own ↦ inl (slice_named g.slots fd n (file_named (slice_get g.slots fd) n is own))
   ];
-  perms = λ n perms has. elim (set_perms g.slots fd n (file (record f { position = position })) has) [
+  perms = λ n perms has. elim (set_perms g.slots fd n (file (record f { position = position; modes = modes })) has) [
     | inl was ↦ was
     | inr (at, own) ↦ ap (λ k. perms_in (slice_get g.slots k)) at ∙ ap perms_in is ∙ own
   ];
@@ -269,29 +292,29 @@ put_back {f} g fd position given is = record {
 
 -- a number becomes closed
 pub put_closed : {x : Value} (g : Guest) (fd : ℕ)
-    → StaysNear g None [] (x, record g { slots = slice_set g.slots fd closed })
+    → StaysNear g itself [] (x, record g { slots = slice_set g.slots fd closed })
 put_closed g fd = record {
   nodes = λ n has. in_set g.slots fd closed n has;
   perms = λ n perms has. elim (set_perms g.slots fd n closed has) [ inl was ↦ was | inr (at, none) ↦ absurd (cc) ];
 }
 
 -- a new one comes
-pub put_opened : (g : Guest) (fd : ℕ) (perms : FsPerms) (mode : OpenMode) (found : Opened)
+pub put_opened : (g : Guest) (fd : ℕ) (perms : FsPerms) (mode : OpenMode) (modes : FileModes) (found : Opened)
     → perms_in (slice_get g.slots fd) ≡ Some perms
-    → StaysNear g (Some fd) (found.held.node ∷ [])
-    (with_slots g (new_number g.slots, with_guest_slot g.slots (new_guest_slot perms mode found)))
-put_opened g fd perms mode found is = record {
-  nodes = λ n has. elim (in_with g.slots (new_guest_slot perms mode found) n has) [
+    → StaysNear g (through fd) (found.held.node ∷ [])
+    (with_slots g (new_number g.slots, with_guest_slot g.slots (new_guest_slot perms mode modes found)))
+put_opened g fd perms mode modes found is = record {
+  nodes = λ n has. elim (in_with g.slots (new_guest_slot perms mode modes found) n has) [
     | inl was ↦ inl was
-    | inr new ↦ inr (node_for perms mode found n new)
+    | inr new ↦ inr (node_for perms mode modes found n new)
   ];
   perms = λ n given has.
-      new_stems g fd n (new_guest_slot perms mode found) (new_slot_perms perms mode found ∙ sym is) has;
+      new_stems g fd n (new_guest_slot perms mode modes found) (new_slot_perms perms mode modes found ∙ sym is) has;
 }
 
 -- nothing comes, and nothing goes
 pub put_nothing : {x : Value} {memory given : List ℕ} (g : Guest)
-    → StaysNear g None given (x, record g { memory = memory })
+    → StaysNear g itself given (x, record g { memory = memory })
 put_nothing g = record { nodes = λ n has. inl has; perms = λ n perms has. has }
 
 -- ---- what a row writes into memory, or tells
@@ -302,7 +325,7 @@ writes g buf bytes m =
     m >>= (λ _. give (length bytes, with_bytes g.memory buf bytes)) >>= (λ p. give (with_text g p))
 
 pub written_slots : (g : Guest) (buf : ℕ) (bytes : List ℕ) (m : Row (List ℕ))
-    → KeepsSlots g None [] (writes g buf bytes m)
+    → KeepsSlots g itself [] (writes g buf bytes m)
 written_slots g buf bytes (Ok part) = put_nothing g
 written_slots g buf bytes (Err e) = tt
 
@@ -320,7 +343,7 @@ written_bytes g buf bytes (Err e) are more = tt
 abbrev tells : Guest → Row Filestat → Row (Value × Guest)
 tells g m = m >>= (λ stat. give (with_filestat g stat))
 
-pub stated_slots : (g : Guest) (m : Row Filestat) → KeepsSlots g None [] (tells g m)
+pub stated_slots : (g : Guest) (m : Row Filestat) → KeepsSlots g itself [] (tells g m)
 stated_slots g (Ok stat) = put_nothing g
 stated_slots g (Err e) = tt
 

@@ -39,10 +39,10 @@ times-cons k n heap = sum_by-cons (λ j. cond (j == n) 1 0) k heap ∙ ap (λ m.
 itself : (n : ℕ) → (n == n) ≡ true
 itself n = grind (arith, nat_tests)
 
-same_number : (k n : ℕ) → (k == n) ≡ true → k ≡ n
+pub same_number : (k n : ℕ) → (k == n) ≡ true → k ≡ n
 same_number k n is = grind (arith, nat_tests)
 
-other_number : (k n : ℕ) → (k == n) ≡ false → k ≢ n
+pub other_number : (k n : ℕ) → (k == n) ≡ false → k ≢ n
 other_number k n is same = absurd (let one : (k == n) ≡ true = grind (arith, nat_tests) in cc)
 
 -- what holds of all numbers of a heap holds of one that is counted

@@ -3,6 +3,7 @@ mod Numbers
 mod ClosedHeap
 mod Naming
 mod Tabled
+mod Exchanging
 mod RequestsLeave
 mod RequestsAgree
 mod RowEnds
@@ -20,11 +21,13 @@ mod Below
 mod Resolving
 mod Setting
 mod Reading
+mod Appending
 mod Counting
 mod Owning
 mod Staying
 mod CallTracing
 mod GuestSlots
+mod Renumbering
 mod OpeningInto
 mod Stating
 mod SlotRules
@@ -33,6 +36,7 @@ mod Runs
 mod RunAnswers
 mod RunLaws
 mod Writing
+mod DescriptorLaws
 mod Stemming
 mod Validity
 mod RunsAlike

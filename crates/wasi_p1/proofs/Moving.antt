@@ -6,9 +6,9 @@ use Rattle.wasi_p1.specs.Guest.{Guest, State}
 use Rattle.wasi_p1.specs.Request.{Request, Reply, reply_of, after}
 use Rattle.wasi_p1.specs.Row.{with_tree, Row, give, asking}
 use Rattle.wasi_guest.specs.Iovec.{first_buffer}
-use Rattle.wasi_guest.specs.Records.{Found}
+use Rattle.wasi_guest.specs.Records.{Found, text_in}
 use Rattle.wasi_guest.specs.declared.iovec.Iovec.{Iovec}
-use Rattle.wasi_p1.specs.Front.{Front, CallFront, onward, free, charge, charged_buffer, ◌>>=◌}
+use Rattle.wasi_p1.specs.Front.{Front, CallFront, onward, free, charge, charged_text, charged_buffer, ◌>>=◌}
 use Rattle.wasi_p1.specs.Parts.{from_guest}
 use Rattle.wasi_p1.specs.Rows.{turn}
 use Rattle.wasi_p1.specs.Run.{Turned, Played, Faulted, Gives, Spends}
@@ -68,6 +68,20 @@ pub gave : {A : Type 0} {p : Value × State} (t : Tree) (m : Row A) (next : A �
     → row_on t ((free m >>= next) fuel).0 ≡ Ok p → (x : A) × (m ≡ Ok x) × (row_on t (next x fuel).0 ≡ Ok p)
 gave t (Ok x) next fuel is = (x, refl, is)
 gave t (Err e) next fuel is = absurd (cc)
+
+-- a text was charged, and so much fuel was left then
+pub gave_text : {p : Value × State} (t : Tree) (memory : List ℕ) (at n : ℕ) (next : List ℕ → CallFront) (fuel : ℕ)
+    → row_on t ((charged_text memory at n >>= next) fuel).0 ≡ Ok p
+    → (text : List ℕ) × (left : ℕ) × (row_on t (next text left).0 ≡ Ok p)
+unfolding charged_text charge
+gave_text {p} t memory at n next fuel = by (nat_le n fuel)
+  where
+    by : (b : Bool)
+        → row_on t (let part = (let first = taken n fuel b in
+        onward first.0 first.1 (λ _. free (from_guest (text_in memory at n)))) in onward part.0 part.1 next).0 ≡ Ok p
+        → (text : List ℕ) × (left : ℕ) × (row_on t (next text left).0 ≡ Ok p)
+    by true is = let (text, found, rest) = gave t (from_guest (text_in memory at n)) next (fuel - n) is in (text, fuel - n, rest)
+    by false is = absurd (cc)
 
 -- a buffer was read, and so much fuel was left then
 abbrev pub GaveBuffer : Value × State → Tree → List ℕ → ℕ → ℕ → (Iovec → CallFront) → Type 0

@@ -19,11 +19,12 @@ use Rattle.wasi_p1.specs.Slots.{is_closed_slot}
 use Rattle.wasi_p1.proofs.Numbers.{passes_within, passes_at-get_or, live_and_closed}
 use Rattle.wasi_streams.specs.Table.{Entries}
 use Rattle.wasi_streams.specs.declared.entry.Entry.{Entry}
+use Rattle.wasi_p1.specs.declared.context.FileModes.{FileModes}
 use Rattle.wasi_p1.specs.declared.context.Slot.{Slot}
 use Rattle.wasi_p1.specs.declared.context.Slot.TheVariants as slots
 use Rattle.wasi_p1.specs.declared.items.Item.{Item}
 use Rattle.wasi_p1.specs.declared.items.Item.TheVariants.{Closed, Stream, Directory, File}
-use Rattle.wasi_p1.specs.Items.{resource_in, slot_in, slots_of, directory_of_entry, file_of_entry, stream_entry, IsOfKind, NamesResource, AreNamed, Admitted, is_closed_item, without_item, moved_slot, is_file_slot, at_position}
+use Rattle.wasi_p1.specs.Items.{resource_in, slot_in, slots_of, directory_of_entry, file_of_entry, stream_entry, IsOfKind, NamesResource, AreNamed, Admitted, is_closed_item, without_item, file_under, put_item}
 
 one : {a b : ℕ} → Some a ≡ Some b → a ≡ b
 one is = cc
@@ -40,14 +41,14 @@ kind_stays : (table table' : Entries) (item : Item) → Stays table table' item 
     → IsOfKind table' item
 kind_stays table table' Closed stays kind = tt
 kind_stays table table' (Stream s r) stays kind = stays r.number refl ∙ kind
-kind_stays table table' (Directory r) stays (dir, kind) = (dir, stays r.number refl ∙ kind)
-kind_stays table table' (File r position) stays (f, kind) = (f, stays r.number refl ∙ kind)
+kind_stays table table' (Directory r preopen) stays (dir, kind) = (dir, stays r.number refl ∙ kind)
+kind_stays table table' (File r position modes) stays (f, kind) = (f, stays r.number refl ∙ kind)
 
 slot_stays : (table table' : Entries) (item : Item) → Stays table table' item → slot_in table' item ≡ slot_in table item
 slot_stays table table' Closed stays = refl
 slot_stays table table' (Stream s r) stays = refl
-slot_stays table table' (Directory r) stays = ap directory_of_entry (stays r.number refl)
-slot_stays table table' (File r position) stays = ap (λ o. file_of_entry o position) (stays r.number refl)
+slot_stays table table' (Directory r preopen) stays = ap (λ o. directory_of_entry o preopen) (stays r.number refl)
+slot_stays table table' (File r position modes) stays = ap (λ o. file_of_entry o position modes) (stays r.number refl)
 
 -- ---- by number
 
@@ -150,9 +151,9 @@ not_named {table} {items} {r} j named fresh is = by (get_or items j Closed) is (
     by : (item : Item) → resource_in item ≡ Some r → IsOfKind table item → ⊥
     by Closed is kind = never is
     by (Stream s n) is kind = some (subst (λ k. get table k ≡ Some (stream_entry s)) (one is) kind)
-    by (Directory n) is (dir, kind) =
+    by (Directory n preopen) is (dir, kind) =
         some (subst (λ k. get table k ≡ Some (entries.Descriptor (descriptors.Dir dir))) (one is) kind)
-    by (File n position) is (f, kind) =
+    by (File n position modes) is (f, kind) =
         some (subst (λ k. get table k ≡ Some (entries.Descriptor (descriptors.File f))) (one is) kind)
 
 pub admits : {table table' : Entries} {items : List Item} {item : Item} {slot : Slot} (i : ℕ) → AreNamed table items
@@ -256,14 +257,14 @@ set_pushed (z ∷ xs) x y = ap (λ rest. z ∷ rest) (set_pushed xs x y)
 is_closed : (table : Entries) (item : Item) → is_closed_slot (slot_in table item) ≡ is_closed_item item
 is_closed table Closed = refl
 is_closed table (Stream s r) = refl
-is_closed table (Directory r) = by (get table r.number)
+is_closed table (Directory r preopen) = by (get table r.number)
   where
-    by : (o : Option Entry) → is_closed_slot (directory_of_entry o) ≡ false
+    by : (o : Option Entry) → is_closed_slot (directory_of_entry o preopen) ≡ false
     by (Some (entries.Descriptor (descriptors.Dir dir))) = refl
     by other = refl
-is_closed table (File r position) = by (get table r.number)
+is_closed table (File r position modes) = by (get table r.number)
   where
-    by : (o : Option Entry) → is_closed_slot (file_of_entry o position) ≡ false
+    by : (o : Option Entry) → is_closed_slot (file_of_entry o position modes) ≡ false
     by (Some (entries.Descriptor (descriptors.File f))) = refl
     by other = refl
 
@@ -278,8 +279,8 @@ passes-item table items i within =
 closed_item : (item : Item) → is_closed_item item ≡ true → item ≡ Closed
 closed_item Closed is = refl
 closed_item (Stream s r) is = absurd (cc)
-closed_item (Directory r) is = absurd (cc)
-closed_item (File r position) is = absurd (cc)
+closed_item (Directory r preopen) is = absurd (cc)
+closed_item (File r position modes) is = absurd (cc)
 
 pub none_named : (table : Entries) → table ≡ empty → AreNamed table []
 none_named table none = record {
@@ -338,8 +339,8 @@ module _ {table : Entries} {items : List Item} (named : AreNamed table items) (i
       → Changes table (without_item table item) items i Closed
   gone Closed used is = absurd (cc)
   gone (Stream s r) used is = closes i r.number within (ap resource_in is)
-  gone (Directory r) used is = closes i r.number within (ap resource_in is)
-  gone (File r position) used is = closes i r.number within (ap resource_in is)
+  gone (Directory r preopen) used is = closes i r.number within (ap resource_in is)
+  gone (File r position modes) used is = closes i r.number within (ap resource_in is)
 
   pub closed_named : (item : Item) → is_closed_item item ≡ false → get_or items i Closed ≡ item
       → AreNamed (without_item table item) (slice_set items i Closed)
@@ -349,64 +350,50 @@ module _ {table : Entries} {items : List Item} (named : AreNamed table items) (i
       → slots_of (without_item table item) (slice_set items i Closed) ≡ slice_set (slots_of table items) i slots.Closed
   closed_slots item used is = changed_slots named (gone item used is)
 
-  -- a file's position
-  module _ (r : Resource) (was position : ℕ) (is : get_or items i Closed ≡ File r was) where
-    moving : Changes table table items i (File r position)
-    moving = moves i r.number named within (ap resource_in is) refl (subst (IsOfKind table) is (named.kinds i))
+  -- a file's descriptor is put back, at another position or with other modes
+  module _ {f : OpenedFile} (position : ℕ) (modes : FileModes)
+      (file : file_under (slice_get (slots_of table items) i) ≡ Some f) where
+    abbrev PutBack : Item → Type 0
+    PutBack item = AreNamed table (slice_set items i (put_item item position modes))
+        × (slots_of table (slice_set items i (put_item item position modes))
+        ≡ slice_set (slots_of table items) i (slots.File (record { file = f; position = position; modes = modes })))
 
-    moved_named : AreNamed table (slice_set items i (File r position))
-    moved_named = changed_named named moving
-
-    moved_slots : slots_of table (slice_set items i (File r position))
-        ≡ slice_set (slots_of table items) i (moved_slot (slice_get (slots_of table items) i) position)
-    moved_slots = changed_slots named moving ∙ ap (slice_set (slots_of table items) i) (sym there)
+    pub put_back_at : (item : Item) → get_or items i Closed ≡ item → PutBack item
+    put_back_at item is = by item is (subst (IsOfKind table) is (named.kinds i))
+        (ap file_under (sym (slots_get table items i
+        ∙ ap (option_map (slot_in table)) (slice_get-get_or items i Closed within ∙ ap Some is))) ∙ file)
       where
-        file : (f : OpenedFile) × (get table r.number ≡ Some (entries.Descriptor (descriptors.File f)))
-        file = subst (IsOfKind table) is (named.kinds i)
+        by : (item : Item) → get_or items i Closed ≡ item → IsOfKind table item
+            → file_under (Some (slot_in table item)) ≡ Some f → PutBack item
+        by Closed is kind under = absurd (cc)
+        by (Stream s r) is kind under = absurd (cc)
+        by (Directory r preopen) is (dir, kind) under =
+            absurd (let wrong = sym (ap (λ o. file_under (Some (directory_of_entry o preopen))) kind) ∙ under in cc)
+        by (File r was were) is (g, kind) under =
+            let putting : Changes table table items i (File r position modes) = moves i r.number named within (ap resource_in is) refl (g, kind) in
+            let same : g ≡ f = (let under' = sym (ap (λ o. file_under (Some (file_of_entry o was were))) kind) ∙ under in cc) in (
+              changed_named named putting,
+              changed_slots named putting ∙ ap (slice_set (slots_of table items) i)
+                  (ap (λ o. file_of_entry o position modes) kind
+                  ∙ ap (λ h. slots.File (record { file = h; position = position; modes = modes })) same),
+            )
 
-        there : moved_slot (slice_get (slots_of table items) i) position ≡ slot_in table (File r position)
-        there = ap (λ o. moved_slot o position) (slots_get table items i
-            ∙ ap (option_map (slot_in table)) (slice_get-get_or items i Closed within ∙ ap Some is)
-            ∙ ap (λ o. Some (file_of_entry o was)) file.1) ∙ sym (ap (λ o. file_of_entry o position) file.1)
+-- the number of a file's descriptor is in use
+pub file_within : {f : OpenedFile} (xs : List Slot) (i : ℕ) → file_under (slice_get xs i) ≡ Some f → i < length xs
+file_within [] i is = absurd (cc)
+file_within (x ∷ xs) zero is = omega arith
+file_within (x ∷ xs) (suc i) is = let rest = file_within xs i is in omega (arith, rest)
 
-  pub positioned : (item : Item) (position : ℕ) → get_or items i Closed ≡ item
-      → is_file_slot (slice_get (slots_of table items) i) ≡ true
-      → AreNamed table (slice_set items i (at_position item position))
-      × (slots_of table (slice_set items i (at_position item position))
-      ≡ slice_set (slots_of table items) i (moved_slot (slice_get (slots_of table items) i) position))
-  positioned item position is file = by item is (subst (IsOfKind table) is (named.kinds i))
-      (ap is_file_slot (sym (slots_get table items i
-      ∙ ap (option_map (slot_in table)) (slice_get-get_or items i Closed within ∙ ap Some is))) ∙ file)
-    where
-      by : (item : Item) → get_or items i Closed ≡ item → IsOfKind table item
-          → is_file_slot (Some (slot_in table item)) ≡ true
-          → AreNamed table (slice_set items i (at_position item position))
-          × (slots_of table (slice_set items i (at_position item position))
-          ≡ slice_set (slots_of table items) i (moved_slot (slice_get (slots_of table items) i) position))
-      by Closed is kind file = absurd (cc)
-      by (Stream s r) is kind file = absurd (cc)
-      by (Directory r) is (dir, kind) file =
-          absurd (let wrong = sym (ap (λ o. is_file_slot (Some (directory_of_entry o))) kind) ∙ file in cc)
-      by (File r was) is kind file = (moved_named r was position is, moved_slots r was position is)
-
--- a file's slot isn't closed, nor is it at another position
-pub file_used : (xs : List Slot) (i : ℕ) → is_file_slot (slice_get xs i) ≡ true → passes_at is_closed_slot xs i ≡ false
-file_used xs i is = by (slice_get xs i) is
+pub file_used : {f : OpenedFile} (xs : List Slot) (i : ℕ) → file_under (slice_get xs i) ≡ Some f
+    → passes_at is_closed_slot xs i ≡ false
+file_used {f} xs i is = by (slice_get xs i) is
   where
-    by : (o : Option Slot) → is_file_slot o ≡ true → option_map_or is_closed_slot o false ≡ false
+    by : (o : Option Slot) → file_under o ≡ Some f → option_map_or is_closed_slot o false ≡ false
     by None is = refl
     by (Some slots.Closed) is = absurd (cc)
     by (Some (slots.Stream s)) is = refl
-    by (Some (slots.Directory dir)) is = refl
-    by (Some (slots.File f position)) is = refl
-
-pub moved_used : (o : Option Slot) (position : ℕ) → is_file_slot o ≡ true
-    → is_closed_slot (moved_slot o position) ≡ false
-moved_used None position is = absurd (cc)
-moved_used (Some slots.Closed) position is = absurd (cc)
-moved_used (Some (slots.Stream s)) position is = absurd (cc)
-moved_used (Some (slots.Directory dir)) position is = absurd (cc)
-moved_used (Some (slots.File f was)) position is = refl
+    by (Some (slots.Directory d)) is = refl
+    by (Some (slots.File g)) is = refl
 
 -- what stands under a number
 pub get_slot : {slot : Slot} (table : Entries) (items : List Item) (i : ℕ) (item : Item) → slice_get items i ≡ Some item
@@ -454,8 +441,8 @@ pub forgotten_len : (table : Entries) (item : Item) → IsOfKind table item → 
     → len (without_item table item) + 1 ≡ len table
 forgotten_len table Closed kind used = absurd (cc)
 forgotten_len table (Stream s r) kind used = removed_len table r.number (stream_entry s) kind
-forgotten_len table (Directory r) (dir, kind) used = removed_len table r.number _ kind
-forgotten_len table (File r position) (f, kind) used = removed_len table r.number _ kind
+forgotten_len table (Directory r preopen) (dir, kind) used = removed_len table r.number _ kind
+forgotten_len table (File r position modes) (f, kind) used = removed_len table r.number _ kind
 
 -- as many as live descriptors
 pub entry_count : {heap : List ℕ} {capacity : ℕ} {items : List Item} {table : Entries}

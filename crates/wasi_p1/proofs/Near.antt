@@ -2,10 +2,10 @@
 -- but from the reply, and no permissions but from the descriptor that it stems from; it makes no step where a
 -- descriptor that its call names is under read-only permissions; it isn't refused after a step, nor before it asks
 -- because memory was wanted; and it leaves bytes in memory.
-use Rattle.std.specs.Prelude.{ℕ, ◌≡◌, ◌⊎◌, List, [], slice_get, Contains, IsUtf8, Option, Ok, Err, OnErr}
+use Rattle.std.specs.Prelude.{ℕ, ◌≡◌, ◌⊎◌, List, [], slice_get, Contains, IsUtf8, Ok, Err, OnErr}
 use Rattle.wasi_fs.specs.declared.perms.FsPerms.{FsPerms}
 use Rattle.wasi_host.specs.Tree.{Tree}
-use Rattle.wasi_host.specs.HostCall.{HostCall, Pread, CanBeAsked}
+use Rattle.wasi_host.specs.HostCall.{HostCall, Append, Pread, CanBeAsked}
 use Rattle.wasi_host.specs.Answer.{HostAnswer}
 pub use Rattle.wasi_p1.specs.Validity.{AreBytes}
 use Rattle.wasi_p1.specs.Validity.{HasBytes}
@@ -15,13 +15,13 @@ use Rattle.wasi_guest.specs.declared.call.Call.{Call}
 use Rattle.wasi_p1.specs.CallParts.{WantsNoMemory}
 use Rattle.wasi_p1.specs.CallTurn.{NamesReadOnly}
 use Rattle.wasi_p1.specs.Guest.{Guest, node_in, open_nodes}
-use Rattle.wasi_p1.specs.Request.{Request, Reply, Path, Direct, reply_of, after, starts_at}
+use Rattle.wasi_p1.specs.Request.{Request, Reply, Path, Direct, Behind, reply_of, after, starts_at}
 use Rattle.wasi_p1.specs.Row.{Row, Program, done, asking}
-use Rattle.wasi_p1.specs.Stems.{stems_through, HasPerms}
+use Rattle.wasi_p1.specs.Stems.{stems_by, HasPerms}
 use Rattle.wasi_resolve.specs.AtPlace.{ReadLink}
 use Rattle.wasi_resolve.proofs.Asking.{HasUtf8Target}
 use Rattle.wasi_resolve.specs.PathRequest.{PathRequest, OpenPath, LookPath, AtPlace, TimesPath, AtTwo, PathReply, path_gives}
-use Rattle.wasi_p1.specs.Rows.{descriptors_named, opened_through}
+use Rattle.wasi_p1.specs.Rows.{Stem, stem_in, descriptors_named}
 
 -- ---- of each kind of request
 
@@ -29,6 +29,7 @@ use Rattle.wasi_p1.specs.Rows.{descriptors_named, opened_through}
 abbrev pub given_by : (r : Request) → Reply r → List ℕ
 given_by (Path p) found = path_gives p found
 given_by (Direct call) answer = []
+given_by (Behind f piece) put = []
 
 -- what the types of the calls that make it give of every request: a path is a text, as is that of a link, and what is
 -- written are bytes
@@ -42,6 +43,7 @@ AreTexts (AtTwo old old_text new new_text what) = IsUtf8 old_text × IsUtf8 new_
 abbrev pub MayBeAsked : Request → Type 0
 MayBeAsked (Path p) = AreTexts p
 MayBeAsked (Direct call) = CanBeAsked call
+MayBeAsked (Behind f piece) = CanBeAsked (Append f piece)
 
 -- a link's text are bytes
 abbrev pub PathGivesBytes : (p : PathRequest) → PathReply p → Type 0
@@ -56,6 +58,7 @@ AnswerIsBytes call answer = Unit {0}
 abbrev pub GivesBytes : (r : Request) → Reply r → Type 0
 GivesBytes (Path p) found = PathGivesBytes p found
 GivesBytes (Direct call) answer = AnswerIsBytes call answer
+GivesBytes (Behind f piece) put = Unit {0}
 
 -- ---- of an answer
 
@@ -63,16 +66,15 @@ GivesBytes (Direct call) answer = AnswerIsBytes call answer
 abbrev pub Has : Guest → ℕ → Type 0
 Has g n = Contains (open_nodes g.slots) n
 
--- each descriptor's node was one before, or is given; and each has the permissions of the one from which it stems,
--- where what was opened was opened through this one
-pub record StaysNear (g : Guest) (through : Option ℕ) (given : List ℕ) (p : Value × Guest) : Type 0 where
+-- each descriptor's node was one before, or is given; and each has the permissions of the one from which it stems so
+pub record StaysNear (g : Guest) (stem : Stem) (given : List ℕ) (p : Value × Guest) : Type 0 where
   pub nodes : (n : ℕ) → Has p.1 n → Has g n ⊎ Contains given n
   pub perms : (n : ℕ) (perms : FsPerms) → HasPerms p.1 n perms
-      → HasPerms g (stems_through through (answers.Ok p.0) n) perms
+      → HasPerms g (stems_by stem (answers.Ok p.0) n) perms
 
-abbrev pub KeepsSlots : Guest → Option ℕ → List ℕ → Row (Value × Guest) → Type 0
-KeepsSlots g through given (Ok p) = StaysNear g through given p
-KeepsSlots g through given (Err e) = Unit {0}
+abbrev pub KeepsSlots : Guest → Stem → List ℕ → Row (Value × Guest) → Type 0
+KeepsSlots g stem given (Ok p) = StaysNear g stem given p
+KeepsSlots g stem given (Err e) = Unit {0}
 
 -- the memory after it are bytes, and what is handed in
 abbrev pub KeepsBytes : Row (Value × Guest) → Type 0
@@ -89,14 +91,14 @@ pub record IsNamed (g : Guest) (call : Call) (n : ℕ) : Type 0 where
 
 pub record AsksNear (g : Guest) (call : Call) (r : Request) (next : Reply r → Row (Value × Guest)) : Type 0 where
   pub starts : (n : ℕ) → Contains (starts_at r) n → IsNamed g call n
-  pub slots : (reply : Reply r) → KeepsSlots g (opened_through call) (given_by r reply) (next reply)
+  pub slots : (reply : Reply r) → KeepsSlots g (stem_in call) (given_by r reply) (next reply)
   pub ends : (t : Tree) (reply : Reply r) → reply_of t r ≡ Ok reply → OnErr (next reply) (after t r ≡ t)
   pub permits : NamesReadOnly g call → (t : Tree) (reply : Reply r) → reply_of t r ≡ Ok reply → after t r ≡ t
   pub asked : HasBytes g → MayBeAsked r
   pub bytes : HasBytes g → (reply : Reply r) → GivesBytes r reply → KeepsBytes (next reply)
 
 pub record AnswersNear (g : Guest) (call : Call) (p : Value × Guest) : Type 0 where
-  pub slots : StaysNear g (opened_through call) [] p
+  pub slots : StaysNear g (stem_in call) [] p
   pub bytes : HasBytes g → HasBytes p.1
 
 abbrev pub IsNear : Guest → Call → Row (Program (Value × Guest)) → Type 0

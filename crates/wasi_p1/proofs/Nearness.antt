@@ -14,6 +14,7 @@ use Rattle.wasi_p1.proofs.Wanting.{number, inval_never, sizes_never, clock_res_n
 pub mod Parts
 mod Opening
 mod ReadingAndWriting
+mod PositionsAndSizes
 mod Descriptors
 mod Places
 mod TwoPlaces
@@ -22,6 +23,7 @@ mod Services
 use Parts.{RowNear, then, answers_near, tells_near}
 use Opening.*
 use ReadingAndWriting.*
+use PositionsAndSizes.*
 use Descriptors.*
 use Places.*
 use TwoPlaces.*
@@ -37,9 +39,22 @@ front_near g (calls.EnvironGet _ _) = texts_near g.holdings.environ _ _ refl (λ
 front_near g calls.EnvironSizesGet = tells_near _ _ refl (sizes_never _)
 front_near g (calls.ClockResGet _) = tells_near _ _ refl (clock_res_never _ _)
 front_near g (calls.ClockTimeGet _ _) = tells_near _ _ refl (clock_time_never _ _)
+front_near g (calls.FdAdvise _ _ _ _) = fd_advise_near
+front_near g (calls.FdAllocate _ _ _) = fd_allocate_near
 front_near g (calls.FdClose _) = fd_close_near
+front_near g (calls.FdDatasync _) = fd_datasync_near
+front_near g (calls.FdSync _) = fd_sync_near
+front_near g (calls.FdFdstatSetFlags _ _) = fd_fdstat_set_flags_near
+front_near g (calls.FdFilestatSetSize _ _) = fd_filestat_set_size_near
 front_near g (calls.FdFilestatSetTimes _ _ _ _) = fd_filestat_set_times_near
+front_near g (calls.FdPread _ _ _ _) = fd_pread_near
+front_near g (calls.FdPrestatGet _) = fd_prestat_get_near
+front_near g (calls.FdPrestatDirName _ _ _) = fd_prestat_dir_name_near
+front_near g (calls.FdPwrite _ _ _ _) = fd_pwrite_near
 front_near g (calls.FdRead _ _ _) = fd_read_near
+front_near g (calls.FdRenumber _ _) = fd_renumber_near
+front_near g (calls.FdSeek _ _ _) = fd_seek_near
+front_near g (calls.FdTell _) = fd_tell_near
 front_near g (calls.FdWrite _ _ _) = fd_write_near
 front_near g (calls.PathCreateDirectory fd path len) = done_near fd path len CreateDir refl refl tt
 front_near g (calls.PathFilestatGet _ _ _ _) = path_filestat_get_near

@@ -3,7 +3,7 @@ use Rattle.std.proofs.Common.{ℕ, zero, suc, ◌+◌, ◌<◌, ◌≤◌, ◌�
 use Rattle.std.specs.Prelude.{count_by}
 use Rattle.std.proofs.lemmas.List.{map-append, map-set, length-map}
 use Rattle.std.proofs.lemmas.List.Sums.{sum_by-cons}
-use Rattle.wasi_p1.specs.Slots.{first_slots, given_slot, is_closed_slot}
+use Rattle.wasi_p1.specs.Slots.{first_slots, given_slot, given_slots, is_closed_slot}
 use Rattle.wasi_p1.specs.declared.context.P1Preopen.{P1Preopen}
 use Rattle.wasi_p1.specs.Numbering.{passes_at, later_or_here, last_where, put_at, free_number, with_new, live_count}
 use Rattle.wasi_p1.specs.declared.context.Slot.TheVariants.{Stream}
@@ -134,29 +134,43 @@ module _ {A B : Type 0} (f : A → B) (p : A → Bool) (q : B → Bool) (same : 
 
 -- ---- the first descriptors, of which none is closed
 
-none_given : (preopens : List P1Preopen) → last_where is_closed_slot (map given_slot preopens) ≡ None
-none_given [] = refl
-none_given (p ∷ ps) = ap (later_or_here false) (none_given ps)
+none_given : (place : ℕ) (preopens : List P1Preopen) → last_where is_closed_slot (given_slots place preopens) ≡ None
+none_given place [] = refl
+none_given place (p ∷ ps) = ap (later_or_here false) (none_given (suc place) ps)
+
+given_behind : (place : ℕ) (preopens : List P1Preopen) (p : P1Preopen)
+    → given_slots place (preopens ++ p ∷ []) ≡ given_slots place preopens ++ given_slot (place + length preopens) p ∷ []
+given_behind place [] p = let same : place ≡ place + 0 = omega arith in ap (λ n. given_slot n p ∷ []) same
+given_behind place (q ∷ qs) p =
+    let same : suc place + length qs ≡ place + suc (length qs) = omega arith in
+    ap (λ slots. given_slot place q ∷ slots)
+    (given_behind (suc place) qs p ∙ ap (λ n. given_slots (suc place) qs ++ given_slot n p ∷ []) same)
 
 -- so that one more stands behind them
-pub given_more : (preopens : List P1Preopen) (p : P1Preopen)
-    → with_new is_closed_slot (first_slots preopens) (given_slot p) ≡ first_slots (preopens ++ p ∷ [])
+pub given_more : (place : ℕ) (preopens : List P1Preopen) (p : P1Preopen) → length preopens ≡ place
+    → with_new is_closed_slot (first_slots preopens) (given_slot place p) ≡ first_slots (preopens ++ p ∷ [])
 unfolding with_new
-given_more preopens p =
-    let none = ap (λ o. later_or_here false (later_or_here false (later_or_here false o))) (none_given preopens) in
-    rw (none, map-append given_slot preopens (p ∷ [])) refl
+given_more place preopens p long =
+    let none = ap (λ o. later_or_here false (later_or_here false (later_or_here false o))) (none_given 0 preopens) in
+    let same : 0 + length preopens ≡ place = omega (arith, long) in
+    rw (none, given_behind 0 preopens p, same) refl
 
-given_live : (preopens : List P1Preopen) → live_count is_closed_slot (map given_slot preopens) ≡ length preopens
+given_live : (place : ℕ) (preopens : List P1Preopen)
+    → live_count is_closed_slot (given_slots place preopens) ≡ length preopens
 unfolding live_count
-given_live [] = refl
-given_live (p ∷ ps) = omega (arith, live_more is_closed_slot (given_slot p) (map given_slot ps) refl, given_live ps)
+given_live place [] = refl
+given_live place (p ∷ ps) = omega (
+  arith,
+  live_more is_closed_slot (given_slot place p) (given_slots (suc place) ps) refl,
+  given_live (suc place) ps,
+)
 
 -- and all are live
 pub first_live : (preopens : List P1Preopen) → live_count is_closed_slot (first_slots preopens) ≡ 3 + length preopens
 first_live preopens = omega (
   arith,
-  live_more is_closed_slot (Stream Input) (Stream Output ∷ Stream Error ∷ map given_slot preopens) refl,
-  live_more is_closed_slot (Stream Output) (Stream Error ∷ map given_slot preopens) refl,
-  live_more is_closed_slot (Stream Error) (map given_slot preopens) refl,
-  given_live preopens,
+  live_more is_closed_slot (Stream Input) (Stream Output ∷ Stream Error ∷ given_slots 0 preopens) refl,
+  live_more is_closed_slot (Stream Output) (Stream Error ∷ given_slots 0 preopens) refl,
+  live_more is_closed_slot (Stream Error) (given_slots 0 preopens) refl,
+  given_live 0 preopens,
 )

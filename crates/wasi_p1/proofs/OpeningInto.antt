@@ -12,19 +12,20 @@ use Rattle.wasi_host.specs.declared.held.Held.{Held}
 use Rattle.wasi_p1.specs.Guest.{guest_slots}
 use Rattle.wasi_p1.specs.Owners.{handle_in, handles, Got, Owned}
 use Rattle.wasi_p1.specs.Slots.{is_closed_slot, slot_of}
+use Rattle.wasi_p1.specs.declared.context.FileModes.{FileModes}
 use Rattle.wasi_p1.specs.declared.context.Slot.{Slot}
 use Rattle.wasi_p1.proofs.GuestSlots.{guest_slots_stay}
 
 -- the descriptor of what was opened is in use
-pub slot_in_use : (descriptor : Descriptor) → is_closed_slot (slot_of descriptor) ≡ false
-slot_in_use (descriptors.File f) = refl
-slot_in_use (descriptors.Dir dir) = refl
+pub slot_in_use : (modes : FileModes) (descriptor : Descriptor) → is_closed_slot (slot_of modes descriptor) ≡ false
+slot_in_use modes (descriptors.File f) = refl
+slot_in_use modes (descriptors.Dir dir) = refl
 
 -- and has the new handle
-pub got_slot : (old new : Handles) (descriptor : Descriptor) → LiveOpened old (Ok descriptor) new
-    → Got old (handle_in (slot_of descriptor)) new
-got_slot old new (descriptors.File f) got = got
-got_slot old new (descriptors.Dir dir) got = got
+pub got_slot : (old new : Handles) (modes : FileModes) (descriptor : Descriptor) → LiveOpened old (Ok descriptor) new
+    → Got old (handle_in (slot_of modes descriptor)) new
+got_slot old new modes (descriptors.File f) got = got
+got_slot old new modes (descriptors.Dir dir) got = got
 
 -- it is a directory where one is asked for
 pub opened_asked : (directory : Bool) (held : ℕ → Held) (descriptor : Descriptor) → IsAsked directory descriptor

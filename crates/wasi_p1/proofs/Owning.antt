@@ -1,6 +1,6 @@
 -- How live handles and descriptors go on together.
 use Rattle.std.specs.Prelude.{All, AllPairs}
-use Rattle.std.proofs.Common.{ℕ, suc, ◌+◌, ◌<◌, ◌≤◌, ◌==◌, Bool, true, false, not, map, ◌&&◌, ◌||◌, Option, Some, None, slice_get, slice_set, List, [], ◌∷◌, ◌≡◌, ◌≢◌, ◌⊎◌, inl, inr, refl, ap, sym, ◌∙◌, subst, arith, Equal, length}
+use Rattle.std.proofs.Common.{ℕ, suc, ◌+◌, ◌<◌, ◌≤◌, ◌==◌, Bool, true, false, not, ◌&&◌, ◌||◌, Option, Some, None, slice_get, slice_set, List, [], ◌∷◌, ◌≡◌, ◌≢◌, ◌⊎◌, inl, inr, refl, ap, sym, ◌∙◌, subst, arith, Equal, length}
 use Rattle.std.proofs.lemmas.Bool.Decides.{nat_tests}
 use Rattle.std.proofs.lemmas.List.{length-set, get_or-set_other}
 use Rattle.std.proofs.lemmas.Option.{get_or_from_slice_get, slice_get_within, slice_get-get_or}
@@ -12,8 +12,11 @@ use Rattle.std.specs.Cmp.{nat_cmp_total}
 use Rattle.std.specs.Ordering.{nat_cmp}
 use Rattle.wasi_host.specs.Meaning.{Handles}
 use Rattle.wasi_p1.specs.Numbering.{last_where, put_at, with_new}
-use Rattle.wasi_p1.specs.Slots.{first_slots, given_slot, is_closed_slot}
+use Rattle.wasi_p1.specs.Slots.{first_slots, given_slot, given_slots, is_closed_slot}
 use Rattle.wasi_p1.specs.CallParts.{IsLive}
+use Rattle.wasi_fs.specs.declared.descriptor.File.{File as OpenedFile}
+use Rattle.wasi_p1.specs.Items.{file_under}
+use Rattle.wasi_p1.specs.declared.context.FileSlot.{FileSlot}
 use Rattle.wasi_p1.specs.declared.context.P1Preopen.{P1Preopen}
 use Rattle.wasi_p1.specs.declared.context.Stream.{Stream as StandardStream}
 use Rattle.wasi_p1.specs.declared.context.Stream.TheVariants.{Input, Output, Error}
@@ -46,6 +49,21 @@ unfolding handles
 put_same {slot} table i slot' is same =
     map-set_same handle_in table i slot' slots.Closed
     (same ∙ ap handle_in (sym (get_or_from_slice_get table i slot slots.Closed is)))
+
+-- so does a file's
+pub put_file : (table : List Slot) (i : ℕ) (f : FileSlot) → file_under (slice_get table i) ≡ Some f.file
+    → handles (slice_set table i (slots.File f)) ≡ handles table
+put_file table i f is = by (slice_get table i) refl is
+  where
+    by : (o : Option Slot) → slice_get table i ≡ o → file_under o ≡ Some f.file
+        → handles (slice_set table i (slots.File f)) ≡ handles table
+    by None at is = absurd (cc)
+    by (Some slots.Closed) at is = absurd (cc)
+    by (Some (slots.Stream s)) at is = absurd (cc)
+    by (Some (slots.Directory d)) at is = absurd (cc)
+    by (Some (slots.File was)) at is =
+        let same : f.file ≡ was.file = (cc) in
+        put_same table i (slots.File f) at (ap (λ (file : OpenedFile). Some file.file) same)
 
 -- ---- the live handles that belong to no descriptor
 
@@ -104,7 +122,7 @@ closed_slot : (slot : Slot) → is_closed_slot slot ≡ true → slot ≡ slots.
 closed_slot slots.Closed is = refl
 closed_slot (slots.Stream s) is = absurd (cc)
 closed_slot (slots.Directory dir) is = absurd (cc)
-closed_slot (slots.File f position) is = absurd (cc)
+closed_slot (slots.File f) is = absurd (cc)
 
 pub closed_at : (table : List Slot) (i : ℕ) → last_where is_closed_slot table ≡ Some i
     → slice_get table i ≡ Some slots.Closed
@@ -150,7 +168,7 @@ less_others n n' false true once less = refl
 less_others n n' true false once less = let same : n' ≡ n = omega arith in ap (λ k. k == 0) same
 less_others n n' false false once less = refl
 
-owns_less : {live live' : Handles} {os os' : List (Option ℕ)} (o : Option ℕ) → live' ≡ without live o
+pub owns_less : {live live' : Handles} {os os' : List (Option ℕ)} (o : Option ℕ) → live' ≡ without live o
     → ((q : ℕ) → uses os' q + uses_in o q ≡ uses os q) → Owned live os → Owns live live' os os'
 owns_less {live} {live'} {os} {os'} None gone count owned = record {
   owned = record {
@@ -203,7 +221,7 @@ owns_closed {slot = slot} table i is gone owned =
 pub live_slot : {live : Handles} {slot : Slot} (table : List Slot) (i : ℕ) → Owned live (handles table)
     → slice_get table i ≡ Some slot → IsLive live slot
 live_slot {slot = slots.Directory dir} table i owned is = owned_live table i owned is refl
-live_slot {slot = slots.File f position} table i owned is = owned_live table i owned is refl
+live_slot {slot = slots.File f} table i owned is = owned_live table i owned is refl
 live_slot {slot = slots.Stream s} table i owned is = tt
 live_slot {slot = slots.Closed} table i owned is = tt
 
@@ -216,34 +234,35 @@ abbrev Apart : P1Preopen → P1Preopen → Type 0
 Apart one other = one.handle ≢ other.handle
 
 -- one more
-uses-given : (p : P1Preopen) (ps : List P1Preopen) (q : ℕ)
-    → uses (handles (map given_slot (p ∷ ps))) q ≡ one_if (q == p.handle) + uses (handles (map given_slot ps)) q
-uses-given p ps q =
-    ap (λ os. uses os q) (handles-cons (given_slot p) (map given_slot ps))
-    ∙ uses-cons (Some p.handle) (handles (map given_slot ps)) q
+uses-given : (place : ℕ) (p : P1Preopen) (ps : List P1Preopen) (q : ℕ)
+    → uses (handles (given_slots place (p ∷ ps))) q
+    ≡ one_if (q == p.handle) + uses (handles (given_slots (suc place) ps)) q
+uses-given place p ps q =
+    ap (λ os. uses os q) (handles-cons (given_slot place p) (given_slots (suc place) ps))
+    ∙ uses-cons (Some p.handle) (handles (given_slots (suc place) ps)) q
 
-no_given : (q : ℕ) → uses (handles (map given_slot [])) q ≡ 0
+no_given : (q : ℕ) → uses (handles []) q ≡ 0
 unfolding handles uses
 no_given q = refl
 
 -- a handle that none of them has
-unused : (h : ℕ) (preopens : List P1Preopen) → All (λ other. h ≢ other.handle) preopens
-    → uses (handles (map given_slot preopens)) h ≡ 0
-unused h [] others = no_given h
-unused h (p ∷ ps) others =
+unused : (h place : ℕ) (preopens : List P1Preopen) → All (λ other. h ≢ other.handle) preopens
+    → uses (handles (given_slots place preopens)) h ≡ 0
+unused h place [] others = no_given h
+unused h place (p ∷ ps) others =
     let no : (h == p.handle) ≡ false = differ (All-head (λ other. h ≢ other.handle) p ps others) in
-    let rest = unused h ps (All-tail (λ other. h ≢ other.handle) p ps others) in
-    omega (arith, rest, ap one_if no, uses-given p ps h)
+    let rest = unused h (suc place) ps (All-tail (λ other. h ≢ other.handle) p ps others) in
+    omega (arith, rest, ap one_if no, uses-given place p ps h)
   where
     differ : {a b : ℕ} → a ≢ b → (a == b) ≡ false
     differ other = grind (arith, nat_tests)
 
-given_once : (live : Handles) (preopens : List P1Preopen) (q : ℕ) → All (IsLiveIn live) preopens
-    → AllPairs Apart preopens → uses (handles (map given_slot preopens)) q ≤ one_if (contains live q)
-given_once live [] q lives apart = omega (arith, no_given q)
-given_once live (p ∷ ps) q lives apart =
-    let rest = by (q == p.handle) refl (given_once live ps q (All-tail (IsLiveIn live) p ps lives) later) in
-    omega (arith, rest, uses-given p ps q)
+given_once : (live : Handles) (place : ℕ) (preopens : List P1Preopen) (q : ℕ) → All (IsLiveIn live) preopens
+    → AllPairs Apart preopens → uses (handles (given_slots place preopens)) q ≤ one_if (contains live q)
+given_once live place [] q lives apart = omega (arith, no_given q)
+given_once live place (p ∷ ps) q lives apart =
+    let rest = by (q == p.handle) refl (given_once live (suc place) ps q (All-tail (IsLiveIn live) p ps lives) later) in
+    omega (arith, rest, uses-given place p ps q)
   where
     others : All (Apart p) ps
     others = All-from_get_or (Apart p) ps p (λ i within. apart 0 (suc i) p (omega arith) (omega arith))
@@ -251,11 +270,11 @@ given_once live (p ∷ ps) q lives apart =
     later : AllPairs Apart ps
     later i j d less within = apart (suc i) (suc j) d (omega arith) (omega arith)
 
-    by : (b : Bool) → (q == p.handle) ≡ b → uses (handles (map given_slot ps)) q ≤ one_if (contains live q)
-        → one_if b + uses (handles (map given_slot ps)) q ≤ one_if (contains live q)
+    by : (b : Bool) → (q == p.handle) ≡ b → uses (handles (given_slots (suc place) ps)) q ≤ one_if (contains live q)
+        → one_if b + uses (handles (given_slots (suc place) ps)) q ≤ one_if (contains live q)
     by true is once =
         let same : q ≡ p.handle = grind (arith, nat_tests) in
-        let none = ap (uses (handles (map given_slot ps))) same ∙ unused p.handle ps others in
+        let none = ap (uses (handles (given_slots (suc place) ps))) same ∙ unused p.handle (suc place) ps others in
         let one = ap one_if (ap (contains live) same ∙ All-head (IsLiveIn live) p ps lives) in
         omega (arith, none, one)
     by false is once = omega (arith, once)
@@ -268,14 +287,14 @@ uses-stream s table q =
     omega (arith, cons, uses-cons None (handles table) q)
 
 first_uses : (preopens : List P1Preopen) (q : ℕ)
-    → uses (handles (first_slots preopens)) q ≡ uses (handles (map given_slot preopens)) q
+    → uses (handles (first_slots preopens)) q ≡ uses (handles (given_slots 0 preopens)) q
 first_uses preopens q = uses-stream Input _ q ∙ uses-stream Output _ q ∙ uses-stream Error _ q
 
 -- each has another live handle
 pub first_owned : {live : Handles} (preopens : List P1Preopen) → All (IsLiveIn live) preopens
     → AllPairs Apart preopens → Owned live (handles (first_slots preopens))
 first_owned {live} preopens lives apart = record {
-  once = λ q. let given = given_once live preopens q lives apart in omega (arith, given, first_uses preopens q);
+  once = λ q. let given = given_once live 0 preopens q lives apart in omega (arith, given, first_uses preopens q);
 }
 
 -- ---- what owning says

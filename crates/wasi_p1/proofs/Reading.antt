@@ -1,8 +1,9 @@
--- Reading into memory, and writing from it.
-use Rattle.std.proofs.Common.{inl, sym, ◌∙◌, ap, subst, ℕ, List, ◌+◌, ◌≤◌, ◌≡◌, true, Result, Ok, Err, refl, arith, length, take, drop, slice_range}
+-- Reading into memory, and what a call of a told host is as a request.
+use Rattle.std.proofs.Common.{inl, inr, sym, ◌∙◌, ap, subst, ℕ, List, ◌+◌, ◌≤◌, ◌≡◌, true, Result, Ok, Err, refl, arith, length, take, drop, slice_range}
 use Rattle.std.proofs.lemmas.List.{length-take-le}
 use Rattle.std.specs.FinSet.{contains}
-use Rattle.wasi_host.specs.HostCall.{Pread, Pwrite}
+use Rattle.wasi_host.specs.Answer.{HostAnswer}
+use Rattle.wasi_host.specs.HostCall.{HostCall, Pread}
 use Rattle.wasi_host.specs.Meaning.{World, Handles, Keeps, Told, hosted}
 use Rattle.wasi_host.specs.declared.errors.ErrorCode.{ErrorCode}
 use Rattle.wasi_host.specs.declared.errors.ErrorCode.TheVariants.{Io}
@@ -11,10 +12,12 @@ use Rattle.wasi_host.specs.declared.errors.HostError.TheVariants.{Code}
 use Rattle.wasi_host.specs.declared.held.Held.{Held}
 use Rattle.wasi_p1.specs.Errnos.{errno_of, error_of}
 use Rattle.wasi_guest.specs.Range.{with_bytes}
-use Rattle.wasi_p1.specs.CallParts.{ReadsInto, WritesPiece, filled_at}
+use Rattle.wasi_p1.specs.CallParts.{Makes, ReadsInto, filled_at}
+use Rattle.wasi_p1.specs.Request.{Direct}
+use Rattle.wasi_p1.specs.Row.{Row}
+use Rattle.wasi_p1.specs.declared.error.P1Error.{P1Error}
 use Rattle.wasi_p1.specs.declared.error.P1Error.TheVariants.{Errno}
 use Rattle.wasi_guest.proofs.Ranges.{with_filled}
-use Rattle.wasi_host.proofs.Agreeing.{unless_value}
 use Rattle.wasi_p1.proofs.Resolving.{asked_ok, asked_err}
 
 -- a read over a told host of so many bytes, into the front of a buffer
@@ -52,7 +55,7 @@ pub read_front : {memory buf : List ℕ} {at size n len : ℕ} → Filled memory
     → (bytes : List ℕ) × (length bytes ≤ size) × (filled_at memory at bytes ≡ Ok (n, with_bytes memory at buf))
 read_front {buf = buf} {n = n} filled = (take n buf, filled_fits filled, filled_front filled)
 
-keeps_all : {old new : Handles} (w v : World) → new ≡ old → Keeps old new w v → (q : ℕ) → contains old q ≡ true
+pub keeps_all : {old new : Handles} (w v : World) → new ≡ old → Keeps old new w v → (q : ℕ) → contains old q ≡ true
     → v.held q ≡ w.held q
 keeps_all w v same keeps q is = keeps q is (subst (λ s. contains s q ≡ true) (sym same) is)
 
@@ -85,31 +88,22 @@ read_err {old = old} {new = new} {w = w} {v = v} {f = f} {position = position} {
       does = inl (asked_err same (Code code) (λ e. io (ap Err e)) told');
     }
 
--- ---- a write
+-- ---- one call of a told host, as the request that it stands for
 
--- of a told host, of so many bytes
-abbrev pub WriteTold : Handles → Handles → World → World → Held → ℕ → List ℕ → Result ℕ HostError → Type 0
-WriteTold old new w v f position piece result =
-    Told {A = ℕ} old new w v (Pwrite f position piece) (λ n. n) result
+module _ {rose A B : Type 0} {old new : Handles} {w v : World} {call : HostCall} {shown : A → HostAnswer call}
+    {next : HostAnswer call → Row B} (same : new ≡ old) where
+  pub told_ok : {a : A} {b : B} → Told old new w v call shown (Ok a) → next (shown a) ≡ Ok b
+      → Makes rose old w v (Direct call) next (Ok b)
+  told_ok {a} told is =
+      record { keeps = keeps_all w v same told.keeps; does = (shown a, asked_ok same told, is) }
 
-pub write_ok : {rose : Type 0} {old new : Handles} {w v : World} {f : Held} {position : ℕ} {piece : List ℕ} {n : ℕ}
-    → new ≡ old → WriteTold old new w v f position piece (Ok n)
-    → WritesPiece rose old w v f position piece (Ok n)
-write_ok {w = w} {v = v} {f = f} {position = position} {piece = piece} {n = n} same told = record {
-  keeps = keeps_all w v same told.keeps;
-  does = (n, asked_ok same told, refl);
-}
+  -- the row refuses the answer
+  pub told_refused : {a : A} {e : P1Error} → Told old new w v call shown (Ok a) → next (shown a) ≡ Err e
+      → Makes rose old w v (Direct call) next (Err e)
+  told_refused {a} told is =
+      record { keeps = keeps_all w v same told.keeps; does = inr (shown a, asked_ok same told, is) }
 
-pub write_err : {rose : Type 0} {old new : Handles} {w v : World} {f : Held} {position : ℕ} {piece : List ℕ}
-    (e : HostError) → new ≡ old → ((let r : Result ℕ HostError = Err e in r) ≡ Err (Code Io) → rose)
-    → WriteTold old new w v f position piece (Err e)
-    → WritesPiece rose old w v f position piece (Err (error_of e))
-write_err {w = w} {v = v} {f = f} {position = position} {piece = piece} e same io told = record {
-  keeps = keeps_all w v same told.keeps;
-  does = inl (asked_err same e (λ x. io (ap Err x)) told);
-}
-
--- it takes the whole piece
-pub taken_whole : {old new : Handles} {w v : World} {f : Held} {position : ℕ} {piece : List ℕ} {n : ℕ}
-    → WriteTold old new w v f position piece (Ok n) → n ≡ length piece
-taken_whole told = sym (unless_value _ told.meaning)
+  pub told_err : (e : HostError) → ((let r : Result A HostError = Err e in r) ≡ Err (Code Io) → rose)
+      → Told old new w v call shown (Err e) → Makes rose old w v (Direct call) next (Err (error_of e))
+  told_err e io told =
+      record { keeps = keeps_all w v same told.keeps; does = inl (asked_err same e (λ x. io (ap Err x)) told) }

@@ -1,12 +1,13 @@
 -- A request is answered alike over two trees with equal nodes where it starts, and leaves them with equal nodes there.
-use Rattle.std.proofs.Common.{ℕ, ◌≡◌, inl, inr, List, [], refl, arith, Some, Ok}
+use Rattle.std.proofs.Common.{ℕ, ◌≡◌, inl, inr, List, refl, arith, Some, Ok}
 use Rattle.std.specs.Prelude.{Contains}
+use Rattle.wasi_host.specs.HostCall.{Append, Stat}
 use Rattle.wasi_host.specs.Tree.{Tree, node_at}
 use Rattle.wasi_host.specs.Agree.{IsClosed, AgreeOn, OrMade}
 use Rattle.wasi_host.proofs.Leaving.{named_in}
 use Rattle.wasi_host.proofs.Agreeing.{step_agree, answer_same, reach_closed, none_past}
 use Rattle.wasi_resolve.proofs.Requests.{path_reply_same, path_after_agree, path_given_seen}
-use Rattle.wasi_p1.specs.Request.{Request, Reply, Path, Direct, reply_of, after, starts_at}
+use Rattle.wasi_p1.specs.Request.{Request, Reply, Path, Direct, Behind, reply_of, after, starts_at}
 use Rattle.wasi_p1.proofs.Near.{given_by}
 use Rattle.wasi_p1.proofs.RequestsLeave.{request_leaves}
 
@@ -32,6 +33,7 @@ module _ {Seen : ℕ → Type 0} {t : Tree} (closed : IsClosed Seen t) where
       → (n : ℕ) → Contains (given_by r reply) n → OrMade Seen t (after t r) n
   given_seen (Path p) reply from is n has = path_given_seen closed p reply from is n has
   given_seen (Direct call) reply from is n has = absurd (omega (arith, has.1))
+  given_seen (Behind f piece) reply from is n has = absurd (omega (arith, has.1))
 
 module _ {Seen : ℕ → Type 0} {t u : Tree} (closed : IsClosed Seen t) (agree : AgreeOn Seen t u) where
   -- the trees after a request are again equal on the set and on what was made
@@ -39,8 +41,13 @@ module _ {Seen : ℕ → Type 0} {t u : Tree} (closed : IsClosed Seen t) (agree 
       → AgreeOn (OrMade Seen t (after t r)) (after t r) (after u r)
   after_agree (Path p) from = path_after_agree closed agree p from
   after_agree (Direct call) from = step_agree closed agree call from
+  after_agree (Behind f piece) from = step_agree closed agree (Append f piece) from
 
   -- equal answers
   pub reply_same : (r : Request) → ((n : ℕ) → Contains (starts_at r) n → Seen n) → reply_of t r ≡ reply_of u r
   reply_same (Path p) from = path_reply_same closed agree p from
   reply_same (Direct call) from = answer_same closed agree call from
+  reply_same (Behind f piece) from =
+      let told = answer_same (after_closed closed (Behind f piece) from) (after_agree (Behind f piece) from) (Stat f.node)
+      (λ n has. inl (from n has)) in
+      rw (answer_same closed agree (Append f piece) from, told) refl

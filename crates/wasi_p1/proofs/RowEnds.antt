@@ -1,14 +1,16 @@
 -- The ends of rows: what is made of what a part gives, as an answer and the guest after it.
-use Rattle.std.proofs.Common.{ℕ, List, slice_set, Option}
+use Rattle.std.proofs.Common.{ℕ, ◌+◌, List, Option}
 use Rattle.wasi_guest.specs.declared.answer.Value.{Value}
 use Rattle.wasi_guest.specs.declared.answer.Value.TheVariants.{Number, Unit as Nothing, Filestat as Told}
 use Rattle.wasi_guest.specs.declared.filestat.Filestat.{Filestat}
 use Rattle.wasi_host.specs.declared.errors.ErrorCode.{ErrorCode}
 use Rattle.wasi_p1.specs.Front.{CallFront, free, ask, ◌>>=◌}
 use Rattle.wasi_p1.specs.Guest.{Guest, GuestSlot, OpenFile}
-use Rattle.wasi_p1.specs.Parts.{permit, moved}
+use Rattle.wasi_p1.specs.Files.{sought}
+use Rattle.wasi_p1.specs.Parts.{permit, at_position, with_file}
 use Rattle.wasi_p1.specs.Request.{Request, Reply}
 use Rattle.wasi_p1.specs.Row.{Row, made_of_reply}
+use Rattle.wasi_p1.specs.declared.file_parts.Appended.{Appended}
 
 -- of a row that asks for what has to be permitted
 abbrev pub tail : {A : Type 0} → Option ErrorCode → (r : Request) → (Reply r → Row A) → (Guest → A → Value × Guest)
@@ -29,11 +31,23 @@ with_text g p = (Number p.0, record g { memory = p.1 })
 
 -- and the file's position is behind what was read
 abbrev pub with_memory : ℕ → OpenFile → Guest → ℕ × List ℕ → Value × Guest
-with_memory fd f g p = (Number p.0, record g { memory = p.1; slots = slice_set g.slots fd (moved f p.0) })
+with_memory fd f g p = (Number p.0, record (with_file g fd (at_position f (f.position + p.0))) { memory = p.1 })
 
--- a number: the file's position is behind what was written
+-- a number alone
+abbrev pub with_number : Guest → ℕ → Value × Guest
+with_number g count = (Number count, g)
+
+-- and the file's position is behind what was written
 abbrev pub with_position : ℕ → OpenFile → Guest → ℕ → Value × Guest
-with_position fd f g count = (Number count, record g { slots = slice_set g.slots fd (moved f count) })
+with_position fd f g count = (Number count, with_file g fd (at_position f (f.position + count)))
+
+-- and is the file's size
+abbrev pub with_size : ℕ → OpenFile → Guest → Appended → Value × Guest
+with_size fd f g put = (Number put.count, with_file g fd (at_position f put.size))
+
+-- and is the number
+abbrev pub with_sought : ℕ → OpenFile → Guest → ℕ → Value × Guest
+with_sought fd f g position = sought g fd f position
 
 -- a record
 abbrev pub with_filestat : Guest → Filestat → Value × Guest

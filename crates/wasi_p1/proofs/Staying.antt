@@ -15,7 +15,7 @@ use Rattle.wasi_p1.proofs.Counting.{handle_at, handle_put}
 use Rattle.wasi_p1.proofs.Owning.{put_same, closed_at}
 
 -- another number than the one that is set
-set_other : {A : Type 0} (xs : List A) (i n : ℕ) (y : A) → n ≢ i → slice_get (slice_set xs i y) n ≡ slice_get xs n
+pub set_other : {A : Type 0} (xs : List A) (i n : ℕ) (y : A) → n ≢ i → slice_get (slice_set xs i y) n ≡ slice_get xs n
 set_other xs i n y other = elim (set_cases xs i n y) [ inl same ↦ same | inr new ↦ absurd (other new.0) ]
 
 -- a descriptor that has a handle is in use
@@ -33,8 +33,8 @@ used_by table n h has = by (slice_get table n) refl (sym (slice_get-map handle_i
     by None at is = absurd (cc)
     by (Some slots.Closed) at is = absurd (cc)
     by (Some (slots.Stream s)) at is = absurd (cc)
-    by (Some (slots.Directory dir)) at is = record { slot = slots.Directory dir; at = at; in_use = refl; has = cc }
-    by (Some (slots.File f position)) at is = record { slot = slots.File f position; at = at; in_use = refl; has = cc }
+    by (Some (slots.Directory d)) at is = record { slot = slots.Directory d; at = at; in_use = refl; has = cc }
+    by (Some (slots.File f)) at is = record { slot = slots.File f; at = at; in_use = refl; has = cc }
 
 -- ---- what a call does with them
 

@@ -1,5 +1,5 @@
 -- What is kept of descriptors beside the resource table, as they come, move and go.
-use Rattle.std.proofs.Common.{ℕ, ◌<◌, ◌≤◌, ◌≡◌, true, false, List, [], ◌∷◌, ◌++◌, length, get_or, slice_get, slice_set, refl, sym, ◌∙◌, arith}
+use Rattle.std.proofs.Common.{ℕ, ◌<◌, ◌≤◌, ◌≡◌, false, List, [], ◌∷◌, ◌++◌, length, get_or, slice_get, slice_set, Some, refl, sym, ◌∙◌, arith}
 use Rattle.std.specs.Prelude.{IsPermutation}
 use Rattle.std.specs.BinaryHeap.{IsHeap}
 use Rattle.std.specs.Ordering.{nat_cmp}
@@ -7,15 +7,16 @@ use Rattle.std.proofs.lemmas.List.{length-set, length-append}
 use Rattle.std.proofs.lemmas.List.Sorted.{length_permutation}
 use Rattle.wasi_streams.specs.Table.{Entries}
 use Rattle.wasi_p1.specs.Descriptors.{AreKept}
-use Rattle.wasi_p1.specs.Items.{slots_of, is_closed_item, without_item, at_position, moved_slot, is_file_slot, Admitted}
+use Rattle.wasi_p1.specs.Items.{slots_of, is_closed_item, without_item, file_under, put_item, Admitted}
 use Rattle.wasi_p1.specs.Numbering.{passes_at}
 use Rattle.wasi_p1.specs.Slots.{is_closed_slot}
+use Rattle.wasi_p1.specs.declared.context.FileSlot.{FileSlot}
 use Rattle.wasi_p1.specs.declared.context.Slot.{Slot}
 use Rattle.wasi_p1.specs.declared.context.Slot.TheVariants as slots
 use Rattle.wasi_p1.specs.declared.items.Item.{Item}
 use Rattle.wasi_p1.specs.declared.items.Item.TheVariants.{Closed}
 use Rattle.wasi_p1.proofs.ClosedHeap.{holds_pushed, top_closed, holds_taken, holds_closed, holds_set}
-use Rattle.wasi_p1.proofs.Naming.{slots_length, passes-item, admitted_len, forgotten_len, taken_named, taken_slots, behind_named, behind_slots, closed_named, closed_slots, positioned, file_used, moved_used}
+use Rattle.wasi_p1.proofs.Naming.{slots_length, passes-item, admitted_len, forgotten_len, taken_named, taken_slots, behind_named, behind_slots, closed_named, closed_slots, put_back_at, file_within, file_used}
 
 -- a number that stands for something was given
 pub is_given : (table : Entries) (items : List Item) (i : ℕ) → i < length (slots_of table items) → i < length items
@@ -89,21 +90,23 @@ module _ {heap : List ℕ} {capacity : ℕ} {items : List Item} {table : Entries
         ));
       }
 
-    -- ---- a file's descriptor is put at another position
+    -- ---- a file's descriptor is put back
 
-    module _ {i : ℕ} (position : ℕ) (among : i < length (slots_of table items))
-        (file : is_file_slot (slice_get (slots_of table items) i) ≡ true) where
-      pub put_slots : slots_of table (slice_set items i (at_position (get_or items i Closed) position))
-          ≡ slice_set (slots_of table items) i (moved_slot (slice_get (slots_of table items) i) position)
-      put_slots = (positioned kept.named i (is_given table items i among) _ position refl file).1
+    module _ (i : ℕ) (f : FileSlot) (file : file_under (slice_get (slots_of table items) i) ≡ Some f.file) where
+      pub given_file : i < length items
+      given_file = is_given table items i (file_within (slots_of table items) i file)
 
-      pub put_kept : AreKept heap capacity (slice_set items i (at_position (get_or items i Closed) position)) table
+      pub put_slots : slots_of table (slice_set items i (put_item (get_or items i Closed) f.position f.modes))
+          ≡ slice_set (slots_of table items) i (slots.File f)
+      put_slots = (put_back_at kept.named i given_file f.position f.modes file _ refl).1
+
+      pub put_kept : AreKept heap capacity (slice_set items i (put_item (get_or items i Closed) f.position f.modes)) table
       put_kept = record {
         indexed = rw put_slots (record {
-          closed = holds_set kept.indexed.closed _ i among (file_used (slots_of table items) i file)
-              (moved_used (slice_get (slots_of table items) i) position file);
+          closed = holds_set kept.indexed.closed _ i (file_within (slots_of table items) i file)
+              (file_used (slots_of table items) i file) refl;
           room = simp length-set (omega (arith, kept.indexed.room));
         });
-        named = (positioned kept.named i (is_given table items i among) _ position refl file).0;
+        named = (put_back_at kept.named i given_file f.position f.modes file _ refl).0;
         count = simp length-set kept.count;
       }

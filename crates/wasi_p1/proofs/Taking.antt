@@ -1,5 +1,5 @@
 -- From what the parts of a call give to what the call does.
-use Rattle.std.proofs.Common.{Result, ℕ, true, ◌+◌, slice_get, slice_set, List, Some, ◌≡◌, inl, inr, refl, ap, sym, ◌∙◌, subst, Bool, Ok, Err, length}
+use Rattle.std.proofs.Common.{Result, ℕ, true, slice_get, slice_set, List, Some, ◌≡◌, inl, inr, refl, ap, sym, ◌∙◌, subst, Bool, Ok, Err, length}
 use Rattle.std.specs.Prelude.{IsTrue, IsErrAnd, Contains}
 use Rattle.std.proofs.lemmas.Result.{err_from_is_err_and}
 use Rattle.wasi_host.specs.Steps.{◌>>=◌}
@@ -12,7 +12,7 @@ use Rattle.wasi_p1.specs.Guest.{Guest, guest_slots, guest_of, guest_by}
 use Rattle.wasi_p1.specs.Request.{Request, Reply}
 use Rattle.wasi_p1.specs.Row.{Row, Program, give, done, made_of_reply}
 use Rattle.wasi_p1.specs.Front.{with_fuel, ask}
-use Rattle.wasi_p1.specs.Parts.{moved}
+use Rattle.wasi_p1.specs.Parts.{with_file}
 use Rattle.wasi_p1.specs.Rows.{front, row, fuel_left, descriptors_named, may_want}
 use Rattle.wasi_p1.specs.Owners.{handles, Owned, SlotsOfCall}
 use Rattle.wasi_p1.specs.CallParts.{Follows, IsReplied, Makes, WantsNoMemory, Stays, open_file_of}
@@ -22,7 +22,8 @@ use Rattle.wasi_guest.specs.declared.call.Call.{Call}
 use Rattle.wasi_p1.specs.declared.error.P1Error.{P1Error}
 use Rattle.wasi_guest.specs.declared.answer.Value.{Value}
 use Rattle.wasi_guest.specs.declared.answer.Value.TheVariants.{Number}
-use Rattle.wasi_p1.specs.declared.call_parts.FilePlace.{FilePlace}
+use Rattle.wasi_fs.specs.declared.descriptor.File.{File as OpenedFile}
+use Rattle.wasi_p1.specs.declared.context.FileSlot.{FileSlot}
 use Rattle.wasi_p1.specs.declared.context.Slot.TheVariants.{File}
 use Rattle.wasi_guest.specs.declared.errno.Errno.{Errno as ErrorNumber}
 use Rattle.wasi_p1.specs.declared.error.P1Error.TheVariants.{Errno, Memory}
@@ -158,16 +159,14 @@ abbrev Made : {H A : Type 0} → (H → World) → (H → ℕ) → View H → Vi
 Made world faults old new live r next result =
     Makes (Rose (faults old.host) (faults new.host)) live (world old.host) (world new.host) r next result
 
--- a file's descriptor is put back further on
-pub record Moved {H : Type 0} (old new : View H) (fd : ℕ) (file : FilePlace) (n : ℕ) : Type 0 where
-  pub slots : new.slots ≡ slice_set old.slots fd (File file.file (file.position + n))
+-- a file's descriptor is put back, at another position or with other modes
+pub record PutBack {H : Type 0} (old new : View H) (fd : ℕ) (f : FileSlot) : Type 0 where
+  pub slots : new.slots ≡ slice_set old.slots fd (File f)
   pub table_max : new.table_max ≡ old.table_max
   pub holdings : new.holdings ≡ old.holdings
 
-abbrev guest_moved : {H : Type 0} → (ℕ → Held) → View H → ℕ → FilePlace → ℕ → List ℕ → Guest
-guest_moved held old fd file n after = record (guest_by held old after) {
-  slots = slice_set (guest_slots held old.slots) fd (moved (open_file_of held file) n);
-}
+abbrev guest_put : {H : Type 0} → (ℕ → Held) → View H → ℕ → FileSlot → List ℕ → Guest
+guest_put held old fd f after = with_file (guest_by held old after) fd (open_file_of held f)
 
 module _ {H : Type 0} {told : Bool} {world : H → World} {faults : H → ℕ} {lookups : H → List Lookup}
     {old new : View H} {before after : List ℕ} {call : Call} where
@@ -275,34 +274,34 @@ module _ {H : Type 0} {told : Bool} {world : H → World} {faults : H → ℕ} {
             shows ∙ (λ i. (y, let g : Guest = record (guest_of world new after) { slots = sym stays i } in g)),
           ))
 
-      -- a file's descriptor was put back further on
-      pub moved_ok : {fd n : ℕ} {file : FilePlace} {x : A} → length after ≡ length before → Follows r next (Ok x)
-          → shown (guest_of world old before) x ≡ (Number n, guest_moved (world old.host).held old fd file n after)
-          → Moved old new fd file n → Contains (descriptors_named before call) fd
-          → slice_get old.slots fd ≡ Some (File file.file file.position) → contains live file.file.file ≡ true
+      -- a file's descriptor was put back
+      pub put_ok : {fd n : ℕ} {f was : FileSlot} {x : A} → length after ≡ length before → Follows r next (Ok x)
+          → shown (guest_of world old before) x ≡ (Number n, guest_put (world old.host).held old fd f after)
+          → PutBack old new fd f → Contains (descriptors_named before call) fd
+          → slice_get old.slots fd ≡ Some (File was) → f.file ≡ was.file → contains live f.file.file ≡ true
           → (IsTrue told → Made world faults old new live r next (Ok x))
           → FollowsRow told world faults lookups old new before after call (Ok (Number n))
-      moved_ok {fd} {n} {file} size follows shows moved named was held makes =
-          does_ok size (put_stays fd _ named was refl moved.slots) follows (shows ∙ again (world old.host).held refl refl) (λ told.
+      put_ok {fd} {n} {f} {was} size follows shows put named is same held makes =
+          does_ok size (put_stays fd _ named is (ap (λ (file : OpenedFile). Some file.file) same) put.slots) follows
+          (shows ∙ again (world old.host).held refl refl) (λ told.
           let made = makes told in (
             made.does,
-            shows ∙ again (world new.host).held (made.keeps file.file.file held) (guest_slots_stay old.slots owned made.keeps),
+            shows ∙ again (world new.host).held (made.keeps f.file.file held) (guest_slots_stay old.slots owned made.keeps),
           ))
         where
-          again : (stands : ℕ → Held) → stands file.file.file ≡ (world old.host).held file.file.file
+          again : (stands : ℕ → Held) → stands f.file.file ≡ (world old.host).held f.file.file
               → guest_slots stands old.slots ≡ guest_slots (world old.host).held old.slots
-              → ◌≡◌ {A = Value × Guest} (Number n, guest_moved (world old.host).held old fd file n after)
+              → ◌≡◌ {A = Value × Guest} (Number n, guest_put (world old.host).held old fd f after)
               (Number n, guest_by stands new after)
           again stands same kept =
-              let placed = put_file_at (world old.host).held stands old.slots new.slots fd file.file _
-              moved.slots same kept in
+              let placed = put_file_at (world old.host).held stands old.slots new.slots fd f put.slots same kept in
               λ i. (
                 Number n,
                 record {
                   slots = sym placed i;
-                  table_max = sym moved.table_max i;
+                  table_max = sym put.table_max i;
                   memory = after;
-                  holdings = sym moved.holdings i;
+                  holdings = sym put.holdings i;
                 },
               )
 

@@ -14,7 +14,7 @@ use Rattle.wasi_host.proofs.Changes.{node_at-past}
 use Rattle.wasi_host.proofs.ValidSteps.{valid-step}
 use Rattle.wasi_p1.specs.CallTurn.{Turns, in_world}
 use Rattle.wasi_p1.specs.Guest.{Guest, State}
-use Rattle.wasi_host.specs.HostCall.{OpenAt, Pread}
+use Rattle.wasi_host.specs.HostCall.{Append, OpenAt, Pread}
 use Rattle.wasi_host.specs.HostCall as calls
 use Rattle.wasi_host.specs.declared.held.Held.{Held}
 use Rattle.wasi_host.specs.Steps.{◌>>=◌}
@@ -29,7 +29,7 @@ use Rattle.wasi_resolve.specs.AtTwo.{Places, places_for, asks_directory, call_at
 use Rattle.wasi_resolve.specs.Paths.{Opening, Place, opening, step_of, timed}
 use Rattle.wasi_resolve.specs.PathRequest.{PathRequest, OpenPath, LookPath, AtPlace, TimesPath, AtTwo, PathReply, answer_at, as_asked, times_through, path_reply, path_after}
 use Rattle.wasi_resolve.proofs.Requests.{as_opened}
-use Rattle.wasi_p1.specs.Request.{Request, Reply, Path, Direct, reply_of, after}
+use Rattle.wasi_p1.specs.Request.{Request, Reply, Path, Direct, Behind, reply_of, after}
 use Rattle.wasi_p1.specs.Row.{Row, Program, done, asking}
 use Rattle.wasi_p1.specs.Rows.{row, turn}
 use Rattle.wasi_p1.specs.Run.{Turned, Run, ends}
@@ -161,10 +161,17 @@ path_valid t (AtTwo old old_text new new_text what) {reply} valid texts answered
         (places_asked t old old_text new new_text what asks texts.0 texts.1 at) (free _ _ _ is)
     by (Err code) at is = valid
 
+-- the first of two was answered
+first_ok : {A B : Type 0} {b : B} (m : Result A ErrorCode) (next : A → Result B ErrorCode) → (m >>= next) ≡ Ok b
+    → (a : A) × (m ≡ Ok a)
+first_ok (Ok a) next is = (a, refl)
+first_ok (Err code) next is = absurd (cc)
+
 request_valid : (t : Tree) (r : Request) {reply : Reply r} → IsValidTree t → MayBeAsked r → reply_of t r ≡ Ok reply
     → IsValidTree (after t r)
 request_valid t (Path p) valid may is = path_valid t p valid may is
 request_valid t (Direct call) valid may is = valid-step t call valid may (free_of t call is)
+request_valid t (Behind f piece) valid may is = valid-step t (Append f piece) valid may (free_of t (Append f piece) (first_ok _ _ is).1)
 
 -- ---- a turn
 

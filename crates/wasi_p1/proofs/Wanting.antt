@@ -1,6 +1,6 @@
 -- No part of a row is refused because memory was wanted.
 use Rattle.std.proofs.Common.{refl, ◌≡◌, ◌+◌, ◌*◌, ◌/◌, ◌^◌, ◌%◌, take, [], nat_lt, nat_le, length, ℕ, true, false, cond, Bool, List, Option, Some, None, Ok, Err}
-use Rattle.std.specs.Prelude.{◌==◌}
+use Rattle.std.specs.Prelude.{◌==◌, ◌||◌, ℤ, pos, negsuc, ◌+ℤ◌}
 use Rattle.wasi_fs.specs.Perms.{is_read_only}
 use Rattle.wasi_fs.specs.declared.perms.FsPerms.{FsPerms}
 use Rattle.wasi_guest.specs.Flags as flag
@@ -15,6 +15,7 @@ use Rattle.wasi_host.specs.declared.errors.ErrorCode.{ErrorCode}
 use Rattle.wasi_guest.specs.declared.errno.Errno.{Errno as ErrorNumber}
 use Rattle.wasi_guest.specs.declared.errno.Errno.TheVariants as errnos
 use Rattle.wasi_p1.specs.CallParts.{WantsNoMemory, is_failure}
+use Rattle.wasi_p1.specs.Files.{file_in, name_into, name_within, not_synchronized, or_refused, position_from, position_of, read_place_in}
 use Rattle.wasi_p1.specs.Guest.{GuestSlot, stream, directory, file, is_closed}
 use Rattle.wasi_p1.specs.Numbering.{live_count}
 use Rattle.wasi_p1.specs.NewTimes.{time_of, new_time, times_asked}
@@ -29,9 +30,11 @@ use Rattle.wasi_guest.specs.declared.services.WallDatetime.{WallDatetime}
 use Rattle.wasi_guest.specs.declared.answer.TrapKind.TheVariants.{ExitStatus}
 use Rattle.wasi_p1.specs.declared.context.Stream.TheVariants as streams
 use Rattle.wasi_guest.specs.declared.iovec.Iovec.{Iovec}
-use Rattle.wasi_p1.specs.Services.{next_input, input_into, fits_32, total_of, sizes_of, aligned, put_texts, texts_at, or_unknown, moment_of, clock_res, clock_time, exit_with, known_signal}
+use Rattle.wasi_p1.specs.Services.{next_input, input_into, fits_32, total_of, sizes_of, aligned, put_texts, texts_at, moment_of, clock_res, clock_time, exit_with, known_signal}
 use Rattle.wasi_p1.specs.Stock.{Stock}
 use Rattle.wasi_p1.specs.declared.error.P1Error.TheVariants.{Errno, Trap, Exit}
+use Rattle.wasi_p1.specs.declared.file_parts.FileUse.{FileUse}
+use Rattle.wasi_p1.specs.declared.file_parts.FileUse.TheVariants.{ReadAt}
 
 abbrev pub Never : {A : Type 0} → Row A → Type 0
 Never (Ok x) = Unit {0}
@@ -66,8 +69,8 @@ guest_never (Err guests.InvalidFlagValue) = number
 guest_never (Err guests.InvalidEnumValue) = number
 guest_never (Err e) = trapped
 
-pub inval_never : (flags : Option ℕ) → Never (or_inval flags)
-inval_never (Some set) = tt
+pub inval_never : {A : Type 0} (o : Option A) → Never (or_inval o)
+inval_never (Some x) = tt
 inval_never None = number
 
 pub how_never : (dirflags oflags base inheriting fdflags : ℕ) → Never (open_how dirflags oflags base inheriting fdflags)
@@ -143,6 +146,50 @@ sink_never (Some (stream streams.Output)) = tt
 sink_never (Some (stream streams.Error)) = tt
 sink_never p = number
 
+-- ---- files and preopens
+
+pub file_never : (wanted : FileUse) (p : Option GuestSlot) → Never (file_in wanted p)
+file_never wanted (Some (file f)) = tt
+file_never wanted (Some (stream s)) = number
+file_never wanted p = number
+
+pub read_place_never : (slots : List GuestSlot) (table_max : ℕ) (p : Option GuestSlot) → Never (read_place_in slots table_max p)
+read_place_never slots table_max p = after (file_in ReadAt p) _ (file_never ReadAt p)
+    (λ f. after (room_for slots table_max 1) _ (room_never slots table_max 1) (λ _. tt))
+
+pub position_never : (base : ℕ) (offset : ℤ) → Never (position_from base offset)
+unfolding position_from
+position_never base offset = by (pos base +ℤ offset)
+  where
+    by : (z : ℤ) → Never (position_of z)
+    by (pos n) = when (nat_lt n (2 ^ 64)) n number
+    by (negsuc n) = number
+
+pub synchronized_never : (fdflags : ℕ) → Never (not_synchronized fdflags)
+unfolding not_synchronized
+synchronized_never fdflags = by (has fdflags flag.dsync || has fdflags flag.rsync || has fdflags flag.sync)
+  where
+    by : (b : Bool) → Never (let m : Row (Unit {0}) = cond b (Err (Errno errnos.Inval)) (Ok tt) in m)
+    by true = number
+    by false = tt
+
+pub refused_never : {A : Type 0} (e : ErrorNumber) (o : Option A) → Never (or_refused e o)
+refused_never e (Some x) = tt
+refused_never e None = number
+
+within_never : (name : List ℕ) (most : ℕ) → Never (name_within name most)
+unfolding name_within
+within_never name most = by (nat_lt most (length name))
+  where
+    by : (b : Bool) → Never (cond b (Err (Errno errnos.Nametoolong)) (Ok name))
+    by true = number
+    by false = tt
+
+pub name_never : (memory : List ℕ) (at : ℕ) (name : List ℕ) (most : ℕ) → Never (name_into memory at name most)
+unfolding name_into
+name_never memory at name most = after (name_within name most) _ (within_never name most)
+    (λ bytes. after (range memory at (length bytes)) _ (range_never memory at (length bytes)) (λ _. tt))
+
 -- ---- what needs no tree
 
 fits_never : (n : ℕ) → Never (fits_32 n)
@@ -190,18 +237,14 @@ moment_never wall monotonic clocks.Realtime = when (nat_lt (wall.seconds * 10 ^ 
 moment_never wall monotonic clocks.Monotonic = tt
 moment_never wall monotonic clock = number
 
-unknown_never : (clock : Option Clockid) → Never (or_unknown clock)
-unknown_never (Some clock) = tt
-unknown_never None = number
-
 pub clock_res_never : (stock : Stock) (id : ℕ) → Never (clock_res stock id)
 unfolding clock_res
-clock_res_never stock id = after (or_unknown (clockid_of id)) _ (unknown_never (clockid_of id))
+clock_res_never stock id = after (or_inval (clockid_of id)) _ (inval_never (clockid_of id))
     (moment_never stock.wall_resolution stock.monotonic_resolution)
 
 pub clock_time_never : (stock : Stock) (id : ℕ) → Never (clock_time stock id)
 unfolding clock_time
-clock_time_never stock id = after (or_unknown (clockid_of id)) _ (unknown_never (clockid_of id))
+clock_time_never stock id = after (or_inval (clockid_of id)) _ (inval_never (clockid_of id))
     (moment_never stock.wall stock.monotonic)
 
 pub exit_never : (status : ℕ) → WantsNoMemory (exit_with status)

@@ -1,24 +1,28 @@
 -- What an answered write did.
-use Rattle.std.proofs.Common.{ℕ, ◌≡◌, refl, ap, sym, ◌∙◌, List, length, slice_get, slice_set, Ok}
-use Rattle.wasi_host.specs.Tree.{Tree}
+use Rattle.std.proofs.Common.{ℕ, ◌≡◌, ◌+◌, Bool, true, false, cond, refl, ap, sym, ◌∙◌, List, length, slice_get, Ok}
+use Rattle.wasi_host.specs.Answer.{metadata_of, size_of}
+use Rattle.wasi_host.specs.Step.{write_step}
+use Rattle.wasi_host.specs.Tree.{Tree, bytes_of, node_at}
+use Rattle.wasi_host.specs.declared.metadata.Metadata.{Metadata}
 use Rattle.wasi_host.specs.HostCall.{Pwrite}
 use Rattle.wasi_guest.specs.declared.answer.Value.{Value}
 use Rattle.wasi_guest.specs.declared.answer.Value.TheVariants.{Number}
 use Rattle.wasi_guest.specs.declared.iovec.Iovec.{Iovec}
 use Rattle.wasi_p1.specs.Guest.{Guest, State}
-use Rattle.wasi_p1.specs.Request.{Direct}
-use Rattle.wasi_p1.specs.Row.{Row, done}
-use Rattle.wasi_p1.specs.Parts.{Sink, output, into, sink_in, range, may_write, held_by, moved}
-use Rattle.wasi_p1.specs.Front.{charged_buffer}
+use Rattle.wasi_p1.specs.Request.{Direct, Behind}
+use Rattle.wasi_p1.specs.Row.{Row, done, give}
+use Rattle.wasi_p1.specs.Parts.{Sink, output, into, sink_in, range, may_write, held_by, at_position, with_file}
+use Rattle.wasi_p1.specs.Front.{ask, charged_buffer}
 use Rattle.wasi_p1.specs.Rows.{fd_write, write_to}
 use Rattle.wasi_p1.specs.declared.holdings.Output.{Output}
 use Rattle.wasi_p1.specs.Writing.{WritesWhole, written_to}
 use Rattle.wasi_host.proofs.Agreeing.{unless_value}
 use Rattle.wasi_p1.proofs.Alike.{row_on}
+use Rattle.wasi_p1.proofs.Appending.{behind_reply}
 use Rattle.wasi_p1.proofs.Bytes.{range_is}
 use Rattle.wasi_p1.proofs.Moving.{gave_buffer, gave, replied_by}
 
-number_is : {count : ℕ} {x : Value} {g g' : Guest}
+pub number_is : {count : ℕ} {x : Value} {g g' : Guest}
     → (let m : Row (Value × Guest) = Ok (Number count, g) in m) ≡ Ok (x, g')
     → (x ≡ Number count) × (g' ≡ g)
 number_is {count} {x} {g} {g'} is =
@@ -26,11 +30,16 @@ number_is {count} {x} {g} {g'} is =
     (ap (λ (p : Value × Guest). p.0) (sym same), ap (λ (p : Value × Guest). p.1) (sym same))
 
 -- a row's answer is the answer and the state after it
-state_is : {t : Tree} {x y : Value} {g : Guest} {s' : State}
+pub state_is : {t : Tree} {x y : Value} {g : Guest} {s' : State}
     → row_on t (Ok (done (y, g))) ≡ Ok (x, s') → (x ≡ y) × (s' ≡ record { tree = t; guest = g })
 state_is {t} {x} {y} {g} {s'} is =
     let same : ◌≡◌ {A = Value × State} (y, record { tree = t; guest = g }) (x, s') = (cc) in
     (ap (λ (p : Value × State). p.0) (sym same), ap (λ (p : Value × State). p.1) (sym same))
+
+-- what is told of a file is its size
+told_size : (t : Tree) (n : ℕ) → (metadata_of t n).size ≡ size_of (node_at t n).content
+unfolding metadata_of
+told_size t n = refl
 
 pub writes_whole : (s s' : State) (fuel fd iovs n : ℕ) (x : Value)
     → row_on s.tree (fd_write s.guest fd iovs n fuel).0 ≡ Ok (x, s') → WritesWhole s s' fd iovs n x
@@ -55,18 +64,47 @@ writes_whole s s' fuel fd iovs n x is =
     puts buffer left piece long (output o) is =
         let (answered, after) = state_is is in (answered ∙ ap (λ k. Number k) long, after)
     puts buffer left piece long (into f) is =
-        let (may, allowed, four) = gave s.tree (may_write f.perms) _ left is in
-        let did = replied_by s.tree (Direct (Pwrite (held_by f) f.position piece)) _ four in
-        let whole : did.reply ≡ length piece = sym (unless_value _ did.is) in
-        let gives = number_is did.gives in (
-          gives.0 ∙ ap (λ k. Number k) (whole ∙ long),
-          (λ i. record {
-            tree = did.tree i;
-            guest = (gives.1 ∙ ap (λ k. let g : Guest = record s.guest {
-              slots = slice_set s.guest.slots fd (moved f k);
-            } in g) whole) i;
-          }),
-        )
+        let (may, allowed, four) = gave s.tree (may_write f.perms) _ left is in by f.modes.append refl four
+      where
+        answers : {count : ℕ} → x ≡ Number count → count ≡ length piece → x ≡ Number buffer.buf_len
+        answers given whole = given ∙ ap (λ k. Number k) (whole ∙ long)
+
+        after : Bool → State
+        after b =
+            let put = write_step s.tree f.node (cond b (length (bytes_of (node_at s.tree f.node).content)) f.position) piece in
+            record {
+              tree = put;
+              guest = with_file s.guest fd
+                  (at_position f (cond b (size_of (node_at put f.node).content) (f.position + length piece)));
+            }
+
+        by : (b : Bool) → f.modes.append ≡ b
+            → row_on s.tree ((cond b
+            (ask (Behind (held_by f) piece) (λ put. give (Number put.0, with_file s.guest fd (at_position f put.1.size))))
+            (ask (Direct (Pwrite (held_by f) f.position piece))
+            (λ count. give (Number count, with_file s.guest fd (at_position f (f.position + count)))))) left).0 ≡ Ok (x, s')
+            → (x ≡ Number buffer.buf_len) × (s' ≡ written_to s fd piece (into f))
+        by true at is =
+            let did = replied_by s.tree (Behind (held_by f) piece) _ is in
+            let put = behind_reply s.tree (held_by f) piece did.is in
+            let gives = number_is did.gives in (
+              answers gives.0 (ap (λ (p : ℕ × Metadata). p.0) put),
+              (λ i. record {
+                tree = did.tree i;
+                guest = (gives.1 ∙ ap (λ (p : ℕ × Metadata). with_file s.guest fd (at_position f p.1.size)) put
+                    ∙ ap (λ k. with_file s.guest fd (at_position f k)) (told_size _ f.node)) i;
+              }) ∙ ap after (sym at),
+            )
+        by false at is =
+            let did = replied_by s.tree (Direct (Pwrite (held_by f) f.position piece)) _ is in
+            let whole : did.reply ≡ length piece = sym (unless_value _ did.is) in
+            let gives = number_is did.gives in (
+              answers gives.0 whole,
+              (λ i. record {
+                tree = did.tree i;
+                guest = (gives.1 ∙ ap (λ k. with_file s.guest fd (at_position f (f.position + k))) whole) i;
+              }) ∙ ap after (sym at),
+            )
 
 -- and what is written to an output is put so
 pub output_whole : (s : State) (fuel fd iovs n : ℕ) {left : ℕ} {buffer : Iovec} {o : Output} {piece : List ℕ}

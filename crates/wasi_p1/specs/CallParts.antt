@@ -10,6 +10,7 @@ use Rattle.wasi_host.specs.Meaning.{World, Handles, Keeps}
 use Rattle.wasi_host.specs.declared.errors.HostError.{HostError}
 use Rattle.wasi_host.specs.declared.errors.ErrorCode.{ErrorCode}
 use Rattle.wasi_host.specs.declared.held.Held.{Held}
+use Rattle.wasi_host.specs.declared.metadata.Metadata.{Metadata}
 use Rattle.wasi_p1.specs.Asked.{Does}
 use Rattle.wasi_p1.specs.Errnos.{errno_of, error_of}
 use Rattle.wasi_p1.specs.Request.{Request, Reply, MayReply, Path, Direct}
@@ -17,27 +18,29 @@ use Rattle.wasi_p1.specs.Row.{Row, give}
 use Rattle.wasi_p1.specs.Parts.{OpenNode, opened_among, Source, input, from, Sink, output, into}
 use Rattle.wasi_guest.specs.Range.{with_bytes}
 use Rattle.wasi_guest.specs.declared.errno.Errno.TheVariants as errnos
-use Rattle.wasi_p1.specs.Guest.{OpenDirectory, OpenFile, GuestSlot, guest_slots, directory_by, file_by}
+use Rattle.wasi_p1.specs.Guest.{OpenFile, GuestSlot, guest_slots, file_by}
 use Rattle.wasi_p1.specs.declared.error.P1Error.{P1Error}
 use Rattle.wasi_p1.specs.declared.error.P1Error.TheVariants.{Errno, Memory}
 use Rattle.wasi_p1.specs.declared.context.Slot.{Slot}
 use Rattle.wasi_p1.specs.declared.context.Slot.TheVariants as slots
-use Rattle.wasi_p1.specs.declared.call_parts.FilePlace.{FilePlace}
+use Rattle.wasi_p1.specs.declared.context.FileModes.{FileModes}
+use Rattle.wasi_p1.specs.declared.context.FileSlot.{FileSlot}
+use Rattle.wasi_p1.specs.declared.file_parts.Appended.{Appended}
 use Rattle.wasi_p1.specs.declared.call_parts.Source.{Source as ReadPlace}
 use Rattle.wasi_p1.specs.declared.call_parts.Source.TheVariants as sources
 use Rattle.wasi_p1.specs.declared.call_parts.Sink.{Sink as WritePlace}
 use Rattle.wasi_p1.specs.declared.call_parts.Sink.TheVariants as sinks
 
--- a directory's, or a file's descriptor, with what its handle stands for in place of the handle
-abbrev pub open_directory_of : (ℕ → Held) → Dir → OpenDirectory
-open_directory_of held dir = directory_by (held dir.dir) dir
+-- a file's descriptor, with what its handle stands for in place of the handle
+abbrev pub open_file_of : (ℕ → Held) → FileSlot → OpenFile
+open_file_of held f = file_by (held f.file.file) f
 
-abbrev pub open_file_of : (ℕ → Held) → FilePlace → OpenFile
-open_file_of held file = file_by (held file.file.file) file.file file.position
-
--- a directory or file by its descriptor
+-- the node of a directory or file, and what is permitted of it
 abbrev pub open_node_of : (ℕ → Held) → Descriptor → OpenNode
 open_node_of held descriptor = record { node = (held (handle_of descriptor)).node; perms = perms_of descriptor }
+
+abbrev pub open_directory_of : (ℕ → Held) → Dir → OpenNode
+open_directory_of held dir = record { node = (held dir.dir).node; perms = dir.perms }
 
 -- A part that asks for something, which may not be permitted: then it is refused so, or memory was wanted first, and
 -- the host is as it was
@@ -57,10 +60,10 @@ with_after (Ok x) after = Ok (x, after)
 with_after (Err e) after = Err e
 
 -- an open into the descriptors
-abbrev pub OpensInto : Type 0 → World → World → OpenDirectory → List ℕ → OpenHow → List GuestSlot → List GuestSlot → Row ℕ
-    → Type 0
-OpensInto rose w v d text how before after result =
-    Does rose w v (Path (opens d.node text how)) (opened_among before d.perms (mode_of how)) (with_after result after)
+abbrev pub OpensInto : Type 0 → World → World → OpenNode → List ℕ → OpenHow → FileModes → List GuestSlot → List GuestSlot
+    → Row ℕ → Type 0
+OpensInto rose w v d text how modes before after result = Does rose w v (Path (opens d.node text how))
+    (opened_among before d.perms (mode_of how) modes) (with_after result after)
 
 -- a number beside the memory after it: bytes were read into a buffer
 abbrev pub filled_at : List ℕ → ℕ → List ℕ → Row (ℕ × List ℕ)
@@ -75,6 +78,10 @@ ReadsInto rose old w v f position buf size before after result =
 abbrev pub WritesPiece : Type 0 → Handles → World → World → Held → ℕ → List ℕ → Row ℕ → Type 0
 WritesPiece rose old w v f position piece result = Makes rose old w v (Direct (Pwrite f position piece)) give result
 
+-- how much a file took behind its last byte, and its size then
+abbrev pub appended_in : ℕ × Metadata → Row Appended
+appended_in put = give (record { count = put.0; size = put.1.size })
+
 -- what is read or written by a number, with what a file's handle stands for in place of the handle
 abbrev pub source_of : (ℕ → Held) → ReadPlace → Source
 source_of held sources.Input = input
@@ -84,16 +91,12 @@ abbrev pub sink_of : (ℕ → Held) → WritePlace → Sink
 sink_of held (sinks.Output o) = output o
 sink_of held (sinks.File file) = into (open_file_of held file)
 
--- the slot of a file's descriptor
-abbrev pub file_slot : FilePlace → Slot
-file_slot file = slots.File file.file file.position
-
 -- what holds of a file that is read or written
-abbrev pub OfSource : (FilePlace → Type 0) → ReadPlace → Type 0
+abbrev pub OfSource : (FileSlot → Type 0) → ReadPlace → Type 0
 OfSource P sources.Input = Unit {0}
 OfSource P (sources.File file) = P file
 
-abbrev pub OfSink : (FilePlace → Type 0) → WritePlace → Type 0
+abbrev pub OfSink : (FileSlot → Type 0) → WritePlace → Type 0
 OfSink P (sinks.Output o) = Unit {0}
 OfSink P (sinks.File file) = P file
 
@@ -126,8 +129,8 @@ is_failure e = false
 
 -- the handle of a descriptor, if it has one, is live
 abbrev pub IsLive : Handles → Slot → Type 0
-IsLive live (slots.Directory dir) = contains live dir.dir ≡ true
-IsLive live (slots.File f position) = contains live f.file ≡ true
+IsLive live (slots.Directory d) = contains live d.dir.dir ≡ true
+IsLive live (slots.File f) = contains live f.file.file ≡ true
 IsLive live (slots.Stream s) = Unit {0}
 IsLive live slots.Closed = Unit {0}
 

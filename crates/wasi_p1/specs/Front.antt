@@ -8,8 +8,8 @@ use Rattle.wasi_guest.specs.declared.answer.Value.TheVariants.{Unit as Nothing}
 use Rattle.wasi_guest.specs.declared.call.Call.{Call}
 use Rattle.wasi_guest.specs.declared.errno.Errno.TheVariants as errnos
 use Rattle.wasi_guest.specs.declared.iovec.Iovec.{Iovec}
-use Rattle.wasi_p1.specs.Guest.{Guest, OpenDirectory}
-use Rattle.wasi_p1.specs.Parts.{from_guest, permit, range, start_in}
+use Rattle.wasi_p1.specs.Guest.{Guest}
+use Rattle.wasi_p1.specs.Parts.{OpenNode, from_guest, permit, range, start_in}
 use Rattle.wasi_p1.specs.Request.{Request, Reply}
 use Rattle.wasi_p1.specs.Row.{Row, give, Program, done, asking}
 use Rattle.wasi_p1.specs.declared.error.P1Error.TheVariants.{Errno}
@@ -73,7 +73,7 @@ charged_buffer memory iovs n = do
 
 -- A path from the directory of a number: a number that isn't a directory's is refused; then a text of more bytes than
 -- the fuel, `nomem`; a range that leaves the memory traps; bytes that aren't a text are refused `ilseq`
-abbrev pub at_path : Guest → ℕ → ℕ → ℕ → (OpenDirectory → List ℕ → CallFront) → CallFront
+abbrev pub at_path : Guest → ℕ → ℕ → ℕ → (OpenNode → List ℕ → CallFront) → CallFront
 at_path g fd path len next = do
   d ← free (start_in (slice_get g.slots fd))
   text ← charged_text g.memory path len

@@ -2,14 +2,15 @@
 use Rattle.std.specs.Prelude.{ℕ, Bool, true, false, List, [], ◌∷◌, map, Option, Some, None}
 use Rattle.std.specs.List.{flat_map}
 use Rattle.wasi_host.specs.Tree.{Tree}
-use Rattle.wasi_fs.specs.declared.descriptor.Dir.{Dir}
-use Rattle.wasi_fs.specs.declared.descriptor.File.{File}
 use Rattle.wasi_fs.specs.declared.open_mode.OpenMode.{OpenMode}
 use Rattle.wasi_fs.specs.declared.perms.FsPerms.{FsPerms}
 use Rattle.wasi_host.specs.Meaning.{World}
 use Rattle.wasi_host.specs.declared.held.AccessMode.{AccessMode}
 use Rattle.wasi_host.specs.declared.held.Held.{Held}
 use Rattle.wasi_p1.specs.Stock.{Stock}
+use Rattle.wasi_p1.specs.declared.context.DirectorySlot.{DirectorySlot}
+use Rattle.wasi_p1.specs.declared.context.FileModes.{FileModes}
+use Rattle.wasi_p1.specs.declared.context.FileSlot.{FileSlot}
 use Rattle.wasi_p1.specs.declared.context.Stream.{Stream as StandardStream}
 use Rattle.wasi_p1.specs.declared.context.Slot.{Slot}
 use Rattle.wasi_p1.specs.declared.context.Slot.TheVariants as slots
@@ -20,6 +21,8 @@ pub record OpenDirectory : Type 0 where
   pub node : ℕ
   pub perms : FsPerms
   pub open_mode : OpenMode
+  -- its place among the directories that the guest was given, if it is one of them
+  pub preopen : Option ℕ
 
 pub record OpenFile : Type 0 where
   pub node : ℕ
@@ -27,6 +30,7 @@ pub record OpenFile : Type 0 where
   pub perms : FsPerms
   pub open_mode : OpenMode
   pub position : ℕ
+  pub modes : FileModes
 
 -- what a descriptor number stands for to the guest: a slot without its handle
 pub data GuestSlot : Type 0 where
@@ -47,25 +51,27 @@ pub record State : Type 0 where
   pub tree : Tree
   pub guest : Guest
 
--- a directory, or a file at a position, with what its handle stands for in place of the handle
-abbrev pub directory_by : Held → Dir → OpenDirectory
-directory_by held dir = record { node = held.node; perms = dir.perms; open_mode = dir.open_mode }
+-- a directory's or file's descriptor, with what its handle stands for in place of the handle
+abbrev pub directory_by : Held → DirectorySlot → OpenDirectory
+directory_by held d =
+    record { node = held.node; perms = d.dir.perms; open_mode = d.dir.open_mode; preopen = d.preopen }
 
-abbrev pub file_by : Held → File → ℕ → OpenFile
-file_by held f position = record {
+abbrev pub file_by : Held → FileSlot → OpenFile
+file_by held f = record {
   node = held.node;
   mode = held.mode;
-  perms = f.perms;
-  open_mode = f.open_mode;
-  position = position;
+  perms = f.file.perms;
+  open_mode = f.file.open_mode;
+  position = f.position;
+  modes = f.modes;
 }
 
 -- a descriptor so
 abbrev pub guest_slot : (ℕ → Held) → Slot → GuestSlot
 guest_slot held slots.Closed = closed
 guest_slot held (slots.Stream s) = stream s
-guest_slot held (slots.Directory dir) = directory (directory_by (held dir.dir) dir)
-guest_slot held (slots.File f position) = file (file_by (held f.file) f position)
+guest_slot held (slots.Directory d) = directory (directory_by (held d.dir.dir) d)
+guest_slot held (slots.File f) = file (file_by (held f.file.file) f)
 
 -- the descriptors without their handles
 abbrev pub guest_slots : (ℕ → Held) → List Slot → List GuestSlot

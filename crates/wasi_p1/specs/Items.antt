@@ -7,6 +7,7 @@ use Rattle.wasi_fs.specs.declared.descriptor.File.{File as OpenedFile}
 use Rattle.wasi_streams.specs.Table.{Entries}
 use Rattle.wasi_streams.specs.declared.entry.Entry.{Entry}
 use Rattle.wasi_streams.specs.declared.entry.Entry.TheVariants as entries
+use Rattle.wasi_p1.specs.declared.context.FileModes.{FileModes}
 use Rattle.wasi_p1.specs.declared.context.Slot.{Slot}
 use Rattle.wasi_p1.specs.declared.context.Slot.TheVariants as slots
 use Rattle.wasi_p1.specs.declared.context.Stream.{Stream as StandardStream}
@@ -18,36 +19,38 @@ use Rattle.wasi_p1.specs.declared.items.Item.TheVariants.{Closed, Stream, Direct
 abbrev pub resource_in : Item → Option ℕ
 resource_in Closed = None
 resource_in (Stream s r) = Some r.number
-resource_in (Directory r) = Some r.number
-resource_in (File r position) = Some r.number
+resource_in (Directory r preopen) = Some r.number
+resource_in (File r position modes) = Some r.number
 
 abbrev pub is_closed_item : Item → Bool
 is_closed_item Closed = true
 is_closed_item (Stream s r) = false
-is_closed_item (Directory r) = false
-is_closed_item (File r position) = false
+is_closed_item (Directory r preopen) = false
+is_closed_item (File r position modes) = false
 
 abbrev pub stream_entry : StandardStream → Entry
 stream_entry streams.Input = entries.Stdin
 stream_entry streams.Output = entries.Stdout
 stream_entry streams.Error = entries.Stderr
 
--- what an entry stands for as a directory, and as a file at a position; of another kind, which no descriptor names, a
--- stream
-abbrev pub directory_of_entry : Option Entry → Slot
-directory_of_entry (Some (entries.Descriptor (descriptors.Dir dir))) = slots.Directory dir
-directory_of_entry other = slots.Stream streams.Input
+-- what an entry stands for as a directory of this place among those that were given, and as a file at a position with
+-- these modes; of another kind, which no descriptor names, a stream
+abbrev pub directory_of_entry : Option Entry → Option ℕ → Slot
+directory_of_entry (Some (entries.Descriptor (descriptors.Dir dir))) preopen =
+    slots.Directory (record { dir = dir; preopen = preopen })
+directory_of_entry other preopen = slots.Stream streams.Input
 
-abbrev pub file_of_entry : Option Entry → ℕ → Slot
-file_of_entry (Some (entries.Descriptor (descriptors.File f))) position = slots.File f position
-file_of_entry other position = slots.Stream streams.Input
+abbrev pub file_of_entry : Option Entry → ℕ → FileModes → Slot
+file_of_entry (Some (entries.Descriptor (descriptors.File f))) position modes =
+    slots.File (record { file = f; position = position; modes = modes })
+file_of_entry other position modes = slots.Stream streams.Input
 
 -- what a descriptor stands for
 abbrev pub slot_in : Entries → Item → Slot
 slot_in table Closed = slots.Closed
 slot_in table (Stream s r) = slots.Stream s
-slot_in table (Directory r) = directory_of_entry (get table r.number)
-slot_in table (File r position) = file_of_entry (get table r.number) position
+slot_in table (Directory r preopen) = directory_of_entry (get table r.number) preopen
+slot_in table (File r position modes) = file_of_entry (get table r.number) position modes
 
 unfoldable pub slots_of : Entries → List Item → List Slot
 slots_of table items = map (slot_in table) items
@@ -56,24 +59,20 @@ slots_of table items = map (slot_in table) items
 abbrev pub without_item : Entries → Item → Entries
 without_item table Closed = table
 without_item table (Stream s r) = remove table r.number
-without_item table (Directory r) = remove table r.number
-without_item table (File r position) = remove table r.number
+without_item table (Directory r preopen) = remove table r.number
+without_item table (File r position modes) = remove table r.number
 
--- a file's descriptor at another position
-abbrev pub at_position : Item → ℕ → Item
-at_position (File r was) position = File r position
-at_position Closed position = Closed
-at_position (Stream s r) position = Stream s r
-at_position (Directory r) position = Directory r
+-- a file's descriptor at another position, or with other modes
+abbrev pub put_item : Item → ℕ → FileModes → Item
+put_item (File r was were) position modes = File r position modes
+put_item Closed position modes = Closed
+put_item (Stream s r) position modes = Stream s r
+put_item (Directory r preopen) position modes = Directory r preopen
 
--- the same of what it stands for
-abbrev pub moved_slot : Option Slot → ℕ → Slot
-moved_slot (Some (slots.File f was)) position = slots.File f position
-moved_slot other position = slots.Closed
-
-abbrev pub is_file_slot : Option Slot → Bool
-is_file_slot (Some (slots.File f was)) = true
-is_file_slot other = false
+-- the file of a descriptor
+abbrev pub file_under : Option Slot → Option OpenedFile
+file_under (Some (slots.File f)) = Some f.file
+file_under other = None
 
 -- ---- what holds of table and descriptors together
 
@@ -81,8 +80,8 @@ is_file_slot other = false
 abbrev pub IsOfKind : Entries → Item → Type 0
 IsOfKind table Closed = Unit {0}
 IsOfKind table (Stream s r) = get table r.number ≡ Some (stream_entry s)
-IsOfKind table (Directory r) = (dir : Dir) × (get table r.number ≡ Some (entries.Descriptor (descriptors.Dir dir)))
-IsOfKind table (File r position) =
+IsOfKind table (Directory r preopen) = (dir : Dir) × (get table r.number ≡ Some (entries.Descriptor (descriptors.Dir dir)))
+IsOfKind table (File r position modes) =
     (f : OpenedFile) × (get table r.number ≡ Some (entries.Descriptor (descriptors.File f)))
 
 -- the descriptor of a number names this resource

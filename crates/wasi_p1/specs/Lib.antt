@@ -12,6 +12,7 @@ pub mod RawFlags
 pub mod NewTimes
 pub mod Filestats
 pub mod Parts
+pub mod Files
 pub mod Front
 pub mod Services
 pub mod Rows
@@ -25,6 +26,7 @@ pub mod RunLaws
 pub mod Stems
 pub mod ReadOnly
 pub mod Writing
+pub mod DescriptorLaws
 pub mod Validity
 pub mod Asked
 pub mod CallParts

@@ -1,5 +1,6 @@
--- Which number a new item of a table takes: the largest that is closed, else the next one. How many aren't closed.
-use Rattle.std.specs.Prelude.{ℕ, suc, Bool, true, false, not, List, [], ◌∷◌, ◌++◌, length, slice_get, slice_set, count_by, Option, Some, None, unwrap_or}
+-- Which number a new item of a table takes: the largest that is closed, else the next one. How an item takes another's
+-- number. How many aren't closed.
+use Rattle.std.specs.Prelude.{ℕ, suc, Bool, true, false, not, List, [], ◌∷◌, ◌++◌, length, slice_get, slice_set, slice_index_or, count_by, Option, Some, None, unwrap_or}
 use Rattle.std.specs.Option.{option_map_or}
 
 -- whether the item of a number passes a test
@@ -28,6 +29,11 @@ put_at None x xs = xs ++ x ∷ []
 -- the items with a new one, which stands under its number
 unfoldable pub with_new : {A : Type 0} → (A → Bool) → List A → A → List A
 with_new closed xs x = put_at (last_where closed xs) x xs
+
+-- The items after one took another's number, whose item goes: its own number becomes closed. Where it is that number
+-- already all stay.
+unfoldable pub renumbered : {A : Type 0} → A → List A → ℕ → ℕ → List A
+renumbered closed xs from to = slice_set (slice_set xs from closed) to (slice_index_or xs from closed)
 
 -- how many items aren't closed
 unfoldable pub live_count : {A : Type 0} → (A → Bool) → List A → ℕ

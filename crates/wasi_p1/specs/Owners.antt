@@ -13,8 +13,8 @@ use Rattle.wasi_p1.specs.Rows.{descriptors_named, closed_by}
 
 -- the handle of a descriptor
 abbrev pub handle_in : Slot → Option ℕ
-handle_in (slots.Directory dir) = Some dir.dir
-handle_in (slots.File f position) = Some f.file
+handle_in (slots.Directory d) = Some d.dir.dir
+handle_in (slots.File f) = Some f.file.file
 handle_in slot = None
 
 -- the handles of the descriptors, each under its number

@@ -1,5 +1,5 @@
 -- What the rows of the calls are made of.
-use Rattle.std.specs.Prelude.{ℕ, ◌+◌, nat_le, List, length, slice_range, if◌then◌else◌, Ok, Err, Option, Some, None}
+use Rattle.std.specs.Prelude.{ℕ, ◌+◌, nat_le, List, length, slice_range, slice_set, if◌then◌else◌, Ok, Err, Option, Some, None}
 use Rattle.wasi_fs.specs.Perms.{is_read_only}
 use Rattle.wasi_fs.specs.declared.open_mode.OpenMode.{OpenMode}
 use Rattle.wasi_fs.specs.declared.perms.FsPerms.{FsPerms}
@@ -20,6 +20,7 @@ use Rattle.wasi_p1.specs.Filestats.{stat_both, filestat_in}
 use Rattle.wasi_p1.specs.Guest.{Guest, GuestSlot, closed, stream, directory, file, is_closed, OpenDirectory, OpenFile, new_number, with_guest_slot}
 use Rattle.wasi_p1.specs.Numbering.{live_count}
 use Rattle.wasi_p1.specs.Row.{Row, give, from_host}
+use Rattle.wasi_p1.specs.declared.context.FileModes.{FileModes}
 use Rattle.wasi_p1.specs.declared.context.Stream.TheVariants as streams
 use Rattle.wasi_p1.specs.declared.holdings.Output.{Output}
 use Rattle.wasi_p1.specs.declared.holdings.Output.TheVariants as outputs
@@ -53,9 +54,17 @@ live_in (Some (stream s)) = Ok (stream s)
 live_in (Some closed) = Err (Errno errnos.Badf)
 live_in None = Err (Errno errnos.Badf)
 
+-- a directory or file: its node, and what is permitted of it
+pub record OpenNode : Type 0 where
+  pub node : ℕ
+  pub perms : FsPerms
+
+abbrev pub node_of : OpenDirectory → OpenNode
+node_of d = record { node = d.node; perms = d.perms }
+
 -- the directory that a number stands for
-abbrev pub directory_in : Option GuestSlot → Row OpenDirectory
-directory_in (Some (directory d)) = Ok d
+abbrev pub directory_in : Option GuestSlot → Row OpenNode
+directory_in (Some (directory d)) = Ok (node_of d)
 directory_in (Some (file f)) = Err (Errno errnos.Notdir)
 directory_in (Some (stream s)) = Err (Errno errnos.Badf)
 directory_in (Some closed) = Err (Errno errnos.Badf)
@@ -89,22 +98,17 @@ sink_in (Some (directory d)) = Err (Errno errnos.Badf)
 sink_in (Some closed) = Err (Errno errnos.Badf)
 sink_in None = Err (Errno errnos.Badf)
 
--- a directory or file: its node, and what is permitted of it
-pub record OpenNode : Type 0 where
-  pub node : ℕ
-  pub perms : FsPerms
-
 -- what a number stands for that is a directory's or file's
 abbrev pub open_node_in : Option GuestSlot → Row OpenNode
-open_node_in (Some (directory d)) = Ok (record { node = d.node; perms = d.perms })
+open_node_in (Some (directory d)) = Ok (node_of d)
 open_node_in (Some (file f)) = Ok (record { node = f.node; perms = f.perms })
 open_node_in (Some (stream s)) = Err (Errno errnos.Badf)
 open_node_in (Some closed) = Err (Errno errnos.Badf)
 open_node_in None = Err (Errno errnos.Badf)
 
 -- the directory from which a path starts
-abbrev pub start_in : Option GuestSlot → Row OpenDirectory
-start_in (Some (directory d)) = Ok d
+abbrev pub start_in : Option GuestSlot → Row OpenNode
+start_in (Some (directory d)) = Ok (node_of d)
 start_in (Some (file f)) = Err (Errno errnos.Badf)
 start_in (Some (stream s)) = Err (Errno errnos.Badf)
 start_in (Some closed) = Err (Errno errnos.Badf)
@@ -120,23 +124,24 @@ abbrev pub permit : Option ErrorCode → Row (Unit {0})
 permit own = from_host (unless own tt)
 
 -- the descriptor of what was opened, for this, with the permissions of its directory: a directory's, or a file's at its
--- start
-abbrev pub new_guest_slot : FsPerms → OpenMode → Opened → GuestSlot
-new_guest_slot perms mode found =
+-- start and with these modes
+abbrev pub new_guest_slot : FsPerms → OpenMode → FileModes → Opened → GuestSlot
+new_guest_slot perms mode modes found =
     if found.is_dir
-    then directory (record { node = found.held.node; perms = perms; open_mode = mode })
+    then directory (record { node = found.held.node; perms = perms; open_mode = mode; preopen = None })
     else file (record {
       node = found.held.node;
       mode = found.held.mode;
       perms = perms;
       open_mode = mode;
       position = 0;
+      modes = modes;
     })
 
 -- the number of the new descriptor, and the descriptors with it
-abbrev pub opened_among : List GuestSlot → FsPerms → OpenMode → Opened → Row (ℕ × List GuestSlot)
-opened_among slots perms mode found =
-    give (new_number slots, with_guest_slot slots (new_guest_slot perms mode found))
+abbrev pub opened_among : List GuestSlot → FsPerms → OpenMode → FileModes → Opened → Row (ℕ × List GuestSlot)
+opened_among slots perms mode modes found =
+    give (new_number slots, with_guest_slot slots (new_guest_slot perms mode modes found))
 
 -- a text, as far as a buffer takes it
 abbrev pub text_to : List ℕ → ℕ → List ℕ → Row (ℕ × List ℕ)
@@ -151,16 +156,20 @@ held_by f = record { node = f.node; mode = f.mode }
 unfoldable pub may_write : FsPerms → Row (Unit {0})
 may_write perms = if is_read_only perms then Err (Errno errnos.Badf) else Ok tt
 
--- a file's descriptor further on
-abbrev pub moved : OpenFile → ℕ → GuestSlot
-moved f n = file (record f { position = f.position + n })
+-- a file's descriptor at this position
+abbrev pub at_position : OpenFile → ℕ → OpenFile
+at_position f position = record f { position = position }
+
+-- the guest whose number stands for this file
+abbrev pub with_file : Guest → ℕ → OpenFile → Guest
+with_file g fd f = record g { slots = slice_set g.slots fd (file f) }
 
 -- ---- what is made of a reply
 
 -- the number of the new descriptor
-abbrev pub opened_in : Guest → FsPerms → OpenMode → Opened → Row (Value × Guest)
-opened_in g perms mode found =
-    opened_among g.slots perms mode found >>= (λ new. give (Number new.0, record g { slots = new.1 }))
+abbrev pub opened_in : Guest → FsPerms → OpenMode → FileModes → Opened → Row (Value × Guest)
+opened_in g perms mode modes found =
+    opened_among g.slots perms mode modes found >>= (λ new. give (Number new.0, record g { slots = new.1 }))
 
 -- how many bytes of a link's text were put into a buffer
 abbrev pub link_into : Guest → ℕ → List ℕ → Row (Value × Guest)

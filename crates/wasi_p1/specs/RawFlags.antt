@@ -6,11 +6,12 @@ use Rattle.wasi_guest.specs.Flags.{has, flags_in, known_lookupflags, known_oflag
 use Rattle.wasi_host.specs.Steps.{◌>>=◌}
 use Rattle.wasi_guest.specs.declared.errno.Errno.TheVariants as errnos
 use Rattle.wasi_p1.specs.Row.{Row, give}
+use Rattle.wasi_p1.specs.declared.context.FileModes.{FileModes}
 use Rattle.wasi_p1.specs.declared.error.P1Error.TheVariants.{Errno}
 
--- a set of flags, which a raw number with an unknown bit isn't
-abbrev pub or_inval : Option ℕ → Row ℕ
-or_inval (Some set) = Ok set
+-- what a raw number is or names, and refused where that is nothing, as a set of flags with an unknown bit is
+abbrev pub or_inval : {A : Type 0} → Option A → Row A
+or_inval (Some x) = Ok x
 or_inval None = Err (Errno errnos.Inval)
 
 -- what sets of flags and rights ask for; what a descriptor hands on asks for nothing, as no right is looked at again
@@ -35,6 +36,10 @@ open_how dirflags oflags base inheriting fdflags = do
   _ ← or_inval (flags_in known_rights inheriting)
   modes ← or_inval (flags_in known_fdflags fdflags)
   give (how_by lookups flags rights modes)
+
+-- how a file's descriptor is used, by its flags
+abbrev pub modes_in : ℕ → FileModes
+modes_in fdflags = record { append = has fdflags flag.append; nonblock = has fdflags flag.nonblock }
 
 -- whether a link under the last name is followed, by a raw number
 unfoldable pub follow_asked : ℕ → Row Bool

@@ -8,6 +8,7 @@ use Rattle.wasi_p1.specs.Guest.{Guest, State}
 use Rattle.wasi_p1.specs.Row.{Row, Program, row_on}
 pub mod Opening
 pub mod ReadingAndWriting
+pub mod PositionsAndSizes
 pub mod Descriptors
 pub mod Places
 pub mod TwoPlaces
@@ -15,6 +16,7 @@ pub mod Times
 pub mod Services
 unfoldable pub use Opening.*
 unfoldable pub use ReadingAndWriting.*
+unfoldable pub use PositionsAndSizes.*
 unfoldable pub use Descriptors.*
 unfoldable pub use Places.*
 unfoldable pub use TwoPlaces.*
@@ -29,9 +31,22 @@ front g (calls.EnvironGet environ environ_buf) = environ_get g environ environ_b
 front g calls.EnvironSizesGet = environ_sizes_get g
 front g (calls.ClockResGet id) = clock_res_get g id
 front g (calls.ClockTimeGet id precision) = clock_time_get g id precision
+front g (calls.FdAdvise fd offset len advice) = fd_advise g fd offset len advice
+front g (calls.FdAllocate fd offset len) = fd_allocate g fd offset len
 front g (calls.FdClose fd) = fd_close g fd
+front g (calls.FdDatasync fd) = fd_datasync g fd
+front g (calls.FdSync fd) = fd_sync g fd
+front g (calls.FdFdstatSetFlags fd flags) = fd_fdstat_set_flags g fd flags
+front g (calls.FdFilestatSetSize fd size) = fd_filestat_set_size g fd size
 front g (calls.FdFilestatSetTimes fd atim mtim fst_flags) = fd_filestat_set_times g fd atim mtim fst_flags
+front g (calls.FdPread fd iovs iovs_len offset) = fd_pread g fd iovs iovs_len offset
+front g (calls.FdPrestatGet fd) = fd_prestat_get g fd
+front g (calls.FdPrestatDirName fd path path_len) = fd_prestat_dir_name g fd path path_len
+front g (calls.FdPwrite fd iovs iovs_len offset) = fd_pwrite g fd iovs iovs_len offset
 front g (calls.FdRead fd iovs iovs_len) = fd_read g fd iovs iovs_len
+front g (calls.FdRenumber from to) = fd_renumber g from to
+front g (calls.FdSeek fd offset whence) = fd_seek g fd offset whence
+front g (calls.FdTell fd) = fd_tell g fd
 front g (calls.FdWrite fd iovs iovs_len) = fd_write g fd iovs iovs_len
 front g (calls.PathCreateDirectory fd path path_len) = path_create_directory g fd path path_len
 front g (calls.PathFilestatGet fd flags path path_len) = path_filestat_get g fd flags path path_len
@@ -72,9 +87,22 @@ turn s call = row_on s.tree (row s.guest call)
 
 -- the numbers of the descriptors that a call names, in its arguments or in guest memory
 abbrev pub descriptors_named : List ℕ → Call → List ℕ
+descriptors_named memory (calls.FdAdvise fd _ _ _) = fd ∷ []
+descriptors_named memory (calls.FdAllocate fd _ _) = fd ∷ []
 descriptors_named memory (calls.FdClose fd) = fd ∷ []
+descriptors_named memory (calls.FdDatasync fd) = fd ∷ []
+descriptors_named memory (calls.FdSync fd) = fd ∷ []
+descriptors_named memory (calls.FdFdstatSetFlags fd _) = fd ∷ []
+descriptors_named memory (calls.FdFilestatSetSize fd _) = fd ∷ []
 descriptors_named memory (calls.FdFilestatSetTimes fd _ _ _) = fd ∷ []
+descriptors_named memory (calls.FdPread fd _ _ _) = fd ∷ []
+descriptors_named memory (calls.FdPrestatGet fd) = fd ∷ []
+descriptors_named memory (calls.FdPrestatDirName fd _ _) = fd ∷ []
+descriptors_named memory (calls.FdPwrite fd _ _ _) = fd ∷ []
 descriptors_named memory (calls.FdRead fd _ _) = fd ∷ []
+descriptors_named memory (calls.FdRenumber from to) = from ∷ to ∷ []
+descriptors_named memory (calls.FdSeek fd _ _) = fd ∷ []
+descriptors_named memory (calls.FdTell fd) = fd ∷ []
 descriptors_named memory (calls.FdWrite fd _ _) = fd ∷ []
 descriptors_named memory (calls.PathCreateDirectory fd _ _) = fd ∷ []
 descriptors_named memory (calls.PathFilestatGet fd _ _ _) = fd ∷ []
@@ -95,15 +123,25 @@ descriptors_named memory call = []
 -- the numbers of the descriptors that a call closes
 abbrev pub closed_by : Call → List ℕ
 closed_by (calls.FdClose fd) = fd ∷ []
+closed_by (calls.FdRenumber from to) = from ∷ to ∷ []
 closed_by call = []
 
--- the directory through which a call opens a descriptor
-abbrev pub opened_through : Call → Option ℕ
-opened_through (calls.PathOpen fd _ _ _ _ _ _ _) = Some fd
-opened_through call = None
+-- how the descriptors after a call that is answered stem from those before it: each from itself; or what was opened from
+-- the directory through which it was; or what stands under one number from what stood under another
+pub data Stem : Type 0 where
+  itself : Stem
+  through : ℕ → Stem
+  renumbering : ℕ → ℕ → Stem
+
+abbrev pub stem_in : Call → Stem
+stem_in (calls.PathOpen fd _ _ _ _ _ _ _) = through fd
+stem_in (calls.FdRenumber from to) = renumbering from to
+stem_in call = itself
 
 -- the calls that take memory; the others are never answered that it was wanted
 abbrev pub may_want : Call → Bool
+may_want (calls.FdFilestatSetSize _ _) = true
+may_want (calls.FdPwrite _ _ _ _) = true
 may_want (calls.FdWrite _ _ _) = true
 may_want (calls.PathCreateDirectory _ _ _) = true
 may_want (calls.PathFilestatGet _ _ _ _) = true

@@ -1,5 +1,5 @@
 -- What calls make of what a guest was handed in.
-use Rattle.std.specs.Prelude.{ℕ, ◌+◌, ◌*◌, ◌%◌, ◌^◌, ◌==◌, nat_le, nat_lt, List, [], ◌∷◌, ◌++◌, length, take, drop, map, sum_by, slice_index_or, if◌then◌else◌, Option, Some, None, Ok, Err}
+use Rattle.std.specs.Prelude.{ℕ, ◌+◌, ◌*◌, ◌%◌, ◌^◌, ◌==◌, nat_le, nat_lt, List, [], ◌∷◌, ◌++◌, length, take, drop, map, sum_by, slice_index_or, if◌then◌else◌, Ok, Err}
 use Rattle.std.specs.List.{range_with_len}
 use Rattle.std.specs.Int.{to_le_bytes, w32}
 use Rattle.wasi_host.specs.Steps.{◌>>=◌}
@@ -14,6 +14,7 @@ use Rattle.wasi_guest.specs.declared.answer.Value.{Value}
 use Rattle.wasi_guest.specs.declared.answer.Value.TheVariants.{Pair}
 use Rattle.wasi_guest.specs.declared.errno.Errno.TheVariants as errnos
 use Rattle.wasi_p1.specs.Parts.{range}
+use Rattle.wasi_p1.specs.RawFlags.{or_inval}
 use Rattle.wasi_p1.specs.Row.{Row, give}
 use Rattle.wasi_p1.specs.Stock.{Stock}
 use Rattle.wasi_p1.specs.declared.holdings.Output.{Output}
@@ -69,10 +70,6 @@ with_unit (Err e) = Err e
 
 -- ---- clocks
 
-abbrev pub or_unknown : Option Clockid → Row Clockid
-or_unknown (Some clock) = Ok clock
-or_unknown None = Err (Errno errnos.Inval)
-
 -- in nanoseconds, of which 64 bits hold no more than some 584 years
 abbrev pub nanoseconds_of : WallDatetime → Row ℕ
 nanoseconds_of moment =
@@ -88,10 +85,10 @@ moment_of wall monotonic clocks.ProcessCputimeId = Err (Errno errnos.Badf)
 moment_of wall monotonic clocks.ThreadCputimeId = Err (Errno errnos.Badf)
 
 unfoldable pub clock_res : Stock → ℕ → Row ℕ
-clock_res stock id = or_unknown (clockid_of id) >>= moment_of stock.wall_resolution stock.monotonic_resolution
+clock_res stock id = or_inval (clockid_of id) >>= moment_of stock.wall_resolution stock.monotonic_resolution
 
 unfoldable pub clock_time : Stock → ℕ → Row ℕ
-clock_time stock id = or_unknown (clockid_of id) >>= moment_of stock.wall stock.monotonic
+clock_time stock id = or_inval (clockid_of id) >>= moment_of stock.wall stock.monotonic
 
 -- ---- ends and signals
 

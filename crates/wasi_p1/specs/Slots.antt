@@ -1,5 +1,6 @@
 -- A context of calls over a host, as contracts see it.
-use Rattle.std.specs.Prelude.{ℕ, Bool, true, false, not, List, ◌∷◌, map, Option, Some, None}
+use Rattle.std.specs.Prelude.{ℕ, suc, Bool, true, false, not, List, [], ◌∷◌, Option, Some, None}
+use Rattle.std.specs.String.{string_bytes}
 use Rattle.wasi_fs.specs.OpenMode.{mode_for}
 use Rattle.wasi_fs.specs.Perms.{is_read_only}
 use Rattle.wasi_fs.specs.declared.descriptor.Descriptor.{Descriptor}
@@ -8,6 +9,7 @@ use Rattle.wasi_fs.specs.declared.descriptor.Dir.{Dir}
 use Rattle.wasi_fs.specs.declared.open_mode.OpenMode.{OpenMode}
 use Rattle.wasi_fs.specs.declared.perms.FsPerms.{FsPerms}
 use Rattle.wasi_p1.specs.Stock.{Stock}
+use Rattle.wasi_p1.specs.declared.context.FileModes.{FileModes}
 use Rattle.wasi_p1.specs.declared.context.P1Preopen.{P1Preopen}
 use Rattle.wasi_p1.specs.declared.context.Stream.TheVariants.{Input, Output, Error}
 use Rattle.wasi_p1.specs.declared.context.Slot.{Slot}
@@ -30,13 +32,22 @@ abbrev pub given_directory : P1Preopen → Dir
 given_directory preopen =
     record { dir = preopen.handle; perms = preopen.perms; open_mode = given_mode preopen.perms }
 
--- its descriptor
-abbrev pub given_slot : P1Preopen → Slot
-given_slot preopen = Directory (given_directory preopen)
+-- the name by which the guest knows it
+abbrev pub given_name : P1Preopen → List ℕ
+given_name preopen = string_bytes preopen.name
+
+-- its descriptor, by its place among those that are given
+abbrev pub given_slot : ℕ → P1Preopen → Slot
+given_slot place preopen = Directory (record { dir = given_directory preopen; preopen = Some place })
+
+-- their descriptors, where the first has this place
+abbrev pub given_slots : ℕ → List P1Preopen → List Slot
+given_slots place [] = []
+given_slots place (preopen ∷ preopens) = given_slot place preopen ∷ given_slots (suc place) preopens
 
 -- the three streams, then the directories that the guest is given
 abbrev pub first_slots : List P1Preopen → List Slot
-first_slots preopens = Stream Input ∷ Stream Output ∷ Stream Error ∷ map given_slot preopens
+first_slots preopens = Stream Input ∷ Stream Output ∷ Stream Error ∷ given_slots 0 preopens
 
 abbrev pub is_closed_slot : Slot → Bool
 is_closed_slot Closed = true
@@ -44,11 +55,11 @@ is_closed_slot slot = false
 
 -- what a directory's or file's slot stands for
 abbrev pub descriptor_in : Slot → Option Descriptor
-descriptor_in (Directory dir) = Some (descriptors.Dir dir)
-descriptor_in (File f position) = Some (descriptors.File f)
+descriptor_in (Directory d) = Some (descriptors.Dir d.dir)
+descriptor_in (File f) = Some (descriptors.File f.file)
 descriptor_in slot = None
 
--- the descriptor of what was opened, a file's at its start
-abbrev pub slot_of : Descriptor → Slot
-slot_of (descriptors.File f) = File f 0
-slot_of (descriptors.Dir dir) = Directory dir
+-- the descriptor of what was opened, a file's at its start and with these modes
+abbrev pub slot_of : FileModes → Descriptor → Slot
+slot_of modes (descriptors.File f) = File (record { file = f; position = 0; modes = modes })
+slot_of modes (descriptors.Dir dir) = Directory (record { dir = dir; preopen = None })

@@ -1,23 +1,25 @@
 -- From which descriptor another stems.
-use Rattle.std.specs.Prelude.{ℕ, ◌==◌, ◌≡◌, List, [], ◌∷◌, slice_get, Option, Some, if◌then◌else◌}
+use Rattle.std.specs.Prelude.{ℕ, ◌==◌, ◌≡◌, List, [], ◌∷◌, slice_get, Some, if◌then◌else◌}
 use Rattle.wasi_fs.specs.declared.perms.FsPerms.{FsPerms}
 use Rattle.wasi_guest.specs.declared.answer.Answer.{Answer}
 use Rattle.wasi_guest.specs.declared.answer.Answer.TheVariants as answers
 use Rattle.wasi_guest.specs.declared.answer.Value.TheVariants.{Number}
 use Rattle.wasi_guest.specs.declared.call.Call.{Call}
 use Rattle.wasi_p1.specs.Front.{FueledCall}
-use Rattle.wasi_p1.specs.Rows.{opened_through}
+use Rattle.wasi_p1.specs.Rows.{Stem, through, renumbering, stem_in}
 use Rattle.wasi_p1.specs.Guest.{Guest, State, perms_in}
 use Rattle.wasi_p1.specs.Run.{Turned, Run}
 
-abbrev pub stems_through : Option ℕ → Answer → ℕ → ℕ
-stems_through (Some fd) (answers.Ok (Number new)) n = if n == new then fd else n
-stems_through through answer n = n
+abbrev pub stems_by : Stem → Answer → ℕ → ℕ
+stems_by (through fd) (answers.Ok (Number new)) n = if n == new then fd else n
+stems_by (renumbering from to) (answers.Ok x) n = if n == to then from else n
+stems_by stem answer n = n
 
 -- The number, before a call, of the descriptor from which that of a number after it stems: what was opened stems from
--- the directory through which it was opened, and every other descriptor from itself
+-- the directory through which it was opened, what got another number from itself under the old one, and every other
+-- descriptor from itself
 abbrev pub stems_from : Call → Answer → ℕ → ℕ
-stems_from call answer n = stems_through (opened_through call) answer n
+stems_from call answer n = stems_by (stem_in call) answer n
 
 -- the same before all of these turns
 abbrev pub stem_of : List Turned → ℕ → ℕ

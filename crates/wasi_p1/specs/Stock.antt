@@ -5,6 +5,8 @@ use Rattle.wasi_guest.specs.declared.services.WallDatetime.{WallDatetime}
 
 -- What it was handed in, as far as that is left, and what it has written
 pub record Stock : Type 0 where
+  -- the names of the directories that it was given, in order
+  pub preopens : List (List ℕ)
   -- the arguments, and the variables of the environment as texts `key=value`
   pub args : List (List ℕ)
   pub environ : List (List ℕ)
@@ -25,9 +27,10 @@ pub record Stock : Type 0 where
 abbrev pub env_text : List ℕ × List ℕ → List ℕ
 env_text pair = pair.0 ++ 61 ∷ pair.1
 
--- at the start
-abbrev pub first_stock : Handed → Stock
-first_stock given = record {
+-- at the start, where the directories that are given have these names
+abbrev pub first_stock : Handed → List (List ℕ) → Stock
+first_stock given names = record {
+  preopens = names;
   args = given.args;
   environ = map env_text given.env;
   stdin = given.stdin;

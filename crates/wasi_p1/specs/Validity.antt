@@ -11,6 +11,7 @@ AreBytes bytes = IsTrue (are_bytes bytes)
 
 -- what a guest was handed in are bytes
 pub record IsStock (stock : Stock) : Type 0 where
+  pub preopens : All AreBytes stock.preopens
   pub args : All AreBytes stock.args
   pub environ : All AreBytes stock.environ
   pub random : AreBytes stock.random

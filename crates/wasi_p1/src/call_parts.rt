@@ -1,12 +1,13 @@
 //! What the calls of preview1 do with a host and a guest's memory, a part at a time.
-ghost use Rattle.std.specs.Prelude.{◌≡◌, ◌<◌, ◌≤◌, ◌+◌, ◌^◌, true, false, IsTrue, length, take, slice_get, slice_set, option_map, Ok, Err, IfOk, IfErr, OnOk, OnErr, Some, None};
+ghost use Rattle.std.specs.Prelude.{◌≡◌, ◌<◌, ◌≤◌, ◌+◌, ◌^◌, true, false, IsTrue, length, take, slice_get, slice_set, Ok, Err, IfOk, IfErr, OnOk, OnErr, Some, None};
 ghost use Rattle.std.specs.Result.{result_map_both};
 ghost use Rattle.std.specs.FinSet.{contains};
 ghost use Rattle.wasi_host.specs.HostCall.{Pread, Pwrite};
 ghost use Rattle.wasi_host.specs.Meaning.{HasCause, Rose};
 ghost use Rattle.wasi_host.specs.Lineage.{Traced, Only, Nothing};
 ghost use Rattle.wasi_p1.specs.CallTurn.{Causes};
-ghost use Rattle.wasi_p1.specs.Owners.{handle_in, handles, without, Owned, Owns, SlotsTraced, SlotsStay};
+ghost use Rattle.wasi_p1.specs.Items.{file_under};
+ghost use Rattle.wasi_p1.specs.Owners.{handle_in, handles, without, HasHandle, Owned, Owns, SlotsTraced, SlotsStay};
 ghost use Rattle.wasi_p1.specs.Guest.{guest_slot, guest_slots};
 ghost use Rattle.wasi_resolve.specs.PathRequest.{meant_by};
 ghost use Rattle.wasi_resolve.specs.Resolved.{Resolved};
@@ -16,20 +17,20 @@ ghost use Rattle.wasi_fs.specs.OpenHow.{how_of, may_open, mode_of};
 ghost use Rattle.wasi_p1.specs.Filestats.{stat_both, IsStated};
 ghost use Rattle.wasi_p1.specs.Front.{charge, charged_text, charged_buffer};
 ghost use Rattle.wasi_p1.specs.Parts.{range, live_in, directory_in, start_in, source_in, sink_in, open_node_in, may_write, room_for, opened_among, text_to};
-ghost use Rattle.wasi_p1.specs.Numbering.{live_count};
-ghost use Rattle.wasi_p1.specs.Slots.{is_closed_slot, slot_of, descriptor_in};
+ghost use Rattle.wasi_p1.specs.Numbering.{passes_at, live_count, renumbered};
+ghost use Rattle.wasi_p1.specs.Slots.{is_closed_slot, slot_of};
 ghost use Rattle.wasi_guest.specs.Range.{IsInMemory};
-ghost use Rattle.wasi_p1.specs.CallParts.{open_directory_of, source_of, sink_of, file_slot, OfSource, OfSink, open_node_of, Refused, ReadsInto, WritesPiece, OpensInto, filled_at, with_after, Rests, Stays, IsLive, IsReplied, WantsNoMemory, is_failure};
+ghost use Rattle.wasi_p1.specs.CallParts.{open_directory_of, source_of, sink_of, OfSource, OfSink, open_node_of, Refused, ReadsInto, WritesPiece, OpensInto, filled_at, with_after, Rests, Stays, IsLive, IsReplied, WantsNoMemory, is_failure};
 ghost use Rattle.wasi_p1.specs.Row.{give};
 
-use crate::context::{Slot, Stream};
+use crate::context::{DirectorySlot, FileModes, FileSlot, Slot, Stream};
 use crate::descriptors::Descriptors;
 use crate::error::P1Error;
 use crate::filestats::StatBoth;
 use crate::holdings::Output;
 use crate::open_with::OpenWith;
 use std::alloc::Global;
-use wasi_fs::{Descriptor, Dir, File, FsPerms, PathFlags};
+use wasi_fs::{Descriptor, Dir, FsPerms, PathFlags};
 use wasi_guest::{Errno, Iovec, TrapKind, first_buffer, slice_at, text_in, write_bytes};
 use wasi_host::{Handle, Host, HostError};
 
@@ -90,7 +91,7 @@ pub fn live_at<H: Host>(host: &H, descriptors: &Descriptors, fd: u32) -> Result<
 pub fn directory_at<H: Host>(host: &H, descriptors: &Descriptors, fd: u32) -> Result<Dir, P1Error>
     requires owned { Owned (H.live host.now) (handles descriptors.now.slots) }
     ensures live { IfOk result (λ dir. contains (H.live host.now) dir.dir ≡ true) }
-    ensures is { IfOk result (λ dir. slice_get descriptors.now.slots fd ≡ Some (Slot.Directory dir)) }
+    ensures is { IfOk result (λ dir. HasHandle descriptors.now.slots fd dir.dir) }
     ensures row { result_map_both (open_directory_of (H.world host.now).held) (λ e. e) result
         ≡ directory_in (slice_get (guest_slots (H.world host.now).held descriptors.now.slots) fd) }
 {
@@ -98,8 +99,8 @@ pub fn directory_at<H: Host>(host: &H, descriptors: &Descriptors, fd: u32) -> Re
         return Err(P1Error::Errno(Errno::Badf));
     };
     match slot {
-        Slot::Directory(dir) => Ok(dir),
-        Slot::File { .. } => Err(P1Error::Errno(Errno::Notdir)),
+        Slot::Directory(DirectorySlot { dir, .. }) => Ok(dir),
+        Slot::File(_) => Err(P1Error::Errno(Errno::Notdir)),
         Slot::Stream(_) => Err(P1Error::Errno(Errno::Badf)),
         Slot::Closed => Err(P1Error::Errno(Errno::Badf)),
     }
@@ -110,7 +111,7 @@ pub fn directory_at<H: Host>(host: &H, descriptors: &Descriptors, fd: u32) -> Re
 pub fn start_at<H: Host>(host: &H, descriptors: &Descriptors, fd: u32) -> Result<Dir, P1Error>
     requires owned { Owned (H.live host.now) (handles descriptors.now.slots) }
     ensures live { IfOk result (λ dir. contains (H.live host.now) dir.dir ≡ true) }
-    ensures is { IfOk result (λ dir. slice_get descriptors.now.slots fd ≡ Some (Slot.Directory dir)) }
+    ensures is { IfOk result (λ dir. HasHandle descriptors.now.slots fd dir.dir) }
     ensures row { result_map_both (open_directory_of (H.world host.now).held) (λ e. e) result
         ≡ start_in (slice_get (guest_slots (H.world host.now).held descriptors.now.slots) fd) }
 {
@@ -118,8 +119,8 @@ pub fn start_at<H: Host>(host: &H, descriptors: &Descriptors, fd: u32) -> Result
         return Err(P1Error::Errno(Errno::Badf));
     };
     match slot {
-        Slot::Directory(dir) => Ok(dir),
-        Slot::File { .. } => Err(P1Error::Errno(Errno::Badf)),
+        Slot::Directory(DirectorySlot { dir, .. }) => Ok(dir),
+        Slot::File(_) => Err(P1Error::Errno(Errno::Badf)),
         Slot::Stream(_) => Err(P1Error::Errno(Errno::Badf)),
         Slot::Closed => Err(P1Error::Errno(Errno::Badf)),
     }
@@ -134,8 +135,7 @@ pub fn descriptor_at<H: Host>(
 ) -> Result<Descriptor, P1Error>
     requires owned { Owned (H.live host.now) (handles descriptors.now.slots) }
     ensures live { IfOk result (λ descriptor. contains (H.live host.now) (handle_of descriptor) ≡ true) }
-    ensures is { IfOk result (λ descriptor. option_map descriptor_in (slice_get descriptors.now.slots fd)
-        ≡ Some (Some descriptor)) }
+    ensures is { IfOk result (λ descriptor. HasHandle descriptors.now.slots fd (handle_of descriptor)) }
     ensures row { result_map_both (open_node_of (H.world host.now).held) (λ e. e) result
         ≡ open_node_in (slice_get (guest_slots (H.world host.now).held descriptors.now.slots) fd) }
 {
@@ -143,25 +143,18 @@ pub fn descriptor_at<H: Host>(
         return Err(P1Error::Errno(Errno::Badf));
     };
     match slot {
-        Slot::Directory(dir) => Ok(Descriptor::Dir(dir)),
-        Slot::File { file, .. } => Ok(Descriptor::File(file)),
+        Slot::Directory(DirectorySlot { dir, .. }) => Ok(Descriptor::Dir(dir)),
+        Slot::File(FileSlot { file, .. }) => Ok(Descriptor::File(file)),
         Slot::Stream(_) => Err(P1Error::Errno(Errno::Badf)),
         Slot::Closed => Err(P1Error::Errno(Errno::Badf)),
     }
-}
-
-/// A file's descriptor: the file, and where its next read or write begins.
-#[derive(Drop)]
-pub struct FilePlace {
-    pub file: File,
-    pub position: u64,
 }
 
 /// What is read by a number.
 #[derive(Drop)]
 pub enum Source {
     Input,
-    File(FilePlace),
+    File(FileSlot),
 }
 
 /// What is read by a number: Badf where that is neither a file's nor the standard input's.
@@ -169,7 +162,7 @@ pub enum Source {
 pub fn source_at<H: Host>(host: &H, descriptors: &Descriptors, fd: u32) -> Result<Source, P1Error>
     requires owned { Owned (H.live host.now) (handles descriptors.now.slots) }
     ensures live { IfOk result (OfSource (λ file. contains (H.live host.now) file.file.file ≡ true)) }
-    ensures is { IfOk result (OfSource (λ file. slice_get descriptors.now.slots fd ≡ Some (file_slot file))) }
+    ensures is { IfOk result (OfSource (λ file. slice_get descriptors.now.slots fd ≡ Some (Slot.File file))) }
     ensures row { result_map_both (source_of (H.world host.now).held) (λ e. e) result
         ≡ source_in (slice_get (guest_slots (H.world host.now).held descriptors.now.slots) fd) }
 {
@@ -177,7 +170,7 @@ pub fn source_at<H: Host>(host: &H, descriptors: &Descriptors, fd: u32) -> Resul
         return Err(P1Error::Errno(Errno::Badf));
     };
     match slot {
-        Slot::File { file, position } => Ok(Source::File(FilePlace { file, position })),
+        Slot::File(file) => Ok(Source::File(file)),
         Slot::Stream(Stream::Input) => Ok(Source::Input),
         Slot::Stream(Stream::Output) => Err(P1Error::Errno(Errno::Badf)),
         Slot::Stream(Stream::Error) => Err(P1Error::Errno(Errno::Badf)),
@@ -190,7 +183,7 @@ pub fn source_at<H: Host>(host: &H, descriptors: &Descriptors, fd: u32) -> Resul
 #[derive(Drop)]
 pub enum Sink {
     Output(Output),
-    File(FilePlace),
+    File(FileSlot),
 }
 
 /// What is written by a number: Badf where that is neither a file's nor an output's.
@@ -198,7 +191,7 @@ pub enum Sink {
 pub fn sink_at<H: Host>(host: &H, descriptors: &Descriptors, fd: u32) -> Result<Sink, P1Error>
     requires owned { Owned (H.live host.now) (handles descriptors.now.slots) }
     ensures live { IfOk result (OfSink (λ file. contains (H.live host.now) file.file.file ≡ true)) }
-    ensures is { IfOk result (OfSink (λ file. slice_get descriptors.now.slots fd ≡ Some (file_slot file))) }
+    ensures is { IfOk result (OfSink (λ file. slice_get descriptors.now.slots fd ≡ Some (Slot.File file))) }
     ensures row { result_map_both (sink_of (H.world host.now).held) (λ e. e) result
         ≡ sink_in (slice_get (guest_slots (H.world host.now).held descriptors.now.slots) fd) }
 {
@@ -206,7 +199,7 @@ pub fn sink_at<H: Host>(host: &H, descriptors: &Descriptors, fd: u32) -> Result<
         return Err(P1Error::Errno(Errno::Badf));
     };
     match slot {
-        Slot::File { file, position } => Ok(Sink::File(FilePlace { file, position })),
+        Slot::File(file) => Ok(Sink::File(file)),
         Slot::Stream(Stream::Output) => Ok(Sink::Output(Output::Stdout)),
         Slot::Stream(Stream::Error) => Ok(Sink::Output(Output::Stderr)),
         Slot::Stream(Stream::Input) => Err(P1Error::Errno(Errno::Badf)),
@@ -253,13 +246,17 @@ pub fn room_at<H: Host>(host: &H, descriptors: &Descriptors, more: u32) -> Resul
     Ok(())
 }
 
-/// The descriptor of what was opened, a file's at its start.
-fn slot_of(descriptor: Descriptor) -> Slot
-    ensures { result ≡ slot_of descriptor }
+/// The descriptor of what was opened, a file's at its start and with these modes.
+fn slot_of(modes: FileModes, descriptor: Descriptor) -> Slot
+    ensures { result ≡ slot_of modes descriptor }
 {
     match descriptor {
-        Descriptor::Dir(dir) => Slot::Directory(dir),
-        Descriptor::File(file) => Slot::File { file, position: 0 },
+        Descriptor::Dir(dir) => Slot::Directory(DirectorySlot { dir, preopen: None }),
+        Descriptor::File(file) => Slot::File(FileSlot {
+            file,
+            position: 0,
+            modes,
+        }),
     }
 }
 
@@ -322,15 +319,14 @@ pub fn write_piece<H: Host>(
     Ok(count as u64)
 }
 
-/// Puts a file's descriptor back so many bytes further on.
-pub fn move_file(descriptors: &mut Descriptors, fd: u32, file: File, position: u64, count: u64)
-    requires is { slice_get descriptors.old.slots fd ≡ Some (Slot.File file position) }
-    requires fits { position + count < 2 ^ 64 }
+/// Puts a file's descriptor back, at another position or with other modes.
+pub fn put_back(descriptors: &mut Descriptors, fd: u32, slot: FileSlot)
+    requires is { file_under (slice_get descriptors.old.slots fd) ≡ Some slot.file }
     ensures handles { handles descriptors.new.slots ≡ handles descriptors.old.slots }
-    ensures slots { descriptors.new.slots ≡ slice_set descriptors.old.slots fd (Slot.File file (position + count)) }
+    ensures slots { descriptors.new.slots ≡ slice_set descriptors.old.slots fd (Slot.File slot) }
     ensures max { descriptors.new.max ≡ descriptors.old.max }
 {
-    descriptors.set_position(fd, position + count);
+    descriptors.put_back(fd, slot);
 }
 
 /// Opens a path into the descriptors, of which there may be one more, and gives the new one's number. The memory for it
@@ -365,7 +361,7 @@ pub fn open_into<H: Host>(
         (Path (opens ((H.world host.old).held dir.dir).node text.now
         (how_of with.path_flags with.open_flags with.flags)))
         (opened_among (guest_slots (H.world host.old).held descriptors.old.slots) dir.perms
-        (mode_of (how_of with.path_flags with.open_flags with.flags)))
+        (mode_of (how_of with.path_flags with.open_flags with.flags)) with.modes)
         (with_after result (guest_slots (H.world host.old).held descriptors.new.slots)) }
     ensures stays { IsTrue H.told → OnErr result
         (guest_slots (H.world host.new).held descriptors.new.slots
@@ -374,7 +370,7 @@ pub fn open_into<H: Host>(
         → OpensInto (Rose (H.faults host.old) (H.faults host.new))
         (H.world host.old) (H.world host.new)
         (open_directory_of (H.world host.old).held dir) text.now
-        (how_of with.path_flags with.open_flags with.flags)
+        (how_of with.path_flags with.open_flags with.flags) with.modes
         (guest_slots (H.world host.old).held descriptors.old.slots)
         (guest_slots (H.world host.new).held descriptors.new.slots) result }
 {
@@ -387,7 +383,7 @@ pub fn open_into<H: Host>(
         with.open_flags,
         with.flags,
     )?;
-    Ok(descriptors.put(slot_of(descriptor)))
+    Ok(descriptors.put(slot_of(with.modes, descriptor)))
 }
 
 /// Puts bytes into the front of a buffer in memory, as many as it takes, and gives how many.
@@ -438,8 +434,8 @@ pub fn release<H: Host>(host: &mut H, slot: Slot)
     ensures told { IsTrue H.told → Rests (H.live host.old) (H.live host.new) (H.world host.old) (H.world host.new) }
 {
     match slot {
-        Slot::Directory(dir) => host.close(dir.dir),
-        Slot::File { file, .. } => host.close(file.file),
+        Slot::Directory(DirectorySlot { dir, .. }) => host.close(dir.dir),
+        Slot::File(FileSlot { file, .. }) => host.close(file.file),
         Slot::Stream(_) => {}
         Slot::Closed => {}
     }
@@ -462,4 +458,35 @@ pub fn close_slot<H: Host>(host: &mut H, descriptors: &mut Descriptors, fd: u32,
 {
     descriptors.close(fd);
     release(host, slot);
+}
+
+/// Gives a descriptor the number of another, whose handle is closed. Equal numbers stay. It can't fail, and takes no
+/// memory.
+pub fn renumber_slot<H: Host>(
+    host: &mut H,
+    descriptors: &mut Descriptors,
+    from: u32,
+    to: u32,
+    dropped: Slot,
+)
+    requires from_within { from < length descriptors.old.slots }
+    requires from_in_use { passes_at is_closed_slot descriptors.old.slots from ≡ false }
+    requires is { slice_get descriptors.old.slots to ≡ Some dropped }
+    requires in_use { is_closed_slot dropped ≡ false }
+    requires owned { Owned (H.live host.old) (handles descriptors.old.slots) }
+    ensures faults { H.faults host.new ≡ H.faults host.old }
+    ensures logged { H.lookups host.new ≡ H.lookups host.old }
+    ensures slots { descriptors.new.slots ≡ renumbered Slot.Closed descriptors.old.slots from to }
+    ensures max { descriptors.new.max ≡ descriptors.old.max }
+    ensures owns { Owns (H.live host.old) (H.live host.new)
+        (handles descriptors.old.slots) (handles descriptors.new.slots) }
+    ensures lineage { SlotsTraced Nothing descriptors.old.slots descriptors.new.slots
+        (H.lookups host.old) (H.lookups host.new) }
+    ensures stays { IsTrue H.told → Stays (H.world host.old) (H.world host.new) descriptors.new.slots }
+{
+    if from == to {
+        return;
+    }
+    descriptors.renumber(from, to);
+    release(host, dropped);
 }

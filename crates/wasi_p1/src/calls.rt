@@ -3,6 +3,7 @@
 mod descriptors;
 mod opening;
 mod places;
+mod positions_and_sizes;
 mod reading_and_writing;
 mod services;
 mod times;

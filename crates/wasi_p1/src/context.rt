@@ -1,5 +1,5 @@
 //! The context of a guest's calls: its descriptors over a host.
-ghost use Rattle.std.specs.Prelude.{◌≡◌, ◌≢◌, ◌<◌, ◌≤◌, ◌+◌, ◌↔◌, [], true, length, IsTrue, All, AllPairs, IfOk, IfErr, IsErrAnd};
+ghost use Rattle.std.specs.Prelude.{◌≡◌, ◌≢◌, ◌<◌, ◌≤◌, ◌+◌, ◌↔◌, [], true, length, map, IsTrue, All, AllPairs, IfOk, IfErr, IsErrAnd};
 ghost use Rattle.std.specs.FinSet.{contains};
 ghost use Rattle.wasi_p1.specs.Slots.{given_directory};
 
@@ -21,18 +21,41 @@ pub enum Stream {
     Error,
 }
 
-/// What a descriptor number stands for, as the crate's `Descriptor` of `preview1.rs`. A position is in bytes.
+/// How a file's descriptor is used, by preview1's `fdflags`: whether all that it writes goes behind the file's last
+/// byte, and whether its calls wait. No call waits here, so the latter is only kept.
+#[derive(Clone, Copy, Debug, PartialEq, Eq)]
+pub struct FileModes {
+    pub append: bool,
+    pub nonblock: bool,
+}
+
+/// A directory's descriptor, and its place among those that the guest was given, if it is one of them.
+#[derive(Drop)]
+pub struct DirectorySlot {
+    pub dir: Dir,
+    pub preopen: Option<usize>,
+}
+
+/// A file's descriptor: the file, where in bytes its next read or write begins, and how it is used.
+#[derive(Drop)]
+pub struct FileSlot {
+    pub file: File,
+    pub position: u64,
+    pub modes: FileModes,
+}
+
+/// What a descriptor number stands for, as the crate's `Descriptor` of `preview1.rs`.
 #[derive(Drop)]
 pub enum Slot {
     Closed,
     Stream(Stream),
-    Directory(Dir),
-    File { file: File, position: u64 },
+    Directory(DirectorySlot),
+    File(FileSlot),
 }
 
 /// A directory that a guest is given: a handle of it, what may be done below it, and the name by which the guest knows
 /// it.
-#[derive(Drop)]
+#[derive(Debug, Drop)]
 pub struct P1Preopen {
     pub handle: Handle,
     pub perms: FsPerms,
@@ -100,14 +123,14 @@ pub struct Ended<H: Host> {
 impl<H: Host> WasiP1Ctx<H> {
     ghost use Rattle.wasi_p1.specs.Numbering.{live_count};
     ghost use Rattle.wasi_p1.specs.Owners.{OwnedApart, handles};
-    ghost use Rattle.wasi_p1.specs.Slots.{first_slots, is_closed_slot};
+    ghost use Rattle.wasi_p1.specs.Slots.{first_slots, given_name, is_closed_slot};
     ghost use Rattle.wasi_p1.specs.declared.error.CtxError.TheVariants.{Full};
     ghost use Rattle.wasi_guest.specs.Services.{handed};
     ghost use Rattle.wasi_p1.specs.Stock.{first_fuel, first_stock};
 
     /// A context with the three standard streams as descriptors 0 to 2, and then the directories that the guest is
     /// given, in order, which takes their handles over. Each handle is live, and given once. Nothing is asked of the
-    /// host. The names are let go, since no call tells them. The fuel left is `FUEL`.
+    /// host. The names are kept for `fd_prestat_get` and `fd_prestat_dir_name`. The fuel left is `FUEL`.
     ///
     /// Each live descriptor is an entry of the resource table, which has `table_max` entries at most: Full exactly where
     /// the streams and the directories are more.
@@ -128,7 +151,7 @@ impl<H: Host> WasiP1Ctx<H> {
               host = host;
               slots = first_slots preopens.items;
               table_max = table_max;
-              holdings = first_stock (handed services);
+              holdings = first_stock (handed services) (map given_name preopens.items);
               fuel = first_fuel;
             }) }
         ensures handed_back { IfErr result (λ refused. refused.host ≡ host) }
@@ -138,7 +161,7 @@ impl<H: Host> WasiP1Ctx<H> {
             Ok(descriptors) => descriptors,
             Err(error) => return Err(CtxRefused { host, error }),
         };
-        let Ok(holdings) = Holdings::new(alloc, services) else {
+        let Ok(holdings) = Holdings::new(alloc, services, preopens) else {
             let error = CtxError::Memory;
             return Err(CtxRefused { host, error });
         };

@@ -1,14 +1,14 @@
 //! The descriptors of a guest by number.
-ghost use Rattle.std.specs.Prelude.{◌≡◌, ◌≤◌, ◌<◌, ◌+◌, ◌↔◌, true, false, [], nat_le, length, slice_get, slice_set, Err, IsOk, IfOk, OnOk};
-ghost use Rattle.wasi_p1.specs.Items.{is_file_slot, moved_slot};
-ghost use Rattle.wasi_p1.specs.Numbering.{passes_at, free_number, with_new, live_count};
+ghost use Rattle.std.specs.Prelude.{◌≡◌, ◌≢◌, ◌≤◌, ◌<◌, ◌+◌, ◌↔◌, true, false, [], nat_le, length, slice_get, slice_set, Some, Err, IsOk, IfOk, OnOk};
+ghost use Rattle.wasi_p1.specs.Items.{file_under};
+ghost use Rattle.wasi_p1.specs.Numbering.{passes_at, free_number, with_new, renumbered, live_count};
 ghost use Rattle.wasi_p1.specs.Slots.{first_slots, is_closed_slot};
 ghost use Rattle.wasi_p1.specs.declared.error.CtxError.TheVariants.{Full};
 
-use crate::context::{P1Preopen, Slot, Stream};
+use crate::context::{DirectorySlot, FileSlot, P1Preopen, Slot, Stream};
 use crate::error::CtxError;
 use crate::items::{
-    Item, admit, at_position, forget, item_at, item_under, reserve_entry, slot_of_item,
+    Item, admit, forget, item_at, item_under, put_item, reserve_entry, slot_of_item,
 };
 use std::alloc::{AllocError, Global};
 use std::collections::BinaryHeap;
@@ -81,8 +81,11 @@ impl Descriptors {
         ensures max { IfOk result (λ descriptors. descriptors.max ≡ max) }
     {
         let mut descriptors = Descriptors::streams(alloc, max)?;
-        for preopen in preopens {
-            descriptors.add(Slot::Directory(preopen.directory()))?;
+        for (place, preopen) in preopens.iter().enumerate() {
+            descriptors.add(Slot::Directory(DirectorySlot {
+                dir: preopen.directory(),
+                preopen: Some(place),
+            }))?;
         }
         Ok(descriptors)
     }
@@ -179,16 +182,15 @@ impl Descriptors {
         Ok(())
     }
 
-    /// Puts a file's descriptor at a position.
-    pub fn set_position(&mut self, fd: u32, position: u64)
-        requires within { fd < length self.old.slots }
-        requires is { is_file_slot (slice_get self.old.slots fd) ≡ true }
-        ensures slots { self.new.slots ≡ slice_set self.old.slots fd (moved_slot (slice_get self.old.slots fd) position) }
+    /// Puts a file's descriptor back, at another position or with other modes.
+    pub fn put_back(&mut self, fd: u32, slot: FileSlot)
+        requires is { file_under (slice_get self.old.slots fd) ≡ Some slot.file }
+        ensures slots { self.new.slots ≡ slice_set self.old.slots fd (Slot.File slot) }
         ensures max { self.new.max ≡ self.old.max }
         ensures room { self.new.room ≡ self.old.room }
     {
         let item = item_under(&self.items, fd);
-        self.items[fd as usize] = at_position(item, position);
+        self.items[fd as usize] = put_item(item, slot.position, slot.modes);
     }
 
     /// A number that is in use becomes closed, and its entry goes. It takes no memory.
@@ -205,5 +207,20 @@ impl Descriptors {
         let Ok(()) = self.closed.push(fd) else {
             unreachable!()
         };
+    }
+
+    /// A descriptor takes the number of another, whose entry goes; its own number becomes closed. It takes no memory.
+    pub fn renumber(&mut self, from: u32, to: u32)
+        requires from_within { from < length self.old.slots }
+        requires from_in_use { passes_at is_closed_slot self.old.slots from ≡ false }
+        requires to_within { to < length self.old.slots }
+        requires to_in_use { passes_at is_closed_slot self.old.slots to ≡ false }
+        requires apart { from ≢ to }
+        ensures slots { self.new.slots ≡ renumbered Slot.Closed self.old.slots from to }
+        ensures max { self.new.max ≡ self.old.max }
+        ensures room { self.old.room < self.new.room }
+    {
+        self.items.swap(from as usize, to as usize);
+        self.close(from);
     }
 }

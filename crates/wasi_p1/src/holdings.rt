@@ -1,15 +1,17 @@
 //! What a guest has beside its descriptors and its memory.
-ghost use Rattle.std.specs.Prelude.{◌≡◌, ◌+◌, ◌-◌, ◌^◌, ◌≤◌, ◌<◌, ◌*◌, ◌%◌, ◌==◌, ◌&&◌, slice_index_or, min, false, IfOk, IfErr, OnOk, OnErr, map, length};
+ghost use Rattle.std.specs.Prelude.{◌≡◌, ◌+◌, ◌-◌, ◌^◌, ◌≤◌, ◌<◌, ◌*◌, ◌%◌, ◌==◌, ◌&&◌, slice_index_or, slice_get, option_map, min, false, IfOk, IfErr, OnOk, OnErr, map, length};
 ghost use Rattle.wasi_p1.specs.CallParts.{with_after, is_failure};
 ghost use Rattle.std.specs.List.{range_with_len};
 ghost use Rattle.std.specs.String.{string_bytes};
 ghost use Rattle.std.specs.Result.{result_map_both};
 ghost use Rattle.wasi_p1.specs.Services.{next_input, input_into, written, sizes_of, texts_at, with_text, with_texts, with_unit, total_of, clock_res, clock_time, moment_of, nanoseconds_of, random_bytes, random_taken};
+ghost use Rattle.wasi_p1.specs.Slots.{given_name};
 ghost use Rattle.wasi_p1.specs.Stock.{first_stock, env_text};
 ghost use Rattle.std.specs.Int.{to_le_bytes, w32};
 ghost use Rattle.wasi_guest.specs.Range.{IsInMemory, in_memory, with_bytes};
 ghost use Rattle.wasi_guest.specs.Services.{env_pair, handed};
 
+use crate::context::P1Preopen;
 use crate::error::P1Error;
 use crate::raw_numbers::INVALID;
 use std::alloc::{AllocError, Global};
@@ -21,6 +23,8 @@ use wasi_guest::{
 /// What a guest was handed in, as far as that is left, and what it has written to the two outputs.
 #[derive(Debug, Drop)]
 pub struct Holdings {
+    /// The directories that the guest was given, for their names.
+    preopens: Vec<P1Preopen>,
     args: Vec<String>,
     environ: Vec<String>,
     stdin: Vec<u8>,
@@ -40,11 +44,13 @@ pub struct Holdings {
 impl Model for Holdings {
     ghost use Rattle.std.specs.Prelude.{◌≤◌, ◌-◌, map, length, drop};
     ghost use Rattle.std.specs.String.{string_bytes};
+    ghost use Rattle.wasi_p1.specs.Slots.{given_name};
     ghost use Rattle.wasi_p1.specs.Stock.{Stock};
 
     ghost Value = { Stock };
 
     ghost view = { λ h. record {
+      preopens = map given_name h.preopens.items;
       args = map string_bytes h.args.items;
       environ = map string_bytes h.environ.items;
       stdin = drop h.read h.stdin.items;
@@ -90,12 +96,19 @@ fn env_texts(alloc: Global, env: &[EnvPair]) -> Result<Vec<String>, AllocError>
 }
 
 impl Holdings {
-    /// What is handed in, whole, and nothing written. The texts of the environment take memory, and nothing else does.
-    pub fn new(alloc: Global, services: Services) -> Result<Holdings, AllocError>
-        ensures first { IfOk result (λ holdings. holdings ≡ first_stock (handed services)) }
+    /// What is handed in, whole, the names of the directories that are given, and nothing written. The texts of the
+    /// environment take memory, and nothing else does.
+    pub fn new(
+        alloc: Global,
+        services: Services,
+        preopens: Vec<P1Preopen>,
+    ) -> Result<Holdings, AllocError>
+        ensures first { IfOk result (λ holdings. holdings
+            ≡ first_stock (handed services) (map given_name preopens.items)) }
     {
         let environ = env_texts(alloc, &services.env)?;
         Ok(Holdings {
+            preopens,
             args: services.args,
             environ,
             stdin: services.stdin,
@@ -109,6 +122,13 @@ impl Holdings {
             random: services.random,
             random_at: 0,
         })
+    }
+
+    /// The name of the directory that was given at this place, if there was one.
+    pub fn preopen_name(&self, place: usize) -> Option<&str>
+        ensures name { option_map (λ name. name.now) result ≡ slice_get self.now.preopens place }
+    {
+        Some(self.preopens.get(place)?.name.as_str())
     }
 
     /// How many arguments there are, and how many bytes they have with a zero behind each: Overflow where 32 bits don't

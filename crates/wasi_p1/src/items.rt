@@ -1,10 +1,10 @@
 //! What is kept of a descriptor beside the resource table.
 ghost use Rattle.std.specs.Prelude.{◌≡◌, ◌<◌, ◌≤◌, ◌+◌, None, IsOk, OnOk, false, length, slice_get, slice_index_or};
 ghost use Rattle.std.specs.FinMap.{get, insert, len};
-ghost use Rattle.wasi_p1.specs.Items.{Admitted, IsOfKind, at_position, is_closed_item, slot_in, stream_entry, without_item};
+ghost use Rattle.wasi_p1.specs.Items.{Admitted, IsOfKind, is_closed_item, put_item, slot_in, stream_entry, without_item};
 ghost use Rattle.wasi_p1.specs.Slots.{is_closed_slot};
 
-use crate::context::{Slot, Stream};
+use crate::context::{DirectorySlot, FileModes, FileSlot, Slot, Stream};
 use std::alloc::AllocError;
 use wasi_fs::{Descriptor, Dir, File};
 use wasi_streams::{Entry, Resource, ResourceTable, TableError};
@@ -14,8 +14,15 @@ use wasi_streams::{Entry, Resource, ResourceTable, TableError};
 pub enum Item {
     Closed,
     Stream(Stream, Resource),
-    Directory(Resource),
-    File { resource: Resource, position: u64 },
+    Directory {
+        resource: Resource,
+        preopen: Option<usize>,
+    },
+    File {
+        resource: Resource,
+        position: u64,
+        modes: FileModes,
+    },
 }
 
 /// What is kept of a number, if it was ever given.
@@ -84,41 +91,56 @@ pub fn admit(table: &mut ResourceTable, slot: Slot) -> Item
     match slot {
         Slot::Closed => unreachable!(),
         Slot::Stream(stream) => Item::Stream(stream, put_entry(table, entry_of(stream))),
-        Slot::Directory(dir) => {
-            Item::Directory(put_entry(table, Entry::Descriptor(Descriptor::Dir(dir))))
+        Slot::Directory(DirectorySlot { dir, preopen }) => {
+            let resource = put_entry(table, Entry::Descriptor(Descriptor::Dir(dir)));
+            Item::Directory { resource, preopen }
         }
-        Slot::File { file, position } => {
+        Slot::File(
+            FileSlot {
+                file,
+                position,
+                modes,
+            },
+        ) => {
             let resource = put_entry(table, Entry::Descriptor(Descriptor::File(file)));
-            Item::File { resource, position }
+            Item::File {
+                resource,
+                position,
+                modes,
+            }
         }
     }
 }
 
 /// What a directory's resource stands for.
-fn directory_of(table: &ResourceTable, resource: Resource) -> Slot
-    requires { IsOfKind table.now.entries (Item.Directory resource) }
-    ensures { result ≡ slot_in table.now.entries (Item.Directory resource) }
+fn directory_of(table: &ResourceTable, resource: Resource, preopen: Option<usize>) -> Slot
+    requires { IsOfKind table.now.entries (Item.Directory resource preopen) }
+    ensures { result ≡ slot_in table.now.entries (Item.Directory resource preopen) }
 {
     match table.descriptor(resource) {
         Ok(descriptor) => match descriptor {
-            Descriptor::Dir(dir) => Slot::Directory(Dir::new(dir.dir, dir.perms, dir.open_mode)),
+            Descriptor::Dir(dir) => Slot::Directory(DirectorySlot {
+                dir: Dir::new(dir.dir, dir.perms, dir.open_mode),
+                preopen,
+            }),
             Descriptor::File(_) => unreachable!(),
         },
         Err(_) => unreachable!(),
     }
 }
 
-/// What a file's resource stands for, at a position.
-fn file_of(table: &ResourceTable, resource: Resource, position: u64) -> Slot
-    requires { IsOfKind table.now.entries (Item.File resource position) }
-    ensures { result ≡ slot_in table.now.entries (Item.File resource position) }
+/// What a file's resource stands for, at a position, with its modes.
+fn file_of(table: &ResourceTable, resource: Resource, position: u64, modes: FileModes) -> Slot
+    requires { IsOfKind table.now.entries (Item.File resource position modes) }
+    ensures { result ≡ slot_in table.now.entries (Item.File resource position modes) }
 {
     match table.descriptor(resource) {
         Ok(descriptor) => match descriptor {
-            Descriptor::File(file) => Slot::File {
+            Descriptor::File(file) => Slot::File(FileSlot {
                 file: File::new(file.file, file.perms, file.open_mode),
                 position,
-            },
+                modes,
+            }),
             Descriptor::Dir(_) => unreachable!(),
         },
         Err(_) => unreachable!(),
@@ -133,8 +155,12 @@ pub fn slot_of_item(table: &ResourceTable, item: Item) -> Slot
     match item {
         Item::Closed => Slot::Closed,
         Item::Stream(stream, _) => Slot::Stream(stream),
-        Item::Directory(resource) => directory_of(table, resource),
-        Item::File { resource, position } => file_of(table, resource, position),
+        Item::Directory { resource, preopen } => directory_of(table, resource, preopen),
+        Item::File {
+            resource,
+            position,
+            modes,
+        } => file_of(table, resource, position, modes),
     }
 }
 
@@ -148,7 +174,9 @@ pub fn forget(table: &mut ResourceTable, item: Item)
 {
     match item {
         Item::Closed => unreachable!(),
-        Item::Stream(_, resource) | Item::Directory(resource) | Item::File { resource, .. } => {
+        Item::Stream(_, resource)
+        | Item::Directory { resource, .. }
+        | Item::File { resource, .. } => {
             let Ok(_) = table.delete(resource) else {
                 unreachable!()
             };
@@ -156,14 +184,18 @@ pub fn forget(table: &mut ResourceTable, item: Item)
     }
 }
 
-/// A file's descriptor at another position.
-pub fn at_position(item: Item, position: u64) -> Item
-    ensures { result ≡ at_position item position }
+/// A file's descriptor at this position, with these modes.
+pub fn put_item(item: Item, position: u64, modes: FileModes) -> Item
+    ensures { result ≡ put_item item position modes }
 {
     match item {
-        Item::File { resource, .. } => Item::File { resource, position },
+        Item::File { resource, .. } => Item::File {
+            resource,
+            position,
+            modes,
+        },
         Item::Closed => Item::Closed,
         Item::Stream(stream, resource) => Item::Stream(stream, resource),
-        Item::Directory(resource) => Item::Directory(resource),
+        Item::Directory { resource, preopen } => Item::Directory { resource, preopen },
     }
 }

@@ -6,6 +6,7 @@ ghost use Rattle.wasi_p1.specs.Stems.{PermissionsStem};
 ghost use Rattle.wasi_p1.specs.ReadOnly.{ReadOnlyTurnsLeaveTheTree, ReadOnlyRunsLeaveTheTree};
 ghost use Rattle.wasi_p1.specs.Validity.{RunsStayValid};
 ghost use Rattle.wasi_p1.specs.Writing.{WritesAreWhole};
+ghost use Rattle.wasi_p1.specs.DescriptorLaws.{NumbersAreDense, OpensTheLargestClosed, SeeksAreTold, OffsetsLeavePositions};
 
 use wasi_host::Host;
 
@@ -53,7 +54,21 @@ pub fn read_only_runs_leave_the_tree()
     ensures leave { ReadOnlyRunsLeaveTheTree }
 {}
 
-/// A write that is answered put its first buffer that has bytes whole into the file, from its position on.
+/// The live and the closed descriptor numbers together are those below a number, and a new descriptor takes the largest
+/// closed one.
+pub fn descriptor_numbers()
+    ensures dense { NumbersAreDense }
+    ensures largest { OpensTheLargestClosed }
+{}
+
+/// What `fd_seek` answered is told by `fd_tell`, and what is read or written at an offset leaves all positions.
+pub fn positions()
+    ensures sought { SeeksAreTold }
+    ensures offsets { OffsetsLeavePositions }
+{}
+
+/// A write that is answered put its first buffer that has bytes whole into the file, from its position on, or in append
+/// mode behind its last byte.
 pub fn writes_are_whole()
     ensures whole { WritesAreWhole }
 {}

@@ -7,6 +7,7 @@ mod calls;
 mod context;
 mod descriptors;
 mod error;
+mod file_parts;
 mod filestats;
 mod holdings;
 mod items;
@@ -16,13 +17,15 @@ mod open_with;
 mod raw_numbers;
 mod run;
 
-pub use context::{CtxRefused, Ended, FUEL, P1Preopen, Slot, Stream, WasiP1Ctx};
+pub use context::{
+    CtxRefused, DirectorySlot, Ended, FUEL, FileModes, FileSlot, P1Preopen, Slot, Stream, WasiP1Ctx,
+};
 pub use error::{CtxError, P1Error};
 pub use holdings::{Holdings, Output, Outputs};
 pub use laws::{
-    live_handles_stay, permissions_stem, read_only_runs_leave_the_tree,
-    read_only_turns_leave_the_tree, runs_agree, runs_are_functions, runs_stay_valid, turns_agree,
-    turns_are_confined, writes_are_whole,
+    descriptor_numbers, live_handles_stay, permissions_stem, positions,
+    read_only_runs_leave_the_tree, read_only_turns_leave_the_tree, runs_agree, runs_are_functions,
+    runs_stay_valid, turns_agree, turns_are_confined, writes_are_whole,
 };
 pub use run::{RunError, call, run_calls};
 pub use wasi_fs::FsPerms;

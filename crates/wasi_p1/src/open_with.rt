@@ -1,5 +1,5 @@
 //! How a path is opened or looked at.
-ghost use Rattle.std.specs.Prelude.{◌≡◌, false, IfErr};
+ghost use Rattle.std.specs.Prelude.{◌≡◌, false, IfOk, IfErr};
 ghost use Rattle.std.specs.Result.{result_map_both};
 ghost use Rattle.wasi_fs.specs.OpenHow.{is_followed};
 ghost use Rattle.wasi_fs.specs.OpenHow.{how_of};
@@ -9,9 +9,10 @@ ghost use Rattle.wasi_fs.specs.declared.open_flags.TheConstants.DescriptorFlags 
 ghost use Rattle.wasi_guest.specs.FlagSets.{lookupflag_bits, oflag_bits, fdflag_bits, right_bits};
 ghost use Rattle.wasi_guest.specs.Flags as flag;
 ghost use Rattle.wasi_guest.specs.Flags.{has};
-ghost use Rattle.wasi_p1.specs.RawFlags.{open_how, follow_asked};
+ghost use Rattle.wasi_p1.specs.RawFlags.{modes_in, open_how, follow_asked};
 ghost use Rattle.wasi_p1.specs.CallParts.{is_failure};
 
+use crate::context::FileModes;
 use crate::error::P1Error;
 use crate::raw_numbers::INVALID;
 use bitflags::Flags;
@@ -24,11 +25,12 @@ pub struct OpenWith {
     pub path_flags: PathFlags,
     pub open_flags: OpenFlags,
     pub flags: DescriptorFlags,
+    pub modes: FileModes,
 }
 
 impl OpenWith {
     /// What these raw numbers ask for. Refusal: Inval where one of them has a bit that preview1 doesn't know. The other
-    /// rights, append and nonblock ask for nothing.
+    /// rights ask for nothing; append and nonblock are the modes of a file.
     #[tactic(auto, unfolding(crate::specs::RawFlags::open_how))]
     pub fn of(
         dirflags: u32,
@@ -39,6 +41,7 @@ impl OpenWith {
     ) -> Result<OpenWith, P1Error>
         ensures row { result_map_both (λ with. how_of with.path_flags with.open_flags with.flags) (λ e. e) result
             ≡ open_how dirflags oflags base inheriting fdflags }
+        ensures modes { IfOk result (λ with. with.modes ≡ modes_in fdflags) }
         ensures refusal { IfErr result (λ e. is_failure e ≡ false) }
     {
         let lookups = LookupFlags::from_bits(dirflags).ok_or(INVALID)?;
@@ -50,6 +53,7 @@ impl OpenWith {
             path_flags: path_flags(lookups),
             open_flags: open_flags(oflags),
             flags: descriptor_flags(rights, fdflags),
+            modes: file_modes(fdflags),
         })
     }
 }
@@ -62,6 +66,16 @@ pub fn path_flags_of(flags: u32) -> Result<PathFlags, P1Error>
 {
     let lookups = LookupFlags::from_bits(flags).ok_or(INVALID)?;
     Ok(path_flags(lookups))
+}
+
+/// The modes of the same names.
+pub fn file_modes(fdflags: FdFlags) -> FileModes
+    ensures modes { result ≡ modes_in (fdflag_bits fdflags) }
+{
+    FileModes {
+        append: fdflags.contains(FdFlags::APPEND),
+        nonblock: fdflags.contains(FdFlags::NONBLOCK),
+    }
 }
 
 /// The flag of the same name.

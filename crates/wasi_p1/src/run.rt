@@ -62,14 +62,44 @@ pub fn call<H: Host>(
         Call::EnvironSizesGet => context.environ_sizes_get(memory),
         Call::ClockResGet { id } => context.clock_res_get(memory, id),
         Call::ClockTimeGet { id, precision } => context.clock_time_get(memory, id, precision),
+        Call::FdAdvise {
+            fd,
+            offset,
+            len,
+            advice,
+        } => context.fd_advise(memory, fd, offset, len, advice),
+        Call::FdAllocate { fd, offset, len } => context.fd_allocate(memory, fd, offset, len),
         Call::FdClose { fd } => context.fd_close(memory, fd),
+        Call::FdDatasync { fd } => context.fd_datasync(memory, fd),
+        Call::FdSync { fd } => context.fd_sync(memory, fd),
+        Call::FdFdstatSetFlags { fd, flags } => context.fd_fdstat_set_flags(memory, fd, flags),
+        Call::FdFilestatSetSize { fd, size } => context.fd_filestat_set_size(memory, fd, size),
         Call::FdFilestatSetTimes {
             fd,
             atim,
             mtim,
             fst_flags,
         } => context.fd_filestat_set_times(memory, fd, atim, mtim, fst_flags),
+        Call::FdPread {
+            fd,
+            iovs,
+            iovs_len,
+            offset,
+        } => context.fd_pread(memory, fd, iovs, iovs_len, offset),
+        Call::FdPrestatGet { fd } => context.fd_prestat_get(memory, fd),
+        Call::FdPrestatDirName { fd, path, path_len } => {
+            context.fd_prestat_dir_name(memory, fd, path, path_len)
+        }
+        Call::FdPwrite {
+            fd,
+            iovs,
+            iovs_len,
+            offset,
+        } => context.fd_pwrite(memory, fd, iovs, iovs_len, offset),
         Call::FdRead { fd, iovs, iovs_len } => context.fd_read(memory, fd, iovs, iovs_len),
+        Call::FdRenumber { from, to } => context.fd_renumber(memory, from, to),
+        Call::FdSeek { fd, offset, whence } => context.fd_seek(memory, fd, offset, whence),
+        Call::FdTell { fd } => context.fd_tell(memory, fd),
         Call::FdWrite { fd, iovs, iovs_len } => context.fd_write(memory, fd, iovs, iovs_len),
         Call::PathCreateDirectory { fd, path, path_len } => {
             context.path_create_directory(memory, fd, path, path_len)

@@ -37,7 +37,7 @@ no_fault k (inl fits) = omega arith
 no_fault k (inr full) = absurd (omega arith)
 
 pub begun_at : {context : View MemState} {memory : List ℕ} (plan : Plan)
-    → IsBegun world_of context (tree_of plan.nodes plan.limits) plan.preopens plan.services
+    → IsBegun world_of context (tree_of plan.nodes plan.limits) plan.preopens plan.services plan.table
     → memory ≡ with_pieces (replicate plan.size 0) plan.pieces → state_of world_of context memory ≡ start plan
 begun_at {memory} plan is memory-is = is.state memory ∙ (rw memory-is refl)
 

@@ -12,27 +12,27 @@ use Rattle.wasi_p1.specs.ReadOnly.{IsReadOnlyGuest}
 use Rattle.wasi_p1.proofs.Permitting.{run_leaves}
 use Rattle.wasi_script.specs.Due.{Due, the_usage, the_refusal, the_report, OfDue, Writes, KeepsTree}
 use Rattle.wasi_script.specs.Headline.{Reports, GivesReadOnly, TellsOwnTree, fueled_calls, own_nodes, node_in_order, report_after}
-use Rattle.wasi_script.specs.Start.{start, given_guest_slot}
+use Rattle.wasi_script.specs.Start.{start, given_guest_slots}
 use Rattle.wasi_script.specs.declared.status.Status.{Status}
 use Rattle.wasi_script.specs.declared.status.Status.TheVariants as statuses
 
 -- ---- the guest at the start
 
-given_only : (preopens : List PlannedPreopen) → All (λ preopen. preopen.perms ≡ ReadOnly) preopens → (n : ℕ)
-    (perms : FsPerms) → perms_in (slice_get (map given_guest_slot preopens) n) ≡ Some perms → perms ≡ ReadOnly
-given_only [] only n perms has = absurd (cc)
-given_only (p ∷ ps) only zero perms has =
+given_only : (place : ℕ) (preopens : List PlannedPreopen) → All (λ preopen. preopen.perms ≡ ReadOnly) preopens → (n : ℕ)
+    (perms : FsPerms) → perms_in (slice_get (given_guest_slots place preopens) n) ≡ Some perms → perms ≡ ReadOnly
+given_only place [] only n perms has = absurd (cc)
+given_only place (p ∷ ps) only zero perms has =
     let same : p.perms ≡ perms = (cc) in
     let first = All-head (λ preopen. preopen.perms ≡ ReadOnly) p ps only in cc
-given_only (p ∷ ps) only (suc n) perms has =
-    given_only ps (All-tail (λ preopen. preopen.perms ≡ ReadOnly) p ps only) n perms has
+given_only place (p ∷ ps) only (suc n) perms has =
+    given_only (suc place) ps (All-tail (λ preopen. preopen.perms ≡ ReadOnly) p ps only) n perms has
 
 -- has no others
 starts_read_only : (plan : Plan) → GivesReadOnly plan → IsReadOnlyGuest (start plan).guest
 starts_read_only plan only zero perms has = absurd (cc)
 starts_read_only plan only (suc zero) perms has = absurd (cc)
 starts_read_only plan only (suc (suc zero)) perms has = absurd (cc)
-starts_read_only plan only (suc (suc (suc n))) perms has = given_only plan.preopens only n perms has
+starts_read_only plan only (suc (suc (suc n))) perms has = given_only 0 plan.preopens only n perms has
 
 -- ---- the tree of a list of nodes, told again
 

@@ -1,5 +1,5 @@
 -- How the calls of a script begin.
-use Rattle.std.proofs.Common.{ℕ, zero, suc, ◌+◌, ◌<◌, ◌≤◌, ◌≡◌, ◌≢◌, inl, inr, Bool, true, false, subst, ap, List, [], ◌∷◌, ◌++◌, length, map, take, refl, sym, ◌∙◌, arith, get_or, slice_get, slice_index_or}
+use Rattle.std.proofs.Common.{ℕ, zero, suc, ◌+◌, ◌<◌, ◌≤◌, ◌≡◌, ◌≢◌, inl, inr, Bool, true, false, subst, ap, List, [], ◌∷◌, ◌++◌, length, map, take, refl, sym, ◌∙◌, arith, get_or, slice_get, slice_index_or, Some}
 use Rattle.std.specs.List.{list_all}
 use Rattle.std.specs.Ordering.{nat_cmp}
 use Rattle.std.specs.String.{string_bytes}
@@ -24,11 +24,11 @@ use Rattle.wasi_guest.specs.Range.{with_bytes}
 use Rattle.wasi_guest.specs.Services.{Handed}
 use Rattle.wasi_p1.specs.Reach.{Confined}
 use Rattle.wasi_form.specs.Plan.{PlannedPreopen, PlannedPiece, planned_preopen, planned_piece}
-use Rattle.wasi_form.specs.Built.{are_preopens_directories, is_directory_given, is_piece_within}
-use Rattle.wasi_p1.specs.Slots.{first_slots, given_mode, given_directory, given_slot}
+use Rattle.wasi_form.specs.Within.{are_preopens_directories, is_directory_given, is_piece_within}
+use Rattle.wasi_p1.specs.Slots.{first_slots, given_mode, given_directory, given_name, given_slot, given_slots}
 use Rattle.wasi_p1.specs.Stock.{first_stock}
 use Rattle.wasi_p1.specs.declared.context.P1Preopen.{P1Preopen}
-use Rattle.wasi_script.specs.Start.{given_guest_slot, most_descriptors, AreGiven, IsBegun, with_pieces}
+use Rattle.wasi_script.specs.Start.{given_guest_slot, given_guest_slots, AreGiven, IsBegun, with_pieces}
 use Rattle.wasi_p1.specs.Guest.{State, directory as directory_slot, directory_by, guest_slot}
 use Rattle.wasi_form.specs.declared.script.Piece.{Piece}
 use Rattle.wasi_form.specs.declared.script.ScriptPreopen.{ScriptPreopen}
@@ -74,14 +74,29 @@ abbrev IsLiveIn : HeldMap → P1Preopen → Type 0
 IsLiveIn handles preopen = contains (live_of handles) preopen.handle ≡ true
 
 -- those that were given stand for what they stood for
-slots_again : (old new : HeldMap) (given : List P1Preopen) → All (IsLiveIn old) given
+slots_again : (old new : HeldMap) (place : ℕ) (given : List P1Preopen) → All (IsLiveIn old) given
     → ((h : ℕ) → contains (live_of old) h ≡ true → held_in new h ≡ held_in old h)
-    → map (guest_slot (held_in new)) (map given_slot given) ≡ map (guest_slot (held_in old)) (map given_slot given)
-slots_again old new [] lives same = refl
-slots_again old new (p ∷ ps) lives same =
-    let here : guest_slot (held_in new) (given_slot p) ≡ guest_slot (held_in old) (given_slot p) =
-    ap (λ (held : Held). directory_slot (directory_by held (given_directory p))) (same p.handle (All-head (IsLiveIn old) p ps lives)) in
-    λ i. here i ∷ slots_again old new ps (All-tail (IsLiveIn old) p ps lives) same i
+    → map (guest_slot (held_in new)) (given_slots place given) ≡ map (guest_slot (held_in old)) (given_slots place given)
+slots_again old new place [] lives same = refl
+slots_again old new place (p ∷ ps) lives same =
+    let here : guest_slot (held_in new) (given_slot place p) ≡ guest_slot (held_in old) (given_slot place p) =
+    ap (λ (held : Held). directory_slot (directory_by held (record { dir = given_directory p; preopen = Some place })))
+    (same p.handle (All-head (IsLiveIn old) p ps lives)) in
+    λ i. here i ∷ slots_again old new (suc place) ps (All-tail (IsLiveIn old) p ps lives) same i
+
+-- one more stands behind them
+slots_more : (holds : ℕ → Held) (planned : PlannedPreopen) (p : P1Preopen) (place : ℕ) (preopens : List PlannedPreopen)
+    (given : List P1Preopen)
+    → map (guest_slot holds) (given_slots place given) ≡ given_guest_slots place preopens
+    → ((n : ℕ) → guest_slot holds (given_slot n p) ≡ given_guest_slot n planned)
+    → map (guest_slot holds) (given_slots place (given ++ p ∷ [])) ≡ given_guest_slots place (preopens ++ planned ∷ [])
+slots_more holds planned p place [] [] are here = λ i. here place i ∷ []
+slots_more holds planned p place (q ∷ preopens) (g ∷ given) are here =
+    let first : guest_slot holds (given_slot place g) ≡ given_guest_slot place q = (cc) in
+    let rest : map (guest_slot holds) (given_slots (suc place) given) ≡ given_guest_slots (suc place) preopens = (cc) in
+    λ i. first i ∷ slots_more holds planned p (suc place) preopens given rest here i
+slots_more holds planned p place [] (g ∷ given) are here = absurd (cc)
+slots_more holds planned p place (q ∷ preopens) [] are here = absurd (cc)
 
 pub none_given : {handles : HeldMap} → AreGiven handles [] []
 none_given = record {
@@ -91,9 +106,6 @@ none_given = record {
   names = refl;
 }
 
-abbrev name_bytes : P1Preopen → List ℕ
-name_bytes preopen = string_bytes preopen.name
-
 abbrev planned_name : PlannedPreopen → List ℕ
 planned_name preopen = preopen.name
 
@@ -101,7 +113,7 @@ planned_name preopen = preopen.name
 pub given_length : {handles : HeldMap} {preopens : List PlannedPreopen} {given : List P1Preopen}
     → AreGiven handles preopens given → length given ≡ length preopens
 given_length {preopens = preopens} {given = given} are =
-    sym (length-map given name_bytes) ∙ ap length are.names ∙ length-map preopens planned_name
+    sym (length-map given given_name) ∙ ap length are.names ∙ length-map preopens planned_name
 
 -- a new handle, of one directory more
 pub record IsGivenTo (old new : HeldMap) (planned : PlannedPreopen) (preopen : P1Preopen) : Type 0 where
@@ -121,19 +133,14 @@ given_more {old} {new} {planned} {p} preopens given are is = record {
   once = all_pairs_push (λ one other. one.handle ≢ other.handle) given p are.once (λ k d within same.
       absurd (let wrong = sym (are.live k d within) ∙ ap (contains (live_of old)) same ∙ is.fresh in cc));
   slots =
-      let here : guest_slot (held_in new) (given_slot p) ≡ given_guest_slot planned =
-      (λ i. directory_slot (record {
+      slots_more (held_in new) planned p 0 preopens given (slots_again old new 0 given are.live is.others ∙ are.slots) (λ place i.
+      directory_slot (record {
         node = (is.held i).node;
         perms = is.perms i;
         open_mode = given_mode (is.perms i);
-      })) in
-      let old_ones = slots_again old new given are.live is.others ∙ are.slots in
-      rw (
-        map-append given_slot given (p ∷ []),
-        map-append (guest_slot (held_in new)) (map given_slot given) (given_slot p ∷ []),
-        map-append given_guest_slot preopens (planned ∷ []),
-      ) (λ i. old_ones i ++ here i ∷ []);
-  names = rw (map-append name_bytes given (p ∷ []), map-append planned_name preopens (planned ∷ []))
+        preopen = Some place;
+      }));
+  names = rw (map-append given_name given (p ∷ []), map-append planned_name preopens (planned ∷ []))
       (λ i. are.names i ++ is.name i ∷ []);
 }
   where
@@ -145,20 +152,20 @@ given_more {old} {new} {planned} {p} preopens given are is = record {
     got = given_is_live (live_of old) (live_of new) p.handle is.live
 
 -- a context over a tree in memory that has given handles
-pub begun_by : {given : MemState} {tree : Tree} {preopens : List PlannedPreopen} {services : Handed} {fuel : ℕ}
+pub begun_by : {given : MemState} {tree : Tree} {preopens : List PlannedPreopen} {services : Handed} {table fuel : ℕ}
     {list : List P1Preopen}
     → given.tree ≡ tree → given.touched ≡ empty → AreGiven given.handles preopens list
     → IsBegun world_of
     (record {
       host = given;
       slots = first_slots list;
-      table_max = most_descriptors;
-      holdings = first_stock services;
+      table_max = table;
+      holdings = first_stock services (map given_name list);
       fuel = fuel;
     })
-    tree preopens services
+    tree preopens services table
 begun_by tree-is none are = record {
-  state = λ memory. rw (tree-is, are.slots) refl;
+  state = λ memory. rw (tree-is, are.slots, are.names) refl;
   untouched = none;
 }
 

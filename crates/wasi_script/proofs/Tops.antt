@@ -10,7 +10,7 @@ use Rattle.wasi_ends.specs.declared.reading.Unfinished.TheVariants as errors
 use Rattle.wasi_form.specs.declared.verdict.Refusal.{Refusal}
 use Rattle.wasi_form.specs.declared.verdict.ScriptError.{ScriptError}
 use Rattle.wasi_form.specs.declared.verdict.ScriptError.TheVariants as scripts
-use Rattle.wasi_form.proofs.BuiltScripts.{too_many, refused_before}
+use Rattle.wasi_form.proofs.Accepted.{too_many, refused_before}
 use Rattle.wasi_script.specs.Exit.{unfinished_status, script_status}
 use Rattle.wasi_script.specs.Due.{Due, the_usage, the_refusal, the_report, IsOwed, OfDue, left_unread, LeavesBytes, KeepsSink, NotRead}
 use Rattle.wasi_script.specs.Due.{IsText, IsDue, Writes, Written, whole, in_part, status_of}

@@ -6,7 +6,7 @@ ghost use Rattle.wasi_tree.specs.Given.{tree_of};
 ghost use Rattle.wasi_tree.specs.MemState.{world_of};
 ghost use Rattle.wasi_guest.specs.Services.{handed};
 ghost use Rattle.wasi_form.specs.Plan.{planned_piece, planned_preopen};
-ghost use Rattle.wasi_form.specs.Built.{default_table, are_preopens_directories, is_piece_within, is_shown_within};
+ghost use Rattle.wasi_form.specs.Within.{are_preopens_directories, is_piece_within, is_shown_within};
 ghost use Rattle.wasi_script.specs.Start.{with_pieces, IsBegun, AreGiven};
 ghost use Rattle.wasi_script.specs.Headline.{bytes_shown};
 
@@ -45,24 +45,23 @@ fn given_handles(
     Ok(given)
 }
 
-/// How many descriptors of a script may be live: as many as have numbers, as no script says it yet.
-const MOST_DESCRIPTORS: u32 = 4_294_967_295;
-
-/// A context over the tree of these nodes, in which the guest is handed in these services and given these directories.
+/// A context over the tree of these nodes, in which the guest is handed in these services and given these directories, and
+/// as many descriptors may be live as its table has room for.
 pub fn first_context(
     alloc: Global,
     nodes: FitNodes,
     services: Services,
     preopens: &[ScriptPreopen],
+    table: u32,
 ) -> Result<WasiP1Ctx<MemTree>, AllocError>
     requires directories { are_preopens_directories nodes.nodes (map planned_preopen preopens.now) ≡ true }
-    requires table { 3 + length preopens.now ≤ default_table }
+    requires table { 3 + length preopens.now ≤ table }
     ensures begun { IfOk result (λ c. IsBegun world_of c (tree_of nodes.nodes nodes.limits)
-        (map planned_preopen preopens.now) (handed services)) }
+        (map planned_preopen preopens.now) (handed services) table) }
 {
     let mut tree = MemTree::of(alloc, nodes)?;
     let given = given_handles(alloc, &mut tree, preopens)?;
-    match WasiP1Ctx::new(alloc, tree, given, services, MOST_DESCRIPTORS) {
+    match WasiP1Ctx::new(alloc, tree, given, services, table) {
         Ok(context) => Ok(context),
         Err(refused) => match refused.error {
             CtxError::Memory => Err(AllocError),

@@ -3,7 +3,7 @@ ghost use Rattle.std.specs.Prelude.{◌≡◌, ◌≤◌, ◌⊎◌, true, false
 ghost use Rattle.std.specs.String.{string_bytes};
 ghost use Rattle.wasi_host.specs.Meaning.{Rose};
 ghost use Rattle.wasi_form.specs.Plan.{plan};
-ghost use Rattle.wasi_form.specs.Built.{is_built_script};
+ghost use Rattle.wasi_form.specs.Within.{is_within_limits};
 ghost use Rattle.wasi_script.specs.Headline.{Reports};
 ghost use Rattle.wasi_script.specs.Due.{is_run, the_usage, refusal_line, OfDue, IsDue, Writes, KeepsTree, LeavesBytes, KeepsSink, EndsReading, ReadsScript, Written};
 
@@ -44,7 +44,7 @@ fn read_from<S: Source>(alloc: Global, source: &mut S) -> Result<Script, Status>
     ensures count { S.faults source.old ≤ S.faults source.new }
     ensures cause { result ≡ Err Status.ReadFault → Rose (S.faults source.old) (S.faults source.new) }
     ensures ends { IfErr result EndsReading }
-    ensures built { IfOk result (λ script. is_built_script (plan script) ≡ true) }
+    ensures within { IfOk result (λ script. is_within_limits (plan script) ≡ true) }
     ensures read { IsTrue S.told → ReadsScript result (S.left source.old) (S.left source.new) }
 {
     let bytes = read_all(alloc, source)?;
@@ -52,7 +52,7 @@ fn read_from<S: Source>(alloc: Global, source: &mut S) -> Result<Script, Status>
 }
 
 fn report_of(alloc: Global, script: Script) -> Result<Vec<u8>, AllocError>
-    requires { is_built_script (plan script) ≡ true }
+    requires { is_within_limits (plan script) ≡ true }
     ensures { IfOk result (λ text. Reports (plan script) text.items) }
 {
     let mut memory = first_memory(alloc, script.size, script.pieces.as_slice())?;
@@ -61,6 +61,7 @@ fn report_of(alloc: Global, script: Script) -> Result<Vec<u8>, AllocError>
         script.nodes,
         script.services,
         script.preopens.as_slice(),
+        script.table,
     )?;
     let bytes = memory.bytes_mut();
     let ran = run_calls(alloc, &mut context, bytes, script.fuel, &script.calls);

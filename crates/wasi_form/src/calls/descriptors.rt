@@ -1,9 +1,9 @@
-//! The calls on a descriptor.
+//! The calls on a descriptor itself.
 ghost use Rattle.std.specs.Prelude.{◌≡◌, ◌∷◌, []};
-ghost use Rattle.wasi_guest.specs.declared.call.Call.TheVariants.{FdClose, FdFilestatSetTimes, FdRead, FdWrite};
+ghost use Rattle.wasi_guest.specs.declared.call.Call.TheVariants.{FdClose, FdFdstatSetFlags, FdPrestatGet, FdPrestatDirName, FdRenumber};
 ghost use Rattle.wasi_form.specs.Atoms.{values_left};
 ghost use Rattle.wasi_form.specs.CallForm.{call_made};
-ghost use Rattle.wasi_form.specs.declared.arguments.Argument.TheVariants.{U32, U64};
+ghost use Rattle.wasi_form.specs.declared.arguments.Argument.TheVariants.{U32};
 
 use crate::arguments::Arguments;
 use wasi_guest::Call;
@@ -17,36 +17,40 @@ impl Arguments<'_> {
         self.end(call)
     }
 
-    pub fn fd_filestat_set_times(mut self) -> Option<Call>
-        ensures { result ≡ call_made (U32 ∷ U64 ∷ U64 ∷ U32 ∷ []) FdFilestatSetTimes (values_left self.entry) }
+    pub fn fd_fdstat_set_flags(mut self) -> Option<Call>
+        ensures { result ≡ call_made (U32 ∷ U32 ∷ []) FdFdstatSetFlags (values_left self.entry) }
     {
-        let call = Call::FdFilestatSetTimes {
+        let call = Call::FdFdstatSetFlags {
             fd: self.u32()?,
-            atim: self.u64()?,
-            mtim: self.u64()?,
-            fst_flags: self.u32()?,
+            flags: self.u32()?,
         };
         self.end(call)
     }
 
-    pub fn fd_read(mut self) -> Option<Call>
-        ensures { result ≡ call_made (U32 ∷ U32 ∷ U32 ∷ []) FdRead (values_left self.entry) }
+    pub fn fd_prestat_get(mut self) -> Option<Call>
+        ensures { result ≡ call_made (U32 ∷ []) FdPrestatGet (values_left self.entry) }
     {
-        let call = Call::FdRead {
+        let call = Call::FdPrestatGet { fd: self.u32()? };
+        self.end(call)
+    }
+
+    pub fn fd_prestat_dir_name(mut self) -> Option<Call>
+        ensures { result ≡ call_made (U32 ∷ U32 ∷ U32 ∷ []) FdPrestatDirName (values_left self.entry) }
+    {
+        let call = Call::FdPrestatDirName {
             fd: self.u32()?,
-            iovs: self.u32()?,
-            iovs_len: self.u32()?,
+            path: self.u32()?,
+            path_len: self.u32()?,
         };
         self.end(call)
     }
 
-    pub fn fd_write(mut self) -> Option<Call>
-        ensures { result ≡ call_made (U32 ∷ U32 ∷ U32 ∷ []) FdWrite (values_left self.entry) }
+    pub fn fd_renumber(mut self) -> Option<Call>
+        ensures { result ≡ call_made (U32 ∷ U32 ∷ []) FdRenumber (values_left self.entry) }
     {
-        let call = Call::FdWrite {
-            fd: self.u32()?,
-            iovs: self.u32()?,
-            iovs_len: self.u32()?,
+        let call = Call::FdRenumber {
+            from: self.u32()?,
+            to: self.u32()?,
         };
         self.end(call)
     }

@@ -3,6 +3,7 @@ use Rattle.std.proofs.Common.{ℕ, [], slice_get}
 use Rattle.wasi_fs.specs.OpenHow.{mode_of}
 use Rattle.wasi_guest.specs.declared.call.Call.TheVariants as calls
 use Rattle.wasi_p1.specs.Guest.{Guest}
+use Rattle.wasi_p1.specs.RawFlags.{modes_in}
 use Rattle.wasi_p1.specs.Rows.{path_open}
 use Rattle.wasi_host.proofs.Leaving.{Contains-here}
 use Rattle.wasi_p1.proofs.Changing.{named_directory, directory_perms, put_opened}
@@ -13,12 +14,12 @@ use Rattle.wasi_p1.proofs.Wanting.{how_never, directory_never, room_never, permi
 pub path_open_near : {g : Guest} {fd dirflags path len oflags base inheriting fdflags : ℕ}
     → RowNear g (calls.PathOpen fd dirflags path len oflags base inheriting fdflags)
 unfolding path_open
-path_open_near {g} {fd} = then _ (how_never _ _ _ _ _) (λ how _. then_text g _ _ (λ text read.
+path_open_near {g} {fd} {fdflags = fdflags} = then _ (how_never _ _ _ _ _) (λ how _. then_text g _ _ (λ text read.
     then _ (directory_never (slice_get g.slots fd)) (λ d is. then _ (room_never g.slots g.table_max 1) (λ _ _.
     then _ (permit_never _) (λ _ may.
     let perms = directory_perms (slice_get g.slots fd) is in asks_near (record {
       starts = λ n has. named_directory g fd n (Contains-here fd []) is has;
-      slots = λ found. put_opened g fd d.perms (mode_of how) found perms;
+      slots = λ found. put_opened g fd d.perms (mode_of how) (modes_in fdflags) found perms;
       ends = λ t found answered. tt;
       permits = λ names t found answered. open_keeps t d.node text how
           (read_only_kept how may (read_only (only_named g fd names.fd names.named names.perms) perms)) answered;

@@ -1,6 +1,6 @@
 -- What holds of the parts of rows, and of the ends that they share.
-use Rattle.std.proofs.Common.{inl, ℕ, ◌≡◌, ◌-◌, ◌*◌, nat_le, Bool, true, false, cond, List, [], ◌∷◌, refl, ap, sym, ◌∙◌, subst, slice_get, Option, Some, None, Ok, Err}
-use Rattle.std.specs.Prelude.{Contains, IsUtf8}
+use Rattle.std.proofs.Common.{inl, ℕ, ◌≡◌, ◌-◌, ◌*◌, nat_le, Bool, true, false, cond, List, [], ◌∷◌, refl, ap, sym, ◌∙◌, subst, slice_get, Option, Some, Ok, Err}
+use Rattle.std.specs.Prelude.{Contains, IsUtf8, OnErr}
 use Rattle.wasi_fs.specs.declared.perms.FsPerms.{FsPerms}
 use Rattle.wasi_fs.specs.declared.perms.FsPerms.TheVariants.{ReadOnly}
 use Rattle.wasi_guest.specs.Iovec.{first_buffer}
@@ -10,23 +10,24 @@ use Rattle.wasi_guest.specs.declared.answer.Value.TheVariants.{Unit as Nothing}
 use Rattle.wasi_guest.specs.declared.call.Call.{Call}
 use Rattle.wasi_guest.specs.declared.errno.Errno.TheVariants as errnos
 use Rattle.wasi_guest.specs.declared.iovec.Iovec.{Iovec}
+use Rattle.wasi_host.specs.Tree.{Tree}
 use Rattle.wasi_host.specs.declared.errors.ErrorCode.{ErrorCode}
 use Rattle.wasi_resolve.specs.PathRequest.{PathRequest, path_starts}
 use Rattle.wasi_p1.specs.CallTurn.{NamesReadOnly}
 use Rattle.wasi_p1.specs.Front.{Front, CallFront, onward, free, answer, ask, charge, charged_text, charged_buffer, at_path, at_buffer, tells, done_if, ◌>>=◌}
-use Rattle.wasi_p1.specs.Guest.{Guest, OpenDirectory, perms_in}
-use Rattle.wasi_p1.specs.Parts.{start_in, range, permit, from_guest}
-use Rattle.wasi_p1.specs.Request.{Request, Reply, Path, starts_at}
+use Rattle.wasi_p1.specs.Guest.{Guest, OpenFile, file, perms_in}
+use Rattle.wasi_p1.specs.Parts.{OpenNode, start_in, range, permit, from_guest}
+use Rattle.wasi_p1.specs.Request.{Request, Reply, Path, after, starts_at}
 use Rattle.wasi_p1.specs.Row.{Row, Program, give}
-use Rattle.wasi_p1.specs.Rows.{front, descriptors_named, opened_through}
+use Rattle.wasi_p1.specs.Rows.{front, descriptors_named, itself, stem_in}
 use Rattle.wasi_p1.specs.Stock.{Stock}
 use Rattle.wasi_p1.specs.Validity.{HasBytes}
 use Rattle.wasi_p1.specs.declared.error.P1Error.TheVariants.{Errno}
 use Rattle.wasi_host.proofs.Agreeing.{one}
 use Rattle.wasi_host.proofs.Leaving.{Contains-here}
 use Rattle.wasi_p1.proofs.Bytes.{text_utf8}
-use Rattle.wasi_p1.proofs.Changing.{named_directory, start_is, directory_perms, put_nothing}
-use Rattle.wasi_p1.proofs.Near.{IsNamed, StaysNear, AsksNear, IsNear, MayBeAsked, AreTexts, given_by}
+use Rattle.wasi_p1.proofs.Changing.{named_directory, named_file, start_is, directory_perms, put_nothing}
+use Rattle.wasi_p1.proofs.Near.{IsNamed, StaysNear, AsksNear, IsNear, KeepsSlots, KeepsBytes, GivesBytes, MayBeAsked, AreTexts, given_by}
 use Rattle.wasi_p1.proofs.Wanting.{Never, number, guest_never, start_never, permit_never, range_never}
 
 -- whatever fuel there is
@@ -68,8 +69,8 @@ then_text {call} {next} g at n near = record { near = λ fuel. by fuel (nat_le n
     by fuel false = number
 
 -- a path from the directory of a number
-pub then_path : {call : Call} {next : OpenDirectory → List ℕ → CallFront} (g : Guest) (fd path len : ℕ)
-    → ((d : OpenDirectory) → start_in (slice_get g.slots fd) ≡ Ok d → (text : List ℕ) → IsUtf8 text
+pub then_path : {call : Call} {next : OpenNode → List ℕ → CallFront} (g : Guest) (fd path len : ℕ)
+    → ((d : OpenNode) → start_in (slice_get g.slots fd) ≡ Ok d → (text : List ℕ) → IsUtf8 text
     → AlwaysNear g call (next d text))
     → AlwaysNear g call (at_path g fd path len next)
 then_path g fd path len near =
@@ -121,29 +122,29 @@ pub only_named : (g : Guest) (fd n : ℕ) → Contains (fd ∷ []) n → perms_i
     → perms_in (slice_get g.slots fd) ≡ Some ReadOnly
 only_named g fd n is perms = ap (λ k. perms_in (slice_get g.slots k)) (one is) ∙ perms
 
-pub start_perms : {d : OpenDirectory} (g : Guest) (fd : ℕ) → start_in (slice_get g.slots fd) ≡ Ok d
+pub start_perms : {d : OpenNode} (g : Guest) (fd : ℕ) → start_in (slice_get g.slots fd) ≡ Ok d
     → perms_in (slice_get g.slots fd) ≡ Some d.perms
 start_perms g fd is = directory_perms (slice_get g.slots fd) (start_is (slice_get g.slots fd) is)
 
 -- ---- ends of rows
 
 -- an answer, where descriptors stay and memory are bytes again
-pub answers_near : {g : Guest} {call : Call} (x : Value) (memory : List ℕ) (stock : Stock) → opened_through call ≡ None
+pub answers_near : {g : Guest} {call : Call} (x : Value) (memory : List ℕ) (stock : Stock) → stem_in call ≡ itself
     → (HasBytes g → HasBytes (record g { memory = memory; holdings = stock }))
     → AlwaysNear g call (answer (x, record g { memory = memory; holdings = stock }))
-answers_near {g} x memory stock through are = record {
+answers_near {g} x memory stock stems are = record {
   near = λ fuel. record {
-    slots = subst (λ o. StaysNear g o [] (x, record g { memory = memory; holdings = stock })) (sym through)
+    slots = subst (λ stem. StaysNear g stem [] (x, record g { memory = memory; holdings = stock })) (sym stems)
         (record { nodes = λ n has. inl has; perms = λ n perms has. has });
     bytes = are;
   };
 }
 
 -- one made of what a part gives
-pub tells_near : {A : Type 0} {g : Guest} {call : Call} (m : Row A) (shown : A → Value) → opened_through call ≡ None
+pub tells_near : {A : Type 0} {g : Guest} {call : Call} (m : Row A) (shown : A → Value) → stem_in call ≡ itself
     → Never m → AlwaysNear g call (tells g m shown)
-tells_near {g = g} m shown through never =
-    then m never (λ x _. answers_near (shown x) g.memory g.holdings through (λ are. are))
+tells_near {g = g} m shown stems never =
+    then m never (λ x _. answers_near (shown x) g.memory g.holdings stems (λ are. are))
 
 -- a request
 pub asks_near : {g : Guest} {call : Call} {r : Request} {next : Reply r → Row (Value × Guest)} → AsksNear g call r next
@@ -151,32 +152,63 @@ pub asks_near : {g : Guest} {call : Call} {r : Request} {next : Reply r → Row 
 asks_near near = record { near = λ fuel. near }
 
 -- of a row that starts from a directory, and asks for something at a path
-pub starts_near : {d : OpenDirectory} {call : Call} (g : Guest) (fd n : ℕ) → Contains (descriptors_named g.memory call) fd
+pub starts_near : {d : OpenNode} {call : Call} (g : Guest) (fd n : ℕ) → Contains (descriptors_named g.memory call) fd
     → start_in (slice_get g.slots fd) ≡ Ok d → Contains (d.node ∷ []) n → IsNamed g call n
 starts_near g fd n named is has = named_directory g fd n named (start_is (slice_get g.slots fd) is) has
 
--- that it was done, of what isn't permitted under read-only permissions
-pub done_if_near : {g : Guest} {call : Call} (own : Option ErrorCode) (r : Request) → opened_through call ≡ None
+-- at the file of the one number that a call names
+pub file_asked : {g : Guest} {call : Call} {f : OpenFile} {r : Request} {next : Reply r → Row (Value × Guest)} (fd : ℕ)
+    → descriptors_named g.memory call ≡ fd ∷ [] → slice_get g.slots fd ≡ Some (file f) → starts_at r ≡ f.node ∷ []
+    → ((reply : Reply r) → KeepsSlots g (stem_in call) (given_by r reply) (next reply))
+    → ((t : Tree) (reply : Reply r) → OnErr (next reply) (after t r ≡ t))
+    → (f.perms ≡ ReadOnly → (t : Tree) → after t r ≡ t) → (HasBytes g → MayBeAsked r)
+    → (HasBytes g → (reply : Reply r) → GivesBytes r reply → KeepsBytes (next reply))
+    → AlwaysNear g call (ask r next)
+file_asked {g} {call} fd named is starts slots ends permits asked bytes = asks_near (record {
+  starts = λ n has. named_file g fd n (subst (λ fds. Contains fds fd) (sym named) (Contains-here fd [])) is
+      (subst (λ ns. Contains ns n) starts has);
+  slots = slots;
+  ends = λ t reply _. ends t reply;
+  permits = λ names t _ _. permits (read_only (only_named g fd names.fd
+      (subst (λ fds. Contains fds names.fd) named names.named) names.perms) (ap perms_in is)) t;
+  asked = asked;
+  bytes = bytes;
+})
+
+-- that it was done, of what leaves the tree or isn't permitted under read-only permissions
+pub done_if_near : {g : Guest} {call : Call} (own : Option ErrorCode) (r : Request) → stem_in call ≡ itself
     → ((n : ℕ) → Contains (starts_at r) n → IsNamed g call n)
-    → ((done : Unit {0}) → permit own ≡ Ok done → NamesReadOnly g call → ⊥) → MayBeAsked r
+    → ((done : Unit {0}) → permit own ≡ Ok done → NamesReadOnly g call → (t : Tree) → after t r ≡ t) → MayBeAsked r
     → AlwaysNear g call (done_if own r g)
-done_if_near {g} {call} own r through starts never may = then (permit own) (permit_never own) (λ done permitted. asks_near (record {
+done_if_near {g} {call} own r stems starts leaves may = then (permit own) (permit_never own) (λ done permitted. asks_near (record {
   starts = starts;
-  slots = λ reply. subst (λ o. StaysNear g o (given_by r reply) (Nothing, g)) (sym through) (put_nothing g);
+  slots = λ reply. subst (λ stem. StaysNear g stem (given_by r reply) (Nothing, g)) (sym stems) (put_nothing g);
   ends = λ _ _ _. tt;
-  permits = λ names. absurd (never done permitted names);
+  permits = λ names t _ _. leaves done permitted names t;
   asked = λ _. may;
   bytes = λ are _ _. are;
 }))
 
 -- by a path from one directory
-pub done_if_at : {g : Guest} {call : Call} {d : OpenDirectory} (own : Option ErrorCode) (p : PathRequest) (fd : ℕ)
-    → opened_through call ≡ None → descriptors_named g.memory call ≡ fd ∷ []
+pub done_if_at : {g : Guest} {call : Call} {d : OpenNode} (own : Option ErrorCode) (p : PathRequest) (fd : ℕ)
+    → stem_in call ≡ itself → descriptors_named g.memory call ≡ fd ∷ []
     → start_in (slice_get g.slots fd) ≡ Ok d → path_starts p ≡ d.node ∷ []
     → ((done : Unit {0}) → permit own ≡ Ok done → d.perms ≡ ReadOnly → ⊥) → AreTexts p
     → AlwaysNear g call (done_if own (Path p) g)
-done_if_at {g} {call} {d} own p fd through named is starts never texts = done_if_near own (Path p) through
+done_if_at {g} {call} {d} own p fd stems named is starts never texts = done_if_near own (Path p) stems
     (λ n has. starts_near g fd n (subst (λ fds. Contains fds fd) (sym named) (Contains-here fd [])) is
     (subst (λ ns. Contains ns n) starts has))
-    (λ done may names. never done may (read_only (only_named g fd names.fd
-    (subst (λ fds. Contains fds names.fd) named names.named) names.perms) (start_perms g fd is))) texts
+    (λ done may names. absurd (never done may (read_only (only_named g fd names.fd
+    (subst (λ fds. Contains fds names.fd) named names.named) names.perms) (start_perms g fd is)))) texts
+
+-- at the file of a number
+pub done_at_file : {g : Guest} {call : Call} {f : OpenFile} (own : Option ErrorCode) (r : Request) (fd : ℕ)
+    → stem_in call ≡ itself → descriptors_named g.memory call ≡ fd ∷ [] → slice_get g.slots fd ≡ Some (file f)
+    → starts_at r ≡ f.node ∷ []
+    → ((done : Unit {0}) → permit own ≡ Ok done → f.perms ≡ ReadOnly → (t : Tree) → after t r ≡ t) → MayBeAsked r
+    → AlwaysNear g call (done_if own r g)
+done_at_file {g} {call} own r fd stems named is starts leaves may = done_if_near own r stems
+    (λ n has. named_file g fd n (subst (λ fds. Contains fds fd) (sym named) (Contains-here fd [])) is
+    (subst (λ ns. Contains ns n) starts has))
+    (λ done permitted names. leaves done permitted (read_only (only_named g fd names.fd
+    (subst (λ fds. Contains fds names.fd) named names.named) names.perms) (ap perms_in is))) may

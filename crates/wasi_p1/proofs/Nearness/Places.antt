@@ -1,5 +1,5 @@
 -- What holds of the rows of the calls at the place that a path names.
-use Rattle.std.proofs.Common.{ℕ, ◌≡◌, List, length, [], ◌∷◌, refl, take, slice_get, None}
+use Rattle.std.proofs.Common.{ℕ, ◌≡◌, List, length, [], ◌∷◌, refl, take, slice_get}
 use Rattle.wasi_guest.specs.declared.call.Call.{Call}
 use Rattle.wasi_guest.specs.declared.call.Call.TheVariants as calls
 use Rattle.wasi_resolve.specs.AtPlace.{PlaceCall, Symlink}
@@ -8,7 +8,7 @@ use Rattle.wasi_p1.specs.Filestats.{stat_both, filestat_in}
 use Rattle.wasi_p1.specs.Guest.{Guest}
 use Rattle.wasi_p1.specs.Parts.{range}
 use Rattle.wasi_p1.specs.Row.{Row}
-use Rattle.wasi_p1.specs.Rows.{done_at, path_filestat_get, path_readlink, path_symlink, descriptors_named, opened_through}
+use Rattle.wasi_p1.specs.Rows.{done_at, path_filestat_get, path_readlink, path_symlink, descriptors_named, itself, stem_in}
 use Rattle.wasi_host.proofs.Leaving.{Contains-here}
 use Rattle.wasi_resolve.proofs.Asking.{HasUtf8Target}
 use Rattle.wasi_p1.proofs.Bytes.{cut}
@@ -18,10 +18,10 @@ use Rattle.wasi_p1.proofs.Nearness.Parts.{AlwaysNear, RowNear, then, then_text, 
 use Rattle.wasi_p1.proofs.Wanting.{follow_never, start_never}
 
 -- what is done at a place by its path alone
-pub done_near : {g : Guest} {call : Call} (fd path len : ℕ) (what : PlaceCall) → opened_through call ≡ None
+pub done_near : {g : Guest} {call : Call} (fd path len : ℕ) (what : PlaceCall) → stem_in call ≡ itself
     → descriptors_named g.memory call ≡ fd ∷ [] → HasUtf8Target what → AlwaysNear g call (done_at g fd path len what)
-done_near {g} fd path len what through named target =
-    then_path g fd path len (λ d is text read. done_if_at _ (AtPlace d.node text what) fd through named is refl (λ _ may. no_change d.perms may) (read, target))
+done_near {g} fd path len what stems named target =
+    then_path g fd path len (λ d is text read. done_if_at _ (AtPlace d.node text what) fd stems named is refl (λ _ may. no_change d.perms may) (read, target))
 
 pub path_filestat_get_near : {g : Guest} {fd flags path len : ℕ} → RowNear g (calls.PathFilestatGet fd flags path len)
 unfolding path_filestat_get

@@ -1,12 +1,12 @@
 -- What holds of the rows of the calls that need no tree.
-use Rattle.std.proofs.Common.{ℕ, ◌≡◌, List, refl, slice_get, None}
+use Rattle.std.proofs.Common.{ℕ, ◌≡◌, List, refl, slice_get}
 use Rattle.std.specs.Prelude.{All}
 use Rattle.wasi_guest.specs.declared.answer.Value.TheVariants.{Unit as Nothing}
 use Rattle.wasi_guest.specs.declared.call.Call.{Call}
 use Rattle.wasi_guest.specs.declared.call.Call.TheVariants as calls
 use Rattle.wasi_p1.specs.Guest.{Guest}
 use Rattle.wasi_p1.specs.Row.{Row}
-use Rattle.wasi_p1.specs.Rows.{puts_texts, random_get, no_socket, opened_through}
+use Rattle.wasi_p1.specs.Rows.{puts_texts, random_get, no_socket, itself, stem_in}
 use Rattle.wasi_p1.specs.Services.{random_bytes, random_taken}
 use Rattle.wasi_p1.specs.Validity.{AreBytes, HasBytes}
 use Rattle.wasi_p1.proofs.Bytes.{put_bytes, put_texts_bytes, random_are, taken_stock}
@@ -14,10 +14,10 @@ use Rattle.wasi_p1.proofs.Nearness.Parts.{AlwaysNear, RowNear, then, answers_nea
 use Rattle.wasi_p1.proofs.Wanting.{Never, number, range_never, live_never, texts_never}
 
 -- texts that are put into memory
-pub texts_near : {g : Guest} {call : Call} (texts : List (List ℕ)) (at buf : ℕ) → opened_through call ≡ None
+pub texts_near : {g : Guest} {call : Call} (texts : List (List ℕ)) (at buf : ℕ) → stem_in call ≡ itself
     → (HasBytes g → All AreBytes texts) → AlwaysNear g call (puts_texts g texts at buf)
-texts_near {g} texts at buf through bytes = then _ (texts_never g.memory texts at buf) (λ memory put.
-    answers_near Nothing memory g.holdings through
+texts_near {g} texts at buf stems bytes = then _ (texts_never g.memory texts at buf) (λ memory put.
+    answers_near Nothing memory g.holdings stems
     (λ are. (put_texts_bytes g.memory texts at buf put are.0 (bytes are), are.1)))
 
 pub random_get_near : {g : Guest} {buf buf_len : ℕ} → RowNear g (calls.RandomGet buf buf_len)

@@ -17,8 +17,8 @@ pub fd_filestat_set_times_near : {g : Guest} {fd atim mtim fst_flags : ℕ}
 unfolding fd_filestat_set_times
 fd_filestat_set_times_near {g} {fd} = then _ (times_never _ _ _ _) (λ times _. then _ (node_never (slice_get g.slots fd)) (λ node is.
     done_if_near _ (Direct (SetTimes node.node times.atime times.mtime)) refl (λ n has. named_node g fd n (Contains-here fd []) is has)
-    (λ _ may names. no_change node.perms may
-    (read_only (only_named g fd names.fd names.named names.perms) (node_perms (slice_get g.slots fd) is))) tt))
+    (λ _ may names. absurd (no_change node.perms may
+    (read_only (only_named g fd names.fd names.named names.perms) (node_perms (slice_get g.slots fd) is)))) tt))
 
 pub path_filestat_set_times_near : {g : Guest} {fd flags path len atim mtim fst_flags : ℕ}
     → RowNear g (calls.PathFilestatSetTimes fd flags path len atim mtim fst_flags)

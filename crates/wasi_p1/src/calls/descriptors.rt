@@ -1,11 +1,14 @@
-//! The call that closes a descriptor.
-ghost use Rattle.wasi_guest.specs.declared.call.Call.TheVariants.{FdClose};
+//! The calls on a descriptor itself.
+ghost use Rattle.wasi_guest.specs.declared.call.Call.TheVariants.{FdClose, FdFdstatSetFlags, FdPrestatDirName, FdPrestatGet, FdRenumber};
 ghost use Rattle.wasi_p1.specs.Method.{StaysInBounds, DoesItsRow};
 
-use crate::call_parts::{close_slot, live_at};
-use crate::context::WasiP1Ctx;
+use crate::call_parts::{close_slot, live_at, put_back, renumber_slot};
+use crate::context::{FileSlot, WasiP1Ctx};
 use crate::error::P1Error;
-use wasi_guest::Value;
+use crate::file_parts::{FileUse, file_at, not_synchronized, preopen_at, put_name};
+use crate::open_with::file_modes;
+use crate::raw_numbers::fdflags_of;
+use wasi_guest::{Errno, Value};
 use wasi_host::Host;
 
 impl<H: Host> WasiP1Ctx<H> {
@@ -18,6 +21,97 @@ impl<H: Host> WasiP1Ctx<H> {
     {
         let slot = live_at(&self.host, &self.descriptors, fd)?;
         close_slot(&mut self.host, &mut self.descriptors, fd, slot);
+        Ok(Value::Unit)
+    }
+
+    /// Sets how a file's descriptor is used: whether what it writes goes behind the file's last byte, and nonblock, by
+    /// which nothing changes. Refusals, in this order: Inval where a flag is none of preview1's; Badf where the number
+    /// isn't a file's; Inval of dsync, rsync and sync. It takes no memory.
+    #[tactic(auto, using(crate::proofs::Taking::refusals), unfolding(crate::specs::Rows::fd_fdstat_set_flags))]
+    pub fn fd_fdstat_set_flags(
+        &mut self,
+        memory: &mut [u8],
+        fd: u32,
+        flags: u32,
+    ) -> Result<Value, P1Error>
+        ensures bounds { StaysInBounds H.Host self.old self.new memory.old (FdFdstatSetFlags fd flags) result }
+        ensures turn { DoesItsRow H.Host self.old self.new memory.old memory.new (FdFdstatSetFlags fd flags) result }
+    {
+        let fdflags = fdflags_of(flags)?;
+        let FileSlot { file, position, .. } = file_at(
+            &self.host,
+            &self.descriptors,
+            fd,
+            FileUse::Itself,
+        )?;
+        not_synchronized(fdflags)?;
+        let modes = file_modes(fdflags);
+        put_back(
+            &mut self.descriptors,
+            fd,
+            FileSlot {
+                file,
+                position,
+                modes,
+            },
+        );
+        Ok(Value::Unit)
+    }
+
+    /// How many bytes the name of a directory has that the guest was given. Refusal: Badf of every other number. It
+    /// takes no memory.
+    #[tactic(auto, using(crate::proofs::Taking::refusals), unfolding(crate::specs::Rows::fd_prestat_get))]
+    pub fn fd_prestat_get(&mut self, memory: &mut [u8], fd: u32) -> Result<Value, P1Error>
+        ensures bounds { StaysInBounds H.Host self.old self.new memory.old (FdPrestatGet fd) result }
+        ensures turn { DoesItsRow H.Host self.old self.new memory.old memory.new (FdPrestatGet fd) result }
+    {
+        let name = preopen_at(
+            &self.host,
+            &self.descriptors,
+            &self.holdings,
+            fd,
+            Errno::Badf,
+        )?;
+        Ok(Value::Number(name.len() as u64))
+    }
+
+    /// Puts the name of a directory that the guest was given into a range of memory, which may have more bytes. Refusals,
+    /// in this order: Badf where the number isn't live, Notdir where the guest wasn't given it; Nametoolong where the
+    /// name has more bytes than the range; trap Pointer where the memory doesn't hold it there.
+    #[tactic(auto, using(crate::proofs::Taking::refusals), unfolding(crate::specs::Rows::fd_prestat_dir_name))]
+    pub fn fd_prestat_dir_name(
+        &mut self,
+        memory: &mut [u8],
+        fd: u32,
+        path: u32,
+        path_len: u32,
+    ) -> Result<Value, P1Error>
+        ensures bounds { StaysInBounds H.Host self.old self.new memory.old (FdPrestatDirName fd path path_len) result }
+        ensures turn { DoesItsRow H.Host self.old self.new memory.old memory.new (FdPrestatDirName fd path path_len)
+            result }
+    {
+        live_at(&self.host, &self.descriptors, fd)?;
+        let name = preopen_at(
+            &self.host,
+            &self.descriptors,
+            &self.holdings,
+            fd,
+            Errno::Notdir,
+        )?;
+        put_name(memory, path, path_len, name)?;
+        Ok(Value::Unit)
+    }
+
+    /// What `to` stood for is closed, what stands under `from` gets its number, and `from` becomes closed; where the two
+    /// are one number nothing changes. Refusal: Badf where one of them isn't live. It takes no memory.
+    #[tactic(auto, using(crate::proofs::Taking::refusals), unfolding(crate::specs::Rows::fd_renumber))]
+    pub fn fd_renumber(&mut self, memory: &mut [u8], from: u32, to: u32) -> Result<Value, P1Error>
+        ensures bounds { StaysInBounds H.Host self.old self.new memory.old (FdRenumber from to) result }
+        ensures turn { DoesItsRow H.Host self.old self.new memory.old memory.new (FdRenumber from to) result }
+    {
+        live_at(&self.host, &self.descriptors, from)?;
+        let slot = live_at(&self.host, &self.descriptors, to)?;
+        renumber_slot(&mut self.host, &mut self.descriptors, from, to, slot);
         Ok(Value::Unit)
     }
 }

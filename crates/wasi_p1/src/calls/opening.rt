@@ -19,7 +19,8 @@ impl<H: Host> WasiP1Ctx<H> {
     /// for SYMLINK_FOLLOW, or where a slash stands behind it, which asks for a directory too.
     ///
     /// Creat makes a missing file, and with excl refuses one that is there; trunc cuts a file to no bytes; FD_READ and
-    /// FD_WRITE open for reading and writing. Append, nonblock and all other rights do nothing.
+    /// FD_WRITE open for reading and writing. Append and nonblock are the modes of a file's
+    /// descriptor. All other rights do nothing.
     ///
     /// Refusals, in this order: Inval where a flag or right is none of preview1's; Nomem where the range has more bytes
     /// than the fuel that is left; trap Pointer where it leaves the memory; Ilseq where its bytes aren't UTF-8; Badf

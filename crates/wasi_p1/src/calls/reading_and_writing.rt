@@ -1,20 +1,87 @@
 //! The calls that read and write by a descriptor.
 ghost use Rattle.std.specs.Prelude.{IsTrue, IfOk};
-ghost use Rattle.wasi_guest.specs.declared.call.Call.TheVariants.{FdRead, FdWrite};
+ghost use Rattle.wasi_guest.specs.declared.call.Call.TheVariants.{FdPread, FdPwrite, FdRead, FdWrite};
 ghost use Rattle.wasi_p1.specs.Method.{StaysInBounds, DoesItsRow};
 ghost use Rattle.wasi_p1.specs.Guest.{state_of};
 ghost use Rattle.wasi_p1.specs.Writing.{WritesWhole};
 
 use crate::call_parts::{
-    FilePlace, Sink, Source, buffer_at, bytes_at, check_write, move_file, read_into, sink_at,
-    source_at, write_piece,
+    Sink, Source, buffer_at, bytes_at, check_write, put_back, read_into, sink_at, source_at,
+    write_piece,
 };
-use crate::context::WasiP1Ctx;
+use crate::context::{FileSlot, WasiP1Ctx};
 use crate::error::P1Error;
-use wasi_guest::Value;
+use crate::file_parts::{Appended, FileUse, append_piece, file_at, put_behind, read_place};
+use wasi_guest::{Iovec, Value};
 use wasi_host::Host;
 
+/// How many bytes a read at an offset fills at most.
+const MOST_READ: u32 = 65_536;
+
 impl<H: Host> WasiP1Ctx<H> {
+    /// Reads a file's bytes from `offset` on into the first buffer that has any, of so many records at an address, and
+    /// answers how many, which are no more than 65,536; the file's position stays. Refusals, in this order: Nomem where
+    /// the records, or the buffer, are more than the fuel; trap Pointer where a record up to that one isn't aligned to 4
+    /// or leaves the memory; Spipe of the standard input, and Badf where the number else isn't a file's; trap TableFull
+    /// where as many descriptors are live as may be; trap Pointer where the buffer leaves the memory; then the host's,
+    /// which are those of POSIX's `pread`. At or past the end, and with no bytes to fill, the answer is 0. It takes no
+    /// memory.
+    #[tactic(auto, using(crate::proofs::Taking::refusals), unfolding(crate::specs::Rows::fd_pread))]
+    pub fn fd_pread(
+        &mut self,
+        memory: &mut [u8],
+        fd: u32,
+        iovs: u32,
+        iovs_len: u32,
+        offset: u64,
+    ) -> Result<Value, P1Error>
+        ensures bounds { StaysInBounds H.Host self.old self.new memory.old (FdPread fd iovs iovs_len offset) result }
+        ensures turn { DoesItsRow H.Host self.old self.new memory.old memory.new (FdPread fd iovs iovs_len offset)
+            result }
+    {
+        let buffer = buffer_at(memory, &mut self.fuel, iovs, iovs_len)?;
+        let slot = read_place(&self.host, &self.descriptors, fd)?;
+        bytes_at(memory, buffer.buf, buffer.buf_len)?;
+        let part = Iovec {
+            buf: buffer.buf,
+            buf_len: buffer.buf_len.min(MOST_READ),
+        };
+        let count = read_into(&mut self.host, memory, slot.file.file, offset, part)?;
+        Ok(Value::Number(count as u64))
+    }
+
+    /// Writes the first buffer that has bytes, of so many records at an address, into a file from `offset` on, and
+    /// answers how many bytes it took; in append mode behind the file's last byte, wherever `offset` is. The file's
+    /// position stays. Refusals, in this order: Nomem where the records, or the buffer, are more than the fuel; trap
+    /// Pointer where a record up to that one isn't aligned to 4 or leaves the memory; Spipe of an output, and Badf where
+    /// the number else isn't a file's; trap Pointer where the buffer leaves the memory; Badf under read-only
+    /// permissions; then the host's, which are those of POSIX's `pwrite`.
+    #[tactic(auto, using(crate::proofs::Taking::refusals), unfolding(crate::specs::Rows::fd_pwrite))]
+    pub fn fd_pwrite(
+        &mut self,
+        memory: &mut [u8],
+        fd: u32,
+        iovs: u32,
+        iovs_len: u32,
+        offset: u64,
+    ) -> Result<Value, P1Error>
+        ensures bounds { StaysInBounds H.Host self.old self.new memory.old (FdPwrite fd iovs iovs_len offset) result }
+        ensures turn { DoesItsRow H.Host self.old self.new memory.old memory.new (FdPwrite fd iovs iovs_len offset)
+            result }
+    {
+        let buffer = buffer_at(memory, &mut self.fuel, iovs, iovs_len)?;
+        let slot = file_at(&self.host, &self.descriptors, fd, FileUse::WriteAt)?;
+        let piece = bytes_at(memory, buffer.buf, buffer.buf_len)?;
+        check_write(slot.file.perms)?;
+        let handle = slot.file.file;
+        if slot.modes.append {
+            let count = append_piece(&mut self.host, handle, piece)?;
+            return Ok(Value::Number(count));
+        }
+        let count = write_piece(&mut self.host, handle, offset, piece)?;
+        Ok(Value::Number(count))
+    }
+
     /// Reads a file's bytes at its position, or the next ones of the standard input, into the first buffer that has
     /// any, of so many records at an address, and answers how many; a file's position is behind them afterwards.
     /// Refusals, in this order: Nomem where the records, or the buffer, are more than the fuel; trap Pointer where a
@@ -36,21 +103,35 @@ impl<H: Host> WasiP1Ctx<H> {
         let buffer = buffer_at(memory, &mut self.fuel, iovs, iovs_len)?;
         let source = source_at(&self.host, &self.descriptors, fd)?;
         bytes_at(memory, buffer.buf, buffer.buf_len)?;
-        let FilePlace { file, position } = match source {
+        let FileSlot {
+            file,
+            position,
+            modes,
+        } = match source {
             Source::Input => {
                 let read = self.holdings.read_input(memory, buffer)?;
                 return Ok(Value::Number(read as u64));
             }
-            Source::File(place) => place,
+            Source::File(slot) => slot,
         };
         let handle = file.file;
         let count = read_into(&mut self.host, memory, handle, position, buffer)?;
-        move_file(&mut self.descriptors, fd, file, position, count as u64);
+        let position = position + count as u64;
+        put_back(
+            &mut self.descriptors,
+            fd,
+            FileSlot {
+                file,
+                position,
+                modes,
+            },
+        );
         Ok(Value::Number(count as u64))
     }
 
     /// Writes the first buffer that has bytes, of so many records at an address, into a file at its position, or behind
     /// what was written to an output, and answers how many bytes it took; a file's position is behind them afterwards.
+    /// In append mode they go behind the file's last byte, and its position is its size afterwards.
     /// An output, and a host that tells its world, takes all of them. Refusals, in this order: Nomem where the records,
     /// or the buffer, are more than the fuel; trap Pointer where a record up to that one isn't aligned to 4 or leaves
     /// the memory; Badf where the number is neither a file's nor an output's; trap Pointer where the buffer leaves the
@@ -71,17 +152,44 @@ impl<H: Host> WasiP1Ctx<H> {
         let buffer = buffer_at(memory, &mut self.fuel, iovs, iovs_len)?;
         let sink = sink_at(&self.host, &self.descriptors, fd)?;
         let piece = bytes_at(memory, buffer.buf, buffer.buf_len)?;
-        let FilePlace { file, position } = match sink {
+        let FileSlot {
+            file,
+            position,
+            modes,
+        } = match sink {
             Sink::Output(output) => {
                 self.holdings.write(output, piece)?;
                 return Ok(Value::Number(piece.len() as u64));
             }
-            Sink::File(place) => place,
+            Sink::File(slot) => slot,
         };
         check_write(file.perms)?;
         let handle = file.file;
+        if modes.append {
+            let Appended { count, size } = put_behind(&mut self.host, handle, piece)?;
+            let position = size;
+            put_back(
+                &mut self.descriptors,
+                fd,
+                FileSlot {
+                    file,
+                    position,
+                    modes,
+                },
+            );
+            return Ok(Value::Number(count));
+        }
         let count = write_piece(&mut self.host, handle, position, piece)?;
-        move_file(&mut self.descriptors, fd, file, position, count);
+        let position = position + count;
+        put_back(
+            &mut self.descriptors,
+            fd,
+            FileSlot {
+                file,
+                position,
+                modes,
+            },
+        );
         Ok(Value::Number(count))
     }
 }

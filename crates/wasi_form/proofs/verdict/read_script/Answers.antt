@@ -1,6 +1,6 @@
 use Rattle.std.proofs.Common.{refl, sym}
 use Rattle.std.proofs.lemmas.Result.{err_from_is_err_and}
-use Rattle.wasi_form.proofs.BuiltScripts.{unread_before, tested, refused_by, past_limit, taken, accepted}
+use Rattle.wasi_form.proofs.Accepted.{unread_before, tested, refused_by, past_limit, taken, accepted}
 use Rattle.wasi_form.proofs.verdict.read_script.Goals as goal
 
 pub returns-in_err-draft-clause-verdict : goal.returns-in_err-draft-clause-verdict

@@ -1,4 +1,4 @@
-use Rattle.wasi_form.proofs.BuiltScripts.{one_verdict}
+use Rattle.wasi_form.proofs.Accepted.{one_verdict}
 use Rattle.wasi_form.proofs.verdict.verdicts_are_one.Goals as goal
 
 pub returns : goal.returns

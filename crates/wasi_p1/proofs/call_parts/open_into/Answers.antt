@@ -25,11 +25,11 @@ returns-clause-used g c = rw (c.put.ensures.slots, c.reserve.ensures.slots) (new
 
 pub returns-clause-owns : goal.returns-clause-owns
 returns-clause-owns g c = rw (c.put.ensures.slots, c.reserve.ensures.slots, c.slot_of.ensures)
-    (owns_new _ _ (got_slot _ _ _ c.in_ok-descriptor.ensures.live) c.requires.owned)
+    (owns_new _ _ (got_slot _ _ _ _ c.in_ok-descriptor.ensures.live) c.requires.owned)
 
 pub returns-clause-lineage : goal.returns-clause-lineage
 returns-clause-lineage g c = rw (c.put.ensures.slots, c.reserve.ensures.slots, c.slot_of.ensures)
-    (traced_new _ _ c.in_ok-descriptor.ensures.lineage)
+    (traced_new _ _ _ c.in_ok-descriptor.ensures.lineage)
 
 pub returns-clause-front : goal.returns-clause-front
 returns-clause-front g c = λ none.
@@ -37,7 +37,7 @@ returns-clause-front g c = λ none.
     rw (c.put.ensures.number, c.put.ensures.slots, c.reserve.ensures.slots, c.slot_of.ensures) (
       opened_of (g.H.Host.world c.args.host.now).held c.in_ok-descriptor.descriptor,
       opened_asked _ _ _ given.kind,
-      opened_numbered _ _ _ _ _ refl given.perms given.mode,
+      opened_numbered _ _ _ _ _ _ refl given.perms given.mode,
     )
 
 pub returns-clause-told : goal.returns-clause-told
@@ -47,5 +47,5 @@ returns-clause-told g c = λ told none.
     rw (c.put.ensures.number, c.put.ensures.slots, c.reserve.ensures.slots, c.slot_of.ensures) (
       opened_of (g.H.Host.world c.open_at.new.host).held c.in_ok-descriptor.descriptor,
       resolved_ok did,
-      opened_numbered _ _ _ _ _ (guest_slots_stay _ c.requires.owned did.keeps) given.perms given.mode,
+      opened_numbered _ _ _ _ _ _ (guest_slots_stay _ c.requires.owned did.keeps) given.perms given.mode,
     )

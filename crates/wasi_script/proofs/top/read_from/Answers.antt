@@ -1,5 +1,5 @@
 use Rattle.std.proofs.lemmas.Result.{err_from_is_err_and}
-use Rattle.wasi_form.proofs.BuiltScripts.{accepted}
+use Rattle.wasi_form.proofs.Accepted.{accepted}
 use Rattle.wasi_script.proofs.Tops.{judged, unread, no_script}
 use Rattle.wasi_script.proofs.top.read_from.Goals as goal
 
@@ -16,8 +16,8 @@ returns-in_err-read_script-clause-read g c = λ told.
     let reads = rw c.as_slice.ensures.value at c.in_err-read_script.ensures.verdict in
     rw (error.1, error.2) (no_script _ reads all.0 all.1 all.2)
 
-pub returns-clause-built : goal.returns-clause-built
-returns-clause-built g c = (accepted c.in_ok-read_script.ensures.verdict).script
+pub returns-clause-within : goal.returns-clause-within
+returns-clause-within g c = (accepted c.in_ok-read_script.ensures.verdict).within
 
 pub returns-clause-read : goal.returns-clause-read
 returns-clause-read g c = λ told.

@@ -2,17 +2,17 @@ use Rattle.std.proofs.Common.{refl, ap, arith, length, ◌∙◌}
 use Rattle.std.proofs.lemmas.List.{length-map}
 use Rattle.wasi_guest.proofs.Ranges.{written_back}
 use Rattle.wasi_form.specs.Plan.{plan, planned_preopen}
-use Rattle.wasi_form.proofs.BuiltScripts.{built_parts}
+use Rattle.wasi_form.proofs.Accepted.{limits_kept}
 use Rattle.wasi_script.proofs.Starts.{confined_at_start}
 use Rattle.wasi_script.proofs.Headlines.{begun_at, RanPlan, reports}
 use Rattle.wasi_script.proofs.top.report_of.Goals as goal
 
 pub first_memory-requires : goal.first_memory-requires
-first_memory-requires c = rw c.as_slice.ensures.value (built_parts (plan c.args.script) c.requires).pieces
+first_memory-requires c = rw c.as_slice.ensures.value (limits_kept (plan c.args.script) c.requires).pieces
 
 pub first_context-requires : goal.first_context-requires
 first_context-requires c =
-    let parts = built_parts (plan c.args.script) c.requires in
+    let parts = limits_kept (plan c.args.script) c.requires in
     record {
       directories = rw c.as_slice-2.ensures.value parts.preopens;
       table = rw c.as_slice-2.ensures.value (omega (arith, parts.table, length-map c.args.script.preopens.items planned_preopen));
@@ -20,7 +20,7 @@ first_context-requires c =
 
 pub shown-requires : goal.shown-requires
 shown-requires c =
-    let parts = built_parts (plan c.args.script) c.requires in
+    let parts = limits_kept (plan c.args.script) c.requires in
     let size = c.run_calls-ran.ensures.size ∙ ap length c.bytes_mut-bytes.ensures.value in
     rw (c.as_slice-3.ensures.value, c.bytes.ensures.bytes, written_back _ _ size, size, c.in_ok-memory.ensures.size) parts.show
 

@@ -2,7 +2,7 @@ use Rattle.wasi_p1.specs.Rows.{fd_read}
 use Rattle.std.proofs.Common.{refl, []}
 use Rattle.wasi_host.proofs.Leaving.{Contains-here}
 use Rattle.wasi_p1.specs.CallParts.{filled_at, open_file_of}
-use Rattle.wasi_p1.proofs.Taking.{refused_at, makes_err, moved_ok, on_err}
+use Rattle.wasi_p1.proofs.Taking.{refused_at, makes_err, put_ok, on_err}
 use Rattle.wasi_p1.proofs.RowEnds.{with_memory}
 use Rattle.wasi_p1.proofs.context.WasiP1Ctx.fd_read.Goals as goal
 
@@ -10,7 +10,7 @@ pub returns-in_err-count-clause-turn : goal.returns-in_err-count-clause-turn
 unfolding fd_read
 returns-in_err-count-clause-turn g c =
     rw (← c.self.view_is) (on_err c.from_residual-in_err-count.ensures.1 (makes_err (filled_at _ _)
-    (with_memory c.args.fd (open_file_of (g.H.Host.world c.self.inside.host).held c.in-File.place))
+    (with_memory c.args.fd (open_file_of (g.H.Host.world c.self.inside.host).held c.in-File.slot))
     (rw (← (rw c.in_ok-buffer.was at c.buffer_at.ensures.row), ← (rw c.in-File.is at c.in_ok-source.ensures.row), ← c.in_ok-bytes_at.ensures.row) refl)
     c.self.invariant c.in_err-count.ensures.front (λ is. absurd (c.in_err-count.ensures.never_wants is))
     (record { slots = refl; table_max = refl; holdings = refl; memory = c.in_err-count.ensures.same })
@@ -18,12 +18,12 @@ returns-in_err-count-clause-turn g c =
 
 pub returns-clause-turn : goal.returns-clause-turn
 unfolding fd_read
-returns-clause-turn g c = rw (← c.self.view_is) (moved_ok (filled_at _ _) (with_memory _ _)
+returns-clause-turn g c = rw (← c.self.view_is) (put_ok (filled_at _ _) (with_memory _ _)
     (rw (← (rw c.in_ok-buffer.was at c.buffer_at.ensures.row), ← (rw c.in-File.is at c.in_ok-source.ensures.row), ← c.in_ok-bytes_at.ensures.row) refl)
     c.self.invariant c.in_ok-count.ensures.size c.in_ok-count.ensures.front refl
-    (record { slots = c.move_file.ensures.slots; table_max = c.move_file.ensures.max; holdings = refl })
+    (record { slots = c.put_back.ensures.slots; table_max = c.put_back.ensures.max; holdings = refl })
     (Contains-here _ [])
-    (rw c.in-File.is at c.in_ok-source.ensures.is) (rw c.in-File.is at c.in_ok-source.ensures.live)
+    (rw c.in-File.is at c.in_ok-source.ensures.is) refl (rw c.in-File.is at c.in_ok-source.ensures.live)
     c.in_ok-count.ensures.told)
 
 pub returns-in_err-buffer-clause-turn : goal.returns-in_err-buffer-clause-turn

@@ -14,13 +14,16 @@ pub returns-in_err-number-clause-turn : goal.returns-in_err-number-clause-turn
 unfolding path_open
 returns-in_err-number-clause-turn g c =
     let given = c.in_err-number.ensures in
-    rw (← c.self.view_is) (on_err c.from_residual-in_err-number.ensures.1 (permitted_err
-    (opened_among _ c.in_ok-dir.dir.perms _) with_slots
+    let with = c.in_ok-with.with in
+    let how = how_of with.path_flags with.open_flags with.flags in
+    rw (← c.self.view_is) (on_err c.from_residual-in_err-number.ensures.1 (permitted_err {r = Path (opens _ _ how)}
+    (opened_among _ c.in_ok-dir.dir.perms _ with.modes) with_slots
     (rw (
       ← c.in_ok-with.ensures.row,
       ← c.in_ok-text.ensures.row,
       ← c.in_ok-dir.ensures.row,
       ← c.in_ok-room_at.ensures.row,
+      c.in_ok-with.ensures.modes,
     ) refl)
     given.permit given.front (λ _. refl)
     (record { slots = given.kept; table_max = given.max; holdings = refl; memory = refl })
@@ -32,12 +35,13 @@ returns-clause-turn g c =
     let given = c.in_ok-number.ensures in
     let with = c.in_ok-with.with in
     let how = how_of with.path_flags with.open_flags with.flags in
-    rw (← c.self.view_is) (permitted_ok {r = Path (opens _ _ how)} (opened_among _ c.in_ok-dir.dir.perms _) with_slots
+    rw (← c.self.view_is) (permitted_ok {r = Path (opens _ _ how)} (opened_among _ c.in_ok-dir.dir.perms _ with.modes) with_slots
     (rw (
       ← c.in_ok-with.ensures.row,
       ← c.in_ok-text.ensures.row,
       ← c.in_ok-dir.ensures.row,
       ← c.in_ok-room_at.ensures.row,
+      c.in_ok-with.ensures.modes,
     ) refl)
     given.permit refl (none_changes given.used) given.front (rw given.max refl)
     (λ told none. (given.told told none, rw given.max refl)))

@@ -24,3 +24,7 @@ returns-clause-turn g c =
 pub returns-in_err-new_text-clause-turn : goal.returns-in_err-new_text-clause-turn
 unfolding path_rename
 returns-in_err-new_text-clause-turn g c = rw (← c.self.view_is) (search (rules, refusals))
+
+pub returns-in_err-old_text-clause-turn : goal.returns-in_err-old_text-clause-turn
+unfolding path_rename
+returns-in_err-old_text-clause-turn g c = rw (← c.self.view_is) (search (rules, refusals))

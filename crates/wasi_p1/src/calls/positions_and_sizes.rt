@@ -1,0 +1,155 @@
+//! The calls on a file's position, on its size, and on how it is stored.
+ghost use Rattle.wasi_guest.specs.declared.call.Call.TheVariants.{FdAdvise, FdAllocate, FdDatasync, FdFilestatSetSize, FdSeek, FdSync, FdTell};
+ghost use Rattle.wasi_p1.specs.Method.{StaysInBounds, DoesItsRow};
+
+use crate::call_parts::put_back;
+use crate::context::{FileSlot, WasiP1Ctx};
+use crate::error::P1Error;
+use crate::file_parts::{FileUse, base_of, file_at, host_advice, position_from, position_from_end};
+use crate::raw_numbers::{advice_of, whence_of};
+use wasi_fs::Descriptor;
+use wasi_guest::{Errno, Value};
+use wasi_host::Host;
+
+impl<H: Host> WasiP1Ctx<H> {
+    /// Tells the host how `len` bytes of a file from `offset` on will be used, of which nothing changes. Refusals, in
+    /// this order: Inval where the advice is none of preview1's; Badf where the number isn't a file's. No host refuses
+    /// it, where POSIX's `posix_fadvise` may. It takes no memory.
+    #[tactic(auto, using(crate::proofs::Taking::refusals), unfolding(crate::specs::Rows::fd_advise))]
+    pub fn fd_advise(
+        &mut self,
+        memory: &mut [u8],
+        fd: u32,
+        offset: u64,
+        len: u64,
+        advice: u32,
+    ) -> Result<Value, P1Error>
+        ensures bounds { StaysInBounds H.Host self.old self.new memory.old (FdAdvise fd offset len advice) result }
+        ensures turn { DoesItsRow H.Host self.old self.new memory.old memory.new (FdAdvise fd offset len advice) result }
+    {
+        let how = advice_of(advice)?;
+        let slot = file_at(&self.host, &self.descriptors, fd, FileUse::Itself)?;
+        slot.file
+            .advise(&mut self.host, offset, len, host_advice(how))?;
+        Ok(Value::Unit)
+    }
+
+    /// Is refused, as the crate does: Badf where the number isn't a file's, and Notsup of a file.
+    #[tactic(auto, using(crate::proofs::Taking::refusals), unfolding(crate::specs::Rows::fd_allocate))]
+    pub fn fd_allocate(
+        &mut self,
+        memory: &mut [u8],
+        fd: u32,
+        offset: u64,
+        len: u64,
+    ) -> Result<Value, P1Error>
+        ensures bounds { StaysInBounds H.Host self.old self.new memory.old (FdAllocate fd offset len) result }
+        ensures turn { DoesItsRow H.Host self.old self.new memory.old memory.new (FdAllocate fd offset len) result }
+    {
+        file_at(&self.host, &self.descriptors, fd, FileUse::Itself)?;
+        Err(P1Error::Errno(Errno::Notsup))
+    }
+
+    /// Waits until a file's bytes are stored. Refusal: Badf where the number isn't a file's. No host refuses it, where
+    /// POSIX's `fdatasync` may. It takes no memory.
+    #[tactic(auto, using(crate::proofs::Taking::refusals), unfolding(crate::specs::Rows::fd_datasync))]
+    pub fn fd_datasync(&mut self, memory: &mut [u8], fd: u32) -> Result<Value, P1Error>
+        ensures bounds { StaysInBounds H.Host self.old self.new memory.old (FdDatasync fd) result }
+        ensures turn { DoesItsRow H.Host self.old self.new memory.old memory.new (FdDatasync fd) result }
+    {
+        let slot = file_at(&self.host, &self.descriptors, fd, FileUse::Itself)?;
+        let file = Descriptor::File(slot.file);
+        file.sync_data(self.alloc, &mut self.host)?;
+        Ok(Value::Unit)
+    }
+
+    /// Waits until a file's bytes are stored, and what is said of it. Refusal: Badf where the number isn't a file's. No
+    /// host refuses it, where POSIX's `fsync` may. It takes no memory.
+    #[tactic(auto, using(crate::proofs::Taking::refusals), unfolding(crate::specs::Rows::fd_sync))]
+    pub fn fd_sync(&mut self, memory: &mut [u8], fd: u32) -> Result<Value, P1Error>
+        ensures bounds { StaysInBounds H.Host self.old self.new memory.old (FdSync fd) result }
+        ensures turn { DoesItsRow H.Host self.old self.new memory.old memory.new (FdSync fd) result }
+    {
+        let slot = file_at(&self.host, &self.descriptors, fd, FileUse::Itself)?;
+        let file = Descriptor::File(slot.file);
+        file.sync(self.alloc, &mut self.host)?;
+        Ok(Value::Unit)
+    }
+
+    /// Cuts a file to `size` bytes, or fills it up to them with zeros; its position stays. Refusals, in this order: Badf
+    /// where the number isn't a file's; Perm under read-only permissions; then the host's, which are those of POSIX's
+    /// `ftruncate`: Inval where the file isn't open for writing, and of a size of 2^63 or more, and Fbig of more than
+    /// 2^30 bytes.
+    #[tactic(auto, using(crate::proofs::Taking::refusals), unfolding(crate::specs::Rows::fd_filestat_set_size))]
+    pub fn fd_filestat_set_size(
+        &mut self,
+        memory: &mut [u8],
+        fd: u32,
+        size: u64,
+    ) -> Result<Value, P1Error>
+        ensures bounds { StaysInBounds H.Host self.old self.new memory.old (FdFilestatSetSize fd size) result }
+        ensures turn { DoesItsRow H.Host self.old self.new memory.old memory.new (FdFilestatSetSize fd size) result }
+    {
+        let slot = file_at(&self.host, &self.descriptors, fd, FileUse::Itself)?;
+        slot.file.set_size(&mut self.host, size)?;
+        Ok(Value::Unit)
+    }
+
+    /// Puts a file's position `offset` bytes from its start, from where it is, or from the file's end, as `whence` says,
+    /// and answers it. It may be past the end. Refusals, in this order: Inval where `whence` is none of preview1's;
+    /// Spipe of a standard stream, and Badf where the number else isn't a file's; Inval where the position would be
+    /// below 0, or 64 bits don't hold it, as POSIX's `lseek` refuses them. It takes no memory.
+    #[tactic(auto, using(crate::proofs::Taking::refusals), unfolding(crate::specs::Rows::fd_seek))]
+    pub fn fd_seek(
+        &mut self,
+        memory: &mut [u8],
+        fd: u32,
+        offset: i64,
+        whence: u32,
+    ) -> Result<Value, P1Error>
+        ensures bounds { StaysInBounds H.Host self.old self.new memory.old (FdSeek fd offset whence) result }
+        ensures turn { DoesItsRow H.Host self.old self.new memory.old memory.new (FdSeek fd offset whence) result }
+    {
+        let place = whence_of(whence)?;
+        let FileSlot {
+            file,
+            position,
+            modes,
+        } = file_at(&self.host, &self.descriptors, fd, FileUse::Position)?;
+        let Some(base) = base_of(position, place) else {
+            let position = position_from_end(&mut self.host, file.file, offset)?;
+            put_back(
+                &mut self.descriptors,
+                fd,
+                FileSlot {
+                    file,
+                    position,
+                    modes,
+                },
+            );
+            return Ok(Value::Number(position));
+        };
+        let position = position_from(base, offset)?;
+        put_back(
+            &mut self.descriptors,
+            fd,
+            FileSlot {
+                file,
+                position,
+                modes,
+            },
+        );
+        Ok(Value::Number(position))
+    }
+
+    /// A file's position. Refusals: Spipe of a standard stream, and Badf where the number else isn't a file's. It takes
+    /// no memory.
+    #[tactic(auto, using(crate::proofs::Taking::refusals), unfolding(crate::specs::Rows::fd_tell))]
+    pub fn fd_tell(&mut self, memory: &mut [u8], fd: u32) -> Result<Value, P1Error>
+        ensures bounds { StaysInBounds H.Host self.old self.new memory.old (FdTell fd) result }
+        ensures turn { DoesItsRow H.Host self.old self.new memory.old memory.new (FdTell fd) result }
+    {
+        let slot = file_at(&self.host, &self.descriptors, fd, FileUse::Position)?;
+        Ok(Value::Number(slot.position))
+    }
+}
