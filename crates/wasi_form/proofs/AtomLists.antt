@@ -1,19 +1,17 @@
 -- Lists of numbers and texts, read item by item, and the forms that see no more of them.
 use Rattle.std.proofs.Common.{◌≡◌, ℕ, List, [], ◌∷◌, ◌++◌, Bool, Option, Some, None, refl, sym, ap, ◌∙◌}
-use Rattle.std.specs.Prelude.{option_map, option_and_then, is_some, if◌then◌else◌}
+use Rattle.std.specs.Prelude.{option_map, option_and_then}
 use Rattle.serde_json.specs.Data.{Data, null, boolean, number, string, array, object, Items, no_items, item, Members}
 use Rattle.serde_json.specs.Find as find
 use Rattle.wasi_guest.specs.declared.call.Call.{Call}
 use Rattle.wasi_form.specs.Atoms.{flat, flat_items, atom_data, SeesAtoms}
-use Rattle.wasi_form.specs.CallForm.{number_of, first_number, Maker, call_made, is_argument, are_arguments, CallRow, Built, Waits, call_rows, call_by, call_with, call_in}
+use Rattle.wasi_form.specs.CallForm.{Argument, U32, U64, I64, number_of, first_number, Maker, call_made, CallRow, Takes, call_rows, call_by, call_with, call_in}
 use Rattle.wasi_form.specs.Lists.{◌>>=◌, at_name}
 use Rattle.wasi_form.specs.MemoryForm.{piece_bytes, piece_of_items, shown_of_items}
 use Rattle.wasi_form.specs.ServicesForm.{env_pair_of_items}
 use Rattle.wasi_form.specs.Shapes.{u64_of, i64_of, u32_of, is_text}
 use Rattle.wasi_form.proofs.Grammar.{items_before, items_before-push}
 use Rattle.wasi_form.specs.declared.atoms.Atom.{Atom}
-use Rattle.wasi_form.specs.declared.arguments.Argument.{Argument}
-use Rattle.wasi_form.specs.declared.arguments.Argument.TheVariants.{U32, U64, I64}
 
 -- one item more
 pub atom_more : (list now : List Atom) (a : Atom) (d : Data) → now ≡ list ++ a ∷ [] → flat d ≡ atom_data a
@@ -81,17 +79,6 @@ env_pair_sees (item d no_items) = refl
 env_pair_sees (item d (item e no_items)) = rw (str_flat d, str_flat e) refl
 env_pair_sees (item d (item e (item f ds))) = refl
 
-argument_flat : (t : Argument) (d : Data) → is_argument t (flat d) ≡ is_argument t d
-argument_flat U32 d = ap is_some (number_flat U32 d)
-argument_flat U64 d = ap is_some (number_flat U64 d)
-argument_flat I64 d = ap is_some (number_flat I64 d)
-
-arguments_flat : (types : List Argument) (ds : Items) → are_arguments types (flat_items ds) ≡ are_arguments types ds
-arguments_flat [] no_items = refl
-arguments_flat [] (item d ds) = refl
-arguments_flat (t ∷ types) no_items = refl
-arguments_flat (t ∷ types) (item d ds) = rw (argument_flat t d, arguments_flat types ds) refl
-
 before_same : {A : Type 0} (o : Option A) (ds es : Items) (make : A → Items → Option Call) → ((x : A) → make x ds ≡ make x es)
     → option_and_then {T = A × Items} (λ first. make first.0 first.1) (option_map (λ x. (x, ds)) o)
     ≡ option_and_then {T = A × Items} (λ first. make first.0 first.1) (option_map (λ x. (x, es)) o)
@@ -108,8 +95,7 @@ made_flat (t ∷ types) make (item d ds) =
     (before_same (number_of t d) (flat_items ds) ds (λ n es. call_made types (make n) es) (λ n. made_flat types (make n) ds))
 
 row_flat : (row : CallRow) (ds : Items) → call_by row (flat_items ds) ≡ call_by row ds
-row_flat (Built types make) ds = ap (option_map Some) (made_flat types make ds)
-row_flat (Waits types) ds = ap (λ are. if are then Some None else None) (arguments_flat types ds)
+row_flat (Takes types make) ds = made_flat types make ds
 
 found_flat : (row : Option CallRow) (ds : Items)
     → (row >>= (λ r. call_by r (flat_items ds))) ≡ (row >>= (λ r. call_by r ds))

@@ -47,7 +47,7 @@ abbrev pub part_rows : List (List ℕ × (Data → ScriptFound → ScriptFound))
 part_rows =
     (codes "nodes", λ d found. record found { nodes = forms_of (always script_node) d })
     ∷ (codes "preopens", λ d found. record found { preopens = forms_of (always preopen_of) d })
-    ∷ (codes "calls", λ d found. record found { calls = forms_of call_of d })
+    ∷ (codes "calls", λ d found. record found { calls = forms_of (always call_of) d })
     ∷ (codes "memory", λ d found. record found { memory = memory_of d })
     ∷ (codes "show", λ d found. record found { show = forms_of (always shown_of) d })
     ∷ (codes "limits", λ d found. record found { limits = limits_of d })
@@ -65,7 +65,7 @@ found_in ms = record {
   known = all_keys script_keys ms;
   nodes = needed (forms_of (always script_node)) (get_member (codes "nodes") ms);
   preopens = needed (forms_of (always preopen_of)) (get_member (codes "preopens") ms);
-  calls = needed (forms_of call_of) (get_member (codes "calls") ms);
+  calls = needed (forms_of (always call_of)) (get_member (codes "calls") ms);
   memory = optional memory_of (Some no_memory) (get_member (codes "memory") ms);
   show = optional (forms_of (always shown_of)) (Some []) (get_member (codes "show") ms);
   limits = optional limits_of default_limits (get_member (codes "limits") ms);

@@ -1,6 +1,7 @@
 //! What a call answers.
 
 use crate::errno::Errno;
+use crate::fdstat::Fdstat;
 use crate::filestat::Filestat;
 
 /// Why a guest is stopped.
@@ -21,6 +22,8 @@ pub enum Value {
     Unit,
     Number(u64),
     Pair(u32, u32),
+    /// What is told of a descriptor.
+    Fdstat(Fdstat),
     /// What is told of a node.
     Filestat(Filestat),
 }

@@ -42,9 +42,20 @@ pub enum Call {
     FdSync {
         fd: u32,
     },
+    FdFdstatGet {
+        fd: u32,
+    },
     FdFdstatSetFlags {
         fd: u32,
         flags: u32,
+    },
+    FdFdstatSetRights {
+        fd: u32,
+        base: u64,
+        inheriting: u64,
+    },
+    FdFilestatGet {
+        fd: u32,
     },
     FdFilestatSetSize {
         fd: u32,
@@ -80,6 +91,13 @@ pub enum Call {
         fd: u32,
         iovs: u32,
         iovs_len: u32,
+    },
+    /// The cookie says how many records of the listing are passed over.
+    FdReaddir {
+        fd: u32,
+        buf: u32,
+        buf_len: u32,
+        cookie: u64,
     },
     FdRenumber {
         from: u32,
@@ -170,6 +188,12 @@ pub enum Call {
         fd: u32,
         new_path: u32,
         new_path_len: u32,
+    },
+    /// So many subscriptions stand at one address, and the events of those that are ready are put at another.
+    PollOneoff {
+        subscriptions: u32,
+        events: u32,
+        count: u32,
     },
     ProcExit {
         status: u32,

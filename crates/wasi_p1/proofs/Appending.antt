@@ -31,7 +31,7 @@ use Rattle.wasi_p1.proofs.Reading.{keeps_all}
 -- ---- the look
 
 -- no row refuses it
-seen : (t : Tree) (n : ℕ) → host_answer t (Stat n) ≡ Ok (metadata_of t n)
+pub seen : (t : Tree) (n : ℕ) → host_answer t (Stat n) ≡ Ok (metadata_of t n)
 unfolding refusal
 seen t n = refl
 
@@ -43,7 +43,7 @@ pub record LooksAt (n : ℕ) (u v : World) : Type 0 where
   pub tree : v.tree ≡ u.tree
   pub touched : (t t' : Tree) → Touches t t' (n ∷ []) [] u.touched v.touched
 
-look : {A : Type 0} {u v : World} (n : ℕ) (result : Result A HostError) → After u (Stat n) result v → LooksAt n u v
+pub look : {A : Type 0} {u v : World} (n : ℕ) (result : Result A HostError) → After u (Stat n) result v → LooksAt n u v
 look n (Ok a) did = record { tree = did.tree; touched = λ t t'. touched_one did.touched }
 look n (Err Memory) (inl did) = record { tree = did.tree; touched = λ t t'. touches_same did.touched }
 look n (Err Memory) (inr did) = record { tree = did.tree; touched = λ t t'. touched_one did.touched }

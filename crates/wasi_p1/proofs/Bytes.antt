@@ -106,10 +106,10 @@ text_utf8 memory path len = by (bytes_in memory path len)
 
 -- ---- what is handed in
 
-byte_of : (n : ℕ) → nat_lt (n % 256) 256 ≡ true
+pub byte_of : (n : ℕ) → nat_lt (n % 256) 256 ≡ true
 byte_of n = grind (arith, nat_tests)
 
-word_bytes : (n : ℕ) → AreBytes (to_le_bytes w32 n)
+pub word_bytes : (n : ℕ) → AreBytes (to_le_bytes w32 n)
 word_bytes n = rw (byte_of n, byte_of (n / 256), byte_of (n / 65536), byte_of (n / 16777216)) refl
 
 -- texts that are bytes leave bytes

@@ -17,7 +17,7 @@ use Rattle.wasi_p1.specs.Numbering.{last_where, free_number, put_at, with_new}
 use Rattle.wasi_resolve.specs.PathRequest.{Opened}
 use Rattle.wasi_p1.specs.Row.{Row, give}
 use Rattle.wasi_p1.specs.Files.{file_in, read_place_in}
-use Rattle.wasi_p1.specs.Parts.{OpenNode, node_of, directory_in, start_in, from, source_in, into, sink_in, open_node_in, new_guest_slot, room_for, with_file}
+use Rattle.wasi_p1.specs.Parts.{OpenNode, node_of, directory_in, start_in, from, source_in, into, sink_in, open_node_in, new_guest_slot, room_for, with_file, live_in}
 use Rattle.wasi_p1.specs.declared.context.FileModes.{FileModes}
 use Rattle.wasi_p1.specs.declared.context.Stream.TheVariants as streams
 use Rattle.wasi_p1.specs.declared.file_parts.FileUse.{FileUse}
@@ -133,6 +133,13 @@ named_node g fd n named is has =
 pub start_is : {d : OpenNode} (p : Option GuestSlot) → start_in p ≡ Ok d → directory_in p ≡ Ok d
 start_is (Some (directory x)) is = is
 start_is p is = absurd (cc)
+
+-- a live number stands for what it stands for
+pub live_is : {slot : GuestSlot} (p : Option GuestSlot) → live_in p ≡ Ok slot → p ≡ Some slot
+live_is {slot} (Some (directory d)) is = let same : directory d ≡ slot = (cc) in ap Some same
+live_is {slot} (Some (file f)) is = let same : file f ≡ slot = (cc) in ap Some same
+live_is {slot} (Some (stream s)) is = let same : stream s ≡ slot = (cc) in ap Some same
+live_is p is = absurd (cc)
 
 -- what a file is asked for of is one
 pub file_is : {f : OpenFile} (wanted : FileUse) (p : Option GuestSlot) → file_in wanted p ≡ Ok f → p ≡ Some (file f)

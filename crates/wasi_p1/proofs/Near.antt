@@ -2,7 +2,7 @@
 -- but from the reply, and no permissions but from the descriptor that it stems from; it makes no step where a
 -- descriptor that its call names is under read-only permissions; it isn't refused after a step, nor before it asks
 -- because memory was wanted; and it leaves bytes in memory.
-use Rattle.std.specs.Prelude.{ℕ, ◌≡◌, ◌⊎◌, List, [], slice_get, Contains, IsUtf8, Ok, Err, OnErr}
+use Rattle.std.specs.Prelude.{ℕ, ◌≡◌, ◌⊎◌, List, [], All, slice_get, Contains, IsUtf8, Ok, Err, OnErr}
 use Rattle.wasi_fs.specs.declared.perms.FsPerms.{FsPerms}
 use Rattle.wasi_host.specs.Tree.{Tree}
 use Rattle.wasi_host.specs.HostCall.{HostCall, Append, Pread, CanBeAsked}
@@ -15,7 +15,8 @@ use Rattle.wasi_guest.specs.declared.call.Call.{Call}
 use Rattle.wasi_p1.specs.CallParts.{WantsNoMemory}
 use Rattle.wasi_p1.specs.CallTurn.{NamesReadOnly}
 use Rattle.wasi_p1.specs.Guest.{Guest, node_in, open_nodes}
-use Rattle.wasi_p1.specs.Request.{Request, Reply, Path, Direct, Behind, reply_of, after, starts_at}
+use Rattle.wasi_p1.specs.Listing.{Entry}
+use Rattle.wasi_p1.specs.Request.{Request, Reply, Path, Direct, Behind, ListDirectory, reply_of, after, starts_at, Sizes}
 use Rattle.wasi_p1.specs.Row.{Row, Program, done, asking}
 use Rattle.wasi_p1.specs.Stems.{stems_by, HasPerms}
 use Rattle.wasi_resolve.specs.AtPlace.{ReadLink}
@@ -30,6 +31,8 @@ abbrev pub given_by : (r : Request) → Reply r → List ℕ
 given_by (Path p) found = path_gives p found
 given_by (Direct call) answer = []
 given_by (Behind f piece) put = []
+given_by (ListDirectory d) listing = []
+given_by (Sizes ns) sizes = []
 
 -- what the types of the calls that make it give of every request: a path is a text, as is that of a link, and what is
 -- written are bytes
@@ -44,6 +47,8 @@ abbrev pub MayBeAsked : Request → Type 0
 MayBeAsked (Path p) = AreTexts p
 MayBeAsked (Direct call) = CanBeAsked call
 MayBeAsked (Behind f piece) = CanBeAsked (Append f piece)
+MayBeAsked (ListDirectory d) = Unit {0}
+MayBeAsked (Sizes ns) = Unit {0}
 
 -- a link's text are bytes
 abbrev pub PathGivesBytes : (p : PathRequest) → PathReply p → Type 0
@@ -55,10 +60,16 @@ abbrev pub AnswerIsBytes : (call : HostCall) → HostAnswer call → Type 0
 AnswerIsBytes (Pread f offset n) bytes = AreBytes bytes
 AnswerIsBytes call answer = Unit {0}
 
+-- the names of a listing are bytes
+abbrev pub HasByteNames : List Entry → Type 0
+HasByteNames listing = All (λ (e : Entry). AreBytes e.name) listing
+
 abbrev pub GivesBytes : (r : Request) → Reply r → Type 0
 GivesBytes (Path p) found = PathGivesBytes p found
 GivesBytes (Direct call) answer = AnswerIsBytes call answer
 GivesBytes (Behind f piece) put = Unit {0}
+GivesBytes (ListDirectory d) listing = HasByteNames listing
+GivesBytes (Sizes ns) sizes = Unit {0}
 
 -- ---- of an answer
 

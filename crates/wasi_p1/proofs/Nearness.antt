@@ -20,6 +20,8 @@ mod Places
 mod TwoPlaces
 mod Times
 mod Services
+mod Listing
+mod Polling
 use Parts.{RowNear, then, answers_near, tells_near}
 use Opening.*
 use ReadingAndWriting.*
@@ -29,6 +31,8 @@ use Places.*
 use TwoPlaces.*
 use Times.*
 use Services.*
+use Listing.*
+use Polling.*
 
 -- by its form where that says it all, else by a lemma of its own
 front_near : (g : Guest) (call : Call) → RowNear g call
@@ -44,7 +48,10 @@ front_near g (calls.FdAllocate _ _ _) = fd_allocate_near
 front_near g (calls.FdClose _) = fd_close_near
 front_near g (calls.FdDatasync _) = fd_datasync_near
 front_near g (calls.FdSync _) = fd_sync_near
+front_near g (calls.FdFdstatGet _) = fd_fdstat_get_near
 front_near g (calls.FdFdstatSetFlags _ _) = fd_fdstat_set_flags_near
+front_near g (calls.FdFdstatSetRights _ _ _) = fd_fdstat_set_rights_near
+front_near g (calls.FdFilestatGet _) = fd_filestat_get_near
 front_near g (calls.FdFilestatSetSize _ _) = fd_filestat_set_size_near
 front_near g (calls.FdFilestatSetTimes _ _ _ _) = fd_filestat_set_times_near
 front_near g (calls.FdPread _ _ _ _) = fd_pread_near
@@ -52,6 +59,7 @@ front_near g (calls.FdPrestatGet _) = fd_prestat_get_near
 front_near g (calls.FdPrestatDirName _ _ _) = fd_prestat_dir_name_near
 front_near g (calls.FdPwrite _ _ _ _) = fd_pwrite_near
 front_near g (calls.FdRead _ _ _) = fd_read_near
+front_near g (calls.FdReaddir _ _ _ _) = fd_readdir_near
 front_near g (calls.FdRenumber _ _) = fd_renumber_near
 front_near g (calls.FdSeek _ _ _) = fd_seek_near
 front_near g (calls.FdTell _) = fd_tell_near
@@ -67,6 +75,7 @@ front_near g (calls.PathUnlinkFile fd path len) = done_near fd path len RemoveFi
 front_near g (calls.PathRename _ _ _ _ _ _) =
     done_between_near _ _ _ _ _ _ _ _ refl refl (λ old new _ may. no_new_name old new false may)
 front_near g (calls.PathSymlink _ _ _ _ _) = path_symlink_near
+front_near g (calls.PollOneoff _ _ _) = poll_oneoff_near
 front_near g (calls.ProcExit status) = record { near = λ fuel. exit_never status }
 front_near g (calls.ProcRaise _) = then _ (signal_never _) (λ _ _. record { near = λ fuel. number })
 front_near g (calls.RandomGet _ _) = random_get_near

@@ -13,7 +13,7 @@ use Rattle.wasi_resolve.specs.PathRequest.{PathRequest, OpenPath, LookPath, AtPl
 use Rattle.wasi_p1.specs.CallTurn.{Turns, NamesReadOnly, in_world}
 use Rattle.wasi_p1.specs.Guest.{Guest, State, GuestSlot, directory, file, node_in, perms_in}
 use Rattle.wasi_p1.specs.ReadOnly.{IsReadOnlyGuest, ReadOnlyTurnsLeaveTheTree}
-use Rattle.wasi_p1.specs.Request.{Request, Path, Direct, Behind, after, starts_at}
+use Rattle.wasi_p1.specs.Request.{Request, Path, Direct, Behind, ListDirectory, after, starts_at, Sizes}
 use Rattle.wasi_p1.specs.Row.{Row, Program, done, asking}
 use Rattle.wasi_p1.specs.Rows.{row, turn}
 use Rattle.wasi_p1.specs.Run.{Turned, Run, Played, Faulted, ends}
@@ -73,6 +73,8 @@ starts_somewhere : (r : Request) → ((n : ℕ) × Contains (starts_at r) n) ⊎
 starts_somewhere (Path p) = inl (path_starts_at p)
 starts_somewhere (Direct call) = starts_or_stays call
 starts_somewhere (Behind f piece) = inl (f.node, Contains-here f.node [])
+starts_somewhere (ListDirectory d) = inl (d, Contains-here d [])
+starts_somewhere (Sizes ns) = inr (λ t. refl)
 
 -- what has a node has permissions
 node_perms : (p : Option GuestSlot) (n : ℕ) → Contains (node_in p) n → (perms : FsPerms) × (perms_in p ≡ Some perms)

@@ -12,12 +12,11 @@ use Rattle.wasi_host.specs.declared.errors.ErrorCode.{ErrorCode}
 use Rattle.wasi_host.specs.declared.errors.ErrorCode.TheVariants.{Io}
 use Rattle.wasi_host.specs.declared.errors.HostError.{HostError}
 use Rattle.wasi_host.specs.declared.errors.HostError.TheVariants.{Code, Memory}
-use Rattle.wasi_resolve.specs.PathRequest.{PathRequest, PathReply, path_reply, meant_by}
 use Rattle.wasi_resolve.specs.Resolved.{Resolved, TreeAfter}
 use Rattle.wasi_p1.specs.Asked.{Asked, Hidden}
 use Rattle.wasi_p1.specs.Errnos.{error_of}
 use Rattle.wasi_resolve.proofs.Calls.{call_ok, call_err, same_live}
-use Rattle.wasi_p1.specs.Request.{Request, Reply, Path, Direct, after, reply_of, meant_of}
+use Rattle.wasi_p1.specs.Request.{Request, Reply, Direct, after, reply_of, meant_of}
 use Rattle.wasi_p1.specs.Row.{from_host}
 
 -- it would have been answered
@@ -81,33 +80,33 @@ module _ {A B : Type 0} (f : A → B) where
   made_of (Ok a) is = (a, refl, cc)
   made_of (Err code) is = absurd (cc)
 
-module _ {B : Type 0} {live : Handles} {w v : World} (p : PathRequest) (f : PathReply p → B) where
+module _ {B : Type 0} {live : Handles} {w v : World} (r : Request) (f : Reply r → B) where
   -- some reply was given, of which it is made
-  pub made_ok : {rose : Type 0} {b : B} → Resolved live w v (meant_as f (meant_by w.tree p)) (λ b. b) (Ok b)
-      → (reply : PathReply p) × Asked rose w v (Path p) (Ok reply) × (f reply ≡ b)
+  pub made_ok : {rose : Type 0} {b : B} → Resolved live w v (meant_as f (meant_of w.tree r)) (λ b. b) (Ok b)
+      → (reply : Reply r) × Asked rose w v r (Ok reply) × (f reply ≡ b)
   made_ok did =
-      let (reply, is, made) = made_of f (path_reply w.tree p) did.answer in
+      let (reply, is, made) = made_of f (reply_of w.tree r) did.answer in
       (reply, record { reply = inl (ap from_host (sym is)); tree = did.tree; touched = did.touched }, made)
 
   pub made_not : {rose : Type 0} (e : HostError) → (e ≡ Code Io → rose)
-      → Resolved live w v (meant_as f (meant_by w.tree p)) (λ b. b) (Err e)
-      → Asked rose w v (Path p) (Err (error_of e))
-  made_not e io did = resolved_err {A = PathReply p} {live = live} {r = Path p} {shown = λ reply. reply} e io (record {
+      → Resolved live w v (meant_as f (meant_of w.tree r)) (λ b. b) (Err e)
+      → Asked rose w v r (Err (error_of e))
+  made_not e io did = resolved_err {A = Reply r} {live = live} {r = r} {shown = λ reply. reply} e io (record {
     answer = answer e did.answer;
     tree = tree e did.tree;
     touched = did.touched;
     keeps = did.keeps;
   })
     where
-      answer : (e : HostError) → MeansErr (meant_as f (meant_by w.tree p)).answer e → MeansErr (path_reply w.tree p) e
+      answer : (e : HostError) → MeansErr (meant_as f (meant_of w.tree r)).answer e → MeansErr (reply_of w.tree r) e
       answer Memory means = tt
       answer (Code Io) means = tt
-      answer (Code code) means = made_err f (path_reply w.tree p) means
+      answer (Code code) means = made_err f (reply_of w.tree r) means
 
       tree : (e : HostError)
-          → TreeAfter {A = B} w.tree (after w.tree (Path p)) v.tree (meant_as f (meant_by w.tree p)).answer (Err e)
-          → TreeAfter {A = PathReply p} w.tree (after w.tree (Path p)) v.tree (path_reply w.tree p) (Err e)
+          → TreeAfter {A = B} w.tree (after w.tree r) v.tree (meant_as f (meant_of w.tree r)).answer (Err e)
+          → TreeAfter {A = Reply r} w.tree (after w.tree r) v.tree (reply_of w.tree r) (Err e)
       tree Memory is = is
       tree (Code Io) is =
-          elim is [ inl same ↦ inl same | inr (free, stepped) ↦ inr (made_free f (path_reply w.tree p) free, stepped) ]
+          elim is [ inl same ↦ inl same | inr (free, stepped) ↦ inr (made_free f (reply_of w.tree r) free, stepped) ]
       tree (Code code) is = is

@@ -1,7 +1,8 @@
 -- The ends of rows: what is made of what a part gives, as an answer and the guest after it.
 use Rattle.std.proofs.Common.{ℕ, ◌+◌, List, Option}
 use Rattle.wasi_guest.specs.declared.answer.Value.{Value}
-use Rattle.wasi_guest.specs.declared.answer.Value.TheVariants.{Number, Unit as Nothing, Filestat as Told}
+use Rattle.wasi_guest.specs.declared.answer.Value.TheVariants.{Number, Unit as Nothing, Fdstat as Described, Filestat as Told}
+use Rattle.wasi_guest.specs.declared.fdstat.Fdstat.{Fdstat}
 use Rattle.wasi_guest.specs.declared.filestat.Filestat.{Filestat}
 use Rattle.wasi_host.specs.declared.errors.ErrorCode.{ErrorCode}
 use Rattle.wasi_p1.specs.Front.{CallFront, free, ask, ◌>>=◌}
@@ -49,6 +50,10 @@ with_size fd f g put = (Number put.count, with_file g fd (at_position f put.size
 abbrev pub with_sought : ℕ → OpenFile → Guest → ℕ → Value × Guest
 with_sought fd f g position = sought g fd f position
 
--- a record
+-- a record of a node
 abbrev pub with_filestat : Guest → Filestat → Value × Guest
 with_filestat g stat = (Told stat, g)
+
+-- one of a descriptor
+abbrev pub with_fdstat : Guest → Fdstat → Value × Guest
+with_fdstat g stat = (Described stat, g)

@@ -10,7 +10,7 @@ use Rattle.wasi_host.specs.declared.lookup.Lookup.{Lookup}
 use Rattle.wasi_p1.specs.Slots.{View}
 use Rattle.wasi_p1.specs.Guest.{Guest, guest_slots, guest_of, guest_by}
 use Rattle.wasi_p1.specs.Request.{Request, Reply}
-use Rattle.wasi_p1.specs.Row.{Row, Program, give, done, made_of_reply}
+use Rattle.wasi_p1.specs.Row.{Row, Program, give, done, asking, made_of_reply}
 use Rattle.wasi_p1.specs.Front.{with_fuel, ask}
 use Rattle.wasi_p1.specs.Parts.{with_file}
 use Rattle.wasi_p1.specs.Rows.{front, row, fuel_left, descriptors_named, may_want}
@@ -27,6 +27,7 @@ use Rattle.wasi_p1.specs.declared.context.FileSlot.{FileSlot}
 use Rattle.wasi_p1.specs.declared.context.Slot.TheVariants.{File}
 use Rattle.wasi_guest.specs.declared.errno.Errno.{Errno as ErrorNumber}
 use Rattle.wasi_p1.specs.declared.error.P1Error.TheVariants.{Errno, Memory}
+use Rattle.wasi_host.specs.declared.errors.HostError.TheVariants.{Memory as NoMemory}
 use Rattle.wasi_p1.proofs.Near.{IsNear}
 use Rattle.wasi_p1.proofs.Nearness.{row_near}
 use Rattle.wasi_p1.proofs.Permitting.{turn_permits}
@@ -121,6 +122,31 @@ wanted {H} {told} {world} {faults} {lookups} {view} {memory} {call} {number} {le
   where
     new : View H
     new = record view { fuel = left }
+
+-- memory was wanted where no refusal is left, before anything was asked
+pub wanted_late : {H : Type 0} {told : Bool} {world : H → World} {faults : H → ℕ} {lookups : H → List Lookup}
+    {view : View H} {memory : List ℕ} {call : Call} {left : ℕ} (program : Program (Value × Guest)) → IsTrue (may_want call)
+    → (Ok program, left) ≡ front (guest_of world view memory) call view.fuel
+    → FollowsRow told world faults lookups view (record view { fuel = left }) memory memory call (Err Memory)
+wanted_late {H} {told} {world} {faults} {lookups} {view} {memory} {call} {left} program may at = record {
+  size = refl;
+  kept = record { slots = refl; table_max = refl; holdings = refl; memory = refl };
+  wants = λ _. may;
+  slots = all_stay refl;
+  fuel = left_same at;
+  front = subst (AtFront (Same view new memory memory) (Quiet faults lookups view new) (guest_of world view memory)
+      (Err Memory)) (row_same at) (by program);
+  turn = λ told. turns.wants_memory;
+  permits = λ told names. refl;
+}
+  where
+    new : View H
+    new = record view { fuel = left }
+
+    by : (program : Program (Value × Guest)) → AtFront (Same view new memory memory) (Quiet faults lookups view new)
+        (guest_of world view memory) (Err Memory) (Ok program)
+    by (done p) = (refl, (refl, refl))
+    by (asking r next) = inl (NoMemory, refl)
 
 -- the guest's slots stay: for a host that is told, where the handles stand for the same afterwards
 abbrev pub GuestSlotsStay : {H : Type 0} → Bool → (H → World) → View H → View H → Type 0

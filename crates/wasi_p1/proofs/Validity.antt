@@ -1,6 +1,8 @@
 -- A turn from a valid state leads to one.
-use Rattle.std.proofs.Common.{ℕ, ◌≡◌, inl, inr, true, false, cond, Bool, List, [], ◌∷◌, refl, ap, sym, subst, Option, Some, None, Result, Ok, Err}
-use Rattle.std.specs.Prelude.{MatchBool}
+use Rattle.std.proofs.Common.{ℕ, ◌≡◌, inl, inr, true, false, cond, Bool, List, [], ◌∷◌, ◌++◌, map, refl, ap, sym, subst, Option, Some, None, Result, Ok, Err}
+use Rattle.std.specs.Prelude.{MatchBool, All, codes}
+use Rattle.std.specs.FinMap as maps
+use Rattle.std.proofs.lemmas.List.Elements.{All-nil, All-cons, All-head, All-tail}
 use Rattle.std.specs.Str.{IsUtf8}
 use Rattle.wasi_host.specs.Step.{times_set}
 use Rattle.wasi_host.specs.declared.system_time.SystemTime.{SystemTime}
@@ -8,9 +10,10 @@ use Rattle.wasi_guest.specs.declared.answer.Value.{Value}
 use Rattle.wasi_guest.specs.declared.call.Call.{Call}
 use Rattle.wasi_p1.specs.Front.{FueledCall}
 use Rattle.wasi_host.specs.Meaning.{World}
-use Rattle.wasi_host.specs.Tree.{Tree, Content, File, Directory, Link, node_at, next_of, bytes_of}
-use Rattle.wasi_host.specs.ValidTree.{IsValidTree, IsValidContent, are_bytes}
+use Rattle.wasi_host.specs.Tree.{Tree, Node, Content, names_of, File, Directory, Link, node_at, next_of, bytes_of}
+use Rattle.wasi_host.specs.ValidTree.{IsValidTree, IsValidContent, IsEntry, are_bytes}
 use Rattle.wasi_host.proofs.Changes.{node_at-past}
+use Rattle.wasi_host.proofs.EntryLemmas.{All-no_names}
 use Rattle.wasi_host.proofs.ValidSteps.{valid-step}
 use Rattle.wasi_p1.specs.CallTurn.{Turns, in_world}
 use Rattle.wasi_p1.specs.Guest.{Guest, State}
@@ -19,7 +22,7 @@ use Rattle.wasi_host.specs.HostCall as calls
 use Rattle.wasi_host.specs.declared.held.Held.{Held}
 use Rattle.wasi_host.specs.Steps.{◌>>=◌}
 use Rattle.wasi_host.specs.declared.errors.ErrorCode.{ErrorCode}
-use Rattle.wasi_host.specs.Answer.{unless, link_text}
+use Rattle.wasi_host.specs.Answer.{Listed, unless, link_text, listed, listing, open_answer, stat_answer}
 use Rattle.wasi_host.specs.Refusal.{refusal}
 use Rattle.wasi_host.proofs.Chain.{free}
 use Rattle.wasi_host.proofs.Refusals.{free_of}
@@ -27,9 +30,11 @@ use Rattle.wasi_resolve.specs.AtPlace.{PlaceCall, PlaceAnswer, CreateDir, Remove
 use Rattle.wasi_resolve.specs.AtPlace as at_place
 use Rattle.wasi_resolve.specs.AtTwo.{Places, places_for, asks_directory, call_at_two, answer_at_two, step_at_two}
 use Rattle.wasi_resolve.specs.Paths.{Opening, Place, opening, step_of, timed}
+use Rattle.wasi_resolve.specs.Meanings.{listing_options, lists_at}
 use Rattle.wasi_resolve.specs.PathRequest.{PathRequest, OpenPath, LookPath, AtPlace, TimesPath, AtTwo, PathReply, answer_at, as_asked, times_through, path_reply, path_after}
 use Rattle.wasi_resolve.proofs.Requests.{as_opened}
-use Rattle.wasi_p1.specs.Request.{Request, Reply, Path, Direct, Behind, reply_of, after}
+use Rattle.wasi_p1.specs.Listing.{Entry, dots, numbered_at, all_numbered_at, listing_at}
+use Rattle.wasi_p1.specs.Request.{Request, Reply, Path, Direct, Behind, ListDirectory, reply_of, after, Sizes}
 use Rattle.wasi_p1.specs.Row.{Row, Program, done, asking}
 use Rattle.wasi_p1.specs.Rows.{row, turn}
 use Rattle.wasi_p1.specs.Run.{Turned, Run, ends}
@@ -41,9 +46,11 @@ use Rattle.wasi_p1.proofs.Alike.{row_on}
 use Rattle.wasi_paths.specs.Parts.{has_root}
 use Rattle.wasi_host.specs.declared.errors.ErrorCode.TheVariants.{NotPermitted}
 use Rattle.wasi_p1.proofs.Bytes.{cut}
+use Rattle.wasi_p1.proofs.Listings.{both_ok}
+use Rattle.wasi_p1.proofs.Paging.{dots_bytes}
 use Rattle.wasi_p1.proofs.Utf8.{text_bytes}
 use Rattle.wasi_p1.proofs.Moving.{Moves, turn_moves, turned_moves, turned_by, over_tree, over_guest, replied_by}
-use Rattle.wasi_p1.proofs.Near.{AreBytes, AreTexts, PathGivesBytes, GivesBytes, KeepsBytes, MayBeAsked, IsNear}
+use Rattle.wasi_p1.proofs.Near.{AreBytes, AreTexts, PathGivesBytes, HasByteNames, GivesBytes, KeepsBytes, MayBeAsked, IsNear}
 use Rattle.wasi_p1.proofs.Nearness.{row_near}
 use Rattle.wasi_resolve.proofs.Asking.{HasUtf8Target, opening_asked, place_asked, places_asked, link_utf8}
 
@@ -84,11 +91,59 @@ path_gives_bytes t (AtPlace s text ReadLink) reply valid is = by (place_for t s 
     by (Err code) same = absurd (cc)
 path_gives_bytes t p reply valid is = tt
 
+-- the names of a directory are bytes
+entries_bytes : (t : Tree) (es : List (List ℕ × ℕ)) → All (IsEntry t) es
+    → All (λ (e : Listed). AreBytes e.0) (map (listed t) es)
+entries_bytes t [] all = All-nil _
+entries_bytes t (e ∷ es) all =
+    All-cons (λ (e : Listed). AreBytes e.0) (listed t e) (map (listed t) es)
+    (text_bytes e.0 (All-head (IsEntry t) e es all).utf8) (entries_bytes t es (All-tail (IsEntry t) e es all))
+
+names_bytes : (t : Tree) (d : ℕ) → IsValidTree t → All (λ (e : Listed). AreBytes e.0) (listing t d)
+unfolding listing
+names_bytes t d valid = entries_bytes t (maps.entries (names_of (node_at t d).content)) (elim (below_or d (next_of t)) [
+  | inl within ↦ by (node_at t d).content (valid.nodes d within)
+  | inr past ↦ subst (λ (x : Node). All (IsEntry t) (maps.entries (names_of x.content))) (sym (node_at-past t d past))
+      (All-no_names (IsEntry t))
+])
+  where
+    by : (content : Content) → IsValidContent t d content → All (IsEntry t) (maps.entries (names_of content))
+    by (File bytes links) is = All-no_names (IsEntry t)
+    by (Directory names gone) is = is.0
+    by (Link text links) is = All-no_names (IsEntry t)
+
+numbered_bytes : (t : Tree) (d : ℕ) (es : List Listed) {entries : List Entry} → All (λ (e : Listed). AreBytes e.0) es
+    → all_numbered_at t d es ≡ Ok entries → HasByteNames entries
+numbered_bytes t d [] {entries} all is = let same : [] ≡ entries = (cc) in subst HasByteNames same (All-nil _)
+numbered_bytes t d (e ∷ es) {entries} all is =
+    let (first, told, rest) = both_ok (numbered_at t d e) _ is in
+    let (others, later, whole) = both_ok (all_numbered_at t d es) _ rest in
+    let (metadata, looked, made) = both_ok (path_reply t (LookPath d e.0 false)) _ told in
+    let name : e.0 ≡ first.name = (cc) in
+    let same : first ∷ others ≡ entries = (cc) in
+    subst HasByteNames same (All-cons (λ (e : Entry). AreBytes e.name) first others
+    (subst AreBytes name (All-head (λ (e : Listed). AreBytes e.0) e es all))
+    (numbered_bytes t d es (All-tail (λ (e : Listed). AreBytes e.0) e es all) later))
+
+-- and so are those of a listing
+listing_bytes : (t : Tree) (d : ℕ) {entries : List Entry} → IsValidTree t → listing_at t d ≡ Ok entries
+    → HasByteNames entries
+unfolding listing_at
+listing_bytes t d {entries} valid is =
+    let (names, listed, rest) = both_ok (lists_at t d).answer _ is in
+    let (own, looked, last) = both_ok (stat_answer t d) _ rest in
+    let (others, told, whole) = both_ok (all_numbered_at t d names) _ last in
+    let (held, opened, given) = both_ok (open_answer t d (codes ".") listing_options) _ listed in
+    let bytes = subst (All (λ (e : Listed). AreBytes e.0)) (unless_value _ given) (names_bytes t held.node valid) in
+    let same : dots own.node ++ others ≡ entries = (cc) in
+    subst HasByteNames same (dots_bytes own.node others (numbered_bytes t d names bytes told))
+
 gives_bytes : (t : Tree) (r : Request) (reply : Reply r) → IsValidTree t → reply_of t r ≡ Ok reply → GivesBytes r reply
 gives_bytes t (Path p) reply valid is = path_gives_bytes t p reply valid is
 gives_bytes t (Direct (Pread f offset n)) bytes valid is =
     let whole = content_bytes t f.node valid in
     subst AreBytes (unless_value _ is) (cut n _ (cut offset (bytes_of (node_at t f.node).content) whole).1).0
+gives_bytes t (ListDirectory d) listing valid is = listing_bytes t d valid is
 gives_bytes t r reply valid is = tt
 
 -- ---- a request
@@ -162,16 +217,13 @@ path_valid t (AtTwo old old_text new new_text what) {reply} valid texts answered
     by (Err code) at is = valid
 
 -- the first of two was answered
-first_ok : {A B : Type 0} {b : B} (m : Result A ErrorCode) (next : A → Result B ErrorCode) → (m >>= next) ≡ Ok b
-    → (a : A) × (m ≡ Ok a)
-first_ok (Ok a) next is = (a, refl)
-first_ok (Err code) next is = absurd (cc)
-
 request_valid : (t : Tree) (r : Request) {reply : Reply r} → IsValidTree t → MayBeAsked r → reply_of t r ≡ Ok reply
     → IsValidTree (after t r)
 request_valid t (Path p) valid may is = path_valid t p valid may is
 request_valid t (Direct call) valid may is = valid-step t call valid may (free_of t call is)
-request_valid t (Behind f piece) valid may is = valid-step t (Append f piece) valid may (free_of t (Append f piece) (first_ok _ _ is).1)
+request_valid t (Behind f piece) valid may is = valid-step t (Append f piece) valid may (free_of t (Append f piece) (both_ok _ _ is).1)
+request_valid t (ListDirectory d) valid may is = valid
+request_valid t (Sizes ns) valid may is = valid
 
 -- ---- a turn
 

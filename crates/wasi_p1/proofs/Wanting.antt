@@ -43,14 +43,14 @@ Never (Err e) = WantsNoMemory e
 pub number : {e : ErrorNumber} → WantsNoMemory (Errno e)
 number is = absurd (cc)
 
-trapped : {kind : TrapKind} → WantsNoMemory (Trap kind)
+pub trapped : {kind : TrapKind} → WantsNoMemory (Trap kind)
 trapped is = absurd (cc)
 
-after : {A B : Type 0} (m : Row A) (next : A → Row B) → Never m → ((x : A) → Never (next x)) → Never (m >>= next)
+pub after : {A B : Type 0} (m : Row A) (next : A → Row B) → Never m → ((x : A) → Never (next x)) → Never (m >>= next)
 after (Ok x) next first then = then x
 after (Err e) next first then = first
 
-when : {A : Type 0} {e : P1Error} (b : Bool) (x : A) → WantsNoMemory e → Never (cond b (Ok x) (Err e))
+pub when : {A : Type 0} {e : P1Error} (b : Bool) (x : A) → WantsNoMemory e → Never (cond b (Ok x) (Err e))
 when true x other = tt
 when false x other = other
 

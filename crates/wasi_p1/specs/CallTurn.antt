@@ -103,3 +103,12 @@ pub record FollowsRow {H : Type 0} (told : Bool) (world : H → World) (faults :
       (with_fuel old.fuel call) result
   pub permits : IsTrue told → NamesReadOnly (guest_of world old before) call
       → (world new.host).tree ≡ (world old.host).tree
+
+-- a call is valid where its row answers it: no refusal holds
+abbrev pub IsValidCall : State → FueledCall → Type 0
+IsValidCall s call = IsTrue (is_ok (turn s call))
+
+-- it was answered; or memory was wanted, by a call that takes some
+abbrev pub IsAnswered : Call → Result Value P1Error → Type 0
+IsAnswered call (Ok x) = Unit {0}
+IsAnswered call (Err e) = (e ≡ Memory) × IsTrue (may_want call)

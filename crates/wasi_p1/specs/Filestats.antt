@@ -46,6 +46,11 @@ abbrev pub nanoseconds_in : Option Datetime → Row ℕ
 nanoseconds_in (Some moment) = or_overflow (since_epoch moment.seconds moment.nanoseconds)
 nanoseconds_in None = Ok 0
 
+-- nothing is told of a standard stream
+abbrev pub stream_filestat : Filestat
+stream_filestat =
+    record { dev = 0; ino = 0; filetype = 0; nlink = 0; size = 0; atim = 0; mtim = 0; ctim = 0 }
+
 -- there is one device; a time past what 64 bits hold is refused `overflow`
 unfoldable pub filestat_in : StatBoth → Row Filestat
 filestat_in both = do

@@ -6,15 +6,22 @@ pub mod Descriptors
 pub mod Owners
 pub mod Guest
 pub mod Errnos
+pub mod Listing
 pub mod Request
 pub mod Row
 pub mod RawFlags
 pub mod NewTimes
 pub mod Filestats
+pub mod Fdstats
+pub mod Pages
+pub mod PageReading
+pub mod PageLaws
 pub mod Parts
 pub mod Files
 pub mod Front
 pub mod Services
+pub mod Subscriptions
+pub mod Polling
 pub mod Rows
 pub mod Turn
 pub mod CallTurn
@@ -30,3 +37,4 @@ pub mod DescriptorLaws
 pub mod Validity
 pub mod Asked
 pub mod CallParts
+pub mod EntriesSeen

@@ -6,6 +6,7 @@ use Rattle.wasi_guest.specs.declared.call.Call.TheVariants as calls
 use Rattle.wasi_p1.specs.Front.{CallFront, FueledCall}
 use Rattle.wasi_p1.specs.Guest.{Guest, State}
 use Rattle.wasi_p1.specs.Row.{Row, Program, row_on}
+use Rattle.wasi_p1.specs.Subscriptions.{waited_for}
 pub mod Opening
 pub mod ReadingAndWriting
 pub mod PositionsAndSizes
@@ -14,6 +15,8 @@ pub mod Places
 pub mod TwoPlaces
 pub mod Times
 pub mod Services
+pub mod Listing
+pub mod Polling
 unfoldable pub use Opening.*
 unfoldable pub use ReadingAndWriting.*
 unfoldable pub use PositionsAndSizes.*
@@ -22,6 +25,8 @@ unfoldable pub use Places.*
 unfoldable pub use TwoPlaces.*
 unfoldable pub use Times.*
 unfoldable pub use Services.*
+unfoldable pub use Listing.*
+unfoldable pub use Polling.*
 
 -- the front of a call's row
 abbrev pub front : Guest → Call → CallFront
@@ -36,7 +41,10 @@ front g (calls.FdAllocate fd offset len) = fd_allocate g fd offset len
 front g (calls.FdClose fd) = fd_close g fd
 front g (calls.FdDatasync fd) = fd_datasync g fd
 front g (calls.FdSync fd) = fd_sync g fd
+front g (calls.FdFdstatGet fd) = fd_fdstat_get g fd
 front g (calls.FdFdstatSetFlags fd flags) = fd_fdstat_set_flags g fd flags
+front g (calls.FdFdstatSetRights fd base inheriting) = fd_fdstat_set_rights g fd base inheriting
+front g (calls.FdFilestatGet fd) = fd_filestat_get g fd
 front g (calls.FdFilestatSetSize fd size) = fd_filestat_set_size g fd size
 front g (calls.FdFilestatSetTimes fd atim mtim fst_flags) = fd_filestat_set_times g fd atim mtim fst_flags
 front g (calls.FdPread fd iovs iovs_len offset) = fd_pread g fd iovs iovs_len offset
@@ -44,6 +52,7 @@ front g (calls.FdPrestatGet fd) = fd_prestat_get g fd
 front g (calls.FdPrestatDirName fd path path_len) = fd_prestat_dir_name g fd path path_len
 front g (calls.FdPwrite fd iovs iovs_len offset) = fd_pwrite g fd iovs iovs_len offset
 front g (calls.FdRead fd iovs iovs_len) = fd_read g fd iovs iovs_len
+front g (calls.FdReaddir fd buf buf_len cookie) = fd_readdir g fd buf buf_len cookie
 front g (calls.FdRenumber from to) = fd_renumber g from to
 front g (calls.FdSeek fd offset whence) = fd_seek g fd offset whence
 front g (calls.FdTell fd) = fd_tell g fd
@@ -63,6 +72,7 @@ front g (calls.PathRename old_fd old_path old_path_len new_fd new_path new_path_
     path_rename g old_fd old_path old_path_len new_fd new_path new_path_len
 front g (calls.PathSymlink old_path old_path_len fd new_path new_path_len) =
     path_symlink g old_path old_path_len fd new_path new_path_len
+front g (calls.PollOneoff subscriptions events count) = poll_oneoff g subscriptions events count
 front g (calls.ProcExit status) = proc_exit g status
 front g (calls.ProcRaise signal) = proc_raise g signal
 front g (calls.RandomGet buf buf_len) = random_get g buf buf_len
@@ -92,7 +102,10 @@ descriptors_named memory (calls.FdAllocate fd _ _) = fd ∷ []
 descriptors_named memory (calls.FdClose fd) = fd ∷ []
 descriptors_named memory (calls.FdDatasync fd) = fd ∷ []
 descriptors_named memory (calls.FdSync fd) = fd ∷ []
+descriptors_named memory (calls.FdFdstatGet fd) = fd ∷ []
 descriptors_named memory (calls.FdFdstatSetFlags fd _) = fd ∷ []
+descriptors_named memory (calls.FdFdstatSetRights fd _ _) = fd ∷ []
+descriptors_named memory (calls.FdFilestatGet fd) = fd ∷ []
 descriptors_named memory (calls.FdFilestatSetSize fd _) = fd ∷ []
 descriptors_named memory (calls.FdFilestatSetTimes fd _ _ _) = fd ∷ []
 descriptors_named memory (calls.FdPread fd _ _ _) = fd ∷ []
@@ -100,6 +113,7 @@ descriptors_named memory (calls.FdPrestatGet fd) = fd ∷ []
 descriptors_named memory (calls.FdPrestatDirName fd _ _) = fd ∷ []
 descriptors_named memory (calls.FdPwrite fd _ _ _) = fd ∷ []
 descriptors_named memory (calls.FdRead fd _ _) = fd ∷ []
+descriptors_named memory (calls.FdReaddir fd _ _ _) = fd ∷ []
 descriptors_named memory (calls.FdRenumber from to) = from ∷ to ∷ []
 descriptors_named memory (calls.FdSeek fd _ _) = fd ∷ []
 descriptors_named memory (calls.FdTell fd) = fd ∷ []
@@ -114,6 +128,7 @@ descriptors_named memory (calls.PathRemoveDirectory fd _ _) = fd ∷ []
 descriptors_named memory (calls.PathUnlinkFile fd _ _) = fd ∷ []
 descriptors_named memory (calls.PathRename old_fd _ _ new_fd _ _) = old_fd ∷ new_fd ∷ []
 descriptors_named memory (calls.PathSymlink _ _ fd _ _) = fd ∷ []
+descriptors_named memory (calls.PollOneoff subscriptions _ count) = waited_for memory subscriptions count
 descriptors_named memory (calls.SockAccept fd _) = fd ∷ []
 descriptors_named memory (calls.SockRecv fd _ _ _) = fd ∷ []
 descriptors_named memory (calls.SockSend fd _ _ _) = fd ∷ []
@@ -142,6 +157,7 @@ stem_in call = itself
 abbrev pub may_want : Call → Bool
 may_want (calls.FdFilestatSetSize _ _) = true
 may_want (calls.FdPwrite _ _ _ _) = true
+may_want (calls.FdReaddir _ _ _ _) = true
 may_want (calls.FdWrite _ _ _) = true
 may_want (calls.PathCreateDirectory _ _ _) = true
 may_want (calls.PathFilestatGet _ _ _ _) = true
@@ -153,4 +169,5 @@ may_want (calls.PathRemoveDirectory _ _ _) = true
 may_want (calls.PathUnlinkFile _ _ _) = true
 may_want (calls.PathRename _ _ _ _ _ _) = true
 may_want (calls.PathSymlink _ _ _ _ _) = true
+may_want (calls.PollOneoff _ _ _) = true
 may_want call = false

@@ -1,9 +1,9 @@
 -- Laws of turns and runs.
-use Rattle.std.specs.Prelude.{◌≡◌, ℕ, List, Result}
+use Rattle.std.specs.Prelude.{◌≡◌, ◌⊎◌, ℕ, List, All, IsTrue, Result}
 use Rattle.wasi_host.specs.Meaning.{World, Rose}
-use Rattle.wasi_p1.specs.CallTurn.{TakesTurn}
+use Rattle.wasi_p1.specs.CallTurn.{IsValidCall, TakesTurn}
 use Rattle.wasi_p1.specs.Reach.{Confined}
-use Rattle.wasi_p1.specs.Run.{Turned, Run}
+use Rattle.wasi_p1.specs.Run.{Turned, Run, Faulted, is_success}
 use Rattle.wasi_p1.specs.Slots.{View}
 use Rattle.wasi_p1.specs.Guest.{State, state_of}
 use Rattle.wasi_p1.specs.Front.{FueledCall}
@@ -16,6 +16,16 @@ RunsAreFunctions =
     (old : State) (calls : List FueledCall) (turns turns' : List Turned) (new new' : State) → Run 0 old calls turns new
     → Run 0 old calls turns' new'
     → (turns ≡ turns') × (new ≡ new')
+
+-- a call that is valid in the state before it is answered Ok, unless the host failed in it
+abbrev pub IsComplete : Turned → Type 0
+IsComplete t = IsValidCall t.before t.call → IsTrue (is_success t.answer) ⊎ Faulted t
+
+-- so is each call of a run
+abbrev pub RunsAreComplete : Type 0
+RunsAreComplete =
+    (k : ℕ) (old new : State) (calls : List FueledCall) (turns : List Turned) → Run k old calls turns new
+    → All IsComplete turns
 
 -- each turn over a told host keeps what was come to in reach of the start
 abbrev pub TurnsAreConfined : {H : Type 0} → (H → World) → Type 0

@@ -47,7 +47,7 @@ pub fn bytes_at(memory: &[u8], ptr: u32, n: u32) -> Result<&[u8], P1Error>
 
 /// Takes so much fuel: Nomem where there is less.
 #[tactic(auto, unfolding(crate::specs::Front::charge))]
-fn charge(fuel: &mut u64, n: u64) -> Result<(), P1Error>
+pub fn charge(fuel: &mut u64, n: u64) -> Result<(), P1Error>
     ensures row { (result, fuel.new) ≡ charge n fuel.old }
     ensures refusal { IfErr result (λ e. is_failure e ≡ false) }
 {

@@ -1,7 +1,7 @@
 //! The record that tells of a node.
 ghost use Rattle.std.specs.Prelude.{◌≡◌, false, IfErr};
-ghost use Rattle.wasi_p1.specs.CallParts.{is_failure};
-ghost use Rattle.wasi_p1.specs.Filestats.{filetype_of, nanoseconds_in, filestat_in};
+ghost use Rattle.wasi_p1.specs.CallParts.{WantsNoMemory, is_failure};
+ghost use Rattle.wasi_p1.specs.Filestats.{filetype_of, nanoseconds_in, filestat_in, stream_filestat};
 
 use crate::error::P1Error;
 use wasi_fs::{Datetime, DescriptorStat, DescriptorType, MetadataHashValue};
@@ -15,7 +15,7 @@ pub struct StatBoth {
 }
 
 /// The type of the same name.
-fn filetype_of(kind: DescriptorType) -> Filetype
+pub fn filetype_of(kind: DescriptorType) -> Filetype
     ensures filetype { result ≡ filetype_of kind }
 {
     match kind {
@@ -32,6 +32,7 @@ fn filetype_of(kind: DescriptorType) -> Filetype
 fn nanoseconds_in(moment: Option<Datetime>) -> Result<u64, P1Error>
     ensures row { result ≡ nanoseconds_in moment }
     ensures refusal { IfErr result (λ e. is_failure e ≡ false) }
+    ensures never_wants { IfErr result WantsNoMemory }
 {
     const OVERFLOW: P1Error = P1Error::Errno(Errno::Overflow);
 
@@ -55,6 +56,7 @@ impl StatBoth {
     pub fn filestat(&self) -> Result<Filestat, P1Error>
         ensures row { result ≡ filestat_in self.now }
         ensures refusal { IfErr result (λ e. is_failure e ≡ false) }
+        ensures never_wants { IfErr result WantsNoMemory }
     {
         let atim = nanoseconds_in(self.stat.data_access_timestamp)?;
         let mtim = nanoseconds_in(self.stat.data_modification_timestamp)?;
@@ -69,5 +71,21 @@ impl StatBoth {
             mtim,
             ctim,
         })
+    }
+}
+
+/// What is told of a standard stream: nothing.
+pub fn stream_filestat() -> Filestat
+    ensures { result ≡ stream_filestat }
+{
+    Filestat {
+        dev: 0,
+        ino: 0,
+        filetype: Filetype::Unknown.number(),
+        nlink: 0,
+        size: 0,
+        atim: 0,
+        mtim: 0,
+        ctim: 0,
     }
 }

@@ -5,6 +5,7 @@ ghost use Rattle.std.specs.List.{range_with_len};
 ghost use Rattle.std.specs.String.{string_bytes};
 ghost use Rattle.std.specs.Result.{result_map_both};
 ghost use Rattle.wasi_p1.specs.Services.{next_input, input_into, written, sizes_of, texts_at, with_text, with_texts, with_unit, total_of, clock_res, clock_time, moment_of, nanoseconds_of, random_bytes, random_taken};
+ghost use Rattle.wasi_p1.specs.Polling.{clock_end, clocks_at, end_after, end_of, wall_later, with_clocks};
 ghost use Rattle.wasi_p1.specs.Slots.{given_name};
 ghost use Rattle.wasi_p1.specs.Stock.{first_stock, env_text};
 ghost use Rattle.std.specs.Int.{to_le_bytes, w32};
@@ -17,7 +18,8 @@ use crate::raw_numbers::INVALID;
 use std::alloc::{AllocError, Global};
 use std::marker::Model;
 use wasi_guest::{
-    Clockid, EnvPair, Errno, Iovec, Services, TrapKind, Value, WallDatetime, write_bytes,
+    Clockid, EnvPair, Errno, Flags, Iovec, Services, SubclockFlags, TrapKind, Value, WallDatetime,
+    write_bytes,
 };
 
 /// What a guest was handed in, as far as that is left, and what it has written to the two outputs.
@@ -72,6 +74,14 @@ impl Model for Holdings {
 pub struct Outputs {
     pub stdout: Vec<u8>,
     pub stderr: Vec<u8>,
+}
+
+/// What the two clocks stand at.
+#[derive(Clone, Copy, Debug, PartialEq, Eq)]
+pub struct Clocks {
+    pub wall: WallDatetime,
+    /// In nanoseconds.
+    pub monotonic: u64,
 }
 
 /// A variable, with `=` between its key and its value.
@@ -199,6 +209,96 @@ impl Holdings {
         let clock = Clockid::from_number(id).ok_or(INVALID)?;
         moment_of(self.wall, self.monotonic, clock)
     }
+}
+
+/// How many nanoseconds a second has.
+const SECOND: u128 = 1_000_000_000;
+
+impl Holdings {
+    /// The moment of the monotonic clock at which a clock is at its end, by its number, its timeout in nanoseconds and
+    /// the bits of `SubclockFlags`: so long from now on, or where that is asked for at a moment of the clock itself.
+    /// Refusals: Inval of an unknown clock, of an unknown flag, and of a processor's clock; Overflow where a moment of
+    /// the wall clock is asked for and 64 bits of nanoseconds don't hold what it stands at.
+    #[tactic(auto, unfolding(crate::specs::Polling::clock_end))]
+    pub fn clock_end(&self, id: u32, timeout: u64, flags: u16) -> Result<u64, P1Error>
+        ensures row { result ≡ clock_end self.now id timeout flags }
+        ensures refusal { IfErr result (λ e. is_failure e ≡ false) }
+    {
+        let clock = Clockid::from_number(id).ok_or(INVALID)?;
+        let flags = SubclockFlags::from_bits(flags).ok_or(INVALID)?;
+        let absolute = flags.contains(SubclockFlags::SUBSCRIPTION_CLOCK_ABSTIME);
+        self.end_of(clock, timeout, absolute)
+    }
+
+    /// The same of a clock, and whether its timeout is a moment of it.
+    fn end_of(&self, clock: Clockid, timeout: u64, absolute: bool) -> Result<u64, P1Error>
+        ensures row { result ≡ end_of self.now timeout absolute clock }
+        ensures refusal { IfErr result (λ e. is_failure e ≡ false) }
+    {
+        match (clock, absolute) {
+            (Clockid::Realtime, true) => {
+                let now = nanoseconds_of(self.wall)?;
+                Ok(self.end_after(timeout.saturating_sub(now)))
+            }
+            (Clockid::Monotonic, true) => Ok(timeout),
+            (Clockid::Realtime, false) => Ok(self.end_after(timeout)),
+            (Clockid::Monotonic, false) => Ok(self.end_after(timeout)),
+            (Clockid::ProcessCputimeId, _) => Err(INVALID),
+            (Clockid::ThreadCputimeId, _) => Err(INVALID),
+        }
+    }
+
+    /// So many nanoseconds from now on, and no later than the last moment of the monotonic clock.
+    fn end_after(&self, wait: u64) -> u64
+        ensures { result ≡ end_after self.now wait }
+    {
+        self.monotonic.saturating_add(wait)
+    }
+
+    /// What the clocks stand at when the monotonic one has come to a moment. Where it has already they stand as they
+    /// do, and else both go on alike. Refusal: Overflow where an i64 doesn't hold the wall clock's seconds then.
+    #[tactic(auto, unfolding(crate::specs::Polling::clocks_at))]
+    pub fn clocks_at(&self, moment: u64) -> Result<Clocks, P1Error>
+        ensures row { result ≡ clocks_at self.now moment }
+        ensures refusal { IfErr result (λ e. is_failure e ≡ false) }
+    {
+        if moment <= self.monotonic {
+            return Ok(Clocks {
+                wall: self.wall,
+                monotonic: self.monotonic,
+            });
+        }
+        let wall = wall_later(self.wall, moment - self.monotonic)?;
+        Ok(Clocks {
+            wall,
+            monotonic: moment,
+        })
+    }
+
+    /// Sets the two clocks.
+    pub fn set_clocks(&mut self, clocks: Clocks)
+        ensures set { self.new ≡ with_clocks self.old clocks }
+    {
+        self.wall = clocks.wall;
+        self.monotonic = clocks.monotonic;
+    }
+}
+
+/// A moment of the wall clock so many nanoseconds later, with whole seconds carried out of them: Overflow where an i64
+/// doesn't hold the seconds.
+fn wall_later(wall: WallDatetime, by: u64) -> Result<WallDatetime, P1Error>
+    ensures row { result ≡ wall_later wall by }
+    ensures refusal { IfErr result (λ e. is_failure e ≡ false) }
+{
+    let nanoseconds = wall.nanoseconds as u128 + by as u128;
+    let seconds = wall.seconds as u128 + nanoseconds / SECOND;
+    if seconds > i64::MAX as u128 {
+        return Err(P1Error::Errno(Errno::Overflow));
+    }
+    Ok(WallDatetime {
+        seconds: seconds as u64,
+        nanoseconds: (nanoseconds % SECOND) as u32,
+    })
 }
 
 /// What is read next, of what is left of the standard input, into a buffer: Intr of an empty one where some is left.

@@ -1,7 +1,9 @@
 //! Laws of what is defined.
+ghost use Rattle.wasi_p1.specs.PageLaws.{RecordLength, PageLength, PastTheEnd};
+ghost use Rattle.wasi_p1.specs.PageLaws.{WholeOfPage, LargePagesHold, PagesInOrder, PagesHaveAll, EmptyPageEnds};
 ghost use Rattle.wasi_p1.specs.Owners.{LiveStays};
 ghost use Rattle.wasi_p1.specs.StatesAgree.{TurnsAgree, RunsAgree};
-ghost use Rattle.wasi_p1.specs.RunLaws.{RunsAreFunctions, TurnsAreConfined};
+ghost use Rattle.wasi_p1.specs.RunLaws.{RunsAreComplete, RunsAreFunctions, TurnsAreConfined};
 ghost use Rattle.wasi_p1.specs.Stems.{PermissionsStem};
 ghost use Rattle.wasi_p1.specs.ReadOnly.{ReadOnlyTurnsLeaveTheTree, ReadOnlyRunsLeaveTheTree};
 ghost use Rattle.wasi_p1.specs.Validity.{RunsStayValid};
@@ -18,6 +20,12 @@ pub fn turns_agree()
 /// The run of calls from a state is a function of the two where no turn is faulted.
 pub fn runs_are_functions()
     ensures one_run { RunsAreFunctions }
+{}
+
+/// A call of a run that is valid in the state before it, where its row answers it, is answered Ok, unless the host failed
+/// in it.
+pub fn valid_calls_are_answered()
+    ensures complete { RunsAreComplete }
 {}
 
 /// A turn keeps what was come to in reach of the start: a node of a descriptor or under a name in reach, and each node
@@ -65,6 +73,26 @@ pub fn descriptor_numbers()
 pub fn positions()
     ensures sought { SeeksAreTold }
     ensures offsets { OffsetsLeavePositions }
+{}
+
+/// How long a record of a listing is, and a page of records; and from the last one's cookie on there is nothing.
+pub fn records_and_pages_have_lengths()
+    ensures one { RecordLength }
+    ensures page { PageLength }
+    ensures past { PastTheEnd }
+{}
+
+/// What stands whole in a page are the next records of the listing, as many as the buffer has room for. Pages that each
+/// resume at the `d_next` of the last whole record give each entry once, in the order of the listing; and all of them
+/// where each page holds a whole record until none is left, which one with room for the largest record does. An empty
+/// page of a buffer that isn't empty ends the listing. It is so of a listing whose numbers fit into the fields of a
+/// record.
+pub fn pages_list_each_entry_once()
+    ensures whole { WholeOfPage }
+    ensures held { LargePagesHold }
+    ensures order { PagesInOrder }
+    ensures everything { PagesHaveAll }
+    ensures ends { EmptyPageEnds }
 {}
 
 /// A write that is answered put its first buffer that has bytes whole into the file, from its position on, or in append

@@ -7,13 +7,17 @@ mod calls;
 mod context;
 mod descriptors;
 mod error;
+mod fdstats;
 mod file_parts;
 mod filestats;
 mod holdings;
 mod items;
 mod laws;
+mod listing_parts;
+mod look_parts;
 mod new_times;
 mod open_with;
+mod poll_parts;
 mod raw_numbers;
 mod run;
 
@@ -24,8 +28,9 @@ pub use error::{CtxError, P1Error};
 pub use holdings::{Holdings, Output, Outputs};
 pub use laws::{
     descriptor_numbers, live_handles_stay, permissions_stem, positions,
-    read_only_runs_leave_the_tree, read_only_turns_leave_the_tree, runs_agree, runs_are_functions,
-    runs_stay_valid, turns_agree, turns_are_confined, writes_are_whole,
+    read_only_runs_leave_the_tree, read_only_turns_leave_the_tree, records_and_pages_have_lengths,
+    runs_agree, runs_are_functions, runs_stay_valid, turns_agree, turns_are_confined,
+    valid_calls_are_answered, writes_are_whole,
 };
 pub use run::{RunError, call, run_calls};
 pub use wasi_fs::FsPerms;

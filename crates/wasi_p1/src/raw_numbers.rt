@@ -2,15 +2,15 @@
 ghost use Rattle.std.specs.Prelude.{◌≡◌, false, IfErr};
 ghost use Rattle.std.specs.Result.{result_map_both};
 ghost use Rattle.wasi_guest.specs.Enums.{advice_of, whence_of};
-ghost use Rattle.wasi_guest.specs.FlagSets.{fdflag_bits};
-ghost use Rattle.wasi_guest.specs.Flags.{flags_in, known_fdflags};
+ghost use Rattle.wasi_guest.specs.FlagSets.{fdflag_bits, right_bits};
+ghost use Rattle.wasi_guest.specs.Flags.{flags_in, known_fdflags, known_rights};
 ghost use Rattle.wasi_p1.specs.RawFlags.{or_inval};
 ghost use Rattle.wasi_p1.specs.Services.{exit_with, known_signal};
 ghost use Rattle.wasi_p1.specs.CallParts.{is_failure};
 
 use crate::error::P1Error;
 use bitflags::Flags;
-use wasi_guest::{Advice, Errno, FdFlags, TrapKind, Whence, is_signal};
+use wasi_guest::{Advice, Errno, FdFlags, Rights, TrapKind, Whence, is_signal};
 
 /// The refusal of a raw number that names nothing, or has a bit that is no flag.
 pub const INVALID: P1Error = P1Error::Errno(Errno::Inval);
@@ -59,4 +59,12 @@ pub fn fdflags_of(flags: u32) -> Result<FdFlags, P1Error>
     ensures refusal { IfErr result (λ e. is_failure e ≡ false) }
 {
     FdFlags::from_bits(flags).ok_or(INVALID)
+}
+
+/// Rights: Inval where a bit is none of preview1's.
+pub fn rights_of(rights: u64) -> Result<Rights, P1Error>
+    ensures row { result_map_both right_bits (λ e. e) result ≡ or_inval (flags_in known_rights rights) }
+    ensures refusal { IfErr result (λ e. is_failure e ≡ false) }
+{
+    Rights::from_bits(rights).ok_or(INVALID)
 }

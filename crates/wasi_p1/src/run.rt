@@ -1,7 +1,7 @@
 //! A list of calls, one after another.
 ghost use Rattle.std.specs.Prelude.{◌≡◌, ◌≤◌, length, map, IsTrue, IfOk, IfErr};
 ghost use Rattle.wasi_p1.specs.Front.{with_fuel};
-ghost use Rattle.wasi_p1.specs.CallTurn.{OthersStay, TakesTurn};
+ghost use Rattle.wasi_p1.specs.CallTurn.{IsAnswered, IsValidCall, OthersStay, TakesTurn};
 ghost use Rattle.wasi_p1.specs.Method.{StaysInBounds, DoesItsRow};
 ghost use Rattle.wasi_host.specs.Meaning.{Rose};
 ghost use Rattle.wasi_p1.specs.Guest.{State, state_of};
@@ -44,7 +44,24 @@ fn ends_run(answer: Answer) -> bool
 }
 
 /// One call of the context, by the method of its name, with its arguments in the order of `wasi_snapshot_preview1`.
+/// Where it is valid, so that its row answers it, it is answered, unless memory was wanted or the host failed.
+#[tactic(auto, using(crate::proofs::Completing::turn_completes))]
 pub fn call<H: Host>(
+    context: &mut WasiP1Ctx<H>,
+    memory: &mut [u8],
+    call: Call,
+) -> Result<Value, P1Error>
+    ensures bounds { StaysInBounds H.Host context.old context.new memory.old call result }
+    ensures turn { DoesItsRow H.Host context.old context.new memory.old memory.new call result }
+    ensures complete { IsTrue H.told → (Rose (H.faults context.old.host) (H.faults context.new.host) → ⊥)
+        → IsValidCall (state_of H.world context.old memory.old) (with_fuel context.old.fuel call)
+        → IsAnswered call result }
+{
+    by_name(context, memory, call)
+}
+
+/// The method of a call's name.
+fn by_name<H: Host>(
     context: &mut WasiP1Ctx<H>,
     memory: &mut [u8],
     call: Call,
@@ -72,7 +89,14 @@ pub fn call<H: Host>(
         Call::FdClose { fd } => context.fd_close(memory, fd),
         Call::FdDatasync { fd } => context.fd_datasync(memory, fd),
         Call::FdSync { fd } => context.fd_sync(memory, fd),
+        Call::FdFdstatGet { fd } => context.fd_fdstat_get(memory, fd),
         Call::FdFdstatSetFlags { fd, flags } => context.fd_fdstat_set_flags(memory, fd, flags),
+        Call::FdFdstatSetRights {
+            fd,
+            base,
+            inheriting,
+        } => context.fd_fdstat_set_rights(memory, fd, base, inheriting),
+        Call::FdFilestatGet { fd } => context.fd_filestat_get(memory, fd),
         Call::FdFilestatSetSize { fd, size } => context.fd_filestat_set_size(memory, fd, size),
         Call::FdFilestatSetTimes {
             fd,
@@ -97,6 +121,12 @@ pub fn call<H: Host>(
             offset,
         } => context.fd_pwrite(memory, fd, iovs, iovs_len, offset),
         Call::FdRead { fd, iovs, iovs_len } => context.fd_read(memory, fd, iovs, iovs_len),
+        Call::FdReaddir {
+            fd,
+            buf,
+            buf_len,
+            cookie,
+        } => context.fd_readdir(memory, fd, buf, buf_len, cookie),
         Call::FdRenumber { from, to } => context.fd_renumber(memory, from, to),
         Call::FdSeek { fd, offset, whence } => context.fd_seek(memory, fd, offset, whence),
         Call::FdTell { fd } => context.fd_tell(memory, fd),
@@ -187,6 +217,11 @@ pub fn call<H: Host>(
             new_path,
             new_path_len,
         } => context.path_symlink(memory, old_path, old_path_len, fd, new_path, new_path_len),
+        Call::PollOneoff {
+            subscriptions,
+            events,
+            count,
+        } => context.poll_oneoff(memory, subscriptions, events, count),
         Call::ProcExit { status } => context.proc_exit(memory, status),
         Call::ProcRaise { signal } => context.proc_raise(memory, signal),
         Call::RandomGet { buf, buf_len } => context.random_get(memory, buf, buf_len),

@@ -35,9 +35,10 @@ use Rattle.wasi_guest.specs.declared.answer.TrapKind.{TrapKind}
 use Rattle.wasi_guest.specs.declared.answer.TrapKind.TheVariants.{Pointer, TableFull, ExitStatus}
 use Rattle.wasi_guest.specs.declared.answer.Value.{Value}
 use Rattle.wasi_guest.specs.declared.answer.Value.TheVariants as values
+use Rattle.wasi_guest.specs.declared.fdstat.Fdstat.{Fdstat}
 use Rattle.wasi_guest.specs.declared.filestat.Filestat.{Filestat}
 use Rattle.wasi_guest.specs.Errnos.{errno_name}
-use Rattle.wasi_report.specs.Report.{Report, report_value, report_text, put_all, number_value, filestat_numbers, success_value, trap_name, answer_value, hex_value, node_value, time_value, times_value, content_member, bits_text, bit_letter}
+use Rattle.wasi_report.specs.Report.{Report, report_value, report_text, put_all, number_value, fdstat_numbers, filestat_numbers, success_value, trap_name, answer_value, hex_value, node_value, time_value, times_value, content_member, bits_text, bit_letter}
 use Rattle.wasi_report.specs.ReadBack.{FitsNumber, FitsValue, FitsAnswer, FitsEntry, FitsContent, FitsTime, FitsNode, IsOrdered, ReportsAreTold}
 
 -- ---- the JSON of a value has numbers, and is shallow
@@ -192,6 +193,9 @@ shallow_value (values.Number n) fits = let inside = shallow_number n fits in rec
 shallow_value (values.Pair first second) fits =
     let inside = shallow_list 0 FitsNumber number_value shallow_number (first ∷ second ∷ []) fits in
     record { numbers = inside.numbers; depth = omega arith }
+shallow_value (values.Fdstat stat) fits =
+    let inside = shallow_list 0 FitsNumber number_value shallow_number (fdstat_numbers stat) fits in
+    record { numbers = inside.numbers; depth = omega arith }
 shallow_value (values.Filestat stat) fits =
     let inside = shallow_list 0 FitsNumber number_value shallow_number (filestat_numbers stat) fits in
     record { numbers = inside.numbers; depth = omega arith }
@@ -212,6 +216,10 @@ numbers_are_back (n ∷ ns) fits =
     ap₂ (λ m ms. m ∷ ms) (number_is_back n (All-head FitsNumber n ns fits)) (numbers_are_back ns (All-tail FitsNumber n ns fits))
 
 -- the record with these fields
+abbrev fdstat_of : List ℕ → Fdstat
+fdstat_of ns = record { filetype = get_or ns 0 0; flags = get_or ns 1 0; base = get_or ns 2 0; inheriting = get_or ns 3 0 }
+
+-- the record with these fields
 abbrev filestat_of : List ℕ → Filestat
 filestat_of ns = record {
   dev = get_or ns 0 0;
@@ -224,9 +232,10 @@ filestat_of ns = record {
   ctim = get_or ns 7 0;
 }
 
--- a pair's two numbers, or the fields of a record
+-- by how many there are: a pair's two numbers, or the fields of one record or the other
 abbrev listed_back : List ℕ → Value
 listed_back (first ∷ second ∷ []) = values.Pair first second
+listed_back (type ∷ flags ∷ base ∷ inheriting ∷ []) = values.Fdstat (fdstat_of (type ∷ flags ∷ base ∷ inheriting ∷ []))
 listed_back ns = values.Filestat (filestat_of ns)
 
 abbrev value_back : json.Json → Value
@@ -238,6 +247,7 @@ value_is_back : (v : Value) → FitsValue v → value_back (outline (success_val
 value_is_back values.Unit fits = refl
 value_is_back (values.Number n) fits = ap values.Number (number_is_back n fits)
 value_is_back (values.Pair first second) fits = ap listed_back (numbers_are_back (first ∷ second ∷ []) fits)
+value_is_back (values.Fdstat stat) fits = ap listed_back (numbers_are_back (fdstat_numbers stat) fits)
 value_is_back (values.Filestat stat) fits = ap listed_back (numbers_are_back (filestat_numbers stat) fits)
 
 shallow_answer : (a : Answer) → FitsAnswer a → IsShallow 2 (outline (answer_value a))

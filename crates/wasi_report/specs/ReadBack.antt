@@ -7,16 +7,21 @@ use Rattle.std.specs.Ordering.{nat_cmp}
 use Rattle.hex.specs.Hex.{IsBytes}
 use Rattle.wasi_host.specs.declared.system_time.SystemTime.{SystemTime}
 use Rattle.wasi_tree.specs.Given.{Given, GivenContent, file, directory, link}
-use Rattle.wasi_report.specs.Report.{Report, filestat_numbers, report_text}
+use Rattle.wasi_report.specs.Report.{Report, fdstat_numbers, filestat_numbers, report_text}
 use Rattle.wasi_guest.specs.declared.answer.Answer.{Answer}
 use Rattle.wasi_guest.specs.declared.answer.Answer.TheVariants as answers
 use Rattle.wasi_guest.specs.declared.answer.Value.{Value}
 use Rattle.wasi_guest.specs.declared.answer.Value.TheVariants as values
+use Rattle.wasi_guest.specs.declared.fdstat.Fdstat.{Fdstat}
 use Rattle.wasi_guest.specs.declared.filestat.Filestat.{Filestat}
 
 -- a number fits 64 bits
 abbrev pub FitsNumber : ℕ → Type 0
 FitsNumber n = n < 2 ^ 64
+
+-- each field does
+abbrev pub FitsFdstat : Fdstat → Type 0
+FitsFdstat stat = All FitsNumber (fdstat_numbers stat)
 
 -- each field does
 abbrev pub FitsFilestat : Filestat → Type 0
@@ -26,6 +31,7 @@ abbrev pub FitsValue : Value → Type 0
 FitsValue values.Unit = ⊤
 FitsValue (values.Number n) = FitsNumber n
 FitsValue (values.Pair first second) = All FitsNumber (first ∷ second ∷ [])
+FitsValue (values.Fdstat stat) = FitsFdstat stat
 FitsValue (values.Filestat stat) = FitsFilestat stat
 
 abbrev pub FitsAnswer : Answer → Type 0

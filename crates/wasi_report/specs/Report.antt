@@ -16,6 +16,7 @@ use Rattle.wasi_guest.specs.declared.answer.TrapKind.{TrapKind}
 use Rattle.wasi_guest.specs.declared.answer.TrapKind.TheVariants.{Pointer, TableFull, ExitStatus}
 use Rattle.wasi_guest.specs.declared.answer.Value.{Value}
 use Rattle.wasi_guest.specs.declared.answer.Value.TheVariants as values
+use Rattle.wasi_guest.specs.declared.fdstat.Fdstat.{Fdstat}
 use Rattle.wasi_guest.specs.declared.filestat.Filestat.{Filestat}
 use Rattle.wasi_report.specs.declared.outcome.Outcome.{Outcome}
 
@@ -51,6 +52,13 @@ abbrev pub list_value : {A : Type 0} → (A → Data) → List A → Data
 list_value value_of items = array (items_of (map value_of items))
 
 -- the fields in preview1's order
+abbrev pub fdstat_numbers : Fdstat → List ℕ
+fdstat_numbers stat = stat.filetype ∷ stat.flags ∷ stat.base ∷ stat.inheriting ∷ []
+
+abbrev pub fdstat_value : Fdstat → Data
+fdstat_value stat = list_value number_value (fdstat_numbers stat)
+
+-- the fields in preview1's order
 abbrev pub filestat_numbers : Filestat → List ℕ
 filestat_numbers stat =
     stat.dev ∷ stat.ino ∷ stat.filetype ∷ stat.nlink ∷ stat.size ∷ stat.atim ∷ stat.mtim ∷ stat.ctim ∷ []
@@ -63,6 +71,7 @@ abbrev pub success_value : Value → Data
 success_value values.Unit = null
 success_value (values.Number n) = number_value n
 success_value (values.Pair first second) = list_value number_value (first ∷ second ∷ [])
+success_value (values.Fdstat stat) = fdstat_value stat
 success_value (values.Filestat stat) = filestat_value stat
 
 abbrev pub trap_name : TrapKind → List ℕ

@@ -1,14 +1,14 @@
 //! How answers are reported.
 ghost use Rattle.std.specs.Prelude.{◌≡◌, ◌++◌, OnOk, codes};
 ghost use Rattle.serde_json.specs.Data.{string};
-ghost use Rattle.wasi_report.specs.ReadBack.{FitsAnswer, FitsFilestat, FitsValue};
-ghost use Rattle.wasi_report.specs.Report.{only, number_value, filestat_value, success_value, trap_name, answer_value};
+ghost use Rattle.wasi_report.specs.ReadBack.{FitsAnswer, FitsFdstat, FitsFilestat, FitsValue};
+ghost use Rattle.wasi_report.specs.Report.{only, number_value, fdstat_value, filestat_value, success_value, trap_name, answer_value};
 ghost use Rattle.wasi_report.specs.Told.{told};
 
 use crate::told::{Told, tell_list};
 use json::Writer;
 use std::alloc::{AllocError, Global};
-use wasi_guest::{Answer, Filestat, TrapKind, Value};
+use wasi_guest::{Answer, Fdstat, Filestat, TrapKind, Value};
 
 impl Told for Answer {
     ghost value = { answer_value };
@@ -35,8 +35,26 @@ impl Told for Value {
             Value::Unit => out.null(),
             Value::Number(n) => out.u64(n),
             Value::Pair(first, second) => tell_list(alloc, &[first as u64, second as u64], out),
+            Value::Fdstat(stat) => stat.tell(alloc, out),
             Value::Filestat(stat) => stat.tell(alloc, out),
         }
+    }
+}
+
+/// A list of the fields, in preview1's order.
+impl Told for Fdstat {
+    ghost value = { fdstat_value };
+
+    ghost fits = { FitsFdstat };
+
+    fn tell(&self, alloc: Global, out: &mut Writer) -> Result<(), AllocError> {
+        let numbers = [
+            self.filetype as u64,
+            self.flags as u64,
+            self.base,
+            self.inheriting,
+        ];
+        tell_list(alloc, &numbers, out)
     }
 }
 

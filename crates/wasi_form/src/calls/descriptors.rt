@@ -1,9 +1,8 @@
 //! The calls on a descriptor itself.
 ghost use Rattle.std.specs.Prelude.{◌≡◌, ◌∷◌, []};
-ghost use Rattle.wasi_guest.specs.declared.call.Call.TheVariants.{FdClose, FdFdstatSetFlags, FdPrestatGet, FdPrestatDirName, FdRenumber};
+ghost use Rattle.wasi_guest.specs.declared.call.Call.TheVariants.{FdClose, FdFdstatGet, FdFdstatSetFlags, FdFdstatSetRights, FdFilestatGet, FdPrestatGet, FdPrestatDirName, FdRenumber};
 ghost use Rattle.wasi_form.specs.Atoms.{values_left};
-ghost use Rattle.wasi_form.specs.CallForm.{call_made};
-ghost use Rattle.wasi_form.specs.declared.arguments.Argument.TheVariants.{U32};
+ghost use Rattle.wasi_form.specs.CallForm.{U32, U64, call_made};
 
 use crate::arguments::Arguments;
 use wasi_guest::Call;
@@ -17,6 +16,13 @@ impl Arguments<'_> {
         self.end(call)
     }
 
+    pub fn fd_fdstat_get(mut self) -> Option<Call>
+        ensures { result ≡ call_made (U32 ∷ []) FdFdstatGet (values_left self.entry) }
+    {
+        let call = Call::FdFdstatGet { fd: self.u32()? };
+        self.end(call)
+    }
+
     pub fn fd_fdstat_set_flags(mut self) -> Option<Call>
         ensures { result ≡ call_made (U32 ∷ U32 ∷ []) FdFdstatSetFlags (values_left self.entry) }
     {
@@ -24,6 +30,24 @@ impl Arguments<'_> {
             fd: self.u32()?,
             flags: self.u32()?,
         };
+        self.end(call)
+    }
+
+    pub fn fd_fdstat_set_rights(mut self) -> Option<Call>
+        ensures { result ≡ call_made (U32 ∷ U64 ∷ U64 ∷ []) FdFdstatSetRights (values_left self.entry) }
+    {
+        let call = Call::FdFdstatSetRights {
+            fd: self.u32()?,
+            base: self.u64()?,
+            inheriting: self.u64()?,
+        };
+        self.end(call)
+    }
+
+    pub fn fd_filestat_get(mut self) -> Option<Call>
+        ensures { result ≡ call_made (U32 ∷ []) FdFilestatGet (values_left self.entry) }
+    {
+        let call = Call::FdFilestatGet { fd: self.u32()? };
         self.end(call)
     }
 

@@ -2,8 +2,7 @@
 ghost use Rattle.std.specs.Prelude.{◌≡◌, ◌∷◌, []};
 ghost use Rattle.wasi_guest.specs.declared.call.Call.TheVariants.{PathFilestatSetTimes, FdFilestatSetTimes};
 ghost use Rattle.wasi_form.specs.Atoms.{values_left};
-ghost use Rattle.wasi_form.specs.CallForm.{call_made};
-ghost use Rattle.wasi_form.specs.declared.arguments.Argument.TheVariants.{U32, U64};
+ghost use Rattle.wasi_form.specs.CallForm.{U32, U64, call_made};
 
 use crate::arguments::Arguments;
 use wasi_guest::Call;

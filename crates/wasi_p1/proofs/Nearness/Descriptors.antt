@@ -1,21 +1,31 @@
 -- What holds of the rows of the calls on a descriptor itself.
-use Rattle.std.proofs.Common.{ℕ, ◌≡◌, inl, [], refl, slice_get, Some}
+use Rattle.std.proofs.Common.{ℕ, ◌≡◌, inl, Bool, true, false, cond, [], refl, slice_get, Some, Ok, Err}
+use Rattle.std.specs.Prelude.{is_some}
+use Rattle.wasi_guest.specs.Flags.{flags_in, known_rights}
 use Rattle.wasi_guest.specs.declared.answer.Value.{Value}
-use Rattle.wasi_guest.specs.declared.answer.Value.TheVariants.{Unit as Nothing}
+use Rattle.wasi_guest.specs.declared.answer.Value.TheVariants.{Fdstat, Filestat, Unit as Nothing}
 use Rattle.wasi_guest.specs.declared.call.Call.TheVariants as calls
 use Rattle.wasi_guest.specs.declared.errno.Errno.TheVariants as errnos
-use Rattle.wasi_p1.specs.Front.{answer}
-use Rattle.wasi_p1.specs.Parts.{with_file}
-use Rattle.wasi_p1.specs.RawFlags.{modes_in}
-use Rattle.wasi_p1.specs.Guest.{Guest, OpenFile, closed, file}
+use Rattle.wasi_guest.specs.declared.filestat.Filestat.{Filestat as Stated}
+use Rattle.wasi_host.specs.HostCall.{Flags, Stat}
+use Rattle.wasi_host.specs.Steps.{◌>>=◌}
+use Rattle.wasi_host.specs.declared.metadata.Metadata.{Metadata}
+use Rattle.wasi_p1.specs.Fdstats.{directory_fdstat, preopen_fdstat, stream_fdstat}
+use Rattle.wasi_p1.specs.Filestats.{filestat_in, stat_both, stream_filestat}
+use Rattle.wasi_p1.specs.Front.{answer, ask}
+use Rattle.wasi_p1.specs.Parts.{open_node_in, told_of, with_file}
+use Rattle.wasi_p1.specs.Request.{Direct}
+use Rattle.wasi_p1.specs.Row.{Row, give}
+use Rattle.wasi_p1.specs.RawFlags.{modes_in, or_inval}
+use Rattle.wasi_p1.specs.Guest.{Guest, GuestSlot, OpenFile, closed, stream, directory, file}
 use Rattle.wasi_p1.specs.Numbering.{renumbered}
-use Rattle.wasi_p1.specs.Rows.{renumbering, fd_close, fd_fdstat_set_flags, fd_prestat_dir_name, fd_prestat_get, fd_renumber}
+use Rattle.wasi_p1.specs.Rows.{renumbering, fdstat_of, filestat_of, fd_close, fd_fdstat_get, fd_fdstat_set_flags, fd_fdstat_set_rights, fd_filestat_get, fd_prestat_dir_name, fd_prestat_get, fd_renumber}
 use Rattle.wasi_p1.proofs.Bytes.{name_bytes}
-use Rattle.wasi_p1.proofs.Changing.{file_is, put_back, put_closed}
+use Rattle.wasi_p1.proofs.Changing.{file_is, live_is, put_back, put_closed}
 use Rattle.wasi_p1.proofs.Near.{StaysNear}
 use Rattle.wasi_p1.proofs.Renumbering.{renumbered_nodes, renumbered_perms}
-use Rattle.wasi_p1.proofs.Nearness.Parts.{AlwaysNear, RowNear, then, answers_near, tells_near}
-use Rattle.wasi_p1.proofs.Wanting.{file_never, inval_never, live_never, name_never, refused_never, synchronized_never}
+use Rattle.wasi_p1.proofs.Nearness.Parts.{AlwaysNear, LeavesGuest, RowNear, then, answers_near, look_asked, tells_near}
+use Rattle.wasi_p1.proofs.Wanting.{number, file_never, inval_never, live_never, name_never, node_never, refused_never, synchronized_never}
 use Rattle.wasi_p1.specs.declared.file_parts.FileUse.TheVariants.{Itself}
 
 pub fd_close_near : {g : Guest} {fd : ℕ} → RowNear g (calls.FdClose fd)
@@ -32,6 +42,46 @@ fd_fdstat_set_flags_near {g} {fd} {flags} = then _ (inval_never _) (λ set _. th
         → AlwaysNear g (calls.FdFdstatSetFlags fd flags) (answer (Nothing, with_file g fd (record f { modes = modes_in set })))
     put f set is =
         record { near = λ fuel. record { slots = put_back g fd f.position (modes_in set) [] is; bytes = λ are. are } }
+
+pub fd_fdstat_get_near : {g : Guest} {fd : ℕ} → RowNear g (calls.FdFdstatGet fd)
+unfolding fd_fdstat_get
+fd_fdstat_get_near {g} {fd} = then _ (live_never (slice_get g.slots fd)) (λ slot is. by slot (live_is _ is))
+  where
+    by : (slot : GuestSlot) → slice_get g.slots fd ≡ Some slot → AlwaysNear g (calls.FdFdstatGet fd) (fdstat_of g slot)
+    by (stream s) is = answers_near (Fdstat (stream_fdstat s)) g.memory g.holdings refl (λ are. are)
+    by (directory d) is = given (is_some d.preopen)
+      where
+        given : (b : Bool) → AlwaysNear g (calls.FdFdstatGet fd) (cond b (answer (Fdstat preopen_fdstat, g))
+            (ask (Direct (Flags d.node)) (λ _. give (Fdstat directory_fdstat, g))))
+        given true = answers_near (Fdstat preopen_fdstat) g.memory g.holdings refl (λ are. are)
+        given false = look_asked {r = Direct (Flags d.node)} fd refl refl is refl (λ _. refl) tt (λ _. refl)
+    by (file f) is = look_asked {r = Direct (Stat f.node)} fd refl refl is refl (λ _. refl) tt (λ _. refl)
+    by closed is = record { near = λ fuel. number }
+
+pub fd_fdstat_set_rights_near : {g : Guest} {fd base inheriting : ℕ} → RowNear g (calls.FdFdstatSetRights fd base inheriting)
+unfolding fd_fdstat_set_rights
+fd_fdstat_set_rights_near {g} {fd} {base} {inheriting} =
+    then (or_inval (flags_in known_rights base)) (inval_never _) (λ _ _.
+    then (or_inval (flags_in known_rights inheriting)) (inval_never _) (λ _ _.
+    then (open_node_in (slice_get g.slots fd)) (node_never (slice_get g.slots fd))
+    (λ _ _. record { near = λ fuel. number })))
+
+pub fd_filestat_get_near : {g : Guest} {fd : ℕ} → RowNear g (calls.FdFilestatGet fd)
+unfolding fd_filestat_get
+fd_filestat_get_near {g} {fd} = then _ (live_never (slice_get g.slots fd)) (λ slot is. by slot (live_is _ is))
+  where
+    tells : (metadata : Metadata) → LeavesGuest g (told_of g metadata)
+    tells metadata = from (filestat_in (stat_both metadata))
+      where
+        from : (m : Row Stated) → LeavesGuest g (m >>= (λ stat. give (Filestat stat, g)))
+        from (Ok stat) = refl
+        from (Err e) = tt
+
+    by : (slot : GuestSlot) → slice_get g.slots fd ≡ Some slot → AlwaysNear g (calls.FdFilestatGet fd) (filestat_of g slot)
+    by (stream s) is = answers_near (Filestat stream_filestat) g.memory g.holdings refl (λ are. are)
+    by (directory d) is = look_asked {r = Direct (Stat d.node)} fd refl refl is refl (λ _. refl) tt tells
+    by (file f) is = look_asked {r = Direct (Stat f.node)} fd refl refl is refl (λ _. refl) tt tells
+    by closed is = record { near = λ fuel. number }
 
 pub fd_prestat_get_near : {g : Guest} {fd : ℕ} → RowNear g (calls.FdPrestatGet fd)
 unfolding fd_prestat_get

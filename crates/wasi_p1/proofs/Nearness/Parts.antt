@@ -15,11 +15,11 @@ use Rattle.wasi_host.specs.declared.errors.ErrorCode.{ErrorCode}
 use Rattle.wasi_resolve.specs.PathRequest.{PathRequest, path_starts}
 use Rattle.wasi_p1.specs.CallTurn.{NamesReadOnly}
 use Rattle.wasi_p1.specs.Front.{Front, CallFront, onward, free, answer, ask, charge, charged_text, charged_buffer, at_path, at_buffer, tells, done_if, ◌>>=◌}
-use Rattle.wasi_p1.specs.Guest.{Guest, OpenFile, file, perms_in}
+use Rattle.wasi_p1.specs.Guest.{Guest, GuestSlot, OpenFile, file, node_in, perms_in}
 use Rattle.wasi_p1.specs.Parts.{OpenNode, start_in, range, permit, from_guest}
 use Rattle.wasi_p1.specs.Request.{Request, Reply, Path, after, starts_at}
 use Rattle.wasi_p1.specs.Row.{Row, Program, give}
-use Rattle.wasi_p1.specs.Rows.{front, descriptors_named, itself, stem_in}
+use Rattle.wasi_p1.specs.Rows.{Stem, front, descriptors_named, itself, stem_in}
 use Rattle.wasi_p1.specs.Stock.{Stock}
 use Rattle.wasi_p1.specs.Validity.{HasBytes}
 use Rattle.wasi_p1.specs.declared.error.P1Error.TheVariants.{Errno}
@@ -49,7 +49,7 @@ then (Err e) never near = record { near = λ fuel. never }
 abbrev pub taken : ℕ → ℕ → Bool → Row (Unit {0}) × ℕ
 taken n fuel b = cond b (Ok tt, fuel - n) (Err (Errno errnos.Nomem), fuel)
 
-abbrev then_taken : {A : Type 0} → Row A × ℕ → (A → CallFront) → Row (Program (Value × Guest))
+abbrev pub then_taken : {A : Type 0} → Row A × ℕ → (A → CallFront) → Row (Program (Value × Guest))
 then_taken part next = (onward part.0 part.1 next).0
 
 -- a text
@@ -173,6 +173,44 @@ file_asked {g} {call} fd named is starts slots ends permits asked bytes = asks_n
       (subst (λ fds. Contains fds names.fd) named names.named) names.perms) (ap perms_in is)) t;
   asked = asked;
   bytes = bytes;
+})
+
+-- what a row ends in leaves the guest
+abbrev pub LeavesGuest : Guest → Row (Value × Guest) → Type 0
+LeavesGuest g (Ok p) = p.1 ≡ g
+LeavesGuest g (Err e) = Unit {0}
+
+left_slots : {stem : Stem} (g : Guest) (given : List ℕ) (m : Row (Value × Guest)) → stem ≡ itself → LeavesGuest g m
+    → KeepsSlots g stem given m
+left_slots g given (Ok (x, h)) stems same =
+    subst (λ s. StaysNear g s given (x, h)) (sym stems) (subst (λ h. StaysNear g itself given (x, h)) (sym same) (put_nothing g))
+left_slots g given (Err e) stems same = tt
+
+left_ends : {P : Type 0} (m : Row (Value × Guest)) → P → OnErr m P
+left_ends (Ok p) is = tt
+left_ends (Err e) is = is
+
+left_bytes : (g : Guest) (m : Row (Value × Guest)) → LeavesGuest g m → HasBytes g → KeepsBytes m
+left_bytes g (Ok (x, h)) same are = subst HasBytes (sym same) are
+left_bytes g (Err e) same are = tt
+
+-- at the node of the one number that a call names, where the tree and the guest are left
+pub look_asked : {g : Guest} {call : Call} {slot : GuestSlot} {r : Request}
+    {next : Reply r → Row (Value × Guest)} (fd : ℕ)
+    → stem_in call ≡ itself → descriptors_named g.memory call ≡ fd ∷ [] → slice_get g.slots fd ≡ Some slot
+    → starts_at r ≡ node_in (Some slot) → ((t : Tree) → after t r ≡ t) → MayBeAsked r
+    → ((reply : Reply r) → LeavesGuest g (next reply)) → AlwaysNear g call (ask r next)
+look_asked {g} {call} {r = r} {next = next} fd stems named is starts leaves may same = asks_near (record {
+  starts = λ n has. record {
+    fd = fd;
+    named = subst (λ fds. Contains fds fd) (sym named) (Contains-here fd []);
+    node = subst (λ p. Contains (node_in p) n) (sym is) (subst (λ ns. Contains ns n) starts has);
+  };
+  slots = λ reply. left_slots g (given_by r reply) (next reply) stems (same reply);
+  ends = λ t reply _. left_ends (next reply) (leaves t);
+  permits = λ _ t _ _. leaves t;
+  asked = λ _. may;
+  bytes = λ are reply _. left_bytes g (next reply) (same reply) are;
 })
 
 -- that it was done, of what leaves the tree or isn't permitted under read-only permissions

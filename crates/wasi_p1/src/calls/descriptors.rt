@@ -1,13 +1,17 @@
 //! The calls on a descriptor itself.
-ghost use Rattle.wasi_guest.specs.declared.call.Call.TheVariants.{FdClose, FdFdstatSetFlags, FdPrestatDirName, FdPrestatGet, FdRenumber};
+ghost use Rattle.wasi_guest.specs.declared.call.Call.TheVariants.{FdClose, FdFdstatGet, FdFdstatSetFlags, FdFdstatSetRights, FdFilestatGet, FdPrestatDirName, FdPrestatGet, FdRenumber};
 ghost use Rattle.wasi_p1.specs.Method.{StaysInBounds, DoesItsRow};
 
-use crate::call_parts::{close_slot, live_at, put_back, renumber_slot};
-use crate::context::{FileSlot, WasiP1Ctx};
+use crate::call_parts::{close_slot, descriptor_at, live_at, put_back, renumber_slot};
+use crate::context::{DirectorySlot, FileSlot, Slot, WasiP1Ctx};
 use crate::error::P1Error;
+use crate::fdstats::{preopen_fdstat, stream_fdstat};
 use crate::file_parts::{FileUse, file_at, not_synchronized, preopen_at, put_name};
+use crate::filestats::stream_filestat;
+use crate::look_parts::{dir_fdstat, node_filestat, open_file_fdstat};
 use crate::open_with::file_modes;
-use crate::raw_numbers::fdflags_of;
+use crate::raw_numbers::{fdflags_of, rights_of};
+use wasi_fs::Descriptor;
 use wasi_guest::{Errno, Value};
 use wasi_host::Host;
 
@@ -22,6 +26,34 @@ impl<H: Host> WasiP1Ctx<H> {
         let slot = live_at(&self.host, &self.descriptors, fd)?;
         close_slot(&mut self.host, &mut self.descriptors, fd, slot);
         Ok(Value::Unit)
+    }
+
+    /// Tells of a descriptor: its type, its flags (append and nonblock of a file), and its rights, for it and for what
+    /// is opened below it. A standard stream's type is unknown; it can be read, or written. A directory that the guest
+    /// was given has rights of its own, and every other directory others. A file has all, but those to read where it
+    /// wasn't opened for reading and that to write where not for writing. Refusal: Badf where the number isn't live. No
+    /// host refuses it. It takes no memory.
+    #[tactic(auto, using(crate::proofs::Taking::refusals, crate::proofs::Taking::answered_at_once), unfolding(crate::specs::Rows::fd_fdstat_get))]
+    pub fn fd_fdstat_get(&mut self, memory: &mut [u8], fd: u32) -> Result<Value, P1Error>
+        ensures bounds { StaysInBounds H.Host self.old self.new memory.old (FdFdstatGet fd) result }
+        ensures turn { DoesItsRow H.Host self.old self.new memory.old memory.new (FdFdstatGet fd) result }
+    {
+        let slot = live_at(&self.host, &self.descriptors, fd)?;
+        match slot {
+            Slot::Stream(stream) => Ok(Value::Fdstat(stream_fdstat(stream))),
+            Slot::Directory(DirectorySlot { dir, preopen }) => {
+                if preopen.is_some() {
+                    return Ok(Value::Fdstat(preopen_fdstat()));
+                }
+                let fdstat = dir_fdstat(&mut self.host, dir)?;
+                Ok(Value::Fdstat(fdstat))
+            }
+            Slot::File(file) => {
+                let fdstat = open_file_fdstat(&mut self.host, file)?;
+                Ok(Value::Fdstat(fdstat))
+            }
+            Slot::Closed => Err(P1Error::Errno(Errno::Badf)),
+        }
     }
 
     /// Sets how a file's descriptor is used: whether what it writes goes behind the file's last byte, and nonblock, by
@@ -56,6 +88,49 @@ impl<H: Host> WasiP1Ctx<H> {
             },
         );
         Ok(Value::Unit)
+    }
+
+    /// A descriptor's rights can't be set. Refusals, in this order: Inval where a bit is no right of preview1; Badf where
+    /// the number is no directory's or file's; Notsup. It takes no memory.
+    #[tactic(auto, using(crate::proofs::Taking::refusals), unfolding(crate::specs::Rows::fd_fdstat_set_rights))]
+    pub fn fd_fdstat_set_rights(
+        &mut self,
+        memory: &mut [u8],
+        fd: u32,
+        base: u64,
+        inheriting: u64,
+    ) -> Result<Value, P1Error>
+        ensures bounds { StaysInBounds H.Host self.old self.new memory.old (FdFdstatSetRights fd base inheriting) result }
+        ensures turn { DoesItsRow H.Host self.old self.new memory.old memory.new (FdFdstatSetRights fd base inheriting)
+            result }
+    {
+        rights_of(base)?;
+        rights_of(inheriting)?;
+        descriptor_at(&self.host, &self.descriptors, fd)?;
+        Err(P1Error::Errno(Errno::Notsup))
+    }
+
+    /// Tells of what a descriptor stands for; of a standard stream nothing, by zeros. Refusals, in this order: Badf where
+    /// the number isn't live; Overflow of a time that 64 bits of nanoseconds don't hold. No host refuses it, where
+    /// POSIX's `fstat` may. It takes no memory.
+    #[tactic(auto, using(crate::proofs::Taking::refusals, crate::proofs::Taking::answered_at_once), unfolding(crate::specs::Rows::fd_filestat_get))]
+    pub fn fd_filestat_get(&mut self, memory: &mut [u8], fd: u32) -> Result<Value, P1Error>
+        ensures bounds { StaysInBounds H.Host self.old self.new memory.old (FdFilestatGet fd) result }
+        ensures turn { DoesItsRow H.Host self.old self.new memory.old memory.new (FdFilestatGet fd) result }
+    {
+        let slot = live_at(&self.host, &self.descriptors, fd)?;
+        match slot {
+            Slot::Stream(_) => Ok(Value::Filestat(stream_filestat())),
+            Slot::Directory(DirectorySlot { dir, .. }) => {
+                let filestat = node_filestat(&mut self.host, Descriptor::Dir(dir))?;
+                Ok(Value::Filestat(filestat))
+            }
+            Slot::File(FileSlot { file, .. }) => {
+                let filestat = node_filestat(&mut self.host, Descriptor::File(file))?;
+                Ok(Value::Filestat(filestat))
+            }
+            Slot::Closed => Err(P1Error::Errno(Errno::Badf)),
+        }
     }
 
     /// How many bytes the name of a directory has that the guest was given. Refusal: Badf of every other number. It

@@ -19,7 +19,7 @@ returns-in_err-both-clause-turn g c =
     c.self.invariant (inl (_, refl)) (λ _. refl)
     unchanged (λ told. record {
       keeps = (given.told told).keeps;
-      does = inl (made_not (LookPath _ _ _) stat_both _ (λ is. given.cause.io (ap Err is)) (given.told told));
+      does = inl (made_not (Path (LookPath _ _ _)) stat_both _ (λ is. given.cause.io (ap Err is)) (given.told told));
     })))
 
 pub returns-in_err-filestat-clause-turn : goal.returns-in_err-filestat-clause-turn
@@ -32,7 +32,7 @@ returns-in_err-filestat-clause-turn g c =
     c.self.invariant (inr (stated_reply given.some (sym c.in_err-filestat.ensures.row))) (λ _. refl)
     unchanged (λ told. record {
       keeps = (given.told told).keeps;
-      does = inr (stated_again (made_ok (LookPath _ _ _) stat_both (given.told told))
+      does = inr (stated_again (made_ok (Path (LookPath _ _ _)) stat_both (given.told told))
           (sym c.in_err-filestat.ensures.row));
     })))
 
@@ -44,5 +44,5 @@ returns-clause-turn g c =
     (rw (← c.in_ok-flags.ensures.row, ← c.in_ok-dir.ensures.row, ← c.in_ok-text.ensures.row) refl)
     c.self.invariant refl (stated_reply given.some (sym c.in_ok-filestat.ensures.row)) refl refl (λ told. record {
       keeps = (given.told told).keeps;
-      does = stated_again (made_ok (LookPath _ _ _) stat_both (given.told told)) (sym c.in_ok-filestat.ensures.row);
+      does = stated_again (made_ok (Path (LookPath _ _ _)) stat_both (given.told told)) (sym c.in_ok-filestat.ensures.row);
     }))

@@ -1,0 +1,43 @@
+//! The call that lists a directory.
+ghost use Rattle.wasi_guest.specs.declared.call.Call.TheVariants.{FdReaddir};
+ghost use Rattle.wasi_p1.specs.Method.{StaysInBounds, DoesItsRow};
+
+use crate::call_parts::{room_at, start_at};
+use crate::context::WasiP1Ctx;
+use crate::error::P1Error;
+use crate::listing_parts::{listing_of, write_page};
+use wasi_guest::Value;
+use wasi_host::Host;
+
+impl<H: Host> WasiP1Ctx<H> {
+    /// Lists the directory of a number: writes its records from a cookie on into a buffer, as far as it takes them, and
+    /// answers how many bytes it wrote. First stand `.` and `..`, both with the directory's own number, and then its
+    /// names in byte order, each with the number and the type of the node that it holds, a link's own. A record is
+    /// preview1's `dirent`, and its name behind it; its `d_next` is the cookie from which the next record is written. The
+    /// buffer is cut at its length, so that the last record may not be whole; and fewer bytes than it has say that no
+    /// more are left. From a cookie past the last record nothing is written. Refusals, in this order: Badf where the
+    /// number isn't a directory's; trap TableFull where as many descriptors are live as may be; those of the host's
+    /// `open_at` of `.` and of its `list`, which want the directory's read bit; then those of the look at each name, as
+    /// POSIX's `fstatat`: Acces where the directory has a name and no search bit; trap Pointer where what is to be written
+    /// leaves the memory. What was opened is closed again. Each page costs a listing, a look at each name included, and
+    /// memory by its length.
+    #[tactic(auto, using(crate::proofs::Taking::refusals, crate::proofs::CallTracing::traced_below), unfolding(crate::specs::Rows::fd_readdir))]
+    pub fn fd_readdir(
+        &mut self,
+        memory: &mut [u8],
+        fd: u32,
+        buf: u32,
+        buf_len: u32,
+        cookie: u64,
+    ) -> Result<Value, P1Error>
+        ensures bounds { StaysInBounds H.Host self.old self.new memory.old (FdReaddir fd buf buf_len cookie) result }
+        ensures turn { DoesItsRow H.Host self.old self.new memory.old memory.new (FdReaddir fd buf buf_len cookie)
+            result }
+    {
+        let dir = start_at(&self.host, &self.descriptors, fd)?;
+        room_at(&self.host, &self.descriptors, 1)?;
+        let entries = listing_of(self.alloc, &mut self.host, &dir)?;
+        let count = write_page(memory, buf, buf_len, cookie, entries.as_slice())?;
+        Ok(Value::Number(count as u64))
+    }
+}
