@@ -3,6 +3,7 @@ use Rattle.std.proofs.Common.{zero, suc, ◌*◌, ◌/◌, ◌%◌, nat_lt, [], 
 use Rattle.std.specs.Prelude.{IsUtf8, ◌==◌, All}
 use Rattle.std.specs.Int.{to_le_bytes, w32}
 use Rattle.std.specs.List.{range_with_len}
+use Rattle.std.proofs.lemmas.Bool.{leb-true}
 use Rattle.std.proofs.lemmas.Bool.Decides.{nat_tests}
 use Rattle.wasi_p1.specs.Row.{give}
 use Rattle.wasi_p1.specs.Services.{next_input, input_into, written, aligned, total_of, with_texts, put_texts, texts_at, random_bytes, random_taken}
@@ -17,7 +18,7 @@ use Rattle.std.proofs.lemmas.List.{take-append-drop}
 use Rattle.std.proofs.lemmas.List.Folds.{list_all-append}
 use Rattle.std.proofs.lemmas.Str.{IsUtf8-from_is_utf8}
 use Rattle.wasi_host.specs.ValidTree.{are_bytes}
-use Rattle.wasi_guest.specs.Range.{in_memory, with_bytes}
+use Rattle.wasi_guest.specs.Range.{IsInMemory, in_memory, with_bytes}
 use Rattle.wasi_host.specs.Steps.{◌>>=◌}
 use Rattle.wasi_guest.specs.declared.answer.TrapKind.TheVariants.{Pointer}
 use Rattle.std.proofs.lemmas.List.Elements.{All-head, All-tail}
@@ -60,8 +61,9 @@ put_bytes memory bytes at old new =
 
 -- ---- a range
 
--- a range has as many bytes as it says
+-- a range is in memory, and has as many bytes as it says
 pub record IsRange (memory : List ℕ) (at n : ℕ) (bytes : List ℕ) : Type 0 where
+  pub inside : IsInMemory memory at n
   pub bytes_are : bytes ≡ slice_range memory at (at + n)
   pub long : length bytes ≡ n
 
@@ -77,7 +79,7 @@ range_is {bytes} memory at n is = by (in_memory memory at n) refl is
     by true inside given =
         let same : part ≡ bytes = (cc) in
         let sized : length part ≡ n = grind (arith, common_steps) in
-        record { bytes_are = sym same; long = ap length (sym same) ∙ sized }
+        record { inside = leb-true _ _ inside; bytes_are = sym same; long = ap length (sym same) ∙ sized }
     by false inside given = absurd (cc)
 
 pub range_bytes : {bytes : List ℕ} (memory : List ℕ) (at n : ℕ) → AreBytes memory → range memory at n ≡ Ok bytes

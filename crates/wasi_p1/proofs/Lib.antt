@@ -46,6 +46,7 @@ mod Runs
 mod RunAnswers
 mod RunLaws
 mod Writing
+mod PutBytes
 mod DescriptorLaws
 mod Stemming
 mod Validity

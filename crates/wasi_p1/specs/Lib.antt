@@ -33,6 +33,7 @@ pub mod RunLaws
 pub mod Stems
 pub mod ReadOnly
 pub mod Writing
+pub mod PutBytes
 pub mod DescriptorLaws
 pub mod Validity
 pub mod Asked

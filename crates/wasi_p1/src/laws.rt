@@ -8,6 +8,7 @@ ghost use Rattle.wasi_p1.specs.Stems.{PermissionsStem};
 ghost use Rattle.wasi_p1.specs.ReadOnly.{ReadOnlyTurnsLeaveTheTree, ReadOnlyRunsLeaveTheTree};
 ghost use Rattle.wasi_p1.specs.Validity.{RunsStayValid};
 ghost use Rattle.wasi_p1.specs.Writing.{WritesAreWhole};
+ghost use Rattle.wasi_p1.specs.PutBytes.{BytesArePut, FilesAreHeld, PutBytesStand, BytesAreGot, PutBytesAreGot};
 ghost use Rattle.wasi_p1.specs.DescriptorLaws.{NumbersAreDense, OpensTheLargestClosed, SeeksAreTold, OffsetsLeavePositions};
 
 use wasi_host::Host;
@@ -99,6 +100,19 @@ pub fn pages_list_each_entry_once()
 /// mode behind its last byte.
 pub fn writes_are_whole()
     ensures whole { WritesAreWhole }
+{}
+
+/// A byte that `fd_pwrite` put is the one that a later `fd_pread` gives for that offset, until it is changed. The write is
+/// by a descriptor that isn't in append mode. It puts its first buffer that has bytes whole into the file, from the offset
+/// on. Where the file is held, as the files of a context are over a host that tells, each byte stands there then. The read
+/// may be by another descriptor of the file. It puts the bytes from its offset on into its first buffer that has bytes, as
+/// many as it takes and no more than 65,536. Neither changes anything else.
+pub fn bytes_put_are_got()
+    ensures put { BytesArePut }
+    ensures held { FilesAreHeld }
+    ensures stands { PutBytesStand }
+    ensures got { BytesAreGot }
+    ensures same { PutBytesAreGot }
 {}
 
 /// A run from a state whose tree is valid and whose memory are bytes leads to such a state, however often the host
