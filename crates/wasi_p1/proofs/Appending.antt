@@ -20,8 +20,9 @@ use Rattle.wasi_host.specs.declared.metadata.Metadata.{Metadata}
 use Rattle.wasi_host.proofs.Touching.{touches_with, touches_same}
 use Rattle.wasi_guest.specs.declared.errno.Errno.TheVariants as errnos
 use Rattle.wasi_p1.specs.Asked.{Asked, GivesOrElse, Hidden}
-use Rattle.wasi_p1.specs.CallParts.{Makes, appended_in}
+use Rattle.wasi_p1.specs.CallParts.{Makes}
 use Rattle.wasi_p1.specs.Errnos.{errno_of}
+use Rattle.wasi_p1.specs.Putting.{appended_in}
 use Rattle.wasi_p1.specs.Request.{Direct, Behind, reply_of}
 use Rattle.wasi_p1.specs.Row.{Row, from_host, give}
 use Rattle.wasi_p1.specs.declared.error.P1Error.{P1Error}
@@ -110,7 +111,7 @@ module _ (f : Held) (piece : List ℕ) where
   -- it wasn't answered
   pub behind_err : {rose : Type 0} {live : Handles} {w v : World} {e : P1Error}
       → Makes rose live w v (Direct (Append f piece)) give (Err e)
-      → Makes rose live w v (Behind f piece) appended_in (Err e)
+      → Makes rose live w v (Behind f piece) (λ put. give (appended_in put)) (Err e)
   behind_err {rose} {w = w} {v = v} {e = e} made = record {
     keeps = made.keeps;
     does = elim made.does [
@@ -159,7 +160,8 @@ module _ {rose : Type 0} {live mid new : Handles} {w u v : World} {h : ℕ} {pie
 
   pub behind_ok : {again : Type 0} {metadata : Metadata}
       → Told {A = Metadata} mid new u v (Stat (u.held h).node) (λ m. m) (Ok metadata)
-      → Makes again live w v (Behind (w.held h) piece) appended_in (Ok (record { count = count; size = metadata.size }))
+      → Makes again live w v (Behind (w.held h) piece) (λ put. give (appended_in put))
+      (Ok (record { count = count; position = metadata.size }))
   behind_ok {metadata = metadata} told =
       let did = both (Ok metadata) told in record {
         keeps = did.keeps;
@@ -188,13 +190,13 @@ module _ {rose : Type 0} {live mid new : Handles} {w u v : World} {h : ℕ} {pie
   pub behind_unseen : {again : Type 0} {code : ErrorCode}
       → ((let r : Result Metadata HostError = Err (Code code) in r) ≡ Err (Code Io) → again)
       → Told {A = Metadata} mid new u v (Stat (u.held h).node) (λ m. m) (Err (Code code))
-      → Makes again live w v (Behind (w.held h) piece) appended_in (Err (Errno (errno_of code)))
+      → Makes again live w v (Behind (w.held h) piece) (λ put. give (appended_in put)) (Err (Errno (errno_of code)))
   behind_unseen {again} {code} io told = by code io told.meaning (both (Err (Code code)) told)
     where
       by : (code : ErrorCode) → ((let r : Result Metadata HostError = Err (Code code) in r) ≡ Err (Code Io) → again)
           → MeansErr (host_answer u.tree (Stat (u.held h).node)) (Code code)
           → Looked live w v (w.held h) piece count
-          → Makes again live w v (Behind (w.held h) piece) appended_in (Err (Errno (errno_of code)))
+          → Makes again live w v (Behind (w.held h) piece) (λ put. give (appended_in put)) (Err (Errno (errno_of code)))
       by Io io meaning did = record {
         keeps = did.keeps;
         does = inl (record {

@@ -48,7 +48,7 @@ refused_by A B own e old new = by own
 abbrev pub KeepsHeld : Handles → World → World → Type 0
 KeepsHeld live w v = (h : ℕ) → contains live h ≡ true → v.held h ≡ w.held h
 
-same_view : {H : Type 0} {old new : View H} {before after : List ℕ} → new.host ≡ old.host → Kept old new before after
+pub same_view : {H : Type 0} {old new : View H} {before after : List ℕ} → new.host ≡ old.host → Kept old new before after
     → new ≡ record old { fuel = new.fuel }
 same_view {old = old} {new = new} host kept =
     λ i. record (record old { fuel = new.fuel }) {

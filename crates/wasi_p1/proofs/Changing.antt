@@ -1,6 +1,6 @@
 -- The nodes and the permissions of descriptors that change.
 use Rattle.std.proofs.Common.{ℕ, zero, suc, ◌==◌, ◌≡◌, ◌≢◌, ◌⊎◌, inl, inr, true, false, cond, Bool, List, [], ◌∷◌, ◌++◌, length, refl, ap, sym, ◌∙◌, subst, arith, slice_get, slice_set, Option, Some, None, Ok, Err, append_assoc, append-nil}
-use Rattle.std.specs.Prelude.{Contains, OnErr, unwrap_or}
+use Rattle.std.specs.Prelude.{Contains, unwrap_or}
 use Rattle.std.specs.Option.{option_map_or}
 use Rattle.std.proofs.lemmas.Bool.Decides.{nat_tests}
 use Rattle.std.proofs.lemmas.Option.{slice_get_past}
@@ -24,9 +24,10 @@ use Rattle.wasi_p1.specs.declared.file_parts.FileUse.{FileUse}
 use Rattle.wasi_p1.specs.declared.file_parts.FileUse.TheVariants.{ReadAt}
 use Rattle.wasi_p1.specs.Stems.{HasPerms}
 use Rattle.wasi_p1.specs.Validity.{HasBytes}
-use Rattle.wasi_p1.proofs.Near.{Has, IsNamed, KeepsSlots, StaysNear, AreBytes, KeepsBytes}
+use Rattle.wasi_p1.proofs.Near.{Ends, Has, IsNamed, KeepsSlots, StaysNear, AreBytes, KeepsBytes}
 use Rattle.wasi_p1.proofs.Bytes.{put_bytes}
 use Rattle.wasi_p1.proofs.Numbers.{last_passes}
+use Rattle.wasi_p1.proofs.Wanting.{Never}
 use Rattle.wasi_p1.proofs.RowEnds.{with_slots, with_text, with_filestat}
 use Rattle.wasi_p1.specs.Rows.{itself, through, descriptors_named}
 
@@ -336,10 +337,10 @@ pub written_slots : (g : Guest) (buf : ℕ) (bytes : List ℕ) (m : Row (List �
 written_slots g buf bytes (Ok part) = put_nothing g
 written_slots g buf bytes (Err e) = tt
 
-pub written_ends : {P : Type 0} (g : Guest) (buf : ℕ) (bytes : List ℕ) (m : Row (List ℕ)) → P
-    → OnErr (writes g buf bytes m) P
-written_ends g buf bytes (Ok part) is = tt
-written_ends g buf bytes (Err e) is = is
+pub written_ends : {P : Type 0} (g : Guest) (buf : ℕ) (bytes : List ℕ) (m : Row (List ℕ)) → Never m → P
+    → Ends P (writes g buf bytes m)
+written_ends g buf bytes (Ok part) never is = tt
+written_ends g buf bytes (Err e) never is = (never, is)
 
 pub written_bytes : (g : Guest) (buf : ℕ) (bytes : List ℕ) (m : Row (List ℕ)) → HasBytes g → AreBytes bytes
     → KeepsBytes (writes g buf bytes m)
@@ -354,9 +355,9 @@ pub stated_slots : (g : Guest) (m : Row Filestat) → KeepsSlots g itself [] (te
 stated_slots g (Ok stat) = put_nothing g
 stated_slots g (Err e) = tt
 
-pub stated_ends : {P : Type 0} (g : Guest) (m : Row Filestat) → P → OnErr (tells g m) P
-stated_ends g (Ok stat) is = tt
-stated_ends g (Err e) is = is
+pub stated_ends : {P : Type 0} (g : Guest) (m : Row Filestat) → Never m → P → Ends P (tells g m)
+stated_ends g (Ok stat) never is = tt
+stated_ends g (Err e) never is = (never, is)
 
 pub stated_bytes : (g : Guest) (m : Row Filestat) → HasBytes g → KeepsBytes (tells g m)
 stated_bytes g (Ok stat) are = are

@@ -1,7 +1,6 @@
 -- A valid call is answered, unless memory was wanted or the host failed.
-use Rattle.std.proofs.Common.{ℕ, ◌≡◌, ◌⊎◌, inl, inr, true, false, Bool, List, [], ◌∷◌, ap, sym, subst, Result, Ok, Err}
-use Rattle.std.proofs.lemmas.List.Elements.{All-nil, All-cons}
-use Rattle.std.specs.Prelude.{All, IsTrue, MatchBool, is_ok}
+use Rattle.std.proofs.Common.{ℕ, ◌≡◌, ◌⊎◌, inl, inr, List, ap, sym, subst, Result, Ok, Err}
+use Rattle.std.specs.Prelude.{All, IsTrue, is_ok}
 use Rattle.wasi_host.specs.Meaning.{World}
 use Rattle.wasi_guest.specs.declared.answer.Answer.{Answer}
 use Rattle.wasi_guest.specs.declared.answer.Value.{Value}
@@ -10,11 +9,10 @@ use Rattle.wasi_p1.specs.Front.{FueledCall}
 use Rattle.wasi_p1.specs.Guest.{Guest, State}
 use Rattle.wasi_p1.specs.Row.{Row}
 use Rattle.wasi_p1.specs.Rows.{may_want, turn}
-use Rattle.wasi_p1.specs.Run.{Turned, Run, Gives, Played, Faulted, ends, is_success}
-use Rattle.wasi_p1.specs.RunLaws.{IsComplete}
+use Rattle.wasi_p1.specs.Run.{Turned, Run, Gives, Played, Faulted, IsComplete, is_success}
 use Rattle.wasi_p1.specs.declared.error.P1Error.{P1Error}
 use Rattle.wasi_p1.specs.declared.error.P1Error.TheVariants.{Memory}
-use Rattle.wasi_p1.proofs.Moving.{turned_by}
+use Rattle.wasi_p1.proofs.Moving.{each_turn}
 
 -- no refusal is valid
 refuses : {e : P1Error} {P : Type 0} (m : Row (Value × State)) → m ≡ Err e → IsTrue (is_ok m) → P
@@ -44,14 +42,4 @@ turned_completes t (inr faulted) valid = inr faulted
 
 pub run_completes : (calls : List FueledCall) (turns : List Turned) (k : ℕ) (old new : State) → Run k old calls turns new
     → All IsComplete turns
-run_completes [] [] k old new run = All-nil _
-run_completes [] (t ∷ turns) k old new run = absurd run
-run_completes (call ∷ calls) [] k old new run = absurd run
-run_completes (call ∷ calls) (t ∷ turns) k old new (j, before, is, spends, rest) =
-    All-cons IsComplete t turns (turned_completes t (turned_by spends))
-    (later (run_completes calls turns j t.after new) (ends t.answer) rest)
-  where
-    later : (Run j t.after calls turns new → All IsComplete turns) → (b : Bool)
-        → MatchBool b ((turns ≡ []) × (new ≡ t.after)) (Run j t.after calls turns new) → All IsComplete turns
-    later next true (none, last) = subst (All IsComplete) (sym none) (All-nil _)
-    later next false on = next on
+run_completes = each_turn IsComplete turned_completes

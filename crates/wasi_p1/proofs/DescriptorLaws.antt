@@ -1,5 +1,5 @@
 -- Laws of descriptor numbers, and of the positions of files.
-use Rattle.std.proofs.Common.{ℕ, zero, suc, ◌<◌, ◌≤◌, ◌≡◌, ◌⊎◌, inl, inr, Bool, true, false, cond, List, [], ◌∷◌, length, refl, ap, sym, ◌∙◌, subst, arith, slice_get, slice_set, Option, Some, None, Ok, Err}
+use Rattle.std.proofs.Common.{ℕ, zero, suc, ◌<◌, ◌≤◌, ◌≡◌, ◌⊎◌, inl, inr, true, false, List, [], ◌∷◌, length, refl, ap, sym, ◌∙◌, subst, arith, slice_get, slice_set, Option, Some, None, Ok, Err}
 use Rattle.std.specs.Prelude.{min, unwrap_or}
 use Rattle.std.specs.Option.{option_map_or}
 use Rattle.std.proofs.lemmas.Option.{slice_get_within}
@@ -8,15 +8,15 @@ use Rattle.wasi_fs.specs.OpenHow.{may_open}
 use Rattle.wasi_guest.specs.Enums.{whence_of}
 use Rattle.wasi_guest.specs.declared.call.Call.TheVariants as calls
 use Rattle.wasi_guest.specs.declared.answer.Value.TheVariants.{Number}
-use Rattle.wasi_host.specs.HostCall.{Append, Pread, Pwrite, Stat}
+use Rattle.wasi_host.specs.HostCall.{Pread, Stat}
 use Rattle.wasi_host.specs.Steps.{◌>>=◌}
 use Rattle.wasi_p1.specs.DescriptorLaws.{IsLiveNumber, IsClosedNumber, NumbersAreDense, IsLargestClosed, OpensTheLargestClosed, SeeksAreTold, LeavesDescriptors, OffsetsLeavePositions}
 use Rattle.wasi_p1.specs.Files.{base_in, file_in, position_from, read_place_in, sought}
-use Rattle.wasi_p1.specs.Front.{ask}
 use Rattle.wasi_p1.specs.Guest.{Guest, GuestSlot, OpenFile, State, closed, stream, directory, file, is_closed, new_number}
 use Rattle.wasi_p1.specs.Numbering.{last_where, later_or_here, free_number}
 use Rattle.wasi_p1.specs.Parts.{directory_in, range, room_for, permit, may_write, held_by, at_position, with_file}
 use Rattle.wasi_p1.specs.RawFlags.{open_how, or_inval}
+use Rattle.wasi_p1.specs.Putting.{put_call}
 use Rattle.wasi_p1.specs.Request.{Path, Direct}
 use Rattle.wasi_p1.specs.Row.{Row, give}
 use Rattle.wasi_p1.specs.Rows.{fd_pread, fd_pwrite, fd_seek, fd_tell, path_open, seek_from}
@@ -182,19 +182,8 @@ writes_leave fd iovs n offset s s' x fuel is =
     let (f, named, two) = gave s.tree (file_in WriteAt (slice_get s.guest.slots fd)) _ left one in
     let (piece, inside, three) = gave s.tree (range s.guest.memory buffer.buf buffer.buf_len) _ left two in
     let (may, allowed, four) = gave s.tree (may_write f.perms) _ left three in
-    by f.modes.append f piece left four
-  where
-    by : (b : Bool) (f : OpenFile) (piece : List ℕ) (left : ℕ)
-        → row_on s.tree ((cond b
-        (ask (Direct (Append (held_by f) piece)) (λ count. give (Number count, s.guest)))
-        (ask (Direct (Pwrite (held_by f) offset piece)) (λ count. give (Number count, s.guest)))) left).0 ≡ Ok (x, s')
-        → s'.guest.slots ≡ s.guest.slots
-    by true f piece left is =
-        let did = replied_by s.tree (Direct (Append (held_by f) piece)) _ is in
-        ap (λ (g : Guest). g.slots) (number_is did.gives).1
-    by false f piece left is =
-        let did = replied_by s.tree (Direct (Pwrite (held_by f) offset piece)) _ is in
-        ap (λ (g : Guest). g.slots) (number_is did.gives).1
+    let did = replied_by s.tree (Direct (put_call f.modes.append (held_by f) offset piece)) _ four in
+    ap (λ (g : Guest). g.slots) (number_is did.gives).1
 
 pub offsets_leave_positions : OffsetsLeavePositions
 offsets_leave_positions fd iovs n offset = (reads_leave fd iovs n offset, writes_leave fd iovs n offset)

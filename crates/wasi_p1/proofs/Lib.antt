@@ -1,4 +1,5 @@
 mod Near
+mod Putting
 mod Numbers
 mod ClosedHeap
 mod Naming
@@ -8,10 +9,12 @@ mod RequestsLeave
 mod RequestsAgree
 mod RowEnds
 mod Changing
+mod Codes
 mod Wanting
 mod Bytes
 mod Paging
 mod PagingLaws
+mod ListingFit
 mod Listings
 mod Keeping
 mod Polling
@@ -20,9 +23,11 @@ mod Alike
 mod Moving
 pub mod Permitting
 mod Completing
+mod ErrorNumbers
 mod Turns
 mod Taking
 mod Below
+mod Knowing
 mod Resolving
 mod Setting
 mod LookingAt

@@ -58,12 +58,9 @@ numbered_append t d (x ∷ xs) ys {es} is =
     ∙ ap (λ m. m >>= (λ more. Ok (first ∷ more))) (numbered_append t d xs ys later)
     ∙ in_front first others (all_numbered_at t d ys))
 
--- the names that a host gives are short
-pub all_short : (xs : List DirEntry) → All (λ (e : Listed). IsTrue (is_entry_name e.0)) (map entry_of xs) → All IsShort xs
-all_short [] all = All-nil _
-all_short (x ∷ xs) all =
-    All-cons IsShort x xs (short (string_bytes x.name) (All-head (λ (e : Listed). IsTrue (is_entry_name e.0)) (entry_of x) (map entry_of xs) all))
-    (all_short xs (All-tail (λ (e : Listed). IsTrue (is_entry_name e.0)) (entry_of x) (map entry_of xs) all))
+-- a name that a directory may hold is short
+pub entry_is_short : (name : List ℕ) → IsTrue (is_entry_name name) → length name ≤ 255
+entry_is_short name is = ltb-false 255 (length name) (not_long (is_plain name) (has_nul name) (is_long name) is)
   where
     not_long : (a b c : Bool) → (a && not b && not c) ≡ true → c ≡ false
     not_long true false true is = absurd (cc)
@@ -71,8 +68,12 @@ all_short (x ∷ xs) all =
     not_long true true c is = absurd (cc)
     not_long false b c is = absurd (cc)
 
-    short : (name : List ℕ) → IsTrue (is_entry_name name) → length name ≤ 255
-    short name is = ltb-false 255 (length name) (not_long (is_plain name) (has_nul name) (is_long name) is)
+-- the names that a host gives are short
+pub all_short : (xs : List DirEntry) → All (λ (e : Listed). IsTrue (is_entry_name e.0)) (map entry_of xs) → All IsShort xs
+all_short [] all = All-nil _
+all_short (x ∷ xs) all =
+    All-cons IsShort x xs (entry_is_short (string_bytes x.name) (All-head (λ (e : Listed). IsTrue (is_entry_name e.0)) (entry_of x) (map entry_of xs) all))
+    (all_short xs (All-tail (λ (e : Listed). IsTrue (is_entry_name e.0)) (entry_of x) (map entry_of xs) all))
 
 -- one of some names
 pub short_at : (xs : List DirEntry) (x : DirEntry) (rest : List DirEntry) → All IsShort (xs ++ x ∷ rest) → IsShort x

@@ -1,5 +1,7 @@
 -- To which state a turn leads.
-use Rattle.std.proofs.Common.{ℕ, ◌-◌, ◌*◌, ◌≡◌, ◌⊎◌, inl, inr, refl, ap, sym, nat_le, Bool, true, false, List, Result, Ok, Err}
+use Rattle.std.proofs.Common.{ℕ, ◌-◌, ◌*◌, ◌≡◌, ◌⊎◌, inl, inr, refl, ap, sym, nat_le, subst, Bool, true, false, List, [], ◌∷◌, Result, Ok, Err}
+use Rattle.std.specs.Prelude.{All, MatchBool}
+use Rattle.std.proofs.lemmas.List.Elements.{All-nil, All-cons}
 use Rattle.wasi_host.specs.Tree.{Tree}
 use Rattle.wasi_host.specs.declared.errors.ErrorCode.{ErrorCode}
 use Rattle.wasi_p1.specs.Guest.{Guest, State}
@@ -8,10 +10,10 @@ use Rattle.wasi_p1.specs.Row.{with_tree, Row, give, asking}
 use Rattle.wasi_guest.specs.Iovec.{first_buffer}
 use Rattle.wasi_guest.specs.Records.{Found, text_in}
 use Rattle.wasi_guest.specs.declared.iovec.Iovec.{Iovec}
-use Rattle.wasi_p1.specs.Front.{Front, CallFront, onward, free, charge, charged_text, charged_buffer, ◌>>=◌}
+use Rattle.wasi_p1.specs.Front.{Front, CallFront, FueledCall, onward, free, charge, charged_text, charged_buffer, ◌>>=◌}
 use Rattle.wasi_p1.specs.Parts.{from_guest}
 use Rattle.wasi_p1.specs.Rows.{turn}
-use Rattle.wasi_p1.specs.Run.{Turned, Played, Faulted, Gives, Spends}
+use Rattle.wasi_p1.specs.Run.{Turned, Played, Faulted, Gives, Run, Spends, ends}
 use Rattle.wasi_p1.specs.Turn.{IsTurn, StepTaken}
 use Rattle.wasi_p1.specs.declared.error.P1Error.{P1Error}
 use Rattle.wasi_guest.specs.declared.answer.Value.{Value}
@@ -48,6 +50,22 @@ guest_still s s' (Err e) (inr step) = absurd step
 pub turned_by : {k j : ℕ} {t : Turned} → Spends k j t → Played t ⊎ Faulted t
 turned_by (inl (played, same)) = inl played
 turned_by (inr (faulted, same)) = inr faulted
+
+-- what holds of each turn holds of each of a run
+pub each_turn : (P : Turned → Type 0) → ((t : Turned) → Played t ⊎ Faulted t → P t) → (calls : List FueledCall)
+    (turns : List Turned) (k : ℕ) (old new : State) → Run k old calls turns new
+    → All P turns
+each_turn P holds [] [] k old new run = All-nil P
+each_turn P holds [] (t ∷ turns) k old new run = absurd run
+each_turn P holds (call ∷ calls) [] k old new run = absurd run
+each_turn P holds (call ∷ calls) (t ∷ turns) k old new (j, before, is, spends, rest) =
+    All-cons P t turns (holds t (turned_by spends))
+    (later (each_turn P holds calls turns j t.after new) (ends t.answer) rest)
+  where
+    later : (Run j t.after calls turns new → All P turns) → (b : Bool)
+        → MatchBool b ((turns ≡ []) × (new ≡ t.after)) (Run j t.after calls turns new) → All P turns
+    later next true (none, last) = subst (All P) (sym none) (All-nil P)
+    later next false on = next on
 
 -- ---- the answer of a row over a tree
 

@@ -1,8 +1,8 @@
 -- What holds of each row: its request starts at descriptors that its call names, and may be asked of a host; no node comes to a descriptor
 -- but from the reply, and no permissions but from the descriptor that it stems from; it makes no step where a
 -- descriptor that its call names is under read-only permissions; it isn't refused after a step, nor before it asks
--- because memory was wanted; and it leaves bytes in memory.
-use Rattle.std.specs.Prelude.{ℕ, ◌≡◌, ◌⊎◌, List, [], All, slice_get, Contains, IsUtf8, Ok, Err, OnErr}
+-- because memory was wanted; it is refused by no error number that isn't listed; and it leaves bytes in memory.
+use Rattle.std.specs.Prelude.{ℕ, ◌≡◌, ◌⊎◌, List, [], All, slice_get, Contains, IsUtf8, Ok, Err, IfErr}
 use Rattle.wasi_fs.specs.declared.perms.FsPerms.{FsPerms}
 use Rattle.wasi_host.specs.Tree.{Tree}
 use Rattle.wasi_host.specs.HostCall.{HostCall, Append, Pread, CanBeAsked}
@@ -12,17 +12,18 @@ use Rattle.wasi_p1.specs.Validity.{HasBytes}
 use Rattle.wasi_guest.specs.declared.answer.Answer.TheVariants as answers
 use Rattle.wasi_guest.specs.declared.answer.Value.{Value}
 use Rattle.wasi_guest.specs.declared.call.Call.{Call}
-use Rattle.wasi_p1.specs.CallParts.{WantsNoMemory}
 use Rattle.wasi_p1.specs.CallTurn.{NamesReadOnly}
 use Rattle.wasi_p1.specs.Guest.{Guest, node_in, open_nodes}
 use Rattle.wasi_p1.specs.Listing.{Entry}
 use Rattle.wasi_p1.specs.Request.{Request, Reply, Path, Direct, Behind, ListDirectory, reply_of, after, starts_at, Sizes}
-use Rattle.wasi_p1.specs.Row.{Row, Program, done, asking}
+use Rattle.wasi_host.specs.Steps.{◌>>=◌}
+use Rattle.wasi_p1.specs.Row.{Row, Program, done, asking, give}
 use Rattle.wasi_p1.specs.Stems.{stems_by, HasPerms}
 use Rattle.wasi_resolve.specs.AtPlace.{ReadLink}
 use Rattle.wasi_resolve.proofs.Asking.{HasUtf8Target}
 use Rattle.wasi_resolve.specs.PathRequest.{PathRequest, OpenPath, LookPath, AtPlace, TimesPath, AtTwo, PathReply, path_gives}
 use Rattle.wasi_p1.specs.Rows.{Stem, stem_in, descriptors_named}
+use Rattle.wasi_p1.proofs.Wanting.{IsRefusal, Never}
 
 -- ---- of each kind of request
 
@@ -94,6 +95,10 @@ KeepsBytes (Err e) = Unit {0}
 
 -- ---- of a row
 
+-- what refuses a reply is a row's refusal, and then nothing was done
+abbrev pub Ends : {A : Type 0} → Type 0 → Row A → Type 0
+Ends undone m = IfErr m (λ e. IsRefusal e × undone)
+
 -- a node is that of a descriptor that the call names
 pub record IsNamed (g : Guest) (call : Call) (n : ℕ) : Type 0 where
   pub fd : ℕ
@@ -103,7 +108,7 @@ pub record IsNamed (g : Guest) (call : Call) (n : ℕ) : Type 0 where
 pub record AsksNear (g : Guest) (call : Call) (r : Request) (next : Reply r → Row (Value × Guest)) : Type 0 where
   pub starts : (n : ℕ) → Contains (starts_at r) n → IsNamed g call n
   pub slots : (reply : Reply r) → KeepsSlots g (stem_in call) (given_by r reply) (next reply)
-  pub ends : (t : Tree) (reply : Reply r) → reply_of t r ≡ Ok reply → OnErr (next reply) (after t r ≡ t)
+  pub ends : (t : Tree) (reply : Reply r) → reply_of t r ≡ Ok reply → Ends (after t r ≡ t) (next reply)
   pub permits : NamesReadOnly g call → (t : Tree) (reply : Reply r) → reply_of t r ≡ Ok reply → after t r ≡ t
   pub asked : HasBytes g → MayBeAsked r
   pub bytes : HasBytes g → (reply : Reply r) → GivesBytes r reply → KeepsBytes (next reply)
@@ -115,4 +120,19 @@ pub record AnswersNear (g : Guest) (call : Call) (p : Value × Guest) : Type 0 w
 abbrev pub IsNear : Guest → Call → Row (Program (Value × Guest)) → Type 0
 IsNear g call (Ok (done p)) = AnswersNear g call p
 IsNear g call (Ok (asking r next)) = AsksNear g call r next
-IsNear g call (Err e) = WantsNoMemory e
+IsNear g call (Err e) = IsRefusal e
+
+-- what is made of what a row gives
+module _ {A : Type 0} (shown : A → Value × Guest) where
+  pub made_slots : {stem : Stem} (g : Guest) (given : List ℕ) (m : Row A) → ((x : A) → StaysNear g stem given (shown x))
+      → KeepsSlots g stem given (m >>= (λ x. give (shown x)))
+  made_slots g given (Ok x) stays = stays x
+  made_slots g given (Err e) stays = tt
+
+  pub made_ends : {P : Type 0} (m : Row A) → Never m → P → Ends P (m >>= (λ x. give (shown x)))
+  made_ends (Ok x) never is = tt
+  made_ends (Err e) never is = (never, is)
+
+  pub made_bytes : (m : Row A) → ((x : A) → HasBytes (shown x).1) → KeepsBytes (m >>= (λ x. give (shown x)))
+  made_bytes (Ok x) are = are x
+  made_bytes (Err e) are = tt

@@ -10,7 +10,7 @@ use Rattle.wasi_p1.specs.Row.{give}
 use Rattle.wasi_p1.specs.Rows.{row, args_get, args_sizes_get, environ_get, environ_sizes_get, clock_res_get, clock_time_get, path_create_directory, path_remove_directory, path_unlink_file, path_rename, proc_exit, proc_raise, sched_yield, sock_accept, sock_recv, sock_send, sock_shutdown}
 use Rattle.wasi_p1.proofs.Keeping.{no_new_name}
 use Rattle.wasi_p1.proofs.Near.{IsNear}
-use Rattle.wasi_p1.proofs.Wanting.{number, inval_never, sizes_never, clock_res_never, clock_time_never, exit_never, signal_never}
+use Rattle.wasi_p1.proofs.Wanting.{add_name_known, inval_never, sizes_never, clock_res_never, clock_time_never, exit_never, signal_never}
 pub mod Parts
 mod Opening
 mod ReadingAndWriting
@@ -74,10 +74,11 @@ front_near g (calls.PathRemoveDirectory fd path len) = done_near fd path len Rem
 front_near g (calls.PathUnlinkFile fd path len) = done_near fd path len RemoveFile refl refl tt
 front_near g (calls.PathRename _ _ _ _ _ _) =
     done_between_near _ _ _ _ _ _ _ _ refl refl (λ old new _ may. no_new_name old new false may)
+    (λ old new. add_name_known old new false)
 front_near g (calls.PathSymlink _ _ _ _ _) = path_symlink_near
 front_near g (calls.PollOneoff _ _ _) = poll_oneoff_near
 front_near g (calls.ProcExit status) = record { near = λ fuel. exit_never status }
-front_near g (calls.ProcRaise _) = then _ (signal_never _) (λ _ _. record { near = λ fuel. number })
+front_near g (calls.ProcRaise _) = then _ (signal_never _) (λ _ _. record { near = λ fuel. refl })
 front_near g (calls.RandomGet _ _) = random_get_near
 front_near g calls.SchedYield = answers_near Nothing g.memory g.holdings refl (λ are. are)
 front_near g (calls.SockAccept _ _) = no_socket_near _ _ (inval_never _)

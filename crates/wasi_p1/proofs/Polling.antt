@@ -1,4 +1,4 @@
--- What polls wait for: no part is refused because memory was wanted, the files are those of descriptors that are named,
+-- What polls wait for: each part is refused as parts of rows are, the files are those of descriptors that are named,
 -- and what is told are bytes.
 use Rattle.std.proofs.Common.{ℕ, zero, suc, ◌+◌, ◌-◌, ◌*◌, ◌/◌, ◌%◌, ◌^◌, ◌≡◌, ◌<◌, inl, inr, true, false, cond, Bool, nat_le, nat_lt, List, [], ◌∷◌, ◌++◌, length, drop, refl, sym, subst, slice_get, Ok, Err, arith}
 use Rattle.std.specs.Prelude.{Contains, ◌==◌, ◌&&◌}
@@ -20,7 +20,6 @@ use Rattle.wasi_guest.specs.declared.subscription.Subscription.{Subscription}
 use Rattle.wasi_guest.specs.declared.subscription.SubscriptionKind.{SubscriptionKind}
 use Rattle.wasi_guest.specs.declared.subscription.SubscriptionKind.TheVariants as kinds
 use Rattle.wasi_host.specs.Steps.{◌>>=◌}
-use Rattle.wasi_p1.specs.CallParts.{WantsNoMemory}
 use Rattle.wasi_p1.specs.Guest.{GuestSlot, node_in}
 use Rattle.wasi_p1.specs.Parts.{from_guest, Source, input, from, source_in, Sink, output, into, sink_in}
 use Rattle.wasi_p1.specs.Polling.{some_asked, lists_within, end_of, clock_end, waiting_to_read, waiting_to_write, waiting_for, waited_at, all_waited, nodes_in, nodes_read, comes_at, type_of, nbytes_in, event_flags, wall_later, clocks_at, event_of, first_size, events, with_events}
@@ -38,31 +37,31 @@ use Rattle.wasi_p1.specs.declared.poll_parts.Waited.{Waited}
 use Rattle.wasi_p1.specs.Validity.{AreBytes}
 use Rattle.wasi_p1.proofs.Bytes.{joined, put_bytes}
 use Rattle.wasi_p1.proofs.Changing.{source_is}
-use Rattle.wasi_p1.proofs.Wanting.{Never, after, when, trapped, number, guest_never, inval_never, source_never, sink_never}
+use Rattle.wasi_p1.proofs.Wanting.{IsRefusal, Never, after, when, guest_never, inval_never, source_never, sink_never}
 
 -- ---- refusals
 
-pub unless_so : {A : Type 0} {e : P1Error} (b : Bool) (x : A) → WantsNoMemory e → Never (cond b (Err e) (Ok x))
-unless_so true x other = other
-unless_so false x other = tt
+pub unless_so : {A : Type 0} (b : Bool) (x : A) (e : P1Error) → IsRefusal e → Never (cond b (Err e) (Ok x))
+unless_so true x e other = other
+unless_so false x e other = tt
 
 pub some_never : (n : ℕ) → Never (some_asked n)
 unfolding some_asked
-some_never n = unless_so (n == 0) tt number
+some_never n = unless_so (n == 0) tt _ refl
 
 pub lists_never : (memory : List ℕ) (subscriptions at n : ℕ) → Never (lists_within memory subscriptions at n)
 unfolding lists_within
 lists_never memory subscriptions at n = when ((subscriptions % 8 == 0) && ((at % 8 == 0)
-    && (in_memory memory subscriptions (48 * n) && in_memory memory at (32 * n)))) tt trapped
+    && (in_memory memory subscriptions (48 * n) && in_memory memory at (32 * n)))) tt _ tt
 
 end_never : (stock : Stock) (timeout : ℕ) (absolute : Bool) (clock : Clockid) → Never (end_of stock timeout absolute clock)
 end_never stock timeout true clocks.Realtime = after (nanoseconds_of stock.wall) _
-    (when (nat_lt (stock.wall.seconds * 10 ^ 9 + stock.wall.nanoseconds) (2 ^ 64)) _ number) (λ now. tt)
+    (when (nat_lt (stock.wall.seconds * 10 ^ 9 + stock.wall.nanoseconds) (2 ^ 64)) _ _ refl) (λ now. tt)
 end_never stock timeout true clocks.Monotonic = tt
 end_never stock timeout false clocks.Realtime = tt
 end_never stock timeout false clocks.Monotonic = tt
-end_never stock timeout absolute clocks.ProcessCputimeId = number
-end_never stock timeout absolute clocks.ThreadCputimeId = number
+end_never stock timeout absolute clocks.ProcessCputimeId = refl
+end_never stock timeout absolute clocks.ThreadCputimeId = refl
 
 clock_never : (stock : Stock) (id timeout flags : ℕ) → Never (clock_end stock id timeout flags)
 unfolding clock_end
@@ -72,7 +71,7 @@ clock_never stock id timeout flags = after (or_inval (clockid_of id)) _ (inval_n
 
 to_write_never : (sink : Sink) → Never (waiting_to_write sink)
 to_write_never (output o) = tt
-to_write_never (into f) = unless_so (is_read_only f.perms) awaiteds.FileToWrite number
+to_write_never (into f) = unless_so (is_read_only f.perms) awaiteds.FileToWrite _ refl
 
 waiting_never : (stock : Stock) (slots : List GuestSlot) (what : SubscriptionKind) → Never (waiting_for stock slots what)
 waiting_never stock slots (kinds.Clock id timeout precision flags) =
@@ -104,7 +103,7 @@ clocks_never stock moment = by (nat_le moment stock.monotonic)
     by : (b : Bool) → Never (cond b (Ok (record { wall = stock.wall; monotonic = stock.monotonic })) later)
     by true = tt
     by false = after (wall_later stock.wall (moment - stock.monotonic)) _ (when
-        (nat_lt (stock.wall.seconds + (stock.wall.nanoseconds + (moment - stock.monotonic)) / 10 ^ 9) (2 ^ 63)) _ number)
+        (nat_lt (stock.wall.seconds + (stock.wall.nanoseconds + (moment - stock.monotonic)) / 10 ^ 9) (2 ^ 63)) _ _ refl)
         (λ wall. tt)
 
 -- ---- files

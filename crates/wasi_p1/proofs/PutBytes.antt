@@ -1,10 +1,10 @@
 -- A byte that is written at an offset of a file is the one that is read there.
-use Rattle.std.proofs.Common.{ℕ, zero, suc, ◌+◌, ◌-◌, ◌<◌, ◌≤◌, ◌≡◌, Bool, true, false, cond, List, [], ◌∷◌, ◌++◌, length, take, drop, replicate, refl, ap, sym, ◌∙◌, subst, arith, slice_get, slice_range, Option, Some, None, Ok, length-take}
+use Rattle.std.proofs.Common.{ℕ, zero, suc, ◌+◌, ◌-◌, ◌<◌, ◌≤◌, ◌≡◌, Bool, true, false, List, [], ◌∷◌, ◌++◌, length, take, drop, replicate, refl, ap, sym, ◌∙◌, subst, arith, slice_get, slice_range, Option, Some, None, Ok, length-take}
 use Rattle.std.specs.Prelude.{min}
 use Rattle.std.specs.Option.{option_map}
 use Rattle.std.proofs.lemmas.List.{length-replicate}
 use Rattle.std.proofs.lemmas.Option.{slice_get_within, slice_get-get_or, slice_get-map}
-use Rattle.wasi_host.specs.HostCall.{Append, Pread, Pwrite}
+use Rattle.wasi_host.specs.HostCall.{Pread, Pwrite}
 use Rattle.wasi_host.specs.Meaning.{IsHeld}
 use Rattle.wasi_host.specs.Refusal.{refusal, can_write}
 use Rattle.wasi_host.specs.Step.{other_bytes, with_piece, write_step, with_content}
@@ -22,6 +22,7 @@ use Rattle.wasi_p1.specs.Front.{ask}
 use Rattle.wasi_p1.specs.Guest.{OpenFile, State, file, file_by, guest_slot}
 use Rattle.wasi_p1.specs.Parts.{range, may_write, held_by}
 use Rattle.wasi_p1.specs.PutBytes.{file_bytes, bytes_from, PutsAt, BytesArePut, FilesAreHeld, PutBytesStand, BytesAreGot, PutBytesAreGot}
+use Rattle.wasi_p1.specs.Putting.{put_call, count_in}
 use Rattle.wasi_p1.specs.Request.{Direct}
 use Rattle.wasi_p1.specs.Row.{give}
 use Rattle.wasi_p1.specs.Rows.{fd_pread, fd_pwrite, write_into}
@@ -127,9 +128,8 @@ puts s s' f offset piece left x other is =
     let (u, permitted, rest) = gave s.tree (may_write f.perms) _ left is in by f.modes.append other rest
   where
     by : (b : Bool) → b ≡ false
-        → row_on s.tree ((cond b
-        (ask (Direct (Append (held_by f) piece)) (λ count. give (Number count, s.guest)))
-        (ask (Direct (Pwrite (held_by f) offset piece)) (λ count. give (Number count, s.guest)))) left).0 ≡ Ok (x, s')
+        → row_on s.tree (ask (Direct (put_call b (held_by f) offset piece))
+        (λ answer. give (Number (count_in b (held_by f) offset piece answer), s.guest)) left).0 ≡ Ok (x, s')
         → Puts s s' f offset piece x
     by true at is = absurd (cc)
     by false at is =

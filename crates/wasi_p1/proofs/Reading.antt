@@ -10,11 +10,13 @@ use Rattle.wasi_host.specs.declared.errors.ErrorCode.TheVariants.{Io}
 use Rattle.wasi_host.specs.declared.errors.HostError.{HostError}
 use Rattle.wasi_host.specs.declared.errors.HostError.TheVariants.{Code}
 use Rattle.wasi_host.specs.declared.held.Held.{Held}
+use Rattle.wasi_host.specs.Steps.{◌>>=◌}
+use Rattle.wasi_p1.specs.Asked.{Does}
 use Rattle.wasi_p1.specs.Errnos.{errno_of, error_of}
 use Rattle.wasi_guest.specs.Range.{with_bytes}
 use Rattle.wasi_p1.specs.CallParts.{Makes, ReadsInto, filled_at}
-use Rattle.wasi_p1.specs.Request.{Direct}
-use Rattle.wasi_p1.specs.Row.{Row}
+use Rattle.wasi_p1.specs.Request.{Request, Reply, Direct}
+use Rattle.wasi_p1.specs.Row.{Row, give}
 use Rattle.wasi_p1.specs.declared.error.P1Error.{P1Error}
 use Rattle.wasi_p1.specs.declared.error.P1Error.TheVariants.{Errno}
 use Rattle.wasi_guest.proofs.Ranges.{with_filled}
@@ -107,3 +109,19 @@ module _ {rose A B : Type 0} {old new : Handles} {w v : World} {call : HostCall}
       → Told old new w v call shown (Err e) → Makes rose old w v (Direct call) next (Err (error_of e))
   told_err e io told =
       record { keeps = keeps_all w v same told.keeps; does = inl (asked_err same e (λ x. io (ap Err x)) told) }
+
+-- ---- what is made of what a part gives
+
+abbrev made_row : {A B : Type 0} → (A → B) → Row A → Row B
+made_row made m = m >>= (λ x. give (made x))
+
+pub makes_made : {A B rose : Type 0} {live : Handles} {w v : World} {r : Request} {next : Reply r → Row A} (made : A → B)
+    (m : Row A) → Makes rose live w v r next m
+    → Makes rose live w v r (λ reply. made_row made (next reply)) (made_row made m)
+makes_made {A} {rose = rose} {w = w} {v = v} {r = r} {next = next} made m makes =
+    record { keeps = makes.keeps; does = by m makes.does }
+  where
+    by : (m : Row A) → Does rose w v r next m → Does rose w v r (λ reply. made_row made (next reply)) (made_row made m)
+    by (Ok x) (reply, asked, is) = (reply, asked, ap (made_row made) is)
+    by (Err e) (inl asked) = inl asked
+    by (Err e) (inr (reply, asked, is)) = inr (reply, asked, ap (made_row made) is)

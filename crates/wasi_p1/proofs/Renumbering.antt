@@ -8,9 +8,11 @@ use Rattle.wasi_fs.specs.declared.perms.FsPerms.{FsPerms}
 use Rattle.wasi_host.specs.Lineage.{Traced, Nothing}
 use Rattle.wasi_host.specs.Meaning.{World, Handles}
 use Rattle.wasi_host.specs.declared.lookup.Lookup.{Lookup}
+use Rattle.wasi_guest.specs.declared.answer.Value.{Value}
 use Rattle.wasi_p1.specs.CallParts.{Rests, Stays}
-use Rattle.wasi_p1.specs.Guest.{GuestSlot, closed, node_in, open_nodes, perms_in}
+use Rattle.wasi_p1.specs.Guest.{Guest, GuestSlot, closed, node_in, open_nodes, perms_in}
 use Rattle.wasi_p1.specs.Numbering.{renumbered}
+use Rattle.wasi_p1.specs.Rows.{renumbering}
 use Rattle.wasi_p1.specs.Owners.{handle_in, handles, uses, uses_in, without, IsHandle, Owned, Owns, SlotsStay}
 use Rattle.wasi_p1.specs.declared.context.Slot.{Slot}
 use Rattle.wasi_p1.specs.declared.context.Slot.TheVariants as slots
@@ -20,6 +22,7 @@ use Rattle.wasi_p1.proofs.ClosedHeap.{same_number, other_number}
 use Rattle.wasi_p1.proofs.Counting.{handle_at, uses-set}
 use Rattle.wasi_p1.proofs.Exchanging.{AreTwo}
 use Rattle.wasi_p1.proofs.GuestSlots.{released_stays}
+use Rattle.wasi_p1.proofs.Near.{StaysNear}
 use Rattle.wasi_p1.proofs.Owning.{owns_less}
 use Rattle.wasi_p1.proofs.Staying.{set_other}
 
@@ -132,7 +135,7 @@ perms_there (x ∷ xs) zero = refl
 perms_there (x ∷ xs) (suc i) = perms_there xs i
 
 -- no node comes
-pub renumbered_nodes : (slots : List GuestSlot) (from to n : ℕ)
+renumbered_nodes : (slots : List GuestSlot) (from to n : ℕ)
     → Contains (open_nodes (renumbered closed slots from to)) n → Contains (open_nodes slots) n
 unfolding renumbered
 renumbered_nodes slots from to n has =
@@ -151,7 +154,7 @@ set_there (x ∷ xs) zero slot has = has
 set_there (x ∷ xs) (suc i) slot has = set_there xs i slot has
 
 -- each number has the permissions that it had, and the one that was taken those of the descriptor that took it
-pub renumbered_perms : {perms : FsPerms} (slots : List GuestSlot) (from to n : ℕ)
+renumbered_perms : {perms : FsPerms} (slots : List GuestSlot) (from to n : ℕ)
     → PermsAt (renumbered closed slots from to) n perms → PermsAt slots (cond (n == to) from n) perms
 unfolding renumbered
 renumbered_perms {perms} slots from to n has =
@@ -169,3 +172,11 @@ renumbered_perms {perms} slots from to n has =
         → PermsAt slots (cond b from n) perms
     by true is here other = here (same_number n to is)
     by false is here other = other (other_number n to is)
+
+-- what the row of a renumbering does to them
+pub put_renumbered : {x : Value} (g : Guest) (from to : ℕ)
+    → StaysNear g (renumbering from to) [] (x, record g { slots = renumbered closed g.slots from to })
+put_renumbered g from to = record {
+  nodes = λ n has. inl (renumbered_nodes g.slots from to n has);
+  perms = λ n perms has. renumbered_perms g.slots from to n has;
+}

@@ -10,8 +10,9 @@ use Rattle.wasi_p1.specs.Guest.{Guest, GuestSlot, OpenFile}
 use Rattle.wasi_p1.specs.Files.{sought}
 use Rattle.wasi_p1.specs.Parts.{permit, at_position, with_file}
 use Rattle.wasi_p1.specs.Request.{Request, Reply}
+use Rattle.wasi_p1.specs.Putting.{put_answer}
 use Rattle.wasi_p1.specs.Row.{Row, made_of_reply}
-use Rattle.wasi_p1.specs.declared.file_parts.Appended.{Appended}
+use Rattle.wasi_p1.specs.declared.file_parts.Put.{Put}
 
 -- of a row that asks for what has to be permitted
 abbrev pub tail : {A : Type 0} → Option ErrorCode → (r : Request) → (Reply r → Row A) → (Guest → A → Value × Guest)
@@ -38,13 +39,9 @@ with_memory fd f g p = (Number p.0, record (with_file g fd (at_position f (f.pos
 abbrev pub with_number : Guest → ℕ → Value × Guest
 with_number g count = (Number count, g)
 
--- and the file's position is behind what was written
-abbrev pub with_position : ℕ → OpenFile → Guest → ℕ → Value × Guest
-with_position fd f g count = (Number count, with_file g fd (at_position f (f.position + count)))
-
--- and is the file's size
-abbrev pub with_size : ℕ → OpenFile → Guest → Appended → Value × Guest
-with_size fd f g put = (Number put.count, with_file g fd (at_position f put.size))
+-- and the file's position is where a piece was put
+abbrev pub with_position : ℕ → OpenFile → Guest → Put → Value × Guest
+with_position fd f g put = put_answer g fd f put
 
 -- and is the number
 abbrev pub with_sought : ℕ → OpenFile → Guest → ℕ → Value × Guest

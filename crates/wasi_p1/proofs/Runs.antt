@@ -10,6 +10,7 @@ use Rattle.wasi_p1.specs.Guest.{State, Guest}
 use Rattle.wasi_p1.specs.Rows.{turn}
 use Rattle.wasi_p1.specs.Turn.{IsTurn, ReachesHost, named_by}
 use Rattle.wasi_p1.specs.CallTurn.{Turns, Causes, in_world}
+use Rattle.wasi_p1.proofs.Completing.{run_completes}
 use Rattle.wasi_p1.specs.Run.{Turned, Run, Spends, Played, Faulted, Gives, Allows, answer_of, answers_of, is_io_errno, io_in, ios, ends, named, is_success, DidRun, StoodAt}
 use Rattle.wasi_guest.specs.declared.answer.Answer.{Answer}
 use Rattle.wasi_guest.specs.declared.answer.Answer.TheVariants as answers
@@ -202,26 +203,33 @@ module _ {before now after : ℕ} {start : State} {w v : World} {g g' : Guest} {
   -- an answer ends the run
   pub ended : (more : List FueledCall) → ends answer ≡ true
       → DidRun before after start (calls ++ call ∷ more) (answered ++ answer ∷ []) (in_world v g') v.touched
-  ended more stops = record {
-    turns = so.turns ++ t ∷ [];
-    faults = so.faults + (taken.spent + 0);
-    allowed = rw add-zero taken.allowed;
-    run = so.on (taken.spent + 0) (call ∷ more) (t ∷ []) _ (0, refl, refl, taken.spends 0, rw stops (refl, refl));
-    answers_are = answers_more;
-    ends_touched = touched_named;
-  }
+  ended more stops =
+      let run : Run (so.faults + (taken.spent + 0)) start (calls ++ call ∷ more) (so.turns ++ t ∷ []) (in_world v g') =
+      so.on (taken.spent + 0) (call ∷ more) (t ∷ []) (in_world v g') (0, refl, refl, taken.spends 0, rw stops (refl, refl)) in
+      record {
+        turns = so.turns ++ t ∷ [];
+        faults = so.faults + (taken.spent + 0);
+        allowed = rw add-zero taken.allowed;
+        run = run;
+        answers_are = answers_more;
+        complete = run_completes _ _ _ _ _ run;
+        ends_touched = touched_named;
+      }
 
 -- the calls end with no answer that ends the run
 pub all_done : {before now : ℕ} {old new : State} {calls : List FueledCall} {answered : List Answer} {touched : Nodes}
     → SoFar before now old calls answered new touched → DidRun before now old calls answered new touched
-all_done {new = new} so = record {
-  turns = so.turns;
-  faults = so.faults + 0;
-  allowed = rw add-zero so.allowed;
-  run = rw (append-nil, append-nil) at (so.on 0 [] [] new refl);
-  answers_are = so.answers_are;
-  ends_touched = so.ends_touched;
-}
+all_done {old = old} {new = new} {calls = calls} so =
+    let run : Run (so.faults + 0) old calls so.turns new = rw (append-nil, append-nil) at (so.on 0 [] [] new refl) in
+    record {
+      turns = so.turns;
+      faults = so.faults + 0;
+      allowed = rw add-zero so.allowed;
+      run = run;
+      answers_are = so.answers_are;
+      complete = run_completes _ _ _ _ _ run;
+      ends_touched = so.ends_touched;
+    }
 
 -- ---- want of memory
 
@@ -245,20 +253,24 @@ pub stood : {before now after : ℕ} {start : State} {w v : World} {g g' : Guest
     → Turns (Rose now after) w v g g' call r
     → length answered ≡ n → SoFar before now start (take n calls) answered (in_world w g) w.touched
     → StoodAt before after start calls n (in_world v g') v.touched
-stood {before = before} {w = w} {v = v} {g' = g'} {answered = answered} {r = r} is cause takes sized so = record {
-  answers = answered;
-  count = sized;
-  run = record {
-    turns = so.turns;
-    faults = so.faults + 0;
-    allowed = rw add-zero (later before so.faults cause.later so.allowed);
-    run = rw (append-nil, append-nil) at (so.on 0 [] [] (in_world v g') (wanted_same is takes));
-    answers_are = so.answers_are;
-    ends_touched =
-        All-weaker (λ n. contains w.touched n ≡ true) _ (λ n was. takes.touched.stays n was)
-        (named so.turns) so.ends_touched;
-  };
-}
+stood {before = before} {start = start} {w = w} {v = v} {g' = g'} {calls = calls} {n = n} {answered = answered} is cause takes sized so =
+    let run : Run (so.faults + 0) start (take n calls) so.turns (in_world v g') =
+    rw (append-nil, append-nil) at (so.on 0 [] [] (in_world v g') (wanted_same is takes)) in
+    record {
+      answers = answered;
+      count = sized;
+      run = record {
+        turns = so.turns;
+        faults = so.faults + 0;
+        allowed = rw add-zero (later before so.faults cause.later so.allowed);
+        run = run;
+        answers_are = so.answers_are;
+        complete = run_completes _ _ _ _ _ run;
+        ends_touched =
+            All-weaker (λ n. contains w.touched n ≡ true) _ (λ n was. takes.touched.stays n was)
+            (named so.turns) so.ends_touched;
+      };
+    }
 
 -- memory for the answers was wanted
 pub stood_first : {before : ℕ} {start : State} {calls : List FueledCall} {touched : Nodes}

@@ -21,7 +21,6 @@ use Rattle.wasi_p1.specs.CallTurn.{FollowsRow, Kept, Same, Quiet, AtFront, Takes
 use Rattle.wasi_guest.specs.declared.call.Call.{Call}
 use Rattle.wasi_p1.specs.declared.error.P1Error.{P1Error}
 use Rattle.wasi_guest.specs.declared.answer.Value.{Value}
-use Rattle.wasi_guest.specs.declared.answer.Value.TheVariants.{Number}
 use Rattle.wasi_fs.specs.declared.descriptor.File.{File as OpenedFile}
 use Rattle.wasi_p1.specs.declared.context.FileSlot.{FileSlot}
 use Rattle.wasi_p1.specs.declared.context.Slot.TheVariants.{File}
@@ -30,6 +29,7 @@ use Rattle.wasi_p1.specs.declared.error.P1Error.TheVariants.{Errno, Memory}
 use Rattle.wasi_host.specs.declared.errors.HostError.TheVariants.{Memory as NoMemory}
 use Rattle.wasi_p1.proofs.Near.{IsNear}
 use Rattle.wasi_p1.proofs.Nearness.{row_near}
+use Rattle.wasi_p1.proofs.Wanting.{wants_none}
 use Rattle.wasi_p1.proofs.Permitting.{turn_permits}
 use Rattle.wasi_p1.proofs.GuestSlots.{guest_slots_stay, put_file_at}
 use Rattle.wasi_p1.proofs.Staying.{all_stay, put_stays}
@@ -78,7 +78,7 @@ refused_at {H} {told} {world} {faults} {lookups} {inside} {view} {memory} {call}
     is = row_same at
 
     never : WantsNoMemory e
-    never = subst (IsNear g call) (sym is) (row_near g (with_fuel inside.fuel call))
+    never = wants_none e (subst (IsNear g call) (sym is) (row_near g (with_fuel inside.fuel call)))
 
 -- one before any fuel was taken
 pub refused : {H : Type 0} {told : Bool} {world : H → World} {faults : H → ℕ} {lookups : H → List Lookup}
@@ -180,7 +180,7 @@ Did world faults old new r next result =
     Does (Rose (faults old.host) (faults new.host)) (world old.host) (world new.host) r next result
 
 -- the same, of one that leaves what these handles stand for
-abbrev Made : {H A : Type 0} → (H → World) → (H → ℕ) → View H → View H → Handles → (r : Request) → (Reply r → Row A)
+abbrev pub Made : {H A : Type 0} → (H → World) → (H → ℕ) → View H → View H → Handles → (r : Request) → (Reply r → Row A)
     → Row A → Type 0
 Made world faults old new live r next result =
     Makes (Rose (faults old.host) (faults new.host)) live (world old.host) (world new.host) r next result
@@ -191,8 +191,25 @@ pub record PutBack {H : Type 0} (old new : View H) (fd : ℕ) (f : FileSlot) : T
   pub table_max : new.table_max ≡ old.table_max
   pub holdings : new.holdings ≡ old.holdings
 
-abbrev guest_put : {H : Type 0} → (ℕ → Held) → View H → ℕ → FileSlot → List ℕ → Guest
+abbrev pub guest_put : {H : Type 0} → (ℕ → Held) → View H → ℕ → FileSlot → List ℕ → Guest
 guest_put held old fd f after = with_file (guest_by held old after) fd (open_file_of held f)
+
+-- that is the guest after it, by what the handles stand for then
+put_guest : {H : Type 0} {old new : View H} {fd : ℕ} {f : FileSlot} {after : List ℕ} (y : Value) (held stands : ℕ → Held)
+    → PutBack old new fd f → stands f.file.file ≡ held f.file.file
+    → guest_slots stands old.slots ≡ guest_slots held old.slots
+    → ◌≡◌ {A = Value × Guest} (y, guest_put held old fd f after) (y, guest_by stands new after)
+put_guest {old = old} {new = new} {fd = fd} {f = f} {after = after} y held stands put same kept =
+    let placed = put_file_at held stands old.slots new.slots fd f put.slots same kept in
+    λ i. (
+      y,
+      record {
+        slots = sym placed i;
+        table_max = sym put.table_max i;
+        memory = after;
+        holdings = sym put.holdings i;
+      },
+    )
 
 module _ {H : Type 0} {told : Bool} {world : H → World} {faults : H → ℕ} {lookups : H → List Lookup}
     {old new : View H} {before after : List ℕ} {call : Call} where
@@ -227,6 +244,24 @@ module _ {H : Type 0} {told : Bool} {world : H → World} {faults : H → ℕ} {
       let still = stays told in
       let placed = ap (λ slots. Ok (done (x, record (guest_of world new after) { slots = slots }))) still.slots in
       turns.answered (placed ∙ is) still.tree still.touched)
+
+  -- one where a file's descriptor was put back
+  pub put_answered : {x : Value} {fd : ℕ} {f was : FileSlot}
+      → (Ok (done (x, guest_put (world old.host).held old fd f after)), new.fuel)
+      ≡ front (guest_of world old before) call old.fuel
+      → length after ≡ length before → PutBack old new fd f → Contains (descriptors_named before call) fd
+      → slice_get old.slots fd ≡ Some (File was) → f.file ≡ was.file → new.host ≡ old.host
+      → FollowsRow told world faults lookups old new before after call (Ok x)
+  put_answered {x} {fd} {f} at size put named is same host =
+      let held = (world old.host).held in
+      let ends : Value × Guest → Row (Program (Value × Guest)) × ℕ = λ p. (Ok (done p), new.fuel) in
+      answered (ap ends (sym (put_guest {after = after} x held held put refl refl)) ∙ at) size
+      (put_stays fd _ named is (ap (λ (file : OpenedFile). Some file.file) same) put.slots)
+      (record { failed = ap faults host; looked = ap lookups host }) (λ told. record {
+        tree = ap (λ (h : H). (world h).tree) host;
+        touched = ap (λ (h : H). (world h).touched) host;
+        slots = ap (λ (h : H). guest_slots (world h).held new.slots) host;
+      })
 
   -- what follows of a request's reply, as a row's answer
   module _ {r : Request} {A : Type 0} (next : Reply r → Row A) (shown : Guest → A → Value × Guest)
@@ -301,35 +336,22 @@ module _ {H : Type 0} {told : Bool} {world : H → World} {faults : H → ℕ} {
           ))
 
       -- a file's descriptor was put back
-      pub put_ok : {fd n : ℕ} {f was : FileSlot} {x : A} → length after ≡ length before → Follows r next (Ok x)
-          → shown (guest_of world old before) x ≡ (Number n, guest_put (world old.host).held old fd f after)
+      pub put_ok : {y : Value} {fd : ℕ} {f was : FileSlot} {x : A} → length after ≡ length before
+          → Follows r next (Ok x)
+          → shown (guest_of world old before) x ≡ (y, guest_put (world old.host).held old fd f after)
           → PutBack old new fd f → Contains (descriptors_named before call) fd
           → slice_get old.slots fd ≡ Some (File was) → f.file ≡ was.file → contains live f.file.file ≡ true
           → (IsTrue told → Made world faults old new live r next (Ok x))
-          → FollowsRow told world faults lookups old new before after call (Ok (Number n))
-      put_ok {fd} {n} {f} {was} size follows shows put named is same held makes =
+          → FollowsRow told world faults lookups old new before after call (Ok y)
+      put_ok {y} {fd} {f} {was} size follows shows put named is same stands makes =
+          let held = (world old.host).held in
           does_ok size (put_stays fd _ named is (ap (λ (file : OpenedFile). Some file.file) same) put.slots) follows
-          (shows ∙ again (world old.host).held refl refl) (λ told.
+          (shows ∙ put_guest y held held put refl refl) (λ told.
           let made = makes told in (
             made.does,
-            shows ∙ again (world new.host).held (made.keeps f.file.file held) (guest_slots_stay old.slots owned made.keeps),
+            shows ∙ put_guest y held (world new.host).held put (made.keeps f.file.file stands)
+                (guest_slots_stay old.slots owned made.keeps),
           ))
-        where
-          again : (stands : ℕ → Held) → stands f.file.file ≡ (world old.host).held f.file.file
-              → guest_slots stands old.slots ≡ guest_slots (world old.host).held old.slots
-              → ◌≡◌ {A = Value × Guest} (Number n, guest_put (world old.host).held old fd f after)
-              (Number n, guest_by stands new after)
-          again stands same kept =
-              let placed = put_file_at (world old.host).held stands old.slots new.slots fd f put.slots same kept in
-              λ i. (
-                Number n,
-                record {
-                  slots = sym placed i;
-                  table_max = sym put.table_max i;
-                  memory = after;
-                  holdings = sym put.holdings i;
-                },
-              )
 
 -- an answer without a request, where nothing changed
 pub answered_at_once : {H : Type 0} {told : Bool} {world : H → World} {faults : H → ℕ} {lookups : H → List Lookup}

@@ -1,6 +1,6 @@
 -- From what a request did over a told host to the turn of its call.
 use Rattle.std.proofs.Common.{[], ◌≡◌, ◌⊎◌, inl, inr, refl, ap, sym, ◌∙◌, subst, Result, Ok, Err}
-use Rattle.std.specs.Prelude.{OnErr, is_ok, if◌then◌else◌}
+use Rattle.std.specs.Prelude.{is_ok, if◌then◌else◌}
 use Rattle.wasi_host.specs.Agree.{Touches}
 use Rattle.wasi_host.specs.Meaning.{World}
 use Rattle.wasi_host.specs.declared.errors.ErrorCode.{ErrorCode}
@@ -18,7 +18,7 @@ use Rattle.wasi_guest.specs.declared.errno.Errno.TheVariants as errnos
 use Rattle.wasi_p1.specs.declared.error.P1Error.{P1Error}
 use Rattle.wasi_p1.specs.declared.error.P1Error.TheVariants.{Errno, Memory}
 use Rattle.wasi_guest.specs.declared.answer.Value.{Value}
-use Rattle.wasi_p1.proofs.Near.{IsNear, AsksNear}
+use Rattle.wasi_p1.proofs.Near.{Ends, IsNear, AsksNear}
 use Rattle.wasi_host.proofs.Touching.{touches_same, no_ends}
 use Rattle.wasi_p1.proofs.Alike.{over, replied, row_on}
 use Rattle.wasi_p1.proofs.Nearness.{row_near}
@@ -83,7 +83,7 @@ module _ (s s' : State) {call : Call} {r : Request} {next : Reply r → Row (Val
       → (s' ≡ s) ⊎ StepTaken s s' (over (after s.tree r) m)
   stepped reply is tree (Ok p) gives = inr (λ i. record { tree = tree i; guest = same i })
   stepped reply is tree (Err e) gives =
-      inl (same_state same (tree ∙ subst (λ m. OnErr m (after s.tree r ≡ s.tree)) gives (near.ends s.tree reply is)))
+      inl (same_state same (tree ∙ (subst (Ends (after s.tree r ≡ s.tree)) gives (near.ends s.tree reply is)).1))
 
   hidden : Hidden s.tree s'.tree r → (s' ≡ s) ⊎ StepTaken s s' is_replied
   hidden hid = subst (λ a. (s' ≡ s) ⊎ StepTaken s s' (replied s.tree r next a)) (sym hid.answered)
@@ -142,7 +142,7 @@ module _ {rose : Type 0} {w v : World} {g g' : Guest} {call : FueledCall} {r : R
       let kept = near.ends w.tree reply (host_answered (reply_of w.tree r) answered) in
       turns (Ok (asking r next)) front (
         inl (record {
-          stays = same_state same (asked.tree ∙ subst (λ m. OnErr m (after w.tree r ≡ w.tree)) is kept);
+          stays = same_state same (asked.tree ∙ (subst (Ends (after w.tree r ≡ w.tree)) is kept).1);
           row_is = ap (λ m. over (after w.tree r) (m >>= next)) answered ∙ ap (over (after w.tree r)) is;
         }),
         no_ends asked.touched,

@@ -9,6 +9,7 @@ use Rattle.wasi_guest.specs.declared.answer.Value.{Value}
 use Rattle.wasi_guest.specs.declared.answer.Value.TheVariants.{Number}
 use Rattle.wasi_guest.specs.declared.iovec.Iovec.{Iovec}
 use Rattle.wasi_p1.specs.Guest.{Guest, State}
+use Rattle.wasi_p1.specs.Putting.{put_request, put_in, put_answer}
 use Rattle.wasi_p1.specs.Request.{Direct, Behind}
 use Rattle.wasi_p1.specs.Row.{Row, done, give}
 use Rattle.wasi_p1.specs.Parts.{Sink, output, into, sink_in, range, may_write, held_by, at_position, with_file}
@@ -79,10 +80,8 @@ writes_whole s s' fuel fd iovs n x is =
             }
 
         by : (b : Bool) → f.modes.append ≡ b
-            → row_on s.tree ((cond b
-            (ask (Behind (held_by f) piece) (λ put. give (Number put.0, with_file s.guest fd (at_position f put.1.size))))
-            (ask (Direct (Pwrite (held_by f) f.position piece))
-            (λ count. give (Number count, with_file s.guest fd (at_position f (f.position + count)))))) left).0 ≡ Ok (x, s')
+            → row_on s.tree (ask (put_request b (held_by f) f.position piece)
+            (λ reply. give (put_answer s.guest fd f (put_in b (held_by f) f.position piece reply))) left).0 ≡ Ok (x, s')
             → (x ≡ Number buffer.buf_len) × (s' ≡ written_to s fd piece (into f))
         by true at is =
             let did = replied_by s.tree (Behind (held_by f) piece) _ is in

@@ -10,7 +10,6 @@ use Rattle.wasi_host.specs.Meaning.{World, Handles, Keeps}
 use Rattle.wasi_host.specs.declared.errors.HostError.{HostError}
 use Rattle.wasi_host.specs.declared.errors.ErrorCode.{ErrorCode}
 use Rattle.wasi_host.specs.declared.held.Held.{Held}
-use Rattle.wasi_host.specs.declared.metadata.Metadata.{Metadata}
 use Rattle.wasi_p1.specs.Asked.{Does}
 use Rattle.wasi_p1.specs.Errnos.{errno_of, error_of}
 use Rattle.wasi_p1.specs.Request.{Request, Reply, MayReply, Path, Direct}
@@ -25,7 +24,6 @@ use Rattle.wasi_p1.specs.declared.context.Slot.{Slot}
 use Rattle.wasi_p1.specs.declared.context.Slot.TheVariants as slots
 use Rattle.wasi_p1.specs.declared.context.FileModes.{FileModes}
 use Rattle.wasi_p1.specs.declared.context.FileSlot.{FileSlot}
-use Rattle.wasi_p1.specs.declared.file_parts.Appended.{Appended}
 use Rattle.wasi_p1.specs.declared.call_parts.Source.{Source as ReadPlace}
 use Rattle.wasi_p1.specs.declared.call_parts.Source.TheVariants as sources
 use Rattle.wasi_p1.specs.declared.call_parts.Sink.{Sink as WritePlace}
@@ -47,6 +45,11 @@ open_directory_of held dir = record { node = (held dir.dir).node; perms = dir.pe
 abbrev pub Refused : {A H : Type 0} → Option ErrorCode → Row A → H → H → Type 0
 Refused None result old new = Unit {0}
 Refused (Some code) result old new = ((result ≡ Err (Errno (errno_of code))) ⊎ (result ≡ Err Memory)) × (new ≡ old)
+
+-- a part that asks the host only where something isn't known: what is made of it where it is, and the host is as it was
+abbrev pub Knows : {A B H : Type 0} → Option B → (B → Row A) → Row A → H → H → Type 0
+Knows None part result old new = Unit {0}
+Knows (Some known) part result old new = (result ≡ part known) × (new ≡ old)
 
 -- a request made by a call that leaves what the live handles stand for
 pub record Makes {A : Type 0} (rose : Type 0) (old : Handles) (w v : World) (r : Request) (next : Reply r → Row A)
@@ -77,10 +80,6 @@ ReadsInto rose old w v f position buf size before after result =
 -- a write of a piece
 abbrev pub WritesPiece : Type 0 → Handles → World → World → Held → ℕ → List ℕ → Row ℕ → Type 0
 WritesPiece rose old w v f position piece result = Makes rose old w v (Direct (Pwrite f position piece)) give result
-
--- how much a file took behind its last byte, and its size then
-abbrev pub appended_in : ℕ × Metadata → Row Appended
-appended_in put = give (record { count = put.0; size = put.1.size })
 
 -- what is read or written by a number, with what a file's handle stands for in place of the handle
 abbrev pub source_of : (ℕ → Held) → ReadPlace → Source

@@ -21,8 +21,8 @@ stream_fdstat streams.Input = record { filetype = 0; flags = 0; base = 2; inheri
 stream_fdstat streams.Output = record { filetype = 0; flags = 0; base = 64; inheriting = 64 }
 stream_fdstat streams.Error = record { filetype = 0; flags = 0; base = 64; inheriting = 64 }
 
--- of a directory that the guest was given: for the directory the rights of calls at paths and of descriptors of
--- directories, and all but those of sockets for what is opened below it
+-- of a directory that the guest was given: for it the rights of calls on directories and at paths, and for what is opened
+-- below it all rights; but for PATH_FILESTAT_SET_SIZE in both, and those of sockets
 abbrev pub preopen_fdstat : Fdstat
 preopen_fdstat = record { filetype = 3; flags = 0; base = 129498624; inheriting = 267911167 }
 

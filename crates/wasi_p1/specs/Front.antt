@@ -1,5 +1,5 @@
 -- The front of a row: refusals in order, some of which take fuel.
-use Rattle.std.specs.Prelude.{ℕ, ◌-◌, ◌*◌, nat_le, List, slice_get, if◌then◌else◌, Option, Ok, Err}
+use Rattle.std.specs.Prelude.{ℕ, ◌-◌, ◌*◌, nat_le, List, slice_get, if◌then◌else◌, Option, Some, None, Ok, Err}
 use Rattle.wasi_host.specs.declared.errors.ErrorCode.{ErrorCode}
 use Rattle.wasi_guest.specs.Iovec.{first_buffer}
 use Rattle.wasi_guest.specs.Records.{text_in}
@@ -11,7 +11,7 @@ use Rattle.wasi_guest.specs.declared.iovec.Iovec.{Iovec}
 use Rattle.wasi_p1.specs.Guest.{Guest}
 use Rattle.wasi_p1.specs.Parts.{OpenNode, from_guest, permit, range, start_in}
 use Rattle.wasi_p1.specs.Request.{Request, Reply}
-use Rattle.wasi_p1.specs.Row.{Row, give, Program, done, asking}
+use Rattle.wasi_p1.specs.Row.{Row, give, Program, done, asking, made_of_reply}
 use Rattle.wasi_p1.specs.declared.error.P1Error.TheVariants.{Errno}
 
 -- a call, and the fuel that it may take
@@ -53,6 +53,14 @@ answer x = free (give (done x))
 -- the end of a row that asks the tree
 abbrev pub ask : {A : Type 0} → (r : Request) → (Reply r → Row A) → Front (Program A)
 ask r next = free (give (asking r next))
+
+-- the end of a row that asks the tree only where something isn't known of which the answer is made
+abbrev pub known_or_asked : {A B : Type 0} → Option B → (B → Row A) → (r : Request) → (Reply r → Row A)
+    → (A → Value × Guest) → CallFront
+known_or_asked (Some known) part r next shown = do
+  x ← free (part known)
+  answer (shown x)
+known_or_asked None part r next shown = ask r (made_of_reply r next shown)
 
 -- the text in a range of memory, which is charged by its length
 unfoldable pub charged_text : List ℕ → ℕ → ℕ → Front (List ℕ)

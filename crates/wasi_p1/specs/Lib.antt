@@ -19,6 +19,7 @@ pub mod PageLaws
 pub mod Parts
 pub mod Files
 pub mod Front
+pub mod Putting
 pub mod Services
 pub mod Subscriptions
 pub mod Polling
@@ -29,6 +30,7 @@ pub mod Method
 pub mod Run
 pub mod Reach
 pub mod StatesAgree
+pub mod ErrorNumbers
 pub mod RunLaws
 pub mod Stems
 pub mod ReadOnly

@@ -1,6 +1,8 @@
 -- Laws of the pages of a listing.
-use Rattle.std.specs.Prelude.{ℕ, ◌≡◌, ◌<◌, ◌≤◌, ◌^◌, min, List, [], length, take, drop, All}
-use Rattle.wasi_p1.specs.Listing.{Entry}
+use Rattle.std.specs.Prelude.{ℕ, ◌≡◌, ◌<◌, ◌≤◌, ◌^◌, min, List, [], length, take, drop, All, Ok}
+use Rattle.wasi_host.specs.Tree.{Tree}
+use Rattle.wasi_host.specs.ValidTree.{IsValidTree}
+use Rattle.wasi_p1.specs.Listing.{Entry, listing_at}
 use Rattle.wasi_p1.specs.Pages.{record_of, record_size, records_after, page}
 use Rattle.wasi_p1.specs.PageReading.{whole_records, cookie_after, read_by, EachHolds, fitting, as_read, all_records}
 
@@ -27,6 +29,11 @@ pub record EntryFits (e : Entry) : Type 0 where
 pub record ListingFits (listing : List Entry) : Type 0 where
   pub entries : All (λ (e : Entry). EntryFits e) listing
   pub count : length listing < 2 ^ 64
+
+-- so it is of each directory of a valid tree
+abbrev pub ListingsFit : Type 0
+ListingsFit =
+    (t : Tree) (d : ℕ) (listing : List Entry) → IsValidTree t → listing_at t d ≡ Ok listing → ListingFits listing
 
 -- what stands whole in a page are the next records, as many as fit
 abbrev pub WholeOfPage : Type 0

@@ -1,8 +1,9 @@
 -- Calls one after another, up to the first whose answer ends the run.
-use Rattle.std.specs.Prelude.{ℕ, suc, ◌+◌, ◌-◌, ◌^◌, ◌≤◌, ◌≡◌, ◌⊎◌, Bool, true, false, List, [], ◌∷◌, length, take, map, Result, Ok, Err, Option, Some, None, MatchBool, All, if◌then◌else◌}
+use Rattle.std.specs.Prelude.{ℕ, suc, ◌+◌, ◌-◌, ◌^◌, ◌≤◌, ◌≡◌, ◌⊎◌, Bool, true, false, List, [], ◌∷◌, length, take, map, Result, Ok, Err, Option, Some, None, MatchBool, All, IsTrue, if◌then◌else◌}
 use Rattle.std.specs.List.{flat_map}
 use Rattle.std.specs.FinSet.{contains}
 use Rattle.wasi_host.specs.Tree.{Nodes}
+use Rattle.wasi_p1.specs.CallTurn.{IsValidCall}
 use Rattle.wasi_p1.specs.Guest.{State}
 use Rattle.wasi_p1.specs.Row.{Row}
 use Rattle.wasi_p1.specs.Rows.{turn}
@@ -109,8 +110,12 @@ is_success (answers.Exit status) = false
 abbrev pub named : List Turned → List ℕ
 named turns = flat_map (λ t. if is_success t.answer then named_by t.before t.call else []) turns
 
--- a run of these calls with these answers, from a count of faults to another, that touched each node at which a path
--- ended
+-- a call that is valid in the state before it is answered Ok, unless the host failed in it
+abbrev pub IsComplete : Turned → Type 0
+IsComplete t = IsValidCall t.before t.call → IsTrue (is_success t.answer) ⊎ Faulted t
+
+-- a run of these calls with these answers, from a count of faults to another, in which each valid call is answered Ok
+-- unless the host failed in it, and that touched each node at which a path ended
 pub record DidRun (before now : ℕ) (old : State) (calls : List FueledCall) (answers : List Answer) (new : State)
     (touched : Nodes) : Type 0 where
   pub turns : List Turned
@@ -118,6 +123,7 @@ pub record DidRun (before now : ℕ) (old : State) (calls : List FueledCall) (an
   pub allowed : Allows before now faults
   pub run : Run faults old calls turns new
   pub answers_are : answers ≡ answers_of turns
+  pub complete : All IsComplete turns
   pub ends_touched : All (λ n. contains touched n ≡ true) (named turns)
 
 -- want of memory: all stands as after the first n calls

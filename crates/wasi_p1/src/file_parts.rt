@@ -1,15 +1,16 @@
 //! What the calls on files and on preopens do with a host and a guest's memory, a part at a time.
-ghost use Rattle.std.specs.Prelude.{◌≡◌, ◌≢◌, true, false, IsTrue, length, slice_get, option_map, Some, IfOk, IfErr, OnErr};
+ghost use Rattle.std.specs.Prelude.{◌≡◌, ◌≢◌, true, false, IsTrue, length, slice_get, option_map, Some, None, IfOk, IfErr, OnErr};
 ghost use Rattle.std.specs.FinSet.{contains};
 ghost use Rattle.std.specs.Result.{result_map_both};
 ghost use Rattle.wasi_guest.specs.FlagSets.{fdflag_bits};
 ghost use Rattle.wasi_host.specs.HostCall.{Append, Stat};
 ghost use Rattle.wasi_host.specs.Meaning.{Rose};
-ghost use Rattle.wasi_p1.specs.CallParts.{IsReplied, Makes, WantsNoMemory, appended_in, is_failure, open_file_of};
+ghost use Rattle.wasi_p1.specs.CallParts.{IsReplied, Knows, Makes, WantsNoMemory, is_failure, open_file_of};
 ghost use Rattle.wasi_p1.specs.CallTurn.{Causes};
 ghost use Rattle.wasi_p1.specs.Files.{base_in, file_in, host_advice, name_at, name_into, not_synchronized, or_refused, position_from, read_place_in, stream_refused};
 ghost use Rattle.wasi_p1.specs.Guest.{guest_slots};
 ghost use Rattle.wasi_p1.specs.Owners.{handles, Owned};
+ghost use Rattle.wasi_p1.specs.Putting.{appended_in, count_in, put_call, put_in, put_request};
 ghost use Rattle.wasi_p1.specs.Request.{Direct, Behind};
 ghost use Rattle.wasi_p1.specs.Row.{give};
 ghost use Rattle.wasi_p1.specs.Services.{with_unit};
@@ -18,8 +19,8 @@ ghost use Rattle.wasi_guest.specs.declared.errno.Errno.TheVariants as errnos;
 ghost use Rattle.wasi_p1.specs.declared.error.P1Error.TheVariants as errors;
 ghost use Rattle.wasi_p1.specs.declared.file_parts.FileUse.TheVariants.{ReadAt};
 
-use crate::call_parts::{bytes_at, room_at};
-use crate::context::{FileSlot, Slot, Stream};
+use crate::call_parts::{bytes_at, room_at, write_piece};
+use crate::context::{FileModes, FileSlot, Slot, Stream};
 use crate::descriptors::Descriptors;
 use crate::error::P1Error;
 use crate::holdings::Holdings;
@@ -109,7 +110,7 @@ pub fn read_place<H: Host>(
 }
 
 /// From where a position is counted, but for the end of the file.
-pub fn base_of(position: u64, whence: Whence) -> Option<u64>
+fn base_of(position: u64, whence: Whence) -> Option<u64>
     ensures { result ≡ base_in position whence }
 {
     match whence {
@@ -121,7 +122,7 @@ pub fn base_of(position: u64, whence: Whence) -> Option<u64>
 
 /// A position so far from another one: Inval where that is below 0, or 64 bits don't hold it.
 #[tactic(auto, unfolding(crate::specs::Files::position_from))]
-pub fn position_from(base: u64, offset: i64) -> Result<u64, P1Error>
+fn position_from(base: u64, offset: i64) -> Result<u64, P1Error>
     ensures row { result ≡ position_from base offset }
     ensures refusal { IfErr result (λ e. is_failure e ≡ false) }
     ensures never_wants { IfErr result WantsNoMemory }
@@ -130,7 +131,7 @@ pub fn position_from(base: u64, offset: i64) -> Result<u64, P1Error>
 }
 
 /// A position so far from the end of a file, whose size the host tells: Inval as of `position_from`.
-pub fn position_from_end<H: Host>(host: &mut H, file: Handle, offset: i64) -> Result<u64, P1Error>
+fn position_from_end<H: Host>(host: &mut H, file: Handle, offset: i64) -> Result<u64, P1Error>
     requires live { contains (H.live host.old) file ≡ true }
     ensures cause { Causes (H.faults host.old) (H.faults host.new) result }
     ensures live { H.live host.new ≡ H.live host.old }
@@ -149,10 +150,40 @@ pub fn position_from_end<H: Host>(host: &mut H, file: Handle, offset: i64) -> Re
     Ok(position)
 }
 
+/// A position so far from the place that `whence` names, of a file at another one: Inval as of `position_from`. The
+/// host is asked for the file's size where the place is its end.
+pub fn position_sought<H: Host>(
+    host: &mut H,
+    file: Handle,
+    position: u64,
+    whence: Whence,
+    offset: i64,
+) -> Result<u64, P1Error>
+    requires live { contains (H.live host.old) file ≡ true }
+    ensures cause { Causes (H.faults host.old) (H.faults host.new) result }
+    ensures live { H.live host.new ≡ H.live host.old }
+    ensures logged { H.lookups host.new ≡ H.lookups host.old }
+    ensures never_wants { IfErr result WantsNoMemory }
+
+    // The row, over every host and over one that tells its world.
+    ensures known { Knows (base_in position whence) (λ base. position_from base offset) result host.old host.new }
+    ensures front { base_in position whence ≡ None → IsReplied (Direct (Stat ((H.world host.old).held file).node))
+        (λ metadata. position_from metadata.size offset) result }
+    ensures told { IsTrue H.told → base_in position whence ≡ None
+        → Makes (Rose (H.faults host.old) (H.faults host.new)) (H.live host.old) (H.world host.old)
+        (H.world host.new) (Direct (Stat ((H.world host.old).held file).node))
+        (λ metadata. position_from metadata.size offset) result }
+{
+    let Some(base) = base_of(position, whence) else {
+        return position_from_end(host, file, offset);
+    };
+    position_from(base, offset)
+}
+
 /// Puts a piece behind a file's last byte, and gives how many bytes the file took. A host that takes nothing of a piece
 /// that isn't empty has failed.
 #[tactic(auto, using(wasi_host::proofs::Chain::live_rules))]
-pub fn append_piece<H: Host>(host: &mut H, file: Handle, piece: &[u8]) -> Result<u64, P1Error>
+fn append_piece<H: Host>(host: &mut H, file: Handle, piece: &[u8]) -> Result<u64, P1Error>
     requires live { contains (H.live host.old) file ≡ true }
     ensures cause { Causes (H.faults host.old) (H.faults host.new) result }
     ensures live { H.live host.new ≡ H.live host.old }
@@ -170,30 +201,91 @@ pub fn append_piece<H: Host>(host: &mut H, file: Handle, piece: &[u8]) -> Result
     Ok(count as u64)
 }
 
-/// How many bytes a file took behind its last one, and its size then.
+/// How many bytes of a piece a file took, and where its position is then.
 #[derive(Clone, Copy, Debug, PartialEq, Eq)]
-pub struct Appended {
+pub struct Put {
     pub count: u64,
-    pub size: u64,
+    pub position: u64,
 }
 
-/// Puts a piece behind a file's last byte, as `append_piece` does, and gives the file's size after that too.
-pub fn put_behind<H: Host>(host: &mut H, file: Handle, piece: &[u8]) -> Result<Appended, P1Error>
+/// Puts a piece behind a file's last byte, as `append_piece` does; the position is the file's size after that.
+fn put_behind<H: Host>(host: &mut H, file: Handle, piece: &[u8]) -> Result<Put, P1Error>
     requires live { contains (H.live host.old) file ≡ true }
     ensures cause { Causes (H.faults host.old) (H.faults host.new) result }
     ensures live { H.live host.new ≡ H.live host.old }
     ensures logged { H.lookups host.new ≡ H.lookups host.old }
 
     // The row, over every host and over one that tells its world.
-    ensures front { IsReplied (Behind ((H.world host.old).held file) piece.now) appended_in result }
+    ensures front { IsReplied (Behind ((H.world host.old).held file) piece.now) (λ put. give (appended_in put)) result }
     ensures told { IsTrue H.told → Makes (Rose (H.faults host.old) (H.faults host.new)) (H.live host.old)
-        (H.world host.old) (H.world host.new) (Behind ((H.world host.old).held file) piece.now) appended_in result }
+        (H.world host.old) (H.world host.new) (Behind ((H.world host.old).held file) piece.now)
+        (λ put. give (appended_in put)) result }
 {
     let count = append_piece(host, file, piece)?;
     let metadata = host.stat(file)?;
-    Ok(Appended {
+    Ok(Put {
         count,
-        size: metadata.size,
+        position: metadata.size,
+    })
+}
+
+/// Puts a piece into a file, in append mode behind its last byte and else from an offset on, and gives how many bytes
+/// the file took.
+pub fn put_piece<H: Host>(
+    host: &mut H,
+    file: Handle,
+    modes: FileModes,
+    offset: u64,
+    piece: &[u8],
+) -> Result<u64, P1Error>
+    requires live { contains (H.live host.old) file ≡ true }
+    ensures cause { Causes (H.faults host.old) (H.faults host.new) result }
+    ensures live { H.live host.new ≡ H.live host.old }
+    ensures logged { H.lookups host.new ≡ H.lookups host.old }
+
+    // The row, over every host and over one that tells its world.
+    ensures front { IsReplied (Direct (put_call modes.append ((H.world host.old).held file) offset piece.now))
+        (λ answer. give (count_in modes.append ((H.world host.old).held file) offset piece.now answer)) result }
+    ensures told { IsTrue H.told → Makes (Rose (H.faults host.old) (H.faults host.new)) (H.live host.old)
+        (H.world host.old) (H.world host.new)
+        (Direct (put_call modes.append ((H.world host.old).held file) offset piece.now))
+        (λ answer. give (count_in modes.append ((H.world host.old).held file) offset piece.now answer)) result }
+{
+    if modes.append {
+        return append_piece(host, file, piece);
+    }
+    write_piece(host, file, offset, piece)
+}
+
+/// Puts a piece into a file, in append mode behind its last byte and else from its position on, and gives where its
+/// position is then: in append mode the file's size, and else behind what the file took.
+pub fn put_next<H: Host>(
+    host: &mut H,
+    file: Handle,
+    modes: FileModes,
+    position: u64,
+    piece: &[u8],
+) -> Result<Put, P1Error>
+    requires live { contains (H.live host.old) file ≡ true }
+    ensures cause { Causes (H.faults host.old) (H.faults host.new) result }
+    ensures live { H.live host.new ≡ H.live host.old }
+    ensures logged { H.lookups host.new ≡ H.lookups host.old }
+
+    // The row, over every host and over one that tells its world.
+    ensures front { IsReplied (put_request modes.append ((H.world host.old).held file) position piece.now)
+        (λ reply. give (put_in modes.append ((H.world host.old).held file) position piece.now reply)) result }
+    ensures told { IsTrue H.told → Makes (Rose (H.faults host.old) (H.faults host.new)) (H.live host.old)
+        (H.world host.old) (H.world host.new)
+        (put_request modes.append ((H.world host.old).held file) position piece.now)
+        (λ reply. give (put_in modes.append ((H.world host.old).held file) position piece.now reply)) result }
+{
+    if modes.append {
+        return put_behind(host, file, piece);
+    }
+    let count = write_piece(host, file, position, piece)?;
+    Ok(Put {
+        count,
+        position: position + count,
     })
 }
 

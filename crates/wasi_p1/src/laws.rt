@@ -1,9 +1,9 @@
 //! Laws of what is defined.
 ghost use Rattle.wasi_p1.specs.PageLaws.{RecordLength, PageLength, PastTheEnd};
-ghost use Rattle.wasi_p1.specs.PageLaws.{WholeOfPage, LargePagesHold, PagesInOrder, PagesHaveAll, EmptyPageEnds};
+ghost use Rattle.wasi_p1.specs.PageLaws.{ListingsFit, WholeOfPage, LargePagesHold, PagesInOrder, PagesHaveAll, EmptyPageEnds};
 ghost use Rattle.wasi_p1.specs.Owners.{LiveStays};
 ghost use Rattle.wasi_p1.specs.StatesAgree.{TurnsAgree, RunsAgree};
-ghost use Rattle.wasi_p1.specs.RunLaws.{RunsAreComplete, RunsAreFunctions, TurnsAreConfined};
+ghost use Rattle.wasi_p1.specs.RunLaws.{OtherErrorsNeverCome, RowsAreComplete, RunsAreComplete, RunsAreFunctions, TurnsAreConfined};
 ghost use Rattle.wasi_p1.specs.Stems.{PermissionsStem};
 ghost use Rattle.wasi_p1.specs.ReadOnly.{ReadOnlyTurnsLeaveTheTree, ReadOnlyRunsLeaveTheTree};
 ghost use Rattle.wasi_p1.specs.Validity.{RunsStayValid};
@@ -23,10 +23,23 @@ pub fn runs_are_functions()
     ensures one_run { RunsAreFunctions }
 {}
 
+/// What a method's clause `turn` says makes it complete: a call that is valid in the state before it, where its row
+/// answers it, is answered, unless the host's count of faults rose in it, or memory was wanted by a call that takes some.
+pub fn methods_are_complete<H: Host>()
+    ensures complete { RowsAreComplete H.Host }
+{}
+
 /// A call of a run that is valid in the state before it, where its row answers it, is answered Ok, unless the host failed
 /// in it.
 pub fn valid_calls_are_answered()
     ensures complete { RunsAreComplete }
+{}
+
+/// No call of a run is answered an error number but the 23 that `may_be_answered` lists, of the 38 of `Errno`. `again`,
+/// `already`, `deadlk`, `dquot`, `inprogress`, `msgsize`, `nodev`, `nolck`, `notrecoverable`, `notty`, `nxio`, `pipe`,
+/// `rofs`, `txtbsy` and `xdev` never come.
+pub fn other_errors_never_come()
+    ensures errnos { OtherErrorsNeverCome }
 {}
 
 /// A turn keeps what was come to in reach of the start: a node of a descriptor or under a name in reach, and each node
@@ -87,8 +100,9 @@ pub fn records_and_pages_have_lengths()
 /// resume at the `d_next` of the last whole record give each entry once, in the order of the listing; and all of them
 /// where each page holds a whole record until none is left, which one with room for the largest record does. An empty
 /// page of a buffer that isn't empty ends the listing. It is so of a listing whose numbers fit into the fields of a
-/// record.
+/// record, as those of each directory of a valid tree do.
 pub fn pages_list_each_entry_once()
+    ensures fit { ListingsFit }
     ensures whole { WholeOfPage }
     ensures held { LargePagesHold }
     ensures order { PagesInOrder }

@@ -1,5 +1,6 @@
 //! A list of calls, one after another.
-ghost use Rattle.std.specs.Prelude.{◌≡◌, ◌≤◌, length, map, IsTrue, IfOk, IfErr};
+ghost use Rattle.std.specs.Prelude.{◌≡◌, ◌≤◌, length, map, All, IsTrue, IfOk, IfErr, IfSome};
+ghost use Rattle.wasi_p1.specs.ErrorNumbers.{MayCome};
 ghost use Rattle.wasi_p1.specs.Front.{with_fuel};
 ghost use Rattle.wasi_p1.specs.CallTurn.{IsAnswered, IsValidCall, OthersStay, TakesTurn};
 ghost use Rattle.wasi_p1.specs.Method.{StaysInBounds, DoesItsRow};
@@ -44,7 +45,8 @@ fn ends_run(answer: Answer) -> bool
 }
 
 /// One call of the context, by the method of its name, with its arguments in the order of `wasi_snapshot_preview1`.
-/// Where it is valid, so that its row answers it, it is answered, unless memory was wanted or the host failed.
+/// Where it is valid, so that its row answers it, it is answered, unless memory was wanted or the host failed. No error
+/// number is answered that `may_be_answered` doesn't list.
 #[tactic(auto, using(crate::proofs::Completing::turn_completes))]
 pub fn call<H: Host>(
     context: &mut WasiP1Ctx<H>,
@@ -56,6 +58,7 @@ pub fn call<H: Host>(
     ensures complete { IsTrue H.told → (Rose (H.faults context.old.host) (H.faults context.new.host) → ⊥)
         → IsValidCall (state_of H.world context.old memory.old) (with_fuel context.old.fuel call)
         → IsAnswered call result }
+    ensures errnos { IsTrue H.told → IfSome (answer_of result) MayCome }
 {
     by_name(context, memory, call)
 }
@@ -261,8 +264,9 @@ fn call_with<H: Host>(
 }
 
 /// The calls in order, up to and including the first whose answer is a trap or an exit, each with the same fuel. Room for
-/// all answers is taken first. Memory where that is wanted, or a call wants it: all stands as after the calls that were
-/// answered.
+/// all answers is taken first. No answer is an error number that `may_be_answered` doesn't list, and each call that is
+/// valid in the state before it is answered Ok, unless the host failed in it. Memory where room is wanted, or a call wants
+/// it: all stands as after the calls that were answered.
 pub fn run_calls<H: Host>(
     alloc: Global,
     context: &mut WasiP1Ctx<H>,
@@ -274,6 +278,7 @@ pub fn run_calls<H: Host>(
     ensures count { H.faults context.old.host ≤ H.faults context.new.host }
     ensures answers { IfOk result (λ a. AnswersEach (map (with_fuel fuel) calls.now.items) a.answers) }
     ensures answered { IfErr result (λ e. answered_in e ≤ length calls.now.items) }
+    ensures errnos { IsTrue H.told → IfOk result (λ a. All MayCome a.answers) }
     ensures ios { IfOk result (λ a. Allows (H.faults context.old.host) (H.faults context.new.host) (ios a.answers)) }
     ensures handles { OthersStay H.live context.old context.new }
     ensures slots { SlotsOfRun context.old.slots context.new.slots calls.now.items }

@@ -11,7 +11,7 @@ use Rattle.wasi_host.proofs.Leaving.{Contains-here}
 use Rattle.wasi_p1.proofs.Changing.{written_slots, written_ends, written_bytes}
 use Rattle.wasi_p1.proofs.Nearness.Parts.{RowNear, then, asks_near, starts_near}
 use Rattle.wasi_p1.proofs.Paging.{page_bytes}
-use Rattle.wasi_p1.proofs.Wanting.{start_never, room_never}
+use Rattle.wasi_p1.proofs.Wanting.{start_never, range_never, room_never}
 
 pub fd_readdir_near : {g : Guest} {fd buf buf_len cookie : ℕ} → RowNear g (calls.FdReaddir fd buf buf_len cookie)
 unfolding fd_readdir
@@ -19,7 +19,8 @@ fd_readdir_near {g} {fd} {buf} {buf_len} {cookie} = then _ (start_never (slice_g
     let put : List Entry → Row (List ℕ) = λ listing. range g.memory buf (length (page listing cookie buf_len)) in asks_near (record {
       starts = λ n has. starts_near g fd n (Contains-here fd []) is has;
       slots = λ listing. written_slots g buf (page listing cookie buf_len) (put listing);
-      ends = λ t listing answered. written_ends g buf (page listing cookie buf_len) (put listing) refl;
+      ends = λ t listing answered. written_ends g buf (page listing cookie buf_len) (put listing)
+          (range_never g.memory buf (length (page listing cookie buf_len))) refl;
       permits = λ names t listing answered. refl;
       asked = λ _. tt;
       bytes = λ are listing names. written_bytes g buf (page listing cookie buf_len) (put listing) are (page_bytes listing cookie buf_len names);

@@ -9,14 +9,14 @@ use Rattle.wasi_host.proofs.Leaving.{Contains-here}
 use Rattle.wasi_p1.proofs.Changing.{named_directory, directory_perms, put_opened}
 use Rattle.wasi_p1.proofs.Keeping.{open_keeps, read_only_kept}
 use Rattle.wasi_p1.proofs.Nearness.Parts.{RowNear, then, then_text, asks_near, read_only, only_named}
-use Rattle.wasi_p1.proofs.Wanting.{how_never, directory_never, room_never, permit_never}
+use Rattle.wasi_p1.proofs.Wanting.{how_never, directory_never, room_never, open_known, permit_never}
 
 pub path_open_near : {g : Guest} {fd dirflags path len oflags base inheriting fdflags : ℕ}
     → RowNear g (calls.PathOpen fd dirflags path len oflags base inheriting fdflags)
 unfolding path_open
 path_open_near {g} {fd} {fdflags = fdflags} = then _ (how_never _ _ _ _ _) (λ how _. then_text g _ _ (λ text read.
     then _ (directory_never (slice_get g.slots fd)) (λ d is. then _ (room_never g.slots g.table_max 1) (λ _ _.
-    then _ (permit_never _) (λ _ may.
+    then _ (permit_never _ (open_known how d.perms)) (λ _ may.
     let perms = directory_perms (slice_get g.slots fd) is in asks_near (record {
       starts = λ n has. named_directory g fd n (Contains-here fd []) is has;
       slots = λ found. put_opened g fd d.perms (mode_of how) (modes_in fdflags) found perms;

@@ -15,7 +15,7 @@ use Rattle.wasi_p1.specs.declared.poll_parts.Waited.{Waited}
 use Rattle.wasi_p1.proofs.Near.{IsNear}
 use Rattle.wasi_p1.proofs.Nearness.Parts.{AlwaysNear, RowNear, then, then_taken, taken}
 use Rattle.wasi_p1.proofs.Polling.{IsOf, some_never, lists_never, waited_never, clocks_never, files_named_by, events_bytes}
-use Rattle.wasi_p1.proofs.Wanting.{number, room_never}
+use Rattle.wasi_p1.proofs.Wanting.{room_never}
 
 -- what fuel is taken for, if there is enough
 then_charge : {g : Guest} {call : Call} (next : Unit {0} → CallFront) (n : ℕ) → AlwaysNear g call (next tt)
@@ -25,7 +25,7 @@ then_charge {g} {call} next n near = record { near = λ fuel. by fuel (nat_le n 
   where
     by : (fuel : ℕ) (b : Bool) → IsNear g call (then_taken (taken n fuel b) next)
     by fuel true = near.near (fuel - n)
-    by fuel false = number
+    by fuel false = refl
 
 clocks_stock : {stock : Stock} (clocks : Clocks) → IsStock stock → IsStock (with_clocks stock clocks)
 clocks_stock clocks is =

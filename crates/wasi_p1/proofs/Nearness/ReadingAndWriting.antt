@@ -1,24 +1,21 @@
 -- What holds of the rows of the calls that read and write by a number.
-use Rattle.std.proofs.Common.{ℕ, ◌≡◌, ◌+◌, Bool, true, false, cond, List, length, [], refl, slice_get, Some, Ok}
+use Rattle.std.proofs.Common.{ℕ, ◌≡◌, ◌+◌, List, length, [], refl, slice_get, Ok}
 use Rattle.std.specs.Prelude.{min}
-use Rattle.wasi_fs.specs.declared.perms.FsPerms.TheVariants.{ReadOnly}
 use Rattle.wasi_guest.specs.declared.answer.Value.TheVariants.{Number}
 use Rattle.wasi_guest.specs.declared.call.Call.TheVariants as calls
 use Rattle.wasi_guest.specs.declared.iovec.Iovec.{Iovec}
-use Rattle.wasi_host.specs.HostCall.{Append, Pread, Pwrite}
-use Rattle.wasi_p1.specs.Front.{ask}
-use Rattle.wasi_p1.specs.Guest.{Guest, OpenFile, file}
-use Rattle.wasi_p1.specs.Parts.{Source, input, from, source_in, Sink, output, into, sink_in, at_position, held_by, with_file}
-use Rattle.wasi_p1.specs.Request.{Direct, Behind}
-use Rattle.wasi_p1.specs.Row.{give}
-use Rattle.wasi_p1.specs.Rows.{fd_pread, fd_pwrite, fd_read, fd_write, read_from, write_into, write_to}
+use Rattle.wasi_host.specs.HostCall.{Pread}
+use Rattle.wasi_p1.specs.Guest.{Guest}
+use Rattle.wasi_p1.specs.Parts.{Source, input, from, source_in, Sink, output, into, sink_in, held_by}
+use Rattle.wasi_p1.specs.Request.{Direct}
+use Rattle.wasi_p1.specs.Rows.{fd_pread, fd_pwrite, fd_read, fd_write, read_from, write_to}
 use Rattle.wasi_p1.specs.Services.{written}
 use Rattle.wasi_p1.specs.Validity.{AreBytes, HasBytes}
 use Rattle.wasi_p1.proofs.Bytes.{put_bytes, range_bytes, input_bytes, written_stock}
 use Rattle.wasi_p1.proofs.Changing.{file_is, read_place_is, source_is, sink_is, put_back, put_nothing}
-use Rattle.wasi_p1.proofs.Keeping.{no_write}
-use Rattle.wasi_p1.proofs.Nearness.Parts.{AlwaysNear, RowNear, then, then_at_buffer, file_asked, answers_near}
-use Rattle.wasi_p1.proofs.Wanting.{file_never, read_place_never, source_never, sink_never, input_never, write_never}
+use Rattle.wasi_p1.proofs.Nearness.Parts.{AlwaysNear, RowNear, then, then_at_buffer, file_asked, piece_near, answers_near}
+use Rattle.wasi_p1.proofs.Putting.{call_puts, request_puts}
+use Rattle.wasi_p1.proofs.Wanting.{file_never, read_place_never, source_never, sink_never, input_never}
 use Rattle.wasi_p1.specs.declared.file_parts.FileUse.TheVariants.{WriteAt}
 
 pub fd_pread_near : {g : Guest} {fd iovs n offset : ℕ} → RowNear g (calls.FdPread fd iovs n offset)
@@ -29,24 +26,12 @@ fd_pread_near {g} {fd} {offset = offset} =
     (read_place_is g.slots g.table_max _ is) refl (λ _. put_nothing g) (λ _ _. tt) (λ _ _. refl) (λ _. tt)
     (λ are bytes read. (put_bytes g.memory bytes buffer.buf are.0 read, are.1)))
 
--- a piece that goes into a file, whose position stays
-puts_near : {g : Guest} {fd iovs n offset : ℕ} (f : OpenFile) (piece : List ℕ) → slice_get g.slots fd ≡ Some (file f)
-    → (HasBytes g → AreBytes piece) → AlwaysNear g (calls.FdPwrite fd iovs n offset) (write_into g f offset piece)
-puts_near {g} {fd} {iovs} {n} {offset} f piece is bytes =
-    then _ (write_never f.perms) (λ _ may. by f.modes.append (λ perms. no_write f.perms may perms))
-  where
-    by : (b : Bool) → (f.perms ≡ ReadOnly → ⊥) → AlwaysNear g (calls.FdPwrite fd iovs n offset) (cond b
-        (ask (Direct (Append (held_by f) piece)) (λ count. give (Number count, g)))
-        (ask (Direct (Pwrite (held_by f) offset piece)) (λ count. give (Number count, g))))
-    by true never = file_asked {r = Direct (Append (held_by f) piece)} fd refl is refl (λ _. put_nothing g)
-        (λ _ _. tt) (λ perms. absurd (never perms)) bytes (λ are _ _. are)
-    by false never = file_asked {r = Direct (Pwrite (held_by f) offset piece)} fd refl is refl (λ _. put_nothing g)
-        (λ _ _. tt) (λ perms. absurd (never perms)) bytes (λ are _ _. are)
-
 pub fd_pwrite_near : {g : Guest} {fd iovs n offset : ℕ} → RowNear g (calls.FdPwrite fd iovs n offset)
 unfolding fd_pwrite
-fd_pwrite_near {g} {fd} = then_at_buffer g _ _ (file_never WriteAt (slice_get g.slots fd)) (λ f is buffer piece at.
-    puts_near f piece (file_is WriteAt _ is) (λ are. range_bytes g.memory buffer.buf buffer.buf_len are.0 at))
+fd_pwrite_near {g} {fd} {offset = offset} =
+    then_at_buffer g _ _ (file_never WriteAt (slice_get g.slots fd)) (λ f is buffer piece at. piece_near fd refl
+    (file_is WriteAt _ is) (call_puts f.modes.append (held_by f) offset piece)
+    (λ are. range_bytes g.memory buffer.buf buffer.buf_len are.0 at) (λ _. put_nothing g) (λ _ are. are))
 
 -- what is read
 reads_near : (g : Guest) (fd iovs n : ℕ) (source : Source) (buffer : Iovec) → source_in (slice_get g.slots fd) ≡ Ok source
@@ -71,22 +56,9 @@ writes_near : (g : Guest) (fd iovs n : ℕ) (sink : Sink) (piece : List ℕ) →
 writes_near g fd iovs n (output o) piece is bytes =
     answers_near (Number (length piece)) g.memory (written g.holdings o piece) refl
     (λ are. (are.0, written_stock g.holdings o piece are.1))
-writes_near g fd iovs n (into f) piece is bytes =
-    then _ (write_never f.perms) (λ _ may. by f.modes.append (λ perms. no_write f.perms may perms))
-  where
-    named : slice_get g.slots fd ≡ Some (file f)
-    named = sink_is (slice_get g.slots fd) is
-
-    by : (b : Bool) → (f.perms ≡ ReadOnly → ⊥) → AlwaysNear g (calls.FdWrite fd iovs n) (cond b
-        (ask (Behind (held_by f) piece) (λ put. give (Number put.0, with_file g fd (at_position f put.1.size))))
-        (ask (Direct (Pwrite (held_by f) f.position piece))
-        (λ count. give (Number count, with_file g fd (at_position f (f.position + count))))))
-    by true never = file_asked {r = Behind (held_by f) piece} fd refl named refl
-        (λ put. put_back g fd put.1.size f.modes [] named) (λ _ _. tt) (λ perms. absurd (never perms)) bytes
-        (λ are _ _. are)
-    by false never = file_asked {r = Direct (Pwrite (held_by f) f.position piece)} fd refl named refl
-        (λ count. put_back g fd (f.position + count) f.modes [] named) (λ _ _. tt) (λ perms. absurd (never perms)) bytes
-        (λ are _ _. are)
+writes_near g fd iovs n (into f) piece is bytes = let named = sink_is (slice_get g.slots fd) is in
+    piece_near fd refl named (request_puts f.modes.append (held_by f) f.position piece) bytes
+    (λ reply. put_back g fd _ f.modes _ named) (λ _ are. are)
 
 pub fd_write_near : {g : Guest} {fd iovs n : ℕ} → RowNear g (calls.FdWrite fd iovs n)
 unfolding fd_write

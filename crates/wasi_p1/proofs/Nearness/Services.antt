@@ -11,7 +11,7 @@ use Rattle.wasi_p1.specs.Services.{random_bytes, random_taken}
 use Rattle.wasi_p1.specs.Validity.{AreBytes, HasBytes}
 use Rattle.wasi_p1.proofs.Bytes.{put_bytes, put_texts_bytes, random_are, taken_stock}
 use Rattle.wasi_p1.proofs.Nearness.Parts.{AlwaysNear, RowNear, then, answers_near}
-use Rattle.wasi_p1.proofs.Wanting.{Never, number, range_never, live_never, texts_never}
+use Rattle.wasi_p1.proofs.Wanting.{Never, range_never, live_never, texts_never}
 
 -- texts that are put into memory
 pub texts_near : {g : Guest} {call : Call} (texts : List (List ℕ)) (at buf : ℕ) → stem_in call ≡ itself
@@ -32,4 +32,4 @@ random_get_near {g} {buf} {buf_len} = then _ (range_never g.memory buf buf_len) 
 pub no_socket_near : {g : Guest} {call : Call} (fd : ℕ) (flags : Row ℕ) → Never flags
     → AlwaysNear g call (no_socket g fd flags)
 no_socket_near {g} fd flags never =
-    then flags never (λ _ _. then _ (live_never (slice_get g.slots fd)) (λ _ _. record { near = λ fuel. number }))
+    then flags never (λ _ _. then _ (live_never (slice_get g.slots fd)) (λ _ _. record { near = λ fuel. refl }))

@@ -1,17 +1,16 @@
 -- The rows of the calls on a file's position, on its size, and on how it is stored.
-use Rattle.std.specs.Prelude.{ℕ, slice_get, ℤ, Option, Some, None, Err}
+use Rattle.std.specs.Prelude.{ℕ, slice_get, ℤ, Option, None, Err}
 use Rattle.wasi_fs.specs.Calls.{may_change}
 use Rattle.wasi_guest.specs.Enums.{advice_of, whence_of}
 use Rattle.wasi_guest.specs.declared.answer.Value.TheVariants.{Number}
 use Rattle.wasi_guest.specs.declared.errno.Errno.TheVariants as errnos
 use Rattle.wasi_host.specs.HostCall.{Advise, SetSize, Stat, Sync}
 use Rattle.wasi_p1.specs.Files.{base_in, file_in, host_advice, position_from, sought}
-use Rattle.wasi_p1.specs.Front.{CallFront, free, answer, ask, done_if, tells, ◌>>=◌}
+use Rattle.wasi_p1.specs.Front.{CallFront, free, done_if, known_or_asked, tells, ◌>>=◌}
 use Rattle.wasi_p1.specs.Guest.{Guest, OpenFile}
 use Rattle.wasi_p1.specs.Parts.{held_by}
 use Rattle.wasi_p1.specs.RawFlags.{or_inval}
 use Rattle.wasi_p1.specs.Request.{Direct}
-use Rattle.wasi_p1.specs.Row.{made_of_reply}
 use Rattle.wasi_p1.specs.declared.error.P1Error.TheVariants.{Errno}
 use Rattle.wasi_p1.specs.declared.file_parts.FileUse.TheVariants.{Itself, Position}
 
@@ -48,11 +47,8 @@ fd_filestat_set_size g fd size = do
 
 -- the position is so far from the start or from where it was; or from the end, for which the host is asked
 abbrev pub seek_from : Guest → ℕ → OpenFile → ℤ → Option ℕ → CallFront
-seek_from g fd f offset (Some base) = do
-  position ← free (position_from base offset)
-  answer (sought g fd f position)
-seek_from g fd f offset None = ask (Direct (Stat f.node))
-    (made_of_reply (Direct (Stat f.node)) (λ metadata. position_from metadata.size offset) (sought g fd f))
+seek_from g fd f offset base = known_or_asked base (λ from. position_from from offset) (Direct (Stat f.node))
+    (λ metadata. position_from metadata.size offset) (sought g fd f)
 
 -- An unknown number of a place is refused `inval`; then a stream `spipe`, and what else isn't a file's `badf`; then a
 -- position below 0, or of more than 64 bits, `inval`. The answer is the position

@@ -1,14 +1,15 @@
 -- The rows of the calls that read and write by a number.
-use Rattle.std.specs.Prelude.{ℕ, ◌+◌, min, List, length, slice_get, if◌then◌else◌}
+use Rattle.std.specs.Prelude.{ℕ, ◌+◌, min, List, length, slice_get}
 use Rattle.wasi_guest.specs.Range.{with_bytes}
 use Rattle.wasi_guest.specs.declared.answer.Value.TheVariants.{Number}
 use Rattle.wasi_guest.specs.declared.iovec.Iovec.{Iovec}
-use Rattle.wasi_host.specs.HostCall.{Append, Pread, Pwrite}
+use Rattle.wasi_host.specs.HostCall.{Pread}
 use Rattle.wasi_p1.specs.Files.{file_in, read_place_in}
 use Rattle.wasi_p1.specs.Front.{CallFront, free, answer, ask, at_buffer, ◌>>=◌}
 use Rattle.wasi_p1.specs.Guest.{Guest, OpenFile}
 use Rattle.wasi_p1.specs.Parts.{Source, input, from, source_in, Sink, output, into, sink_in, held_by, may_write, at_position, with_file}
-use Rattle.wasi_p1.specs.Request.{Direct, Behind}
+use Rattle.wasi_p1.specs.Putting.{put_call, count_in, put_request, put_in, put_answer}
+use Rattle.wasi_p1.specs.Request.{Direct}
 use Rattle.wasi_p1.specs.Row.{give}
 use Rattle.wasi_p1.specs.Services.{input_into, written}
 use Rattle.wasi_p1.specs.declared.file_parts.FileUse.TheVariants.{WriteAt}
@@ -29,9 +30,8 @@ fd_pread g fd iovs n offset = at_buffer g (read_place_in g.slots g.table_max (sl
 abbrev pub write_into : Guest → OpenFile → ℕ → List ℕ → CallFront
 write_into g f offset piece = do
   _ ← free (may_write f.perms)
-  if f.modes.append
-      then ask (Direct (Append (held_by f) piece)) (λ count. give (Number count, g))
-      else ask (Direct (Pwrite (held_by f) offset piece)) (λ count. give (Number count, g))
+  ask (Direct (put_call f.modes.append (held_by f) offset piece))
+      (λ answer. give (Number (count_in f.modes.append (held_by f) offset piece answer), g))
 
 -- of a number that is a file's, and not an output's; the position stays, and the answer is the number of bytes that were
 -- taken
@@ -63,11 +63,8 @@ write_to g fd (output o) piece =
     answer (Number (length piece), record g { holdings = written g.holdings o piece })
 write_to g fd (into f) piece = do
   _ ← free (may_write f.perms)
-  if f.modes.append
-      then ask (Behind (held_by f) piece)
-      (λ put. give (Number put.0, with_file g fd (at_position f put.1.size)))
-      else ask (Direct (Pwrite (held_by f) f.position piece))
-      (λ count. give (Number count, with_file g fd (at_position f (f.position + count))))
+  ask (put_request f.modes.append (held_by f) f.position piece)
+      (λ reply. give (put_answer g fd f (put_in f.modes.append (held_by f) f.position piece reply)))
 
 -- of a number that is a file's or an output's; the answer is the number of bytes that were taken
 unfoldable pub fd_write : Guest → ℕ → ℕ → ℕ → CallFront

@@ -18,7 +18,7 @@ use wasi_host::Host;
 impl<H: Host> WasiP1Ctx<H> {
     /// The number becomes closed, and what it stood for is closed. Refusal: Badf where the number isn't live. It takes
     /// no memory.
-    #[tactic(auto, using(crate::proofs::Taking::refusals), unfolding(crate::specs::Rows::fd_close))]
+    #[tactic(auto, using(crate::proofs::Taking::refusals, crate::proofs::CallTracing::traced_free), unfolding(crate::specs::Rows::fd_close))]
     pub fn fd_close(&mut self, memory: &mut [u8], fd: u32) -> Result<Value, P1Error>
         ensures bounds { StaysInBounds H.Host self.old self.new memory.old (FdClose fd) result }
         ensures turn { DoesItsRow H.Host self.old self.new memory.old memory.new (FdClose fd) result }
@@ -179,7 +179,7 @@ impl<H: Host> WasiP1Ctx<H> {
 
     /// What `to` stood for is closed, what stands under `from` gets its number, and `from` becomes closed; where the two
     /// are one number nothing changes. Refusal: Badf where one of them isn't live. It takes no memory.
-    #[tactic(auto, using(crate::proofs::Taking::refusals), unfolding(crate::specs::Rows::fd_renumber))]
+    #[tactic(auto, using(crate::proofs::Taking::refusals, crate::proofs::CallTracing::traced_free), unfolding(crate::specs::Rows::fd_renumber))]
     pub fn fd_renumber(&mut self, memory: &mut [u8], from: u32, to: u32) -> Result<Value, P1Error>
         ensures bounds { StaysInBounds H.Host self.old self.new memory.old (FdRenumber from to) result }
         ensures turn { DoesItsRow H.Host self.old self.new memory.old memory.new (FdRenumber from to) result }

@@ -5,7 +5,7 @@ ghost use Rattle.wasi_p1.specs.Method.{StaysInBounds, DoesItsRow};
 use crate::call_parts::put_back;
 use crate::context::{FileSlot, WasiP1Ctx};
 use crate::error::P1Error;
-use crate::file_parts::{FileUse, base_of, file_at, host_advice, position_from, position_from_end};
+use crate::file_parts::{FileUse, file_at, host_advice, position_sought};
 use crate::raw_numbers::{advice_of, whence_of};
 use wasi_fs::Descriptor;
 use wasi_guest::{Errno, Value};
@@ -116,20 +116,7 @@ impl<H: Host> WasiP1Ctx<H> {
             position,
             modes,
         } = file_at(&self.host, &self.descriptors, fd, FileUse::Position)?;
-        let Some(base) = base_of(position, place) else {
-            let position = position_from_end(&mut self.host, file.file, offset)?;
-            put_back(
-                &mut self.descriptors,
-                fd,
-                FileSlot {
-                    file,
-                    position,
-                    modes,
-                },
-            );
-            return Ok(Value::Number(position));
-        };
-        let position = position_from(base, offset)?;
+        let position = position_sought(&mut self.host, file.file, position, place, offset)?;
         put_back(
             &mut self.descriptors,
             fd,

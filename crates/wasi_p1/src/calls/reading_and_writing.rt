@@ -7,11 +7,10 @@ ghost use Rattle.wasi_p1.specs.Writing.{WritesWhole};
 
 use crate::call_parts::{
     Sink, Source, buffer_at, bytes_at, check_write, put_back, read_into, sink_at, source_at,
-    write_piece,
 };
 use crate::context::{FileSlot, WasiP1Ctx};
 use crate::error::P1Error;
-use crate::file_parts::{Appended, FileUse, append_piece, file_at, put_behind, read_place};
+use crate::file_parts::{FileUse, Put, file_at, put_next, put_piece, read_place};
 use wasi_guest::{Iovec, Value};
 use wasi_host::Host;
 
@@ -74,11 +73,7 @@ impl<H: Host> WasiP1Ctx<H> {
         let piece = bytes_at(memory, buffer.buf, buffer.buf_len)?;
         check_write(slot.file.perms)?;
         let handle = slot.file.file;
-        if slot.modes.append {
-            let count = append_piece(&mut self.host, handle, piece)?;
-            return Ok(Value::Number(count));
-        }
-        let count = write_piece(&mut self.host, handle, offset, piece)?;
+        let count = put_piece(&mut self.host, handle, slot.modes, offset, piece)?;
         Ok(Value::Number(count))
     }
 
@@ -165,22 +160,7 @@ impl<H: Host> WasiP1Ctx<H> {
         };
         check_write(file.perms)?;
         let handle = file.file;
-        if modes.append {
-            let Appended { count, size } = put_behind(&mut self.host, handle, piece)?;
-            let position = size;
-            put_back(
-                &mut self.descriptors,
-                fd,
-                FileSlot {
-                    file,
-                    position,
-                    modes,
-                },
-            );
-            return Ok(Value::Number(count));
-        }
-        let count = write_piece(&mut self.host, handle, position, piece)?;
-        let position = position + count;
+        let Put { count, position } = put_next(&mut self.host, handle, modes, position, piece)?;
         put_back(
             &mut self.descriptors,
             fd,

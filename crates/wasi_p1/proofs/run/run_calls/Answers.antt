@@ -8,6 +8,7 @@ use Rattle.wasi_p1.proofs.CallTracing.{traced_on}
 use Rattle.wasi_p1.proofs.Runs.{nothing_yet, io_counted, turned_on, stood, stood_first, ended, all_done, call_at, calls_at}
 use Rattle.wasi_p1.proofs.RunAnswers.{goes_on-push, each_answered, last_answered}
 use Rattle.wasi_p1.proofs.Confining.{turn_confines}
+use Rattle.wasi_p1.proofs.ErrorNumbers.{did_errnos}
 use Rattle.wasi_p1.proofs.Staying.{all_stay, stay_on}
 use Rattle.wasi_p1.proofs.Validity.{turn_valid}
 use Rattle.wasi_p1.proofs.run.run_calls.Goals as goal
@@ -131,6 +132,9 @@ returns-then-ends_run-clause-run g c = λ told.
     (sym c.ends_run.ensures ∙ c.if-ends_run.true) in
     rw (c.push.ensures.answers) (rw (c.deref-one-items.ensures.value, all) at on)
 
+pub returns-then-ends_run-clause-errnos : goal.returns-then-ends_run-clause-errnos
+returns-then-ends_run-clause-errnos g c = λ told. did_errnos (returns-then-ends_run-clause-run g c told)
+
 pub returns-then-ends_run-clause-slots : goal.returns-then-ends_run-clause-slots
 returns-then-ends_run-clause-slots g c = stay_on c.args.calls.now.items _ c.loop-one.memory
     (rw c.deref-one-items.ensures.value (Contains-get_or _ _ _ (omega arith))) c.loop-one.invariant.slots
@@ -160,3 +164,6 @@ pub returns-clause-run : goal.returns-clause-run
 returns-clause-run g c = λ told.
     rw (take_all c.loop-one.one-index (map (with_fuel c.args.fuel) c.args.calls.now.items) (simp length-map (omega arith))) at
     (all_done (c.loop-one.invariant.run told))
+
+pub returns-clause-errnos : goal.returns-clause-errnos
+returns-clause-errnos g c = λ told. did_errnos (returns-clause-run g c told)

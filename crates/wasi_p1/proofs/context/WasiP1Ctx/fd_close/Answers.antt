@@ -1,18 +1,10 @@
-use Rattle.std.proofs.Common.{refl, rules, []}
+use Rattle.std.proofs.Common.{refl, []}
 use Rattle.std.proofs.lemmas.List.{map-set}
 use Rattle.wasi_host.proofs.Leaving.{Contains-here}
 use Rattle.wasi_p1.specs.Rows.{fd_close}
-use Rattle.wasi_p1.proofs.CallTracing.{traced_free}
 use Rattle.wasi_p1.proofs.Staying.{close_stays}
 use Rattle.wasi_p1.proofs.Taking.{answered}
 use Rattle.wasi_p1.proofs.context.WasiP1Ctx.fd_close.Goals as goal
-
-pub returns-clause-bounds : goal.returns-clause-bounds
-returns-clause-bounds g c = record {
-  cause = search rules;
-  handles = search rules;
-  lineage = rw (← c.self.view_is) (traced_free _ c.close_slot.ensures.lineage);
-}
 
 pub returns-clause-turn : goal.returns-clause-turn
 unfolding fd_close

@@ -1,17 +1,14 @@
 use Rattle.std.proofs.Common.{refl, []}
-use Rattle.std.proofs.lemmas.List.{map-set}
 use Rattle.wasi_host.proofs.Leaving.{Contains-here}
 use Rattle.wasi_p1.specs.Rows.{fd_fdstat_set_flags}
-use Rattle.wasi_p1.proofs.Staying.{put_stays}
-use Rattle.wasi_p1.proofs.Taking.{answered, on_err, refused}
+use Rattle.wasi_p1.proofs.Taking.{put_answered, refused, on_err}
 use Rattle.wasi_p1.proofs.context.WasiP1Ctx.fd_fdstat_set_flags.Goals as goal
 
 pub returns-clause-turn : goal.returns-clause-turn
 unfolding fd_fdstat_set_flags
-returns-clause-turn g c = let put = c.put_back.ensures in rw (← c.self.view_is) (answered
-    (rw (← c.in_ok-fdflags.ensures.row, ← c.in_ok-file.ensures.row, ← c.in_ok-not_synchronized.ensures.row, put.slots, put.max, map-set, c.file_modes-modes.ensures.modes) refl)
-    refl (put_stays _ _ (Contains-here _ []) c.in_ok-file.ensures.is refl put.slots)
-    (record { failed = refl; looked = refl }) (λ told. record { tree = refl; touched = refl; slots = refl }))
+returns-clause-turn g c = let put = c.put_back.ensures in rw (← c.self.view_is) (put_answered
+    (rw (← c.in_ok-fdflags.ensures.row, ← c.in_ok-file.ensures.row, ← c.in_ok-not_synchronized.ensures.row, c.file_modes-modes.ensures.modes) refl)
+    refl (record { slots = put.slots; table_max = put.max; holdings = refl }) (Contains-here _ []) c.in_ok-file.ensures.is refl refl)
 
 pub returns-in_err-not_synchronized-clause-turn : goal.returns-in_err-not_synchronized-clause-turn
 unfolding fd_fdstat_set_flags

@@ -3,7 +3,7 @@ use Rattle.wasi_host.specs.HostCall.{Pread}
 use Rattle.wasi_p1.specs.Request.{Direct}
 use Rattle.wasi_p1.specs.CallParts.{filled_at}
 use Rattle.wasi_p1.specs.Rows.{fd_pread}
-use Rattle.wasi_p1.proofs.Taking.{makes_err, makes_ok, on_err, refused_at}
+use Rattle.wasi_p1.proofs.Taking.{refused_at, makes_err, makes_ok, on_err}
 use Rattle.wasi_p1.proofs.RowEnds.{with_text}
 use Rattle.wasi_p1.proofs.context.WasiP1Ctx.fd_pread.Goals as goal
 
@@ -31,6 +31,5 @@ returns-in_err-buffer-clause-turn g c =
 
 pub returns-in_err-slot-clause-turn : goal.returns-in_err-slot-clause-turn
 unfolding fd_pread
-returns-in_err-slot-clause-turn g c =
-    rw (← c.self.view_is) (on_err c.from_residual-in_err-slot.ensures.1 (refused_at refl
+returns-in_err-slot-clause-turn g c = rw (← c.self.view_is) (on_err c.from_residual-in_err-slot.ensures.1 (refused_at refl
     (rw (← (rw c.in_ok-buffer.was at c.buffer_at.ensures.row), ← c.in_err-slot.ensures.row) refl)))

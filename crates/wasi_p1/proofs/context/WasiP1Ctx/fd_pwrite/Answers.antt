@@ -1,16 +1,15 @@
 use Rattle.std.proofs.Common.{refl}
-use Rattle.wasi_host.specs.HostCall.{Append, Pwrite}
+use Rattle.wasi_p1.specs.Putting.{put_call, count_in}
 use Rattle.wasi_p1.specs.Request.{Direct}
 use Rattle.wasi_p1.specs.Row.{give}
 use Rattle.wasi_p1.specs.Rows.{fd_pwrite}
 use Rattle.wasi_p1.proofs.RowEnds.{with_number}
-use Rattle.wasi_p1.proofs.Taking.{makes_err, makes_ok, on_err, refused_at, unchanged}
+use Rattle.wasi_p1.proofs.Taking.{refused_at, makes_err, makes_ok, on_err, unchanged}
 use Rattle.wasi_p1.proofs.context.WasiP1Ctx.fd_pwrite.Goals as goal
 
 pub returns-in_err-slot-clause-turn : goal.returns-in_err-slot-clause-turn
 unfolding fd_pwrite
-returns-in_err-slot-clause-turn g c =
-    rw (← c.self.view_is) (on_err c.from_residual-in_err-slot.ensures.1 (refused_at refl
+returns-in_err-slot-clause-turn g c = rw (← c.self.view_is) (on_err c.from_residual-in_err-slot.ensures.1 (refused_at refl
     (rw (← (rw c.in_ok-buffer.was at c.buffer_at.ensures.row), ← c.in_err-slot.ensures.row) refl)))
 
 pub returns-in_err-check_write-clause-turn : goal.returns-in_err-check_write-clause-turn
@@ -21,32 +20,15 @@ returns-in_err-check_write-clause-turn g c =
 
 pub returns-in_err-count-clause-turn : goal.returns-in_err-count-clause-turn
 unfolding fd_pwrite
-returns-in_err-count-clause-turn g c =
-    let given = c.in_err-count.ensures in
-    rw (← c.self.view_is) (on_err c.from_residual-in_err-count.ensures.1 (makes_err {r = Direct (Append _ _)} give with_number
-    (rw (← (rw c.in_ok-buffer.was at c.buffer_at.ensures.row), ← c.in_ok-slot.ensures.row, ← c.in_ok-piece.ensures.row, ← c.in_ok-check_write.ensures.row, c.if-slot.true) refl)
-    c.self.invariant given.front (λ _. refl) unchanged given.told))
-
-pub returns-then-slot-clause-turn : goal.returns-then-slot-clause-turn
-unfolding fd_pwrite
-returns-then-slot-clause-turn g c =
-    let given = c.in_ok-count.ensures in
-    rw (← c.self.view_is) (makes_ok {r = Direct (Append _ _)} give with_number
-    (rw (← (rw c.in_ok-buffer.was at c.buffer_at.ensures.row), ← c.in_ok-slot.ensures.row, ← c.in_ok-piece.ensures.row, ← c.in_ok-check_write.ensures.row, c.if-slot.true) refl)
-    c.self.invariant refl given.front refl refl given.told)
-
-pub returns-in_err-count-2-clause-turn : goal.returns-in_err-count-2-clause-turn
-unfolding fd_pwrite
-returns-in_err-count-2-clause-turn g c =
-    let given = c.in_err-count-2.ensures in
-    rw (← c.self.view_is) (on_err c.from_residual-in_err-count-2.ensures.1 (makes_err {r = Direct (Pwrite _ _ _)} give with_number
-    (rw (← (rw c.in_ok-buffer.was at c.buffer_at.ensures.row), ← c.in_ok-slot.ensures.row, ← c.in_ok-piece.ensures.row, ← c.in_ok-check_write.ensures.row, c.if-slot.false) refl)
+returns-in_err-count-clause-turn g c = let given = c.in_err-count.ensures in
+    rw (← c.self.view_is) (on_err c.from_residual-in_err-count.ensures.1 (makes_err {r = Direct (put_call _ _ _ _)}
+    (λ answer. give (count_in _ _ _ _ answer)) with_number
+    (rw (← (rw c.in_ok-buffer.was at c.buffer_at.ensures.row), ← c.in_ok-slot.ensures.row, ← c.in_ok-piece.ensures.row, ← c.in_ok-check_write.ensures.row) refl)
     c.self.invariant given.front (λ _. refl) unchanged given.told))
 
 pub returns-clause-turn : goal.returns-clause-turn
 unfolding fd_pwrite
-returns-clause-turn g c =
-    let given = c.in_ok-count-2.ensures in
-    rw (← c.self.view_is) (makes_ok {r = Direct (Pwrite _ _ _)} give with_number
-    (rw (← (rw c.in_ok-buffer.was at c.buffer_at.ensures.row), ← c.in_ok-slot.ensures.row, ← c.in_ok-piece.ensures.row, ← c.in_ok-check_write.ensures.row, c.if-slot.false) refl)
+returns-clause-turn g c = let given = c.in_ok-count.ensures in
+    rw (← c.self.view_is) (makes_ok {r = Direct (put_call _ _ _ _)} (λ answer. give (count_in _ _ _ _ answer)) with_number
+    (rw (← (rw c.in_ok-buffer.was at c.buffer_at.ensures.row), ← c.in_ok-slot.ensures.row, ← c.in_ok-piece.ensures.row, ← c.in_ok-check_write.ensures.row) refl)
     c.self.invariant refl given.front refl refl given.told)

@@ -8,34 +8,29 @@ use Rattle.wasi_p1.proofs.context.WasiP1Ctx.fd_read.Goals as goal
 
 pub returns-in_err-count-clause-turn : goal.returns-in_err-count-clause-turn
 unfolding fd_read
-returns-in_err-count-clause-turn g c =
+returns-in_err-count-clause-turn g c = let given = c.in_err-count.ensures in
     rw (← c.self.view_is) (on_err c.from_residual-in_err-count.ensures.1 (makes_err (filled_at _ _)
     (with_memory c.args.fd (open_file_of (g.H.Host.world c.self.inside.host).held c.in-File.slot))
     (rw (← (rw c.in_ok-buffer.was at c.buffer_at.ensures.row), ← (rw c.in-File.is at c.in_ok-source.ensures.row), ← c.in_ok-bytes_at.ensures.row) refl)
-    c.self.invariant c.in_err-count.ensures.front (λ is. absurd (c.in_err-count.ensures.never_wants is))
-    (record { slots = refl; table_max = refl; holdings = refl; memory = c.in_err-count.ensures.same })
-    c.in_err-count.ensures.told))
+    c.self.invariant given.front (λ is. absurd (given.never_wants is))
+    (record { slots = refl; table_max = refl; holdings = refl; memory = given.same }) given.told))
 
 pub returns-clause-turn : goal.returns-clause-turn
 unfolding fd_read
-returns-clause-turn g c = rw (← c.self.view_is) (put_ok (filled_at _ _) (with_memory _ _)
+returns-clause-turn g c = let given = c.in_ok-count.ensures in let put = c.put_back.ensures in
+    rw (← c.self.view_is) (put_ok (filled_at _ _) (with_memory _ _)
     (rw (← (rw c.in_ok-buffer.was at c.buffer_at.ensures.row), ← (rw c.in-File.is at c.in_ok-source.ensures.row), ← c.in_ok-bytes_at.ensures.row) refl)
-    c.self.invariant c.in_ok-count.ensures.size c.in_ok-count.ensures.front refl
-    (record { slots = c.put_back.ensures.slots; table_max = c.put_back.ensures.max; holdings = refl })
-    (Contains-here _ [])
-    (rw c.in-File.is at c.in_ok-source.ensures.is) refl (rw c.in-File.is at c.in_ok-source.ensures.live)
-    c.in_ok-count.ensures.told)
+    c.self.invariant given.size given.front refl (record { slots = put.slots; table_max = put.max; holdings = refl })
+    (Contains-here _ []) (rw c.in-File.is at c.in_ok-source.ensures.is) refl
+    (rw c.in-File.is at c.in_ok-source.ensures.live) given.told)
 
 pub returns-in_err-buffer-clause-turn : goal.returns-in_err-buffer-clause-turn
 unfolding fd_read
 returns-in_err-buffer-clause-turn g c =
-    rw (← c.self.view_is) (on_err c.from_residual.ensures.1 (refused_at refl (rw (← c.in_err-buffer.ensures.row)
-    refl)))
+    rw (← c.self.view_is) (on_err c.from_residual.ensures.1 (refused_at refl (rw (← c.in_err-buffer.ensures.row) refl)))
 
 pub returns-in_err-read-in-Input-clause-turn : goal.returns-in_err-read-in-Input-clause-turn
 unfolding fd_read
-returns-in_err-read-in-Input-clause-turn g c =
-    let given = c.in_err-read-in-Input.ensures in
-    rw (given.kept, given.same, ← c.self.view_is) (on_err c.from_residual-in_err-read-in-Input.ensures.1
-    (refused_at refl
+returns-in_err-read-in-Input-clause-turn g c = let given = c.in_err-read-in-Input.ensures in
+    rw (given.kept, given.same, ← c.self.view_is) (on_err c.from_residual-in_err-read-in-Input.ensures.1 (refused_at refl
     (rw (← (rw c.in_ok-buffer.was at c.buffer_at.ensures.row), ← (rw c.in-Input.is at c.in_ok-source.ensures.row), ← c.in_ok-bytes_at.ensures.row, ← given.row) refl)))

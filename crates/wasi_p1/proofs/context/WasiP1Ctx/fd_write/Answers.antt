@@ -1,55 +1,29 @@
-use Rattle.std.proofs.Common.{refl, rules, []}
+use Rattle.std.proofs.Common.{refl, []}
 use Rattle.wasi_host.proofs.Leaving.{Contains-here}
-use Rattle.wasi_host.specs.HostCall.{Pwrite}
-use Rattle.wasi_p1.specs.Request.{Direct, Behind}
-use Rattle.wasi_p1.specs.CallParts.{appended_in, open_file_of}
+use Rattle.wasi_p1.specs.CallParts.{open_file_of}
+use Rattle.wasi_p1.specs.Putting.{put_request, put_in}
 use Rattle.wasi_p1.specs.Row.{give}
 use Rattle.wasi_p1.specs.Rows.{fd_write}
-use Rattle.wasi_p1.proofs.Taking.{refusals, makes_err, put_ok, unchanged, on_err}
-use Rattle.wasi_p1.proofs.RowEnds.{with_position, with_size}
+use Rattle.wasi_p1.proofs.Taking.{refused_at, makes_err, put_ok, unchanged, on_err}
+use Rattle.wasi_p1.proofs.RowEnds.{with_position}
 use Rattle.wasi_p1.proofs.Writing.{writes_whole, output_whole}
 use Rattle.wasi_p1.proofs.context.WasiP1Ctx.fd_write.Goals as goal
 
 pub returns-in_err-count-clause-turn : goal.returns-in_err-count-clause-turn
 unfolding fd_write
-returns-in_err-count-clause-turn g c =
-    let given = c.in_err-count.ensures in
-    rw (← c.self.view_is) (on_err c.from_residual-in_err-count.ensures.1 (makes_err {r = Behind _ _} appended_in
-    (with_size c.args.fd (open_file_of (g.H.Host.world c.self.inside.host).held c.in-File.slot))
-    (rw (← (rw c.in_ok-buffer.was at c.buffer_at.ensures.row), ← (rw c.in-File.is at c.in_ok-sink.ensures.row), ← c.in_ok-piece.ensures.row, ← c.in_ok-check_write.ensures.row, c.if-modes.true) refl)
-    c.self.invariant given.front (λ _. refl) unchanged given.told))
-
-pub returns-then-modes-clause-turn : goal.returns-then-modes-clause-turn
-unfolding fd_write
-returns-then-modes-clause-turn g c =
-    let given = c.in_ok-count.ensures in
-    rw (← c.self.view_is) (put_ok {r = Behind _ _} appended_in (with_size c.args.fd (open_file_of (g.H.Host.world c.self.inside.host).held c.in-File.slot))
-    (rw (← (rw c.in_ok-buffer.was at c.buffer_at.ensures.row), ← (rw c.in-File.is at c.in_ok-sink.ensures.row), ← c.in_ok-piece.ensures.row, ← c.in_ok-check_write.ensures.row, c.if-modes.true) refl)
-    c.self.invariant refl given.front refl
-    (record { slots = c.put_back.ensures.slots; table_max = c.put_back.ensures.max; holdings = refl })
-    (Contains-here _ []) (rw c.in-File.is at c.in_ok-sink.ensures.is) refl
-    (rw c.in-File.is at c.in_ok-sink.ensures.live) given.told)
-
-pub returns-then-modes-clause-whole : goal.returns-then-modes-clause-whole
-returns-then-modes-clause-whole g c = λ told. writes_whole _ _ _ _ _ _ _ ((returns-then-modes-clause-turn g c).turn told).turn
-
-pub returns-in_err-count-2-clause-turn : goal.returns-in_err-count-2-clause-turn
-unfolding fd_write
-returns-in_err-count-2-clause-turn g c =
-    let given = c.in_err-count-2.ensures in
-    rw (← c.self.view_is) (on_err c.from_residual-in_err-count-2.ensures.1 (makes_err {r = Direct (Pwrite _ _ _)} give
-    (with_position c.args.fd (open_file_of (g.H.Host.world c.self.inside.host).held c.in-File.slot))
-    (rw (← (rw c.in_ok-buffer.was at c.buffer_at.ensures.row), ← (rw c.in-File.is at c.in_ok-sink.ensures.row), ← c.in_ok-piece.ensures.row, ← c.in_ok-check_write.ensures.row, c.if-modes.false) refl)
+returns-in_err-count-clause-turn g c = let given = c.in_err-count.ensures in
+    rw (← c.self.view_is) (on_err c.from_residual-in_err-count.ensures.1 (makes_err {r = put_request _ _ _ _}
+    (λ reply. give (put_in _ _ _ _ reply)) (with_position c.args.fd (open_file_of (g.H.Host.world c.self.inside.host).held c.in-File.slot))
+    (rw (← (rw c.in_ok-buffer.was at c.buffer_at.ensures.row), ← (rw c.in-File.is at c.in_ok-sink.ensures.row), ← c.in_ok-piece.ensures.row, ← c.in_ok-check_write.ensures.row) refl)
     c.self.invariant given.front (λ _. refl) unchanged given.told))
 
 pub returns-clause-turn : goal.returns-clause-turn
 unfolding fd_write
-returns-clause-turn g c =
-    let given = c.in_ok-count-2.ensures in
-    rw (← c.self.view_is) (put_ok {r = Direct (Pwrite _ _ _)} give (with_position c.args.fd (open_file_of (g.H.Host.world c.self.inside.host).held c.in-File.slot))
-    (rw (← (rw c.in_ok-buffer.was at c.buffer_at.ensures.row), ← (rw c.in-File.is at c.in_ok-sink.ensures.row), ← c.in_ok-piece.ensures.row, ← c.in_ok-check_write.ensures.row, c.if-modes.false) refl)
-    c.self.invariant refl given.front refl
-    (record { slots = c.put_back-2.ensures.slots; table_max = c.put_back-2.ensures.max; holdings = refl })
+returns-clause-turn g c = let given = c.in_ok-count.ensures in let put = c.put_back.ensures in
+    rw (← c.self.view_is) (put_ok {r = put_request _ _ _ _} (λ reply. give (put_in _ _ _ _ reply))
+    (with_position c.args.fd (open_file_of (g.H.Host.world c.self.inside.host).held c.in-File.slot))
+    (rw (← (rw c.in_ok-buffer.was at c.buffer_at.ensures.row), ← (rw c.in-File.is at c.in_ok-sink.ensures.row), ← c.in_ok-piece.ensures.row, ← c.in_ok-check_write.ensures.row) refl)
+    c.self.invariant refl given.front refl (record { slots = put.slots; table_max = put.max; holdings = refl })
     (Contains-here _ []) (rw c.in-File.is at c.in_ok-sink.ensures.is) refl
     (rw c.in-File.is at c.in_ok-sink.ensures.live) given.told)
 
@@ -58,10 +32,11 @@ returns-clause-whole g c = λ told. writes_whole _ _ _ _ _ _ _ ((returns-clause-
 
 pub returns-in_err-check_write-clause-turn : goal.returns-in_err-check_write-clause-turn
 unfolding fd_write
-returns-in_err-check_write-clause-turn g c = rw (← c.self.view_is) (search (rules, refusals))
+returns-in_err-check_write-clause-turn g c =
+    rw (← c.self.view_is) (on_err c.from_residual-in_err-check_write.ensures.1 (refused_at refl
+    (rw (← (rw c.in_ok-buffer.was at c.buffer_at.ensures.row), ← (rw c.in-File.is at c.in_ok-sink.ensures.row), ← c.in_ok-piece.ensures.row, ← c.in_err-check_write.ensures.row) refl)))
 
 pub returns-in-Output-clause-whole : goal.returns-in-Output-clause-whole
 returns-in-Output-clause-whole g c = λ told. rw (← c.self.view_is, c.in_ok-write-in-Output.ensures.done)
-    (output_whole _ c.self.inside.fuel
-    _ _ _ (rw c.in_ok-buffer.was at c.buffer_at.ensures.row) (rw c.in-Output.is at c.in_ok-sink.ensures.row)
-    c.in_ok-piece.ensures.row)
+    (output_whole _ c.self.inside.fuel _ _ _ (rw c.in_ok-buffer.was at c.buffer_at.ensures.row)
+    (rw c.in-Output.is at c.in_ok-sink.ensures.row) c.in_ok-piece.ensures.row)

@@ -1,0 +1,5 @@
+use Rattle.wasi_p1.proofs.ErrorNumbers.{turn_errnos}
+use Rattle.wasi_p1.proofs.run.call.Goals as goal
+
+pub returns-clause-errnos : goal.returns-clause-errnos
+returns-clause-errnos g c = λ told. turn_errnos c.by_name.result (c.by_name.ensures.turn.turn told)
