@@ -1,0 +1,1 @@
+"""What the tools share: `tell`, `script` and `record` beside the program. None of it is proved."""
