@@ -1,16 +1,7 @@
 -- The names of a directory in order, and the items and members that are left to be told.
-use Rattle.std.proofs.Common.{ℕ, zero, suc, List, [], ◌∷◌, ◌++◌, ◌≡◌, ◌<◌, ◌+◌, All, Less, refl, sym, ap, ◌∙◌, map, drop, length, get_or, slice_index_or, append_assoc, arith}
-use Rattle.std.proofs.lemmas.List.{drop_more, length-map}
-use Rattle.std.proofs.lemmas.List.Elements.{All-map}
-use Rattle.std.specs.Cmp.Lexicographic.{slice_cmp}
-use Rattle.std.specs.FinMap.{entries}
-use Rattle.std.specs.List.{AllByRecursion}
-use Rattle.std.specs.List.Sorted.{IsStrictlySortedBy}
-use Rattle.std.specs.Map.{keys_of}
-use Rattle.std.specs.Ordering.{nat_cmp}
-use Rattle.std.specs.Prelude.{String, string_bytes}
-use Rattle.std.specs.String.{string_cmp}
-use Rattle.std.specs.declared.alloc.Global.{Global}
+use Rattle.std.proofs.Common.{ℕ, zero, suc, List, [], ◌∷◌, ◌++◌, ◌≡◌, ◌<◌, ◌+◌, ◌^◌, All, refl, sym, ap, ◌∙◌, subst, map, drop, length, get_or, slice_index_or, append_assoc, arith}
+use Rattle.std.proofs.lemmas.List.{drop_more, length-map, append-nil}
+use Rattle.std.proofs.lemmas.List.Elements.{All-nil, All-push}
 use Rattle.json.specs.Token.{Token}
 use Rattle.json.specs.Tree.{items_tokens, members_tokens}
 use Rattle.serde_json.specs.Data.{Data, array, item, Members, no_members}
@@ -18,39 +9,39 @@ use Rattle.serde_json.specs.View.{items_of}
 use Rattle.serde_json.specs.Written.{items_outline, members_outline}
 use Rattle.wasi_host.specs.Tree.{Tree, Node, node_at, next_of, stray}
 use Rattle.wasi_tree.specs.Given.{Given, GivenContent, file, directory, link, given_of}
-use Rattle.wasi_tree.specs.StoredTree.{names_in, text_entry}
-use Rattle.wasi_tree.proofs.NameLemmas.{entries-names_in}
 use Rattle.wasi_report.specs.Report.{put_all, node_value, list_value, content_member}
 use Rattle.wasi_report.specs.ReadBack.{FitsContent, FitsEntry}
 use Rattle.wasi_report.specs.Told.{told, told_at, content_told}
-use Rattle.wasi_report.proofs.ReadBack.{IsRising, in_order, put_rising}
+use Rattle.wasi_report.proofs.ReadBack.{Entries, IsRising, in_order, put_rising}
 
-abbrev Number : Type 0
-Number = String Global × ℕ
+-- ---- the names of a directory
 
--- ---- a map of numbers
+-- names in byte order are told in their order
+pub names_in_order : (es : Entries) → IsRising es → in_order es ≡ put_all es no_members
+names_in_order es rising = sym (put_rising es rising)
 
-below_in_text : (name : String Global) (es : List Number) → AllByRecursion (λ k. string_cmp name k ≡ Less) (keys_of es)
-    → AllByRecursion (λ k. slice_cmp nat_cmp (string_bytes name) k ≡ Less) (map (λ e. e.0) (map text_entry es))
-below_in_text name [] below = tt
-below_in_text name (e ∷ es) below = (below.0, below_in_text name es below.1)
+-- these names are told, whose numbers are in range, and the others are left
+pub record AreTold (all left : Entries) : Type 0 where
+  pub done : Entries
+  pub whole : all ≡ done ++ left
+  pub fits : All FitsEntry done
 
-rising_in_text : (es : List Number) → IsStrictlySortedBy string_cmp (keys_of es) → IsRising (map text_entry es)
-unfolding IsStrictlySortedBy
-rising_in_text [] ordered = tt
-rising_in_text (e ∷ es) ordered = (below_in_text e.0 es ordered.0, rising_in_text es ordered.1)
+pub none_told : (all : Entries) → AreTold all all
+none_told all = record { done = []; whole = refl; fits = All-nil _ }
 
--- the names that ordered entries hold are told in the entries' order
-pub names_in_order : (es : List Number) → IsStrictlySortedBy string_cmp (keys_of es)
-    → in_order (map text_entry es) ≡ put_all (entries (names_in es)) no_members
-names_in_order es ordered =
-    sym (ap (λ names. put_all names no_members) (entries-names_in es ordered) ∙ put_rising (map text_entry es) (rising_in_text es ordered))
+pub one_told : {all left rest : Entries} (name : List ℕ) (n : ℕ) → n < 2 ^ 64 → left ≡ (name, n) ∷ rest → AreTold all left
+    → AreTold all rest
+one_told {all} {left} {rest} name n fits next so = record {
+  done = so.done ++ (name, n) ∷ [];
+  whole = so.whole ∙ ap (λ es. so.done ++ es) next ∙ sym (append_assoc so.done ((name, n) ∷ []) rest);
+  fits = All-push FitsEntry so.done (name, n) so.fits fits;
+}
 
--- the names that ordered entries hold are in order, and their numbers in range
-pub names_fit : (es : List Number) → IsStrictlySortedBy string_cmp (keys_of es) → All FitsEntry es
-    → FitsContent (directory (entries (names_in es)))
-names_fit es ordered numbers =
-    rw (entries-names_in es ordered) (rising_in_text es ordered, All-map FitsEntry text_entry es numbers)
+-- names that are told in byte order fit
+pub names_fit : {all left : Entries} → IsRising all → left ≡ [] → AreTold all left → FitsContent (directory all)
+names_fit {all} rising none so =
+    let told_all : all ≡ so.done = so.whole ∙ ap (λ es. so.done ++ es) none ∙ append-nil so.done in
+    (rising, subst (λ es. All FitsEntry es) (sym told_all) so.fits)
 
 -- ---- what is left
 
@@ -59,8 +50,8 @@ abbrev pub items_told : {A : Type 0} → (A → Data) → List A → List Token
 items_told value_of items = items_tokens (items_outline (items_of (map value_of items)))
 
 -- the tokens of these members and of the object's end
-abbrev pub numbers_told : List Number → List Token
-numbers_told es = members_tokens (members_outline (in_order (map text_entry es)))
+abbrev pub numbers_told : Entries → List Token
+numbers_told es = members_tokens (members_outline (in_order es))
 
 pub item_next : {A : Type 0} (value_of : A → Data) (items : List A) (i : ℕ) (a : A) (now next all : List Token)
     → now ++ items_told value_of (drop i items) ≡ all → i < length items → a ≡ get_or items i a → next ≡ now ++ told (value_of a)

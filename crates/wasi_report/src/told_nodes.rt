@@ -1,10 +1,8 @@
 //! How the nodes of a tree are reported.
-ghost use Rattle.std.specs.FinMap as maps;
 ghost use Rattle.std.specs.Prelude.{◌≡◌, ◌++◌, OnOk};
 ghost use Rattle.serde_json.specs.Data.{object, string, no_members};
 ghost use Rattle.wasi_tree.specs.Given.{directory};
 ghost use Rattle.wasi_tree.specs.Lent.{lent, lent_content};
-ghost use Rattle.wasi_tree.specs.StoredTree.{names_in};
 ghost use Rattle.wasi_report.specs.ReadBack.{FitsTimes, FitsContent, FitsNode};
 ghost use Rattle.wasi_report.specs.Report.{bits_text, times_value, put_all, node_value, bit_letter};
 ghost use Rattle.wasi_report.specs.Told.{told, content_told};
@@ -12,8 +10,8 @@ ghost use Rattle.wasi_report.specs.Told.{told, content_told};
 use crate::told::{Told, tell_bytes};
 use json::Writer;
 use std::alloc::{AllocError, Global};
-use std::collections::BTreeMap;
 use wasi_host::Bits;
+use wasi_names::Run;
 use wasi_tree::{LentContent, LentNode};
 
 /// A node, as one object with no space and with keys in byte order.
@@ -86,15 +84,16 @@ fn tell_times(alloc: Global, node: &LentNode<'_>, out: &mut Writer) -> Result<()
 }
 
 // The number of each name, in the names' byte order.
-fn tell_numbers(numbers: &BTreeMap<String, u64>, out: &mut Writer) -> Result<(), AllocError>
+fn tell_numbers(numbers: &Run<'_>, out: &mut Writer) -> Result<(), AllocError>
     ensures before { out.new.before ≡ out.old.before }
-    ensures tokens { OnOk result (out.new.tokens ≡ out.old.tokens ++ told (object (put_all (maps.entries (names_in numbers.now.entries)) no_members))) }
-    ensures fits { OnOk result (FitsContent (directory (maps.entries (names_in numbers.now.entries)))) }
+    ensures tokens { OnOk result (out.new.tokens ≡ out.old.tokens ++ told (object (put_all numbers.now no_members))) }
+    ensures fits { OnOk result (FitsContent (directory numbers.now)) }
 {
     out.begin_object()?;
-    for (name, number) in numbers.iter() {
-        out.key(name.as_str())?;
-        out.u64(*number)?;
+    let mut left = numbers.again();
+    while let Some((name, number)) = left.next() {
+        out.key(name)?;
+        out.u64(number)?;
     }
     out.end_object()
 }

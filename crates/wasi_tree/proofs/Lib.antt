@@ -11,6 +11,7 @@ pub mod SlotLemmas
 pub mod MarkLemmas
 pub mod TextEntries
 pub mod NameLemmas
+pub mod NamedLemmas
 pub mod NodeLemmas
 pub mod PutLemmas
 pub mod SoundLemmas

@@ -17,11 +17,13 @@ use Rattle.wasi_host.specs.Numbers.{longest_link}
 use Rattle.wasi_tree.specs.Given.{Given, GivenContent, file, directory, link, entry_count, content_from, node_from, nodes_from, tree_of}
 use Rattle.wasi_tree.specs.GivenTests.{numbers_from}
 use Rattle.wasi_tree.specs.Fit.{is_fit_entry, IsFitContent, IsFit, AreFit, name_counts}
-use Rattle.wasi_tree.specs.StoredTree.{stored_node, stored_tree}
-use Rattle.wasi_tree.specs.Sound.{IsSound, IsSoundNode, IsSoundText}
+use Rattle.wasi_names.specs.NameRows.{AllNames, names_at}
+use Rattle.wasi_tree.specs.StoredTree.{stored_node, stored_tree, with_names, named_from, AreBelow, OtherNamesStay, IsStored}
+use Rattle.wasi_tree.specs.Sound.{IsSoundNode, IsSoundText}
 use Rattle.wasi_tree.specs.declared.row.Row.{Row}
 use Rattle.wasi_host.proofs.EntryLemmas.{unnamed}
 use Rattle.wasi_tree.proofs.TextEntries.{same_name}
+use Rattle.wasi_tree.proofs.NamedLemmas.{named-others, named_push, length-named, none_below, apart_from}
 use Rattle.wasi_tree.proofs.SoundLemmas.{bare}
 
 -- ---- the counts, by number
@@ -41,18 +43,20 @@ length-name_counts all =
 
 -- ---- rows of the nodes, one after another
 
--- the rows of the first nodes are made, and these nodes are left
-pub record AreRows (all : List Given) (rows : List Row) (left : List Given) : Type 0 where
-  pub same : map stored_node rows ++ nodes_from all (length rows) left ≡ nodes_from all 0 all
+-- the rows and names of the first nodes are made, and these nodes are left
+pub record AreRows (all : List Given) (rows : List Row) (names : AllNames) (left : List Given) : Type 0 where
+  pub same : named_from names 0 (map stored_node rows) ++ nodes_from all (length rows) left ≡ nodes_from all 0 all
   pub count : length rows + length left ≡ length all
+  pub below : AreBelow names (length rows)
 
-pub no_row : (all : List Given) (rows : List Row) → rows ≡ [] → AreRows all rows all
-no_row all rows none =
-    subst (λ (made : List Row). AreRows all made all) (sym none) (record { same = refl; count = omega arith })
+pub no_row : (all : List Given) (rows : List Row) (names : AllNames) → rows ≡ [] → names ≡ maps.empty
+    → AreRows all rows names all
+no_row all rows names none bare = subst (λ (made : List Row). AreRows all made names all) (sym none)
+    (record { same = refl; count = omega arith; below = none_below 0 bare })
 
 -- the next number has a count, which is how many entries give it
-pub next_count : {all : List Given} {rows : List Row} {n : ℕ} {left rest : List Given} {g : Given} {counts : List ℕ}
-    → n ≡ length rows → counts ≡ name_counts all → left ≡ g ∷ rest → AreRows all rows left
+pub next_count : {all : List Given} {rows : List Row} {names : AllNames} {n : ℕ} {left rest : List Given} {g : Given} {counts : List ℕ}
+    → n ≡ length rows → counts ≡ name_counts all → left ≡ g ∷ rest → AreRows all rows names left
     → (n < length counts) × (slice_index_or counts n 0 ≡ entry_count n all)
 next_count {all} {n = n} number is next so_far =
     let within : n < length all = omega (arith, number, so_far.count, ap length next) in (
@@ -61,20 +65,31 @@ next_count {all} {n = n} number is next so_far =
           ∙ value_at (λ k. entry_count k all) 0 (length all) n 0 within ∙ ap (λ k. entry_count k all) (omega arith),
     )
 
-pub row_more : {all : List Given} {rows now : List Row} {n : ℕ} {left rest : List Given} {g : Given} (row : Row)
-    → n ≡ length rows → now ≡ rows ++ row ∷ [] → stored_node row ≡ node_from all n g → left ≡ g ∷ rest
-    → AreRows all rows left → AreRows all now rest
-row_more {all} {rows} {now} {left = left} {rest} {g} row number pushed is next so_far =
+pub row_more : {all : List Given} {rows now : List Row} {names more : AllNames} {n : ℕ} {left rest : List Given} {g : Given}
+    (row : Row) → n ≡ length rows → now ≡ rows ++ row ∷ []
+    → with_names (names_at more n) (stored_node row) ≡ node_from all n g → OtherNamesStay n names more
+    → left ≡ g ∷ rest → AreRows all rows names left → AreRows all now more rest
+row_more {all} {rows} {now} {names} {more} {n} {left} {rest} {g} row number pushed is others next so_far =
     let long : length now ≡ length rows + 1 = ap length pushed ∙ length-append rows (row ∷ []) in
+    let count : length (map stored_node rows) ≡ length rows = length-map rows stored_node in
+    let made : named_from more 0 (map stored_node now)
+    ≡ named_from names 0 (map stored_node rows) ++ node_from all (length rows) g ∷ [] =
+    ap (λ items. named_from more 0 (map stored_node items)) pushed
+    ∙ ap (named_from more 0) (map_push stored_node rows row)
+    ∙ named_push more (map stored_node rows) (stored_node row)
+    ∙ (λ i. named-others others 0 (map stored_node rows) (omega (arith, number, count)) i
+    ++ (ap (λ k. with_names (names_at more k) (stored_node row)) (count ∙ sym number) ∙ is ∙ ap (λ k. node_from all k g) number) i ∷ []) in
     record {
       same =
-          (λ i. map stored_node (pushed i) ++ nodes_from all (long i) rest)
-          ∙ ap (λ made. made ++ nodes_from all (length rows + 1) rest) (map_push stored_node rows row)
-          ∙ append_assoc (map stored_node rows) (stored_node row ∷ []) (nodes_from all (length rows + 1) rest)
-          ∙ ap (λ node. map stored_node rows ++ node ∷ nodes_from all (length rows + 1) rest)
-          (is ∙ ap (λ k. node_from all k g) number)
-          ∙ ap (λ gs. map stored_node rows ++ nodes_from all (length rows) gs) (sym next) ∙ so_far.same;
+          (λ i. made i ++ nodes_from all (long i) rest)
+          ∙ append_assoc (named_from names 0 (map stored_node rows)) (node_from all (length rows) g ∷ [])
+          (nodes_from all (length rows + 1) rest)
+          ∙ ap (λ gs. named_from names 0 (map stored_node rows) ++ nodes_from all (length rows) gs) (sym next) ∙ so_far.same;
       count = omega (arith, long, ap length next, so_far.count);
+      below = record {
+        none = λ e past.
+            others.same e (apart_from n e (omega (arith, number, long))) ∙ so_far.below.none e (omega (arith, long));
+      };
     }
 
 -- ---- fit nodes are sound
@@ -139,24 +154,27 @@ module _ (limits : Limits) (all : List Given) where
   nodes_sound k (g ∷ gs) fit zero = node_sound k g (fit k 0 (omega arith) g refl)
   nodes_sound k (g ∷ gs) fit (suc n) = nodes_sound (k + 1) gs (λ j m is. fit j (suc m) (omega (arith, is))) n
 
-pub rows_sound : (rows : List Row) (limits : Limits) (worked : Nodes) (marks : ℕ) (all : List Given)
-    → AreFit limits all → map stored_node rows ≡ nodes_from all 0 all → marks ≡ length rows
-    → IsSound (stored_tree rows limits worked) marks
+pub rows_sound : (rows : List Row) (names : AllNames) (limits : Limits) (worked : Nodes) (marks : ℕ) (all : List Given)
+    → AreFit limits all → named_from names 0 (map stored_node rows) ≡ nodes_from all 0 all → marks ≡ length rows
+    → AreBelow names (length rows) → IsStored rows names limits worked marks
 unfolding node_at
-rows_sound rows limits worked marks all fit same counted = record {
-  nodes = λ n.
-      subst (λ (nodes : List Node). IsSoundNode (length nodes) (slice_index_or nodes n stray)) (sym same)
-      (subst (λ count. IsSoundNode count (slice_index_or (nodes_from all 0 all) n stray))
-      (sym (length-nodes_from all 0 all)) (nodes_sound limits all 0 all (λ j m is.
-      subst (λ i. ForSome (slice_get all i) (IsFit limits all j)) (omega (arith, is)) ((fit j).fit)) n));
-  counted = counted ∙ sym (length-map rows stored_node);
+rows_sound rows names limits worked marks all fit same counted below = record {
+  sound = record {
+    nodes = λ n.
+        subst (λ (nodes : List Node). IsSoundNode (length nodes) (slice_index_or nodes n stray)) (sym same)
+        (subst (λ count. IsSoundNode count (slice_index_or (nodes_from all 0 all) n stray))
+        (sym (length-nodes_from all 0 all)) (nodes_sound limits all 0 all (λ j m is.
+        subst (λ i. ForSome (slice_get all i) (IsFit limits all j)) (omega (arith, is)) ((fit j).fit)) n));
+    counted = counted ∙ sym (length-named names 0 (map stored_node rows) ∙ length-map rows stored_node);
+  };
+  below = below;
 }
 
-pub rows_tree : (rows : List Row) (limits : Limits) (worked : Nodes) (all : List Given)
-    → map stored_node rows ≡ nodes_from all 0 all → worked ≡ set.empty
-    → stored_tree rows limits worked ≡ tree_of all limits
+pub rows_tree : (rows : List Row) (names : AllNames) (limits : Limits) (worked : Nodes) (all : List Given)
+    → named_from names 0 (map stored_node rows) ≡ nodes_from all 0 all → worked ≡ set.empty
+    → stored_tree rows names limits worked ≡ tree_of all limits
 unfolding tree_of
-rows_tree rows limits worked all same none =
+rows_tree rows names limits worked all same none =
     λ i. let t : Tree = record { nodes = same i; limits = limits; worked = none i } in t
 
 pub ruleset new_tree_rules = (rows_sound, rows_tree)

@@ -1,131 +1,307 @@
--- Lemmas on the row of a node: what it stands for, and the tree once its content is another one.
-use Rattle.std.proofs.Common.{◌≡◌, ◌<◌, ℕ, zero, suc, true, List, [], ◌∷◌, ◌++◌, map, length, refl, sym, ap, ◌∙◌, subst, arith, slice_index_or, slice_set}
+use Rattle.wasi_tree.specs.declared.node.NewNode.{NewNode}
+use Rattle.wasi_tree.specs.Given.{given, given_of}
+-- Lemmas on the rows of nodes and of names: what they stand for, and the tree once a row or a name is another one.
+use Rattle.std.proofs.Common.{◌≡◌, ◌<◌, ◌+◌, ℕ, zero, suc, Bool, true, List, [], ◌∷◌, ◌++◌, map, length, refl, sym, ap, ◌∙◌, subst, arith, slice_index_or, slice_set, get_or, take}
 use Rattle.std.proofs.Math.Seq.{map-set_same}
-use Rattle.std.proofs.lemmas.List.{length-map, map-set, map_push}
+use Rattle.std.proofs.lemmas.List.{length-map, length-set, length-append, map-set, map_push, take_more, length-take-le}
+use Rattle.std.specs.FinMap as maps
 use Rattle.std.specs.FinSet.{insert}
-use Rattle.wasi_host.specs.Tree.{Tree, Node, Nodes, Content, node_at, next_of, is_directory}
-use Rattle.wasi_host.specs.Step.{with_nodes, with_content, with_entry, content_changed, node_made}
+use Rattle.wasi_host.specs.Tree.{Tree, Node, Nodes, Names, Content, File, Directory, Link, node_at, next_of, stray, names_of, is_directory}
+use Rattle.wasi_host.specs.Answer.{metadata_of, metadata_from}
+use Rattle.wasi_host.specs.Step.{with_nodes, with_content, with_entry, without_entry, content_changed, node_made}
 use Rattle.wasi_host.specs.declared.limits.Limits.{Limits}
 use Rattle.wasi_host.proofs.Changes.{changed, directory_within}
-use Rattle.wasi_tree.specs.StoredTree.{stored_content, stored_node, stored_tree}
+use Rattle.wasi_paths.specs.Text.{is_entry_name}
+use Rattle.wasi_names.specs.NameRows.{AllNames, names_at}
+use Rattle.wasi_names.proofs.NamesLemmas.{names_at-insert_other}
+use Rattle.wasi_tree.specs.StoredTree.{stored_content, stored_node, stored_tree, with_names, named_content, named_from, AreBelow, IsStored}
 use Rattle.wasi_tree.specs.Sound.{IsSound, IsSoundNode}
 use Rattle.wasi_tree.specs.declared.row.Row.{Row}
 use Rattle.wasi_tree.specs.declared.row.RowContent.{RowContent}
-use Rattle.wasi_tree.proofs.SoundLemmas.{seen, sound_changed}
+use Rattle.wasi_tree.proofs.NamedLemmas.{said_of-named, named_row, length-named, named_node, named_put, named_push, named_more, named_less, below-insert, below-remove, below_more, apart_from}
+use Rattle.wasi_tree.proofs.SoundLemmas.{seen, sound_changed, sound_put, sound_named, sound_taken, sound_made}
 
-pub next-rows : (rows : List Row) (limits : Limits) (worked : Nodes) (t : Tree) → stored_tree rows limits worked ≡ t
-    → next_of t ≡ length rows
-next-rows rows limits worked t is = subst (λ u. next_of u ≡ length rows) is (length-map rows stored_node)
+pub next-rows : (rows : List Row) (m : AllNames) (limits : Limits) (worked : Nodes) (t : Tree)
+    → stored_tree rows m limits worked ≡ t → next_of t ≡ length rows
+next-rows rows m limits worked t is =
+    subst (λ u. next_of u ≡ length rows) is (length-named m 0 (map stored_node rows) ∙ length-map rows stored_node)
 
--- the same rows and marks, with more room
-pub rows_same : {rows rows' : List Row} {limits : Limits} {worked worked' : Nodes} {t : Tree} → rows' ≡ rows
-    → worked' ≡ worked → stored_tree rows limits worked ≡ t → stored_tree rows' limits worked' ≡ t
-rows_same {limits = limits} same marked is = (λ i. stored_tree (same i) limits (marked i)) ∙ is
+-- a node has a row
+pub row_within : (rows : List Row) (m : AllNames) (limits : Limits) (worked : Nodes) (t : Tree) (n : ℕ)
+    → stored_tree rows m limits worked ≡ t → n < next_of t → n < length rows
+row_within rows m limits worked t n stands within = omega (arith, within, next-rows rows m limits worked t stands)
 
-row_is : (rows : List Row) (limits : Limits) (worked : Nodes) (k : ℕ) (d : Row) → k < length rows
-    → node_at (stored_tree rows limits worked) k ≡ stored_node (slice_index_or rows k d)
-unfolding node_at
-row_is [] limits worked k d within = absurd (omega arith)
-row_is (row ∷ rows) limits worked zero d within = refl
-row_is (row ∷ rows) limits worked (suc k) d within = row_is rows limits worked k d (omega arith)
+-- as many rows are as many nodes
+pub count_same : (rows rows' : List Row) (m m' : AllNames) (limits : Limits) (worked : Nodes) (t : Tree)
+    → length rows' ≡ length rows → stored_tree rows m limits worked ≡ t
+    → length (named_from m' 0 (map stored_node rows')) ≡ next_of t
+count_same rows rows' m m' limits worked t same stands =
+    length-named m' 0 (map stored_node rows') ∙ length-map rows' stored_node ∙ same
+    ∙ sym (next-rows rows m limits worked t stands)
 
--- the row that was read of a node, where the rows stand for a tree
-pub record IsRow (rows : List Row) (limits : Limits) (worked : Nodes) (t : Tree) (n : ℕ) (row : Row) : Type 0 where
-  pub stands : stored_tree rows limits worked ≡ t
+row_at : (rows : List Row) (k : ℕ) (d : Row) → k < length rows
+    → slice_index_or (map stored_node rows) k stray ≡ stored_node (slice_index_or rows k d)
+row_at [] k d within = absurd (omega arith)
+row_at (row ∷ rows) zero d within = refl
+row_at (row ∷ rows) (suc k) d within = row_at rows k d (omega arith)
+
+-- the row that was read of a node, where the rows and names stand for a tree
+pub record IsRow (rows : List Row) (m : AllNames) (limits : Limits) (worked : Nodes) (t : Tree) (n : ℕ) (row : Row) : Type 0 where
+  pub stands : stored_tree rows m limits worked ≡ t
   pub within : n < next_of t
   pub read : row ≡ slice_index_or rows n row
 
--- that of a directory
-pub row_of_directory : {rows : List Row} {limits : Limits} {worked : Nodes} {t : Tree} {n : ℕ} {row : Row}
-    → stored_tree rows limits worked ≡ t → is_directory (node_at t n).content ≡ true
-    → row ≡ slice_index_or rows n row → IsRow rows limits worked t n row
-row_of_directory {t = t} {n} stands directory read = record {
-  stands = stands;
-  within = directory_within t n directory;
-  read = read;
-}
+-- each node of the tree that is stood for is sound
+pub sound_at : {rows : List Row} {m : AllNames} {limits : Limits} {worked : Nodes} {marks : ℕ} {t : Tree}
+    → stored_tree rows m limits worked ≡ t → IsStored rows m limits worked marks → IsSound t marks
+sound_at {marks = marks} stands stored = subst (λ u. IsSound u marks) stands stored.sound
 
-module _ {rows : List Row} {limits : Limits} {worked : Nodes} {t : Tree} {n : ℕ} {row : Row}
-    (is : IsRow rows limits worked t n row) where
+module _ {rows : List Row} {m : AllNames} {limits : Limits} {worked : Nodes} {t : Tree} {n : ℕ} {row : Row}
+    (is : IsRow rows m limits worked t n row) where
   abbrev old : Node
   old = node_at t n
 
-  pub row_node : node_at t n ≡ stored_node row
+  -- the node is the row's, with its names
+  pub row_node : node_at t n ≡ with_names (names_at m n) (stored_node row)
+  unfolding node_at
   row_node =
-      subst (λ u. node_at u n ≡ stored_node row) is.stands
-      (row_is rows limits worked n row (omega (arith, is.within, next-rows rows limits worked t is.stands))
-      ∙ ap stored_node (sym is.read))
+      let within : n < length rows = omega (arith, is.within, next-rows rows m limits worked t is.stands) in
+      ap (λ (u : Tree). slice_index_or u.nodes n stray) (sym is.stands)
+      ∙ named_node m (map stored_node rows) n stray (omega (arith, within, length-map rows stored_node))
+      ∙ ap (with_names (names_at m n)) (row_at rows n row within ∙ ap stored_node (sym is.read))
 
-  pub tree_sound : {marks : ℕ} → IsSound (stored_tree rows limits worked) marks → IsSound t marks
-  tree_sound {marks} sound = subst (λ u. IsSound u marks) is.stands sound
+  -- what is said of it without a look at its names
+  pub row_says : {B : Type 0} (f : Content → B)
+      → ((names old : Names) (gone : Bool) → f (Directory names gone) ≡ f (Directory old gone))
+      → f (node_at t n).content ≡ f (stored_content row.content)
+  row_says f same = ap (λ (node : Node). f node.content) row_node
+      ∙ said_of-named f same (names_at m n) (stored_content row.content)
 
-  pub row_sound : {marks : ℕ} → IsSound (stored_tree rows limits worked) marks
-      → IsSoundNode (next_of t) (stored_node row)
-  row_sound sound = subst (IsSoundNode (next_of t)) row_node ((tree_sound sound).nodes n)
+  pub row_metadata : metadata_of t n ≡ metadata_from n (stored_node row)
+  unfolding metadata_of
+  row_metadata =
+      ap (metadata_from n) row_node
+      ∙ said_of-named (λ c. let k : Node = record (stored_node row) { content = c } in metadata_from n k) (λ _ _ _. refl) (names_at m n)
+      (stored_content row.content)
 
   -- a content that stands for what it stood for
   pub row_kept : (content : RowContent) → stored_content content ≡ stored_content row.content
-      → stored_tree (slice_set rows n (record row { content = content })) limits worked ≡ stored_tree rows limits worked
+      → stored_tree (slice_set rows n (record row { content = content })) m limits worked ≡ stored_tree rows m limits worked
   row_kept content same =
-      ap (λ nodes. let u : Tree = record { nodes = nodes; limits = limits; worked = worked } in u)
+      ap (λ nodes. let u : Tree = record { nodes = named_from m 0 nodes; limits = limits; worked = worked } in u)
       (map-set_same stored_node rows n (record row { content = content }) row
       (ap (λ c. let node : Node = record (stored_node row) { content = c } in node) same ∙ ap stored_node is.read))
 
+  pub stored_kept : {marks : ℕ} (content : RowContent) → stored_content content ≡ stored_content row.content
+      → IsStored rows m limits worked marks
+      → IsStored (slice_set rows n (record row { content = content })) m limits worked marks
+  stored_kept {marks} content same stored = record {
+    sound = subst (λ u. IsSound u marks) (sym (row_kept content same)) stored.sound;
+    below = below_more (omega (arith, length-set rows n (record row { content = content }))) stored.below;
+  }
+
   -- a row that stands for what f makes of what this one stood for
-  module _ (f : Node → Node) (new : Row) (does : stored_node new ≡ f (stored_node row)) where
-    nodes_put : map stored_node (slice_set rows n new) ≡ slice_set t.nodes n (f old)
+  module _ (f : Node → Node) (unnamed : (names : Names) (node : Node) → with_names names (f node) ≡ f (with_names names node))
+      (new : Row) (does : stored_node new ≡ f (stored_node row)) where
+    nodes_put : named_from m 0 (map stored_node (slice_set rows n new)) ≡ slice_set t.nodes n (f old)
     nodes_put =
-        map-set stored_node rows n new
-        ∙ (λ i. slice_set (is.stands i).nodes n ((does ∙ sym (ap f row_node)) i))
+        ap (named_from m 0) (map-set stored_node rows n new) ∙ named_put m (map stored_node rows) n (stored_node new)
+        ∙ (λ i. slice_set (is.stands i).nodes n
+        ((ap (with_names (names_at m n)) does ∙ unnamed (names_at m n) (stored_node row) ∙ sym (ap f row_node)) i))
 
     -- the tree that the rows then stand for
-    pub tree_put : (now : Nodes) → stored_tree (slice_set rows n new) limits now ≡ changed t n (f old) now
+    pub tree_put : (now : Nodes) → stored_tree (slice_set rows n new) m limits now ≡ changed t n (f old) now
     tree_put now = λ i.
         let u : Tree = record { nodes = nodes_put i; limits = (is.stands i).limits; worked = now } in u
 
     pub sound_row : (now : Nodes) {marks count : ℕ} → ((node : Node) → seen (f node).content ≡ seen node.content)
-        → IsSound (stored_tree rows limits worked) marks → count ≡ marks
-        → IsSound (stored_tree (slice_set rows n new) limits now) count
-    sound_row now {marks} same_seen sound same =
-        subst (IsSound (stored_tree (slice_set rows n new) limits now)) (sym same)
-        (subst (λ u. IsSound u marks) (sym (tree_put now))
-        (sound_changed t marks n (f old) now (tree_sound sound) is.within (same_seen old)))
+        → IsStored rows m limits worked marks → count ≡ marks
+        → IsStored (slice_set rows n new) m limits now count
+    sound_row now {marks} same_seen stored same = record {
+      sound = subst (IsSound (stored_tree (slice_set rows n new) m limits now)) (sym same)
+          (subst (λ u. IsSound u marks) (sym (tree_put now))
+          (sound_changed t marks n (f old) now (sound_at is.stands stored) is.within (same_seen old)));
+      below = below_more (omega (arith, length-set rows n new)) stored.below;
+    }
 
   -- a content that stands for what f makes of what it stood for
-  module _ (f : Content → Content) (content : RowContent)
-      (does : stored_content content ≡ f (stored_content row.content)) where
+  module _ (f : Content → Content)
+      (unnamed : (names : Names) (c : Content) → named_content names (f c) ≡ f (named_content names c))
+      (content : RowContent) (does : stored_content content ≡ f (stored_content row.content)) where
     abbrev new : Row
     new = record row { content = content }
 
-    node_written : stored_node new ≡ with_content (stored_node row) f
+    abbrev change : Node → Node
+    change node = with_content node f
+
+    node_written : stored_node new ≡ change (stored_node row)
     node_written = ap (λ c. let node : Node = record (stored_node row) { content = c } in node) does
 
-    nodes_written : map stored_node (slice_set rows n new) ≡ slice_set t.nodes n (with_content old f)
-    nodes_written = nodes_put (λ node. with_content node f) new node_written
+    node_unnamed : (names : Names) (node : Node) → with_names names (change node) ≡ change (with_names names node)
+    node_unnamed names node =
+        ap (λ (c : Content). let k : Node = record node { content = c } in k) (unnamed names node.content)
 
     -- the tree that the rows then stand for, where the node is marked
     pub tree_written : {now : Nodes} → now ≡ insert worked n
-        → stored_tree (slice_set rows n new) limits now ≡ content_changed t n f
+        → stored_tree (slice_set rows n new) m limits now ≡ content_changed t n f
     tree_written {now} marked =
-        tree_put (λ node. with_content node f) new node_written now
+        tree_put change node_unnamed new node_written now
         ∙ ap (changed t n (with_content old f)) (marked ∙ ap (λ (u : Tree). insert u.worked n) is.stands)
 
     pub sound_written : (now : Nodes) {marks count : ℕ} → ((c : Content) → seen (f c) ≡ seen c)
-        → IsSound (stored_tree rows limits worked) marks → count ≡ marks
-        → IsSound (stored_tree (slice_set rows n new) limits now) count
-    sound_written now same_seen sound same =
-        sound_row (λ node. with_content node f) new node_written now (λ node. same_seen node.content) sound same
+        → IsStored rows m limits worked marks → count ≡ marks
+        → IsStored (slice_set rows n new) m limits now count
+    sound_written now same_seen stored same =
+        sound_row change node_unnamed new node_written now (λ node. same_seen node.content) stored same
 
--- the tree with one row more, which a name of the row's directory holds
-pub tree_grown : {rows : List Row} {limits : Limits} {worked : Nodes} {t : Tree} {d : ℕ} {row : Row}
-    → IsRow rows limits worked t d row → (name : List ℕ) (content : RowContent)
-    → stored_content content ≡ with_entry name (next_of t) (stored_content row.content)
-    → (last : Row) (items : List Row)
-    → items ≡ slice_set rows d (record row { content = content }) ++ last ∷ [] → (now : Nodes)
-    → now ≡ with_nodes t.worked (d ∷ next_of t ∷ [])
-    → stored_tree items limits now ≡ node_made t d name (stored_node last)
-tree_grown {rows} {t = t} {d = d} {row} is name content does last items all now marked =
-    let nodes : map stored_node items ≡ (node_made t d name (stored_node last)).nodes =
-    ap (map stored_node) all ∙ map_push stored_node (slice_set rows d (record row { content = content })) last
-    ∙ (λ i. nodes_written is (with_entry name (next_of t)) content does i ++ stored_node last ∷ []) in
-    λ i. let u : Tree = record { nodes = nodes i; limits = (is.stands i).limits; worked = marked i } in u
+-- ---- names
+
+-- a directory, where the rows and names stand for a tree
+pub record IsIn (rows : List Row) (m : AllNames) (limits : Limits) (worked : Nodes) (t : Tree) (d : ℕ) : Type 0 where
+  pub stands : stored_tree rows m limits worked ≡ t
+  pub directory : is_directory (node_at t d).content ≡ true
+
+module _ {rows : List Row} {m : AllNames} {limits : Limits} {worked : Nodes} {t : Tree} {d : ℕ}
+    (is : IsIn rows m limits worked t d) where
+  pub inside : d < next_of t
+  inside = directory_within t d is.directory
+
+  directory_row : d < length rows
+  directory_row = omega (arith, inside, next-rows rows m limits worked t is.stands)
+
+  node_is : slice_index_or (named_from m 0 (map stored_node rows)) d stray ≡ node_at t d
+  unfolding node_at
+  node_is = ap (λ (u : Tree). slice_index_or u.nodes d stray) is.stands
+
+  within : d < length (map stored_node rows)
+  within = omega (arith, directory_row, length-map rows stored_node)
+
+  is_row : is_directory (slice_index_or (map stored_node rows) d stray).content ≡ true
+  is_row =
+      sym (ap (λ (node : Node). is_directory node.content) (sym node_is ∙ named_node m (map stored_node rows) d stray within)
+      ∙ said_of-named is_directory (λ _ _ _. refl) (names_at m d) (slice_index_or (map stored_node rows) d stray).content)
+      ∙ is.directory
+
+  -- its names are those that have its number
+  pub names_here : names_of (node_at t d).content ≡ names_at m d
+  names_here =
+      ap (λ (node : Node). names_of node.content) (sym node_is ∙ named_node m (map stored_node rows) d stray within)
+      ∙ by (slice_index_or (map stored_node rows) d stray).content is_row
+    where
+      by : (c : Content) → is_directory c ≡ true → names_of (named_content (names_at m d) c) ≡ names_at m d
+      by (File bytes links) test = absurd (cc)
+      by (Directory names gone) test = refl
+      by (Link text links) test = absurd (cc)
+
+  -- the nodes with a name more in a directory
+  nodes_added : (name : List ℕ) (v : ℕ)
+      → named_from (maps.insert m (d, name) v) 0 (map stored_node rows)
+      ≡ slice_set t.nodes d (with_content (node_at t d) (with_entry name v))
+  nodes_added name v =
+      named_more m (map stored_node rows) d stray name v within is_row
+      ∙ (λ i. slice_set (is.stands i).nodes d (with_content (node_is i) (with_entry name v)))
+
+  nodes_taken : (name : List ℕ)
+      → named_from (maps.remove m (d, name)) 0 (map stored_node rows)
+      ≡ slice_set t.nodes d (with_content (node_at t d) (without_entry name))
+  nodes_taken name =
+      named_less m (map stored_node rows) d stray name within is_row
+      ∙ (λ i. slice_set (is.stands i).nodes d (with_content (node_is i) (without_entry name)))
+
+  -- the tree with a name put into a directory, which is marked
+  pub tree_named : (name : List ℕ) (v : ℕ) {names : AllNames} {now : Nodes} → names ≡ maps.insert m (d, name) v
+      → now ≡ insert worked d → stored_tree rows names limits now ≡ content_changed t d (with_entry name v)
+  tree_named name v put marked =
+      let nodes = ap (λ (ms : AllNames). named_from ms 0 (map stored_node rows)) put ∙ nodes_added name v in
+      let marks = marked ∙ ap (λ (u : Tree). insert u.worked d) is.stands in
+      λ i. let u : Tree = record { nodes = nodes i; limits = (is.stands i).limits; worked = marks i } in u
+
+  -- and with a name taken out of it
+  pub tree_unnamed : (name : List ℕ) {names : AllNames} {now : Nodes} → names ≡ maps.remove m (d, name)
+      → now ≡ insert worked d → stored_tree rows names limits now ≡ content_changed t d (without_entry name)
+  tree_unnamed name taken marked =
+      let nodes = ap (λ (ms : AllNames). named_from ms 0 (map stored_node rows)) taken ∙ nodes_taken name in
+      let marks = marked ∙ ap (λ (u : Tree). insert u.worked d) is.stands in
+      λ i. let u : Tree = record { nodes = nodes i; limits = (is.stands i).limits; worked = marks i } in u
+
+  -- the tree with one row more, which a name of a directory holds
+  pub tree_grown : (name : List ℕ) (last : Row) {items : List Row} {names : AllNames} {now : Nodes}
+      → names_at m (length rows) ≡ maps.empty → items ≡ rows ++ last ∷ []
+      → names ≡ maps.insert m (d, name) (next_of t) → now ≡ with_nodes t.worked (d ∷ next_of t ∷ [])
+      → stored_tree items names limits now ≡ node_made t d name (stored_node last)
+  tree_grown name last {items} {names} none pushed put marked =
+      let all : AllNames = maps.insert m (d, name) (next_of t) in
+      let count : length (map stored_node rows) ≡ length rows = length-map rows stored_node in
+      let none_there : names_at all (length (map stored_node rows)) ≡ maps.empty =
+      ap (names_at all) count
+      ∙ names_at-insert_other m d (length rows) name (next_of t) (apart_from d (length rows) directory_row) ∙ none in
+      let nodes : named_from names 0 (map stored_node items) ≡ (node_made t d name (stored_node last)).nodes =
+      (λ i. named_from (put i) 0 (map stored_node (pushed i)))
+      ∙ ap (named_from all 0) (map_push stored_node rows last)
+      ∙ named_push all (map stored_node rows) (stored_node last)
+      ∙ (λ i. nodes_added name (next_of t) i ++ (ap (λ (ns : Names). with_names ns (stored_node last)) none_there ∙ named_row last) i ∷ []) in
+      λ i. let u : Tree = record { nodes = nodes i; limits = (is.stands i).limits; worked = marked i } in u
+
+  -- ---- what holds of a store goes on to hold
+
+  pub stored_named : (name : List ℕ) (v : ℕ) → is_entry_name name ≡ true → v < next_of t
+      → {names : AllNames} {now : Nodes} {marks count : ℕ} → names ≡ maps.insert m (d, name) v → now ≡ insert worked d
+      → count ≡ marks → IsStored rows m limits worked marks → IsStored rows names limits now count
+  stored_named name v good there {names} {now} {marks} put marked same stored =
+      let sound : IsSound t marks = sound_at is.stands stored in
+      record {
+        sound = subst (IsSound (stored_tree rows names limits now)) (sym same)
+            (subst (λ u. IsSound u marks) (sym (tree_named name v put marked))
+            (sound_put t marks d (with_content (node_at t d) (with_entry name v)) (insert t.worked d) sound inside
+            (sound_named (next_of t) (next_of t) (node_at t d) name v (omega arith) there good (sound.nodes d))));
+        below = subst (λ ms. AreBelow ms (length rows)) (sym put) (below-insert d name v directory_row stored.below);
+      }
+
+  pub stored_unnamed : (name : List ℕ) {names : AllNames} {now : Nodes} {marks count : ℕ}
+      → names ≡ maps.remove m (d, name) → now ≡ insert worked d → count ≡ marks
+      → IsStored rows m limits worked marks → IsStored rows names limits now count
+  stored_unnamed name {names} {now} {marks} taken marked same stored =
+      let sound : IsSound t marks = sound_at is.stands stored in
+      record {
+        sound = subst (IsSound (stored_tree rows names limits now)) (sym same)
+            (subst (λ u. IsSound u marks) (sym (tree_unnamed name taken marked))
+            (sound_put t marks d (with_content (node_at t d) (without_entry name)) (insert t.worked d) sound inside
+            (sound_taken (next_of t) (node_at t d) name (sound.nodes d))));
+        below = subst (λ ms. AreBelow ms (length rows)) (sym taken) (below-remove d name directory_row stored.below);
+      }
+
+  pub stored_grown : (name : List ℕ) (last : Row) → is_entry_name name ≡ true → IsSoundNode 0 (stored_node last)
+      → {items : List Row} {names : AllNames} {now : Nodes} {marks count : ℕ}
+      → items ≡ rows ++ last ∷ [] → names ≡ maps.insert m (d, name) (next_of t)
+      → now ≡ with_nodes t.worked (d ∷ next_of t ∷ []) → count ≡ marks + 1
+      → IsStored rows m limits worked marks → IsStored items names limits now count
+  stored_grown name last good bears {items} {names} {now} {marks} pushed put marked more stored =
+      let grown = tree_grown name last (stored.below.none (length rows) (omega arith)) pushed put marked in
+      record {
+        sound = subst (IsSound (stored_tree items names limits now)) (sym more)
+            (subst (λ u. IsSound u (marks + 1)) (sym grown)
+            (sound_made t d name (stored_node last) is.directory good marks (sound_at is.stands stored) bears));
+        below = subst (λ ms. AreBelow ms (length items)) (sym put)
+            (below_more (omega (arith, ap length pushed, length-append rows (last ∷ [])))
+            (below-insert d name (next_of t) directory_row stored.below));
+      }
+
+-- ---- nodes as a list gives them
+
+-- one more is told
+pub node_told : (m : AllNames) (rows : List Row) (nodes : List NewNode) (node : NewNode) {i n : ℕ} {row : Row}
+    {now : List NewNode} → i < length rows → row ≡ get_or rows i row → n ≡ i → now ≡ nodes ++ node ∷ []
+    → given node ≡ given_of (with_names (names_at m n) (stored_node row))
+    → map given nodes ≡ map given_of (named_from m 0 (map stored_node (take i rows)))
+    → map given now ≡ map given_of (named_from m 0 (map stored_node (take (i + 1) rows)))
+node_told m rows nodes node {i} {n} {row} within here number pushed told so =
+    let before : List Node = map stored_node (take i rows) in
+    let count : length before ≡ n =
+    length-map (take i rows) stored_node ∙ length-take-le i rows (omega arith) ∙ sym number in
+    ap (map given) pushed ∙ map_push given nodes node
+    ∙ (λ j. so j ++ (told ∙ ap (λ k. given_of (with_names (names_at m k) (stored_node row))) (sym count)) j ∷ [])
+    ∙ sym (ap (λ rs. map given_of (named_from m 0 (map stored_node rs)))
+    (take_more rows i row within ∙ ap (λ r. take i rows ++ r ∷ []) (sym here))
+    ∙ ap (λ ns. map given_of (named_from m 0 ns)) (map_push stored_node (take i rows) row)
+    ∙ ap (map given_of) (named_push m before (stored_node row))
+    ∙ map_push given_of (named_from m 0 before) (with_names (names_at m (length before)) (stored_node row)))

@@ -14,6 +14,8 @@ use Rattle.wasi_host.specs.declared.metadata.Metadata.{Metadata}
 use Rattle.wasi_host.specs.declared.system_time.SystemTime.{SystemTime}
 use Rattle.wasi_host.specs.Answer.{metadata_of, metadata_from, unless, reached, or_next, stat_at_answer, text_held, link_text, link_answer}
 use Rattle.wasi_tree.specs.Sound.{IsSoundNode}
+use Rattle.wasi_tree.proofs.NameLemmas.{get-no_names}
+use Rattle.wasi_tree.proofs.NamedLemmas.{length-named}
 use Rattle.wasi_tree.proofs.RowLemmas.{next-rows}
 
 -- a number out of range is no directory's
@@ -30,6 +32,16 @@ child_is t d name not_dot = ap (λ b. cond b (Some d) (get (names_of (node_at t 
 pub child_dot : (t : Tree) (d : ℕ) (name : List ℕ) → is_dot_text name ≡ true → child t d name ≡ Some d
 unfolding child
 child_dot t d name dot = ap (λ b. cond b (Some d) (get (names_of (node_at t d).content) name)) dot
+
+-- what is no directory has no names
+pub no_child : (t : Tree) (d : ℕ) (name : List ℕ) → is_dot_text name ≡ false
+    → is_directory (node_at t d).content ≡ false → child t d name ≡ None
+no_child t d name not_dot other = child_is t d name not_dot ∙ by (node_at t d).content other
+  where
+    by : (c : Content) → is_directory c ≡ false → get (names_of c) name ≡ None
+    by (File bytes links) _ = get-no_names name
+    by (Directory names gone) is = absurd (cc)
+    by (Link text links) _ = get-no_names name
 
 -- a name of a sound node holds a node that is there
 pub child_below : (count : ℕ) (node : Node) (name : List ℕ) → IsSoundNode count node
@@ -117,4 +129,4 @@ unfolding write_step
 write_some t n offset [] some = absurd (omega arith)
 write_some t n offset (byte ∷ bytes) some = refl
 
-pub ruleset store_rules = (next-rows, node-past, child_is, child_dot, child_below, open_refused, metadata_is)
+pub ruleset store_rules = (next-rows, length-named, node-past, child_is, child_dot, no_child, child_below, open_refused, metadata_is)

@@ -1,29 +1,55 @@
--- The tree that the rows of a store stand for.
-use Rattle.std.specs.Prelude.{ℕ, List, map}
+-- The tree that the rows of a store stand for: those of its nodes, and those of the names of its directories.
+use Rattle.std.specs.Prelude.{◌≡◌, ℕ, ◌+◌, ◌≤◌, false, is_some, nat_eq, if◌then◌else◌, List, [], ◌∷◌, length, map}
 use Rattle.std.specs.String.{string_bytes}
-use Rattle.std.specs.declared.string.String.{String}
 use Rattle.std.specs.FinMap as maps
 use Rattle.wasi_host.specs.Tree.{Tree, Node, Content, File, Directory, Link, Names, Nodes}
 use Rattle.wasi_host.specs.declared.limits.Limits.{Limits}
+use Rattle.wasi_names.specs.NameRows.{AllNames, names_at}
+use Rattle.wasi_tree.specs.Sound.{IsSound}
 use Rattle.wasi_tree.specs.declared.row.Row.{Row}
 use Rattle.wasi_tree.specs.declared.row.RowContent.{RowContent}
 use Rattle.wasi_tree.specs.declared.row.RowContent.TheVariants as rows
 
-abbrev pub text_entry : {Y : Type 0} → String Y × ℕ → List ℕ × ℕ
-text_entry entry = (string_bytes entry.0, entry.1)
-
--- the names of a map's entries
-abbrev pub names_in : {Y : Type 0} → List (String Y × ℕ) → Names
-names_in entries = maps.from_entries (map text_entry entries)
-
+-- what a row says of its node: all but the names of a directory
 abbrev pub stored_content : RowContent → Content
 stored_content (rows.File bytes links) = File bytes.items links
-stored_content (rows.Dir names gone) = Directory (names_in names.entries) gone
+stored_content (rows.Dir gone) = Directory maps.empty gone
 stored_content (rows.Link text links) = Link (string_bytes text) links
 
 abbrev pub stored_node : Row → Node
 stored_node row = record { content = stored_content row.content; bits = row.bits; atime = row.atime; mtime = row.mtime; btime = row.btime }
 
--- the tree of these rows, where these nodes have been worked on
-abbrev pub stored_tree : List Row → Limits → Nodes → Tree
-stored_tree rows limits worked = record { nodes = map stored_node rows; limits = limits; worked = worked }
+abbrev pub named_content : Names → Content → Content
+named_content names (File bytes links) = File bytes links
+named_content names (Directory old gone) = Directory names gone
+named_content names (Link text links) = Link text links
+
+-- a directory with these names; another node stays
+abbrev pub with_names : Names → Node → Node
+with_names names node = record node { content = named_content names node.content }
+
+-- nodes from a number on, each directory with its names
+abbrev pub named_from : AllNames → ℕ → List Node → List Node
+named_from m k [] = []
+named_from m k (node ∷ nodes) = with_names (names_at m k) node ∷ named_from m (k + 1) nodes
+
+-- the tree of these rows and names, where these nodes have been worked on
+abbrev pub stored_tree : List Row → AllNames → Limits → Nodes → Tree
+stored_tree rows m limits worked = record { nodes = named_from m 0 (map stored_node rows); limits = limits; worked = worked }
+
+-- no names are those of a number from this one on
+pub record AreBelow (m : AllNames) (k : ℕ) : Type 0 where
+  pub none : (d : ℕ) → k ≤ d → names_at m d ≡ maps.empty
+
+-- the tree of the rows and names is sound, and no name is one of a directory that isn't there
+pub record IsStored (rows : List Row) (m : AllNames) (limits : Limits) (worked : Nodes) (marks : ℕ) : Type 0 where
+  pub sound : IsSound (stored_tree rows m limits worked) marks
+  pub below : AreBelow m (length rows)
+
+-- the names of all directories but one are as before
+pub record OtherNamesStay (d : ℕ) (m n : AllNames) : Type 0 where
+  pub same : (e : ℕ) → nat_eq d e ≡ false → names_at n e ≡ names_at m e
+
+-- names with an entry more, unless they have its name
+abbrev pub with_first : Names → List ℕ × ℕ → Names
+with_first names entry = if is_some (maps.get names entry.0) then names else maps.insert names entry.0 entry.1

@@ -3,8 +3,8 @@ ghost use Rattle.std.specs.Prelude.{◌≡◌};
 ghost use Rattle.wasi_tree.specs.Given.{given, given_content, new_given, may_search};
 ghost use Rattle.wasi_host.specs.Tree.{default_bits};
 
-use std::collections::BTreeMap;
 use wasi_host::{Bits, SystemTime};
+use wasi_names::Run;
 
 /// A name in a directory, and the number of the node that it holds.
 #[derive(Debug, Drop)]
@@ -87,6 +87,6 @@ pub struct LentNode<'a> {
 #[derive(Drop)]
 pub enum LentContent<'a> {
     File(&'a [u8]),
-    Dir(&'a BTreeMap<String, u64>),
+    Dir(Run<'a>),
     Link(&'a str),
 }

@@ -1,35 +1,27 @@
 //! One node, as it is stored.
-ghost use Rattle.std.specs.Prelude.{◌≡◌, ◌+◌, ◌-◌, ◌^◌, ◌<◌, ◌≤◌, List, IfOk, OnOk, OnErr, length, map, true, not, nat_eq, ◌&&◌};
+ghost use Rattle.std.specs.Prelude.{◌≡◌, ◌+◌, ◌-◌, ◌^◌, ◌<◌, ◌≤◌, List, IfOk, OnOk, OnErr, length, map, not, nat_eq, ◌&&◌};
 ghost use Rattle.std.specs.FinMap as maps;
-ghost use Rattle.wasi_host.specs.Tree.{is_directory, is_file, is_link, is_gone, names_of, links_of, bytes_of, text_of};
+ghost use Rattle.wasi_host.specs.Tree.{Names, is_directory, is_file, is_link, is_gone, links_of, bytes_of, text_of};
 ghost use Rattle.std.specs.String.{string_bytes};
-ghost use Rattle.wasi_host.specs.Step.{new_node, new_file, new_directory, new_link, other_bytes, with_piece, with_size, with_times, with_entry, without_entry, one_name_more, name_lost};
+ghost use Rattle.wasi_host.specs.Step.{new_node, new_file, new_directory, new_link, other_bytes, with_piece, with_size, with_times, one_name_more, name_lost};
 ghost use Rattle.wasi_host.specs.Numbers.{largest_file};
 ghost use Rattle.wasi_tree.specs.Given.{Given, pair_of, given, given_content, given_of, content_given, entry_count, content_from, node_from};
 ghost use Rattle.wasi_tree.specs.Lent.{lent, lent_content};
-ghost use Rattle.wasi_tree.specs.StoredTree.{names_in, stored_content};
+ghost use Rattle.wasi_names.specs.NameRows.{names_at};
+ghost use Rattle.wasi_tree.specs.StoredTree.{stored_content, with_names, named_content, OtherNamesStay, with_first};
 ghost use Rattle.wasi_host.specs.Answer.{kind_of, size_of, metadata_from};
 
 use crate::node::{LentContent, LentNode, NewContent, NewEntry, NewNode, new_bits};
 use std::alloc::{AllocError, Global};
-use std::collections::BTreeMap;
 use wasi_host::{Bits, FileType, Metadata, SystemTime};
+use wasi_names::{Rows, Run};
 
-/// What a node is, with how many names it has.
+/// What a node is, with how many names it has. The names that a directory holds stand in the rows of all names.
 #[derive(Debug, Drop)]
 pub enum RowContent {
-    File {
-        bytes: Vec<u8>,
-        links: u64,
-    },
-    Dir {
-        names: BTreeMap<String, u64>,
-        gone: bool,
-    },
-    Link {
-        text: String,
-        links: u64,
-    },
+    File { bytes: Vec<u8>, links: u64 },
+    Dir { gone: bool },
+    Link { text: String, links: u64 },
 }
 
 /// A node as a store holds it.
@@ -42,52 +34,58 @@ pub struct Row {
     pub btime: SystemTime,
 }
 
-#[tactic(auto, using(crate::proofs::NameLemmas::name_rules))]
 impl RowContent {
     ghost use Rattle.wasi_tree.specs.StoredTree.{stored_content};
 
-    /// The content of the node of a number, which so many entries of its list give.
+    /// The content of the node of a number, which so many entries of its list give. The names of a directory come among
+    /// the others; of two entries of one name the first one stays.
     fn new(
-        alloc: Global,
         content: NewContent,
         number: u64,
         links: u64,
+        names: &mut Rows,
     ) -> Result<RowContent, AllocError>
-        ensures { IfOk result (λ made. (all : List Given) → entry_count number all ≡ links
-            → stored_content made ≡ content_from all number (given_content content)) }
+        requires { names_at names.old.names number ≡ maps.empty }
+        ensures content { IfOk result (λ made. (all : List Given) → entry_count number all ≡ links
+            → named_content (names_at names.new.names number) (stored_content made) ≡ content_from all number (given_content content)) }
+        ensures others { OtherNamesStay number names.old.names names.new.names }
     {
         match content {
             NewContent::File(bytes) => Ok(RowContent::File { bytes, links }),
-            NewContent::Dir(entries) => Ok(RowContent::Dir {
-                names: first_names(alloc, entries)?,
-                gone: is_removed(number, links),
-            }),
+            NewContent::Dir(entries) => {
+                add_entries(names, number, entries)?;
+                Ok(RowContent::Dir {
+                    gone: is_removed(number, links),
+                })
+            }
             NewContent::Link(text) => Ok(RowContent::Link { text, links }),
         }
     }
 
-    /// The content as a list of nodes gives it, in memory of its own.
-    fn to_new(&self, alloc: Global) -> Result<NewContent, AllocError>
-        ensures { IfOk result (λ content. given_content content ≡ content_given (stored_content self.now)) }
+    /// The content as a list of nodes gives it, in memory of its own, where a directory has these names.
+    fn to_new(&self, alloc: Global, names: Run<'_>) -> Result<NewContent, AllocError>
+        ensures { IfOk result (λ content. (held : Names) → maps.entries held ≡ names.entry
+            → given_content content ≡ content_given (named_content held (stored_content self.now))) }
     {
         match self {
             RowContent::File { bytes, .. } => {
                 Ok(NewContent::File(Vec::from_slice(alloc, bytes.as_slice())?))
             }
-            RowContent::Dir { names, .. } => Ok(NewContent::Dir(new_entries(alloc, names)?)),
+            RowContent::Dir { .. } => Ok(NewContent::Dir(new_entries(alloc, names)?)),
             RowContent::Link { text, .. } => {
                 Ok(NewContent::Link(String::from_str(alloc, text.as_str())?))
             }
         }
     }
 
-    /// The content, lent.
-    fn lend(&self) -> LentContent<'_>
-        ensures { lent_content result ≡ content_given (stored_content self.now) }
+    /// The content, lent, where a directory has these names.
+    fn lend<'a>(&'a self, names: Run<'a>) -> LentContent<'a>
+        ensures { (held : Names) → maps.entries held ≡ names.entry
+            → lent_content result ≡ content_given (named_content held (stored_content self.now)) }
     {
         match self {
             RowContent::File { bytes, .. } => LentContent::File(bytes.as_slice()),
-            RowContent::Dir { names, .. } => LentContent::Dir(names),
+            RowContent::Dir { .. } => LentContent::Dir(names),
             RowContent::Link { text, .. } => LentContent::Link(text.as_str()),
         }
     }
@@ -184,54 +182,6 @@ impl RowContent {
         }
     }
 
-    /// The number under a name. Nothing in what is no directory.
-    pub fn child(&self, name: &str) -> Option<u64>
-        ensures { result ≡ maps.get (names_of (stored_content self.now)) name.now }
-    {
-        match self {
-            RowContent::File { .. } => None,
-            RowContent::Dir { names, .. } => names.get(name).copied(),
-            RowContent::Link { .. } => None,
-        }
-    }
-
-    /// Whether it holds no names.
-    pub fn is_bare(&self) -> bool
-        ensures { result ≡ nat_eq (maps.len (names_of (stored_content self.now))) 0 }
-    {
-        match self {
-            RowContent::File { .. } => true,
-            RowContent::Dir { names, .. } => are_none(names),
-            RowContent::Link { .. } => true,
-        }
-    }
-
-    /// Puts a node under a name into a directory. Where memory is wanted, nothing has changed.
-    pub fn add_name(&mut self, alloc: Global, name: &str, node: u64) -> Result<(), AllocError>
-        requires { is_directory (stored_content self.old) ≡ true }
-        ensures added { OnOk result
-            (stored_content self.new ≡ with_entry name.now node (stored_content self.old)) }
-        ensures kept { OnErr result (stored_content self.new ≡ stored_content self.old) }
-    {
-        match self {
-            RowContent::File { .. } => unreachable!(),
-            RowContent::Dir { names, .. } => add_entry(names, alloc, name, node),
-            RowContent::Link { .. } => unreachable!(),
-        }
-    }
-
-    /// Takes a name out of a directory.
-    pub fn remove_name(&mut self, name: &str)
-        requires { is_directory (stored_content self.old) ≡ true }
-        ensures { stored_content self.new ≡ without_entry name.now (stored_content self.old) }
-    {
-        match self {
-            RowContent::File { .. } => unreachable!(),
-            RowContent::Dir { names, .. } => remove_entry(names, name),
-            RowContent::Link { .. } => unreachable!(),
-        }
-    }
-
     /// Takes a name from what has it: a file or link has one fewer, and a directory, which has no other, is gone.
     pub fn lose_name(&mut self)
         ensures { stored_content self.new ≡ name_lost (stored_content self.old) }
@@ -302,13 +252,16 @@ impl RowContent {
 impl Row {
     ghost use Rattle.wasi_tree.specs.StoredTree.{stored_node};
 
-    /// The row of the node of a number, which so many entries of its list give.
-    pub fn new(alloc: Global, node: NewNode, number: u64, links: u64) -> Result<Row, AllocError>
-        ensures { IfOk result (λ row. (all : List Given) → entry_count number all ≡ links
-            → stored_node row ≡ node_from all number (given node)) }
+    /// The row of the node of a number, which so many entries of its list give. The names of a directory come among the
+    /// others; of two entries of one name the first one stays.
+    pub fn new(node: NewNode, number: u64, links: u64, names: &mut Rows) -> Result<Row, AllocError>
+        requires { names_at names.old.names number ≡ maps.empty }
+        ensures row { IfOk result (λ row. (all : List Given) → entry_count number all ≡ links
+            → with_names (names_at names.new.names number) (stored_node row) ≡ node_from all number (given node)) }
+        ensures others { OtherNamesStay number names.old.names names.new.names }
     {
         Ok(Row {
-            content: RowContent::new(alloc, node.content, number, links)?,
+            content: RowContent::new(node.content, number, links, names)?,
             bits: node.bits,
             atime: node.atime,
             mtime: node.mtime,
@@ -338,11 +291,10 @@ impl Row {
     }
 
     /// The row of a directory that is made.
-    pub fn new_directory(alloc: Global) -> Row
+    pub fn new_directory() -> Row
         ensures { stored_node result ≡ new_directory }
     {
-        let names = BTreeMap::new(alloc);
-        Row::made(RowContent::Dir { names, gone: false }, true)
+        Row::made(RowContent::Dir { gone: false }, true)
     }
 
     /// The row of a link that is made.
@@ -352,12 +304,13 @@ impl Row {
         Row::made(RowContent::Link { text, links: 1 }, true)
     }
 
-    /// The node as a list of nodes gives it, in memory of its own.
-    pub fn to_new(&self, alloc: Global) -> Result<NewNode, AllocError>
-        ensures { IfOk result (λ node. given node ≡ given_of (stored_node self.now)) }
+    /// The node as a list of nodes gives it, in memory of its own, where a directory has these names.
+    pub fn to_new(&self, alloc: Global, names: Run<'_>) -> Result<NewNode, AllocError>
+        ensures { IfOk result (λ node. (held : Names) → maps.entries held ≡ names.entry
+            → given node ≡ given_of (with_names held (stored_node self.now))) }
     {
         Ok(NewNode {
-            content: self.content.to_new(alloc)?,
+            content: self.content.to_new(alloc, names)?,
             bits: self.bits,
             atime: self.atime,
             mtime: self.mtime,
@@ -365,12 +318,12 @@ impl Row {
         })
     }
 
-    /// The node, lent.
-    pub fn lend(&self) -> LentNode<'_>
-        ensures { lent result ≡ given_of (stored_node self.now) }
+    /// The node, lent, where a directory has these names.
+    pub fn lend<'a>(&'a self, names: Run<'a>) -> LentNode<'a>
+        ensures { (held : Names) → maps.entries held ≡ names.entry → lent result ≡ given_of (with_names held (stored_node self.now)) }
     {
         LentNode {
-            content: self.content.lend(),
+            content: self.content.lend(names),
             bits: self.bits,
             atime: self.atime,
             mtime: self.mtime,
@@ -408,60 +361,44 @@ fn is_removed(number: u64, links: u64) -> bool
     number != 0 && links == 0
 }
 
-/// The names of a list of entries. Of two entries of one name the first one stays.
-fn first_names(
-    alloc: Global,
-    mut entries: Vec<NewEntry>,
-) -> Result<BTreeMap<String, u64>, AllocError>
-    ensures { IfOk result (λ names. names_in names.entries ≡ maps.from_entries (map pair_of entries.items)) }
+/// Puts the entries of a directory that has none among the names. Of two entries of one name the first one stays.
+fn add_entries(names: &mut Rows, directory: u64, entries: Vec<NewEntry>) -> Result<(), AllocError>
+    requires { names_at names.old.names directory ≡ maps.empty }
+    ensures added { OnOk result (names_at names.new.names directory ≡ maps.from_entries (map pair_of entries.items)) }
+    ensures others { OtherNamesStay directory names.old.names names.new.names }
 {
-    entries.reverse();
-    entries
-        .into_iter()
-        .map(|entry| (entry.name, entry.node))
-        .collect(alloc)
-}
-
-/// The entries of a map, in byte order.
-fn new_entries(alloc: Global, names: &BTreeMap<String, u64>) -> Result<Vec<NewEntry>, AllocError>
-    ensures { IfOk result (λ entries. map pair_of entries.items ≡ maps.entries (names_in names.now.entries)) }
-{
-    let mut entries = Vec::new(alloc);
-    for (name, node) in names.iter() {
-        entries.push(NewEntry {
-            name: String::from_str(alloc, name.as_str())?,
-            node: *node,
-        })?;
+    for entry in entries {
+        add_entry(names, directory, entry)?;
     }
-    Ok(entries)
-}
-
-/// Puts a number under a name. Where memory is wanted, the names are as they were.
-fn add_entry(
-    names: &mut BTreeMap<String, u64>,
-    alloc: Global,
-    name: &str,
-    node: u64,
-) -> Result<(), AllocError>
-    ensures added { OnOk result (names_in names.new.entries ≡ maps.insert (names_in names.old.entries) name.now node) }
-    ensures kept { OnErr result (names.new.entries ≡ names.old.entries) }
-{
-    let text = String::from_str(alloc, name)?;
-    names.insert(text, node)?;
     Ok(())
 }
 
-fn are_none(names: &BTreeMap<String, u64>) -> bool
-    ensures { result ≡ nat_eq (maps.len (names_in names.now.entries)) 0 }
+/// Puts an entry of a directory among the names, unless one of its name is there.
+fn add_entry(names: &mut Rows, directory: u64, entry: NewEntry) -> Result<(), AllocError>
+    ensures added { OnOk result (names_at names.new.names directory ≡ with_first (names_at names.old.names directory) (pair_of entry)) }
+    ensures others { OtherNamesStay directory names.old.names names.new.names }
 {
-    names.is_empty()
+    let NewEntry { name, node } = entry;
+    if names.find(directory, name.as_str()).is_some() {
+        return Ok(());
+    }
+    names.reserve()?;
+    names.insert(directory, name, node);
+    Ok(())
 }
 
-/// Takes a name out.
-fn remove_entry(names: &mut BTreeMap<String, u64>, name: &str)
-    ensures { names_in names.new.entries ≡ maps.remove (names_in names.old.entries) name.now }
+/// The entries of a directory with these names, in byte order.
+fn new_entries(alloc: Global, mut names: Run<'_>) -> Result<Vec<NewEntry>, AllocError>
+    ensures { IfOk result (λ entries. map pair_of entries.items ≡ names.entry) }
 {
-    names.remove(name);
+    let mut entries = Vec::new(alloc);
+    while let Some((name, node)) = names.next() {
+        entries.push(NewEntry {
+            name: String::from_str(alloc, name)?,
+            node,
+        })?;
+    }
+    Ok(entries)
 }
 
 /// Puts a piece into bytes from an offset on, with zeros in a gap before it. A piece that runs past the end is copied

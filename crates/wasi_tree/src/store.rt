@@ -2,9 +2,9 @@
 ghost use Rattle.std.specs.Prelude.{◌≡◌, ◌+◌, ◌-◌, ◌<◌, ◌≤◌, ◌^◌, OnOk, Some, None, IfSome, IfOk, OnErr, MatchResult, Ok, Err, if◌then◌else◌, take, drop, length, map, true, false, IsTrue, All};
 ghost use Rattle.wasi_paths.specs.Name.{name_bytes};
 ghost use Rattle.wasi_paths.specs.Text.{is_entry_name};
-ghost use Rattle.wasi_host.specs.Tree.{Tree, next_of, node_at, child, is_directory};
+ghost use Rattle.wasi_host.specs.Tree.{Tree, next_of, node_at, child, is_directory, is_file, is_link, is_gone, names_of, links_of, bytes_of, text_of};
 ghost use Rattle.wasi_host.specs.HostCall.{OpenAt, StatAt, MakeDirAt, SymlinkAt, Access, SetSize};
-ghost use Rattle.wasi_host.specs.Refusal.{refusal, refused_with, first_row, is_too_large, name_rows, entry_rows, growing_rows, making_rows, text_rows, missing_rows, found_rows};
+ghost use Rattle.wasi_host.specs.Refusal.{is_bare, refusal, refused_with, first_row, is_too_large, name_rows, entry_rows, growing_rows, making_rows, text_rows, missing_rows, found_rows};
 ghost use Rattle.wasi_host.specs.Step.{is_cut, file_cut, node_made, bytes_put, write_step, append_step, size_set, times_set};
 ghost use Rattle.wasi_host.specs.Answer.{metadata_of, kind_of, stat_at_answer, link_answer, access_answer, bytes_read, bytes_taken, bytes_appended, entry_of, listed, list_answer, host_answer};
 ghost use Rattle.wasi_host.specs.Numbers.{largest_file};
@@ -13,7 +13,7 @@ ghost use Rattle.wasi_tree.specs.Fit.{name_counts};
 ghost use Rattle.wasi_tree.specs.Lent.{lent};
 ghost use Rattle.wasi_tree.specs.Looked.{IsLooked};
 ghost use Rattle.wasi_tree.specs.Sound.{NodesStay, IsSoundText};
-ghost use Rattle.wasi_tree.specs.StoredTree.{stored_node, names_in};
+ghost use Rattle.wasi_tree.specs.StoredTree.{stored_node, named_from, AreBelow};
 ghost use Rattle.std.specs.FinMap as maps;
 ghost use Rattle.wasi_tree.specs.TouchedTree.{MeansCode};
 
@@ -21,20 +21,22 @@ use crate::fit_nodes::FitNodes;
 use crate::looked::Looked;
 use crate::marks::Marks;
 use crate::node::{LentNode, NewNode};
-use crate::row::{Row, RowContent};
+use crate::row::Row;
 use std::alloc::{AllocError, Global};
-use std::collections::BTreeMap;
 use std::marker::Model;
 use wasi_host::{
-    DirEntry, ErrorCode, FILE_MAX, FileType, Held, HostError, LINK_MAX, Limits, Metadata,
+    Bits, DirEntry, ErrorCode, FILE_MAX, FileType, Held, HostError, LINK_MAX, Limits, Metadata,
     OpenOptions, SystemTime,
 };
+use wasi_names::Rows;
 use wasi_paths::Name;
 
-/// The nodes of a tree, with its limits and the nodes that steps have worked on. Contracts see the tree.
+/// The nodes of a tree, with the names of its directories, its limits and the nodes that steps have worked on. Contracts
+/// see the tree.
 #[derive(Debug, Drop)]
 pub struct Store {
     pub(crate) rows: Vec<Row>,
+    pub(crate) names: Rows,
     pub(crate) limits: Limits,
     pub(crate) worked: Marks,
 }
@@ -47,12 +49,11 @@ impl Model for Store {
 
     ghost coded = { tree_code };
 
-    ghost use Rattle.wasi_tree.specs.StoredTree.{stored_tree};
-    ghost use Rattle.wasi_tree.specs.Sound.{IsSound};
+    ghost use Rattle.wasi_tree.specs.StoredTree.{stored_tree, IsStored};
 
-    ghost view = { λ a. stored_tree a.rows.items a.limits a.worked.nodes };
+    ghost view = { λ a. stored_tree a.rows.items a.names.names a.limits a.worked.nodes };
 
-    ghost invariant = { λ a. IsSound (stored_tree a.rows.items a.limits a.worked.nodes) a.worked.count };
+    ghost invariant = { λ a. IsStored a.rows.items a.names.names a.limits a.worked.nodes a.worked.count };
 }
 
 #[tactic(auto, using(crate::proofs::StoreLemmas::store_rules))]
@@ -70,10 +71,12 @@ impl Store {
             counts,
             limits,
         } = fit;
-        let rows = rows_of(alloc, nodes, &counts)?;
+        let mut names = Rows::new(alloc);
+        let rows = rows_of(alloc, nodes, &counts, &mut names)?;
         let worked = Marks::new(alloc, rows.len())?;
         Ok(Store {
             rows,
+            names,
             limits,
             worked,
         })
@@ -83,7 +86,7 @@ impl Store {
     pub fn to_new(&self, alloc: Global) -> Result<Vec<NewNode>, AllocError>
         ensures { IfOk result (λ nodes. map given nodes.items ≡ map given_of self.now.nodes) }
     {
-        new_nodes(alloc, self.rows.as_slice())
+        new_nodes(alloc, self.rows.as_slice(), &self.names)
     }
 
     /// How many nodes there are.
@@ -98,16 +101,7 @@ impl Store {
         requires { n < next_of self.now }
         ensures { lent result ≡ given_of (node_at self.now n) }
     {
-        self.row(n).lend()
-    }
-
-    /// The node of a number.
-    pub fn row(&self, n: u64) -> &Row
-        requires { n < next_of self.now }
-        ensures node { node_at self.now n ≡ stored_node result.now }
-        ensures sound { IsSoundNode (next_of self.now) (stored_node result.now) }
-    {
-        &self.rows[n as usize]
+        self.rows[n as usize].lend(self.names.names(n))
     }
 
     /// Whether a number is a directory's.
@@ -117,7 +111,72 @@ impl Store {
         if n >= self.count() {
             return false;
         }
-        self.row(n).content.is_directory()
+        self.rows[n as usize].content.is_directory()
+    }
+
+    /// Whether a number is a file's.
+    fn is_file(&self, n: u64) -> bool
+        requires { n < next_of self.now }
+        ensures { result ≡ is_file (node_at self.now n).content }
+    {
+        self.rows[n as usize].content.is_file()
+    }
+
+    /// Whether a number is a link's.
+    fn is_link(&self, n: u64) -> bool
+        requires { n < next_of self.now }
+        ensures { result ≡ is_link (node_at self.now n).content }
+    {
+        self.rows[n as usize].content.is_link()
+    }
+
+    /// Whether a number is that of a directory that is gone.
+    pub fn is_gone(&self, n: u64) -> bool
+        requires { n < next_of self.now }
+        ensures { result ≡ is_gone (node_at self.now n).content }
+    {
+        self.rows[n as usize].content.is_gone()
+    }
+
+    /// The bits of a node.
+    pub fn bits(&self, n: u64) -> Bits
+        requires { n < next_of self.now }
+        ensures { result ≡ (node_at self.now n).bits }
+    {
+        self.rows[n as usize].bits
+    }
+
+    /// How many names a node has. A directory's are shown as 1.
+    pub fn links(&self, n: u64) -> u64
+        requires { n < next_of self.now }
+        ensures { result ≡ links_of (node_at self.now n).content }
+    {
+        self.rows[n as usize].content.links()
+    }
+
+    /// A file's bytes. Nothing of what is no file.
+    fn bytes(&self, n: u64) -> &[u8]
+        requires { n < next_of self.now }
+        ensures { result.now ≡ bytes_of (node_at self.now n).content }
+    {
+        self.rows[n as usize].content.bytes()
+    }
+
+    /// A link's text. Nothing of what is no link.
+    fn text(&self, n: u64) -> &str
+        requires { n < next_of self.now }
+        ensures text { result.now ≡ text_of (node_at self.now n).content }
+        ensures sound { is_link (node_at self.now n).content ≡ true → IsSoundText result.now }
+    {
+        self.rows[n as usize].content.text()
+    }
+
+    /// Whether a directory holds no names.
+    pub fn is_bare(&self, directory: u64) -> bool
+        requires { is_directory (node_at self.now directory).content ≡ true }
+        ensures { result ≡ is_bare (node_at self.now directory) }
+    {
+        self.names.is_empty(directory)
     }
 
     /// The node that a name holds in a directory.
@@ -129,8 +188,10 @@ impl Store {
         if name.is_dot() {
             return Some(directory);
         }
-        let row = self.row(directory);
-        row.content.child(name.as_str())
+        if !self.is_directory(directory) {
+            return None;
+        }
+        self.names.find(directory, name.as_str())
     }
 
     /// What is wrong with a name in a directory.
@@ -145,7 +206,7 @@ impl Store {
         if name.is_long() {
             return Some(ErrorCode::NameTooLong);
         }
-        if !self.row(directory).bits.x {
+        if !self.bits(directory).x {
             return Some(ErrorCode::Access);
         }
         None
@@ -167,11 +228,10 @@ impl Store {
         requires { directory < next_of self.now }
         ensures { result ≡ first_row (entry_rows self.now directory) }
     {
-        let row = self.row(directory);
-        if row.content.is_gone() {
+        if self.is_gone(directory) {
             return Some(ErrorCode::NoEntry);
         }
-        if !row.bits.w {
+        if !self.bits(directory).w {
             return Some(ErrorCode::Access);
         }
         None
@@ -199,27 +259,27 @@ impl Store {
         if options.is_create_new() {
             return Some(ErrorCode::Exist);
         }
-        let row = self.row(node);
-        if row.content.is_link() {
+        if self.is_link(node) {
             return Some(if options.is_dir_required() {
                 ErrorCode::NotDirectory
             } else {
                 ErrorCode::Loop
             });
         }
-        if row.content.is_file() && options.is_dir_required() {
+        if self.is_file(node) && options.is_dir_required() {
             return Some(ErrorCode::NotDirectory);
         }
-        if row.content.is_directory() && options.is_write() {
+        if self.is_directory(node) && options.is_write() {
             return Some(ErrorCode::IsDirectory);
         }
         if options.is_path_only() {
             return None;
         }
-        if options.is_read() && !row.bits.r {
+        let bits = self.bits(node);
+        if options.is_read() && !bits.r {
             return Some(ErrorCode::Access);
         }
-        if options.is_write() && !row.bits.w {
+        if options.is_write() && !bits.w {
             return Some(ErrorCode::Access);
         }
         None
@@ -231,7 +291,7 @@ impl Store {
         requires { IsLooked self.now looked.now }
         ensures { result ≡ refusal self.now (OpenAt looked.now.directory (name_bytes looked.now.name) options.now) }
     {
-        if !self.row(looked.directory).content.is_directory() {
+        if !self.is_directory(looked.directory) {
             return Some(ErrorCode::NotDirectory);
         }
         if options.are_refused() {
@@ -257,7 +317,7 @@ impl Store {
         ensures node { IfOk result (λ n. child self.now looked.now.directory (name_bytes looked.now.name) ≡ Some n) }
         ensures below { IfOk result (λ n. n < next_of self.now) }
     {
-        if !self.row(looked.directory).content.is_directory() {
+        if !self.is_directory(looked.directory) {
             return Err(ErrorCode::NotDirectory);
         }
         if let Some(code) = self.refuse_name(looked.directory, looked.name) {
@@ -289,7 +349,7 @@ impl Store {
         requires { IsLooked self.now looked.now }
         ensures { result ≡ refusal self.now (MakeDirAt looked.now.directory (name_bytes looked.now.name)) }
     {
-        if !self.row(looked.directory).content.is_directory() {
+        if !self.is_directory(looked.directory) {
             return Some(ErrorCode::NotDirectory);
         }
         self.refuse_new_name(looked)
@@ -301,7 +361,7 @@ impl Store {
         requires { IsLooked self.now looked.now }
         ensures { result ≡ refusal self.now (SymlinkAt target.now looked.now.directory (name_bytes looked.now.name)) }
     {
-        if !self.row(looked.directory).content.is_directory() {
+        if !self.is_directory(looked.directory) {
             return Some(ErrorCode::NotDirectory);
         }
         if let Some(code) = refuse_text(target) {
@@ -331,11 +391,10 @@ impl Store {
         ensures text { IfOk result (λ text. IsSoundText text.now) }
     {
         let node = self.node_under(looked)?;
-        let content = &self.row(node).content;
-        if !content.is_link() {
+        if !self.is_link(node) {
             return Err(ErrorCode::Invalid);
         }
-        Ok(content.text())
+        Ok(self.text(node))
     }
 
     /// Whether a directory may be searched.
@@ -344,7 +403,7 @@ impl Store {
         requires { directory < next_of self.now }
         ensures { access_answer self.now directory ≡ result }
     {
-        if self.row(directory).bits.x {
+        if self.bits(directory).x {
             return Ok(());
         }
         Err(ErrorCode::Access)
@@ -358,7 +417,7 @@ impl Store {
         ensures stays { NodesStay self.old self.new }
         ensures count { next_of self.new ≡ next_of self.old }
     {
-        if !options.is_truncate() || !self.row(node).content.is_file() {
+        if !options.is_truncate() || !self.is_file(node) {
             return;
         }
         self.rows[node as usize].content.cut();
@@ -377,13 +436,12 @@ impl Store {
         ensures kept { OnErr result (self.new ≡ self.old) }
         ensures stays { NodesStay self.old self.new }
     {
-        let alloc = self.allocator();
+        let text = String::from_str(self.allocator(), name.as_str())?;
         let node = self.count();
+        self.names.reserve()?;
         self.rows.reserve(1)?;
         self.worked.reserve()?;
-        self.rows[directory as usize]
-            .content
-            .add_name(alloc, name.as_str(), node)?;
+        self.names.insert(directory, text, node);
         self.rows.push_reserved(row);
         self.worked.mark(directory);
         self.worked.push();
@@ -400,29 +458,29 @@ impl Store {
         ensures names { IfOk result
             (λ entries. All (λ entry. IsTrue (is_entry_name entry.0)) (map entry_of entries.items)) }
     {
-        let RowContent::Dir { names, .. } = &self.row(directory.node).content else {
+        if !self.is_directory(directory.node) {
             return Err(HostError::Code(ErrorCode::NotDirectory));
-        };
+        }
         if !directory.mode.can_read() {
             return Err(HostError::Code(ErrorCode::BadDescriptor));
         }
-        Ok(self.list_names(alloc, names)?)
+        Ok(self.list_names(alloc, directory.node)?)
     }
 
-    /// These names, each with the kind of its node.
-    fn list_names(
-        &self,
-        alloc: Global,
-        names: &BTreeMap<String, u64>,
-    ) -> Result<Vec<DirEntry>, AllocError>
-        ensures { IfOk result (λ entries. map entry_of entries.items
-            ≡ map (listed self.now) (maps.entries (names_in names.now.entries))) }
+    /// The names of a directory, each with the kind of its node.
+    fn list_names(&self, alloc: Global, directory: u64) -> Result<Vec<DirEntry>, AllocError>
+        requires { is_directory (node_at self.now directory).content ≡ true }
+        ensures listed { IfOk result (λ entries. map entry_of entries.items
+            ≡ map (listed self.now) (maps.entries (names_of (node_at self.now directory).content))) }
+        ensures named { IfOk result
+            (λ entries. All (λ entry. IsTrue (is_entry_name entry.0)) (map entry_of entries.items)) }
     {
         let mut entries = Vec::new(alloc);
-        for (name, node) in names.iter() {
+        let mut names = self.names.names(directory);
+        while let Some((name, node)) = names.next() {
             entries.push(DirEntry {
-                name: String::from_str(alloc, name.as_str())?,
-                kind: self.kind(*node),
+                name: String::from_str(alloc, name)?,
+                kind: self.kind(node),
             })?;
         }
         Ok(entries)
@@ -440,7 +498,7 @@ impl Store {
         if n >= self.count() {
             return FileType::RegularFile;
         }
-        self.row(n).content.kind()
+        self.rows[n as usize].content.kind()
     }
 
     /// Sets the given times of a node; one that isn't given stays.
@@ -460,7 +518,7 @@ impl Store {
         ensures metadata { result ≡ metadata_of self.now node }
         ensures times { HasTimes result }
     {
-        self.row(node).metadata(node)
+        self.rows[node as usize].metadata(node)
     }
 
     /// Reads a file's bytes from an offset on into the front of `buf`, and answers how many.
@@ -475,14 +533,13 @@ impl Store {
             (λ n. bytes_read self.now file offset (length buf.old) ≡ Ok (take n buf.new))
             (λ code. bytes_read self.now file offset (length buf.old) ≡ Err code) }
     {
-        let content = &self.row(file.node).content;
-        if !file.mode.can_read() || !content.is_file() {
+        if !file.mode.can_read() || !self.is_file(file.node) {
             return Err(ErrorCode::BadDescriptor);
         }
         if offset >= 1 << 63 {
             return Err(ErrorCode::Invalid);
         }
-        Ok(copy_front(bytes_from(content.bytes(), offset), buf))
+        Ok(copy_front(bytes_from(self.bytes(file.node), offset), buf))
     }
 
     /// Puts a piece of bytes into a file from an offset on, and answers how many: all.
@@ -528,7 +585,7 @@ impl Store {
         if !file.mode.can_write() {
             return Err(HostError::Code(ErrorCode::BadDescriptor));
         }
-        let end = self.row(file.node).content.bytes().len();
+        let end = self.bytes(file.node).len();
         if makes_too_large(end as u64, piece) {
             return Err(HostError::Code(ErrorCode::FileTooLarge));
         }
@@ -603,27 +660,37 @@ impl Store {
     }
 }
 
-/// The rows of these nodes; the counts say how many entries give each number.
-fn rows_of(alloc: Global, nodes: Vec<NewNode>, counts: &[u64]) -> Result<Vec<Row>, AllocError>
-    requires { counts.now ≡ name_counts (map given nodes.items) }
-    ensures { let all = map given nodes.items in
-        IfOk result (λ rows. map stored_node rows.items ≡ nodes_from all 0 all) }
+/// The rows of these nodes, where no names are there yet; those of their directories come. The counts say how many entries
+/// give each number.
+fn rows_of(
+    alloc: Global,
+    nodes: Vec<NewNode>,
+    counts: &[u64],
+    names: &mut Rows,
+) -> Result<Vec<Row>, AllocError>
+    requires counts { counts.now ≡ name_counts (map given nodes.items) }
+    requires none { names.old.names ≡ maps.empty }
+    ensures nodes { let all = map given nodes.items in
+        IfOk result (λ rows. named_from names.new.names 0 (map stored_node rows.items) ≡ nodes_from all 0 all) }
+    ensures below { IfOk result (λ rows. AreBelow names.new.names (length rows.items)) }
 {
     let mut rows = Vec::with_capacity(alloc, nodes.len())?;
     for node in nodes {
         let number = rows.len();
-        let row = Row::new(alloc, node, number as u64, counts[number])?;
+        let row = Row::new(node, number as u64, counts[number], names)?;
         rows.push(row)?;
     }
     Ok(rows)
 }
 
-fn new_nodes(alloc: Global, rows: &[Row]) -> Result<Vec<NewNode>, AllocError>
-    ensures { IfOk result (λ nodes. map given nodes.items ≡ map given_of (map stored_node rows.now)) }
+/// The nodes of these rows and names as a list gives them.
+fn new_nodes(alloc: Global, rows: &[Row], names: &Rows) -> Result<Vec<NewNode>, AllocError>
+    ensures { IfOk result (λ nodes. map given nodes.items ≡ map given_of (named_from names.now.names 0 (map stored_node rows.now))) }
 {
     let mut nodes = Vec::with_capacity(alloc, rows.len())?;
     for row in rows {
-        nodes.push(row.to_new(alloc)?)?;
+        let number = nodes.len();
+        nodes.push(row.to_new(alloc, names.names(number as u64))?)?;
     }
     Ok(nodes)
 }

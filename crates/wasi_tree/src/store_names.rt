@@ -28,7 +28,7 @@ impl Store {
         ensures node { IfOk result (λ n. child self.now looked.now.directory (name_bytes looked.now.name) ≡ Some n) }
         ensures below { IfOk result (λ n. n < next_of self.now) }
     {
-        if !self.row(looked.directory).content.is_directory() {
+        if !self.is_directory(looked.directory) {
             return Err(ErrorCode::NotDirectory);
         }
         if let Some(code) = self.refuse_name(looked.directory, looked.name) {
@@ -40,7 +40,7 @@ impl Store {
         let Some(node) = looked.found else {
             return Err(ErrorCode::NoEntry);
         };
-        if !self.row(looked.directory).bits.w {
+        if !self.bits(looked.directory).w {
             return Err(ErrorCode::Access);
         }
         Ok(node)
@@ -53,9 +53,7 @@ impl Store {
         ensures { result
             ≡ first_row (both_rows self.now old.now.directory (name_bytes old.now.name) new.now.directory (name_bytes new.now.name)) }
     {
-        if !self.row(old.directory).content.is_directory()
-            || !self.row(new.directory).content.is_directory()
-        {
+        if !self.is_directory(old.directory) || !self.is_directory(new.directory) {
             return Some(ErrorCode::NotDirectory);
         }
         if let Some(code) = self.refuse_name(old.directory, old.name) {
@@ -97,11 +95,10 @@ impl Store {
         ensures refusal { refused_with result ≡ first_row (links_rows self.now (Some node)) }
         ensures room { OnOk result (links_of (node_at self.now node).content < 2 ^ 64 - 1) }
     {
-        let content = &self.row(node).content;
-        if content.is_directory() {
+        if self.is_directory(node) {
             return Err(ErrorCode::NotPermitted);
         }
-        if self.limits.links <= content.links() {
+        if self.limits.links <= self.links(node) {
             return Err(ErrorCode::TooManyLinks);
         }
         Ok(())
@@ -137,10 +134,9 @@ impl Store {
         ensures stays { NodesStay self.old self.new }
         ensures count { next_of self.new ≡ next_of self.old }
     {
-        let alloc = self.allocator();
-        self.rows[directory as usize]
-            .content
-            .add_name(alloc, name.as_str(), node)?;
+        let text = String::from_str(self.allocator(), name.as_str())?;
+        self.names.reserve()?;
+        self.names.insert(directory, text, node);
         self.worked.mark(directory);
         Ok(())
     }
@@ -181,7 +177,7 @@ impl Store {
         let Some(node) = old.found else {
             return Err(ErrorCode::NoEntry);
         };
-        if requires_dir && !self.row(node).content.is_directory() {
+        if requires_dir && !self.is_directory(node) {
             return Err(ErrorCode::NotDirectory);
         }
         Ok(node)
@@ -217,14 +213,13 @@ impl Store {
         requires node { node < next_of self.now }
         ensures { result ≡ first_row (access_rows self.now old new (Some node)) }
     {
-        if !self.row(old).bits.w || !self.row(new).bits.w {
+        if !self.bits(old).w || !self.bits(new).w {
             return Some(ErrorCode::Access);
         }
-        let row = self.row(node);
-        if row.content.is_directory() && !row.bits.w && old != new {
+        if self.is_directory(node) && !self.bits(node).w && old != new {
             return Some(ErrorCode::Access);
         }
-        if self.row(new).content.is_gone() {
+        if self.is_gone(new) {
             return Some(ErrorCode::NoEntry);
         }
         None
@@ -236,15 +231,15 @@ impl Store {
         requires lost { lost < next_of self.now }
         ensures { result ≡ first_row (replacing_rows self.now (Some node) (Some lost)) }
     {
-        let is_directory = self.row(node).content.is_directory();
-        let content = &self.row(lost).content;
-        if is_directory && !content.is_directory() {
+        let is_directory = self.is_directory(node);
+        let replaces_directory = self.is_directory(lost);
+        if is_directory && !replaces_directory {
             return Some(ErrorCode::NotDirectory);
         }
-        if !is_directory && content.is_directory() {
+        if !is_directory && replaces_directory {
             return Some(ErrorCode::IsDirectory);
         }
-        if content.is_directory() && !content.is_bare() {
+        if replaces_directory && !self.is_bare(lost) {
             return Some(ErrorCode::NotEmpty);
         }
         None
@@ -296,7 +291,7 @@ impl Store {
         ensures count { next_of self.new ≡ next_of self.old }
     {
         let node = self.node_to_drop(looked, ErrorCode::IsDirectory)?;
-        if self.row(node).content.is_directory() {
+        if self.is_directory(node) {
             return Err(ErrorCode::IsDirectory);
         }
         self.drop_name(looked.directory, looked.name, node);
@@ -314,11 +309,10 @@ impl Store {
         ensures count { next_of self.new ≡ next_of self.old }
     {
         let node = self.node_to_drop(looked, ErrorCode::Invalid)?;
-        let row = self.row(node);
-        if !row.content.is_directory() {
+        if !self.is_directory(node) {
             return Err(ErrorCode::NotDirectory);
         }
-        if !row.content.is_bare() {
+        if !self.is_bare(node) {
             return Err(ErrorCode::NotEmpty);
         }
         self.drop_name(looked.directory, looked.name, node);
@@ -345,9 +339,7 @@ impl Store {
         ensures stays { NodesStay self.old self.new }
         ensures count { next_of self.new ≡ next_of self.old }
     {
-        self.rows[directory as usize]
-            .content
-            .remove_name(name.as_str());
+        self.names.remove(directory, name.as_str());
         self.worked.mark(directory);
     }
 

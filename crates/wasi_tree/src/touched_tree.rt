@@ -157,8 +157,7 @@ impl TouchedTree {
         if let Some(code) = self.store.refuse_make_dir(&looked) {
             return Err(HostError::Code(code));
         }
-        let alloc = self.store.allocator();
-        self.make_node(directory, name, Row::new_directory(alloc))?;
+        self.make_node(directory, name, Row::new_directory())?;
         Ok(())
     }
 

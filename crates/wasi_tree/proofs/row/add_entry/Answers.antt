@@ -1,10 +1,23 @@
 use Rattle.std.proofs.Common.{◌∙◌, ap}
-use Rattle.std.specs.FinMap as maps
-use Rattle.wasi_tree.specs.StoredTree.{names_in}
-use Rattle.wasi_tree.proofs.NameLemmas.{names_in-inserted}
+use Rattle.std.specs.FinMap.{insert}
+use Rattle.wasi_tree.specs.Given.{pair_of}
+use Rattle.wasi_tree.proofs.NamedLemmas.{first_there, first_put, others_put}
 use Rattle.wasi_tree.proofs.row.add_entry.Goals as goal
+
+pub returns-then-is_some-clause-added : goal.returns-then-is_some-clause-added
+returns-then-is_some-clause-added c =
+    first_there c.args.names.now.names c.args.directory (pair_of c.args.entry)
+    (rw (← c.as_str.ensures.value, ← c.find.ensures, ← c.is_some.ensures) c.if-is_some.true)
 
 pub returns-clause-added : goal.returns-clause-added
 returns-clause-added c =
-    names_in-inserted c.args.names.now c.insert.new.self c.in_ok-text.text c.args.node c.in_ok-insert.ensures.updates
-    ∙ ap (λ name. maps.insert (names_in c.args.names.now.entries) name c.args.node) c.in_ok-text.ensures.ok
+    first_put c.args.names.now.names c.insert.new.self.names c.args.directory (pair_of c.args.entry)
+    (rw (← c.as_str.ensures.value, ← c.find.ensures, ← c.is_some.ensures) c.if-is_some.false)
+    (c.insert.ensures.names
+    ∙ ap (λ m. insert m (c.args.directory, (pair_of c.args.entry).0) c.args.entry.node) c.reserve.ensures.names)
+
+pub returns-clause-others : goal.returns-clause-others
+returns-clause-others c =
+    others_put c.args.directory c.args.names.now.names c.insert.new.self.names (pair_of c.args.entry).0 c.args.entry.node
+    (c.insert.ensures.names
+    ∙ ap (λ m. insert m (c.args.directory, (pair_of c.args.entry).0) c.args.entry.node) c.reserve.ensures.names)

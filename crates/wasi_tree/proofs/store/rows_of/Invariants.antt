@@ -6,4 +6,4 @@ use Rattle.wasi_tree.proofs.store.rows_of.Given as goal
 
 abbrev pub invariant-loop-node : goal.invariant-loop-node
 invariant-loop-node l =
-    AreRows (map given l.fn.nodes.items) l.rows.items (map given (into_iter_items l.node-iterator))
+    AreRows (map given l.fn.nodes.items) l.rows.items l.names.names (map given (into_iter_items l.node-iterator))

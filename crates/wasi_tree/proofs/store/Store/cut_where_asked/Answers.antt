@@ -1,18 +1,21 @@
-use Rattle.std.proofs.Common.{◌≡◌, ◌∙◌, true, cond, sym, ap}
-use Rattle.wasi_host.specs.Tree.{Tree, Node, node_at, is_file}
+use Rattle.std.proofs.lemmas.Grind.{common_steps}
+use Rattle.std.proofs.lemmas.List.{length-set}
+use Rattle.std.proofs.Common.{◌≡◌, ◌∙◌, true, cond, sym, ap, arith}
+use Rattle.wasi_host.specs.Tree.{Tree, node_at, is_file}
 use Rattle.wasi_host.specs.Step.{other_bytes, with_size, file_cut}
-use Rattle.wasi_tree.proofs.RowLemmas.{IsRow, tree_written, sound_written}
+use Rattle.wasi_tree.proofs.NamedLemmas.{unnamed-other_bytes}
+use Rattle.wasi_tree.proofs.RowLemmas.{IsRow, tree_written, sound_written, count_same, row_within}
 use Rattle.wasi_tree.proofs.SoundLemmas.{seen-other_bytes, stays_seen}
 use Rattle.wasi_tree.proofs.StoreLemmas.{cut_asked}
 use Rattle.wasi_tree.proofs.store.Store.cut_where_asked.Goals as goal
 
-row : (c : goal.After-mark) → IsRow c.self.inside.rows.items c.self.inside.limits c.self.inside.worked.nodes
+row : (c : goal.After-mark) → IsRow c.self.inside.rows.items c.self.inside.names.names c.self.inside.limits c.self.inside.worked.nodes
     c.args.self.now c.args.node c.index_mut.result.now
 row c = record { stands = c.self.view_is; within = c.requires; read = c.index_mut.ensures.value }
 
 pub invariant_of-self : goal.invariant_of-self
 invariant_of-self c =
-    sound_written (row c) (other_bytes (with_size 0)) c.cut.new.self c.cut.ensures c.mark.new.self.nodes
+    sound_written (row c) (other_bytes (with_size 0)) (unnamed-other_bytes (with_size 0)) c.cut.new.self c.cut.ensures c.mark.new.self.nodes
     (seen-other_bytes (with_size 0)) c.self.invariant c.mark.ensures.count
 
 pub returns-clause-tree : goal.returns-clause-tree
@@ -20,12 +23,20 @@ returns-clause-tree c =
     let t : Tree = c.args.self.now in
     let n = c.args.node in
     let file : is_file (node_at t n).content ≡ true =
-    ap (λ (node : Node). is_file node.content) c.row.ensures.node ∙ sym c.if-not-is_file.ensures in
-    tree_written (row c) (other_bytes (with_size 0)) c.cut.new.self c.cut.ensures c.mark.ensures.nodes
+    sym c.if-not-is_file.ensures in
+    tree_written (row c) (other_bytes (with_size 0)) (unnamed-other_bytes (with_size 0)) c.cut.new.self c.cut.ensures c.mark.ensures.nodes
     ∙ sym (ap (λ b. cond b (file_cut t n) t)
     (cut_asked c.args.options.now (node_at t n).content (sym c.if-not-is_truncate.ensures.value) file))
 
 pub returns-clause-stays : goal.returns-clause-stays
 returns-clause-stays c =
-    rw (tree_written (row c) (other_bytes (with_size 0)) c.cut.new.self c.cut.ensures c.mark.ensures.nodes)
+    rw (tree_written (row c) (other_bytes (with_size 0)) (unnamed-other_bytes (with_size 0)) c.cut.new.self c.cut.ensures c.mark.ensures.nodes)
     (stays_seen _ _ _ _ c.requires (seen-other_bytes (with_size 0) (node_at c.args.self.now c.args.node).content))
+
+pub returns-clause-count : goal.returns-clause-count
+returns-clause-count c = count_same _ _ _ _ _ _ _ (length-set c.self.inside.rows.items _ _) c.self.view_is
+
+pub index_mut-requires : goal.index_mut-requires
+index_mut-requires c =
+    let within = row_within _ _ _ _ _ c.args.node c.self.view_is c.requires in
+    grind (arith, common_steps)

@@ -5,4 +5,4 @@ use Rattle.wasi_tree.proofs.store.Store.of.Goals as goal
 
 pub invariant_of-result : goal.invariant_of-result
 invariant_of-result c =
-    rows_sound _ _ _ _ _ c.fit.invariant.fit c.in_ok-rows.ensures (grind (arith, common_steps))
+    rows_sound _ _ _ _ _ _ c.fit.invariant.fit c.in_ok-rows.ensures.nodes (grind (arith, common_steps)) c.in_ok-rows.ensures.below

@@ -1,6 +1,5 @@
-use Rattle.std.proofs.Common.{◌∙◌, sym, ap}
+use Rattle.std.proofs.Common.{sym}
 use Rattle.std.proofs.lemmas.Result.{err_from_is_err_and}
-use Rattle.wasi_host.specs.Tree.{Node, is_link, text_of}
 use Rattle.wasi_tree.proofs.StoreLemmas.{link_refused, no_link_refused, link_is}
 use Rattle.wasi_tree.proofs.store.Store.read_link_at.Goals as goal
 
@@ -12,10 +11,10 @@ returns-in_err-node-clause-meaning c =
 pub returns-then-not-is_link-clause-meaning : goal.returns-then-not-is_link-clause-meaning
 returns-then-not-is_link-clause-meaning c =
     no_link_refused _ _ _ _ (sym c.in_ok-node.ensures.refusal) c.in_ok-node.ensures.node
-    (ap (λ (node : Node). is_link node.content) c.row.ensures.node ∙ sym c.if-not-is_link.ensures)
+    (sym c.if-not-is_link.ensures)
 
 pub returns-clause-meaning : goal.returns-clause-meaning
 returns-clause-meaning c =
     link_is _ _ _ _ _ (sym c.in_ok-node.ensures.refusal) c.in_ok-node.ensures.node
-    (ap (λ (node : Node). is_link node.content) c.row.ensures.node ∙ sym c.if-not-is_link.ensures)
-    (c.text.ensures ∙ sym (ap (λ (node : Node). text_of node.content) c.row.ensures.node))
+    (sym c.if-not-is_link.ensures)
+    c.text.ensures.text

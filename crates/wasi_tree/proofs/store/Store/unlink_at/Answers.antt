@@ -1,7 +1,6 @@
-use Rattle.std.proofs.Common.{◌∙◌, true, false, sym, ap}
+use Rattle.std.proofs.Common.{◌∙◌, true, false, sym}
 use Rattle.std.proofs.lemmas.Result.{err_from_is_err_and}
 use Rattle.wasi_paths.specs.Name.{name_bytes}
-use Rattle.wasi_host.specs.Tree.{Node, is_directory}
 use Rattle.wasi_host.specs.declared.errors.ErrorCode.TheVariants as codes
 use Rattle.wasi_tree.proofs.DropLemmas.{MayDrop, unlink_refused, unlink_by, unlinks}
 use Rattle.wasi_tree.proofs.store.Store.unlink_at.Goals as goal
@@ -19,15 +18,15 @@ may c = record { free = sym c.in_ok-node.ensures.refusal; found = c.in_ok-node.e
 pub returns-then-is_directory-clause-refusal : goal.returns-then-is_directory-clause-refusal
 returns-then-is_directory-clause-refusal c =
     sym (unlink_by true (may (goal.at.returns-then-is_directory-clause-refusal c).In_ok-node)
-    (ap (λ (node : Node). is_directory node.content) c.row.ensures.node ∙ sym c.if-is_directory.ensures))
+    (sym c.if-is_directory.ensures))
 
 pub returns-clause-refusal : goal.returns-clause-refusal
 returns-clause-refusal c =
     sym (unlink_by false (may (goal.at.returns-clause-refusal c).In_ok-node)
-    (ap (λ (node : Node). is_directory node.content) c.row.ensures.node ∙ sym c.if-is_directory.ensures))
+    (sym c.if-is_directory.ensures))
 
 pub returns-clause-step : goal.returns-clause-step
 returns-clause-step c =
     c.drop_name.ensures.dropped
     ∙ unlinks (may (goal.at.returns-clause-step c).In_ok-node)
-    (ap (λ (node : Node). is_directory node.content) c.row.ensures.node ∙ sym c.if-is_directory.ensures)
+    (sym c.if-is_directory.ensures)

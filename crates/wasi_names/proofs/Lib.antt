@@ -1,0 +1,9 @@
+pub mod FrontLemmas
+pub mod EntryLemmas
+pub mod ListLemmas
+pub mod KeyLemmas
+pub mod RowLemmas
+pub mod BlockLemmas
+pub mod SplitLemmas
+pub mod NamesLemmas
+pub mod RunLemmas

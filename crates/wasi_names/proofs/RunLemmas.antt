@@ -1,0 +1,194 @@
+-- The rows of one directory among all.
+use Rattle.std.proofs.Common.{◌≡◌, ℕ, suc, ◌+◌, ◌<◌, ◌≤◌, Bool, true, false, cond, List, [], ◌∷◌, ◌++◌, map, length, take, drop, refl, sym, ap, ◌∙◌, subst, arith, append_assoc, Option, None, Some, add-one}
+use Rattle.std.specs.Prelude.{nat_eq, is_some, not, MatchOption}
+use Rattle.std.proofs.lemmas.Bool.{true≢false}
+use Rattle.std.proofs.lemmas.Bool.Decides.{nat_tests}
+use Rattle.std.proofs.lemmas.Cmp.{ranked, by_ranked}
+use Rattle.std.proofs.lemmas.List.{map-append, take-append-drop}
+use Rattle.std.proofs.lemmas.List.Elements.{filter-append}
+use Rattle.std.specs.Ordering.{nat_cmp, ordering_then, is_gt}
+use Rattle.std.specs.Cmp.Lexicographic.{slice_cmp}
+use Rattle.std.specs.declared.cmp.Ordering.TheVariants.{Less, Equal, Greater}
+use Rattle.std.specs.List.{filter, flat_map, AllByRecursion}
+use Rattle.std.specs.List.Sorted.{IsStrictlySortedBy}
+use Rattle.std.specs.FinMap.{is_sorted}
+use Rattle.std.specs.declared.vec.Vec.{Vec}
+use Rattle.wasi_names.specs.declared.name_row.NameRow.{NameRow}
+use Rattle.wasi_names.specs.Fronts.{front_len, list_at}
+use Rattle.wasi_names.specs.Places.{place_in, list_place}
+use Rattle.wasi_names.specs.NameRows.{Key, NameEntry, key_cmp, run_of, row_entry}
+use Rattle.wasi_names.specs.Blocks.{block_entries, all_entries, AreBlocks}
+use Rattle.wasi_names.specs.Runs.{AllFrom, entries_from, IsRun}
+use Rattle.wasi_names.proofs.EntryLemmas.{rises, Rises, AllLess, AllGreater, StartsAbove, rises_right}
+use Rattle.wasi_names.proofs.ListLemmas.{lists_around, around}
+use Rattle.wasi_names.proofs.KeyLemmas.{key_total}
+use Rattle.wasi_names.proofs.RowLemmas.{started, map_drop}
+use Rattle.wasi_names.proofs.NamesLemmas.{same_directory, same_number, run_rises}
+
+-- a key that isn't above another is of no later directory
+not_later : (a b : Key) → is_gt (key_cmp a b) ≡ false → a.0 ≤ b.0
+not_later a b n = by_ranked (a.0 < b.0) (a.0 ≡ b.0) (b.0 < a.0) (nat_cmp a.0 b.0) (ranked a.0 b.0 _ refl)
+    (λ e p. omega arith) (λ e p. omega arith)
+    (λ e p. absurd (true≢false (sym (ap (λ q. is_gt (ordering_then q (slice_cmp nat_cmp a.1 b.1))) e) ∙ n)))
+
+never_after : (ys : List ℕ) → slice_cmp nat_cmp [] ys ≡ Greater → ⊥
+never_after [] h = absurd (cc)
+never_after (y ∷ ys) h = absurd (cc)
+
+-- what is before the first name of a directory is of another
+other_than : (d : ℕ) (b : Key) → key_cmp (d, []) b ≡ Greater → nat_eq b.0 d ≡ false
+other_than d b h = elim (nat_eq b.0 d) as (λ t. nat_eq b.0 d ≡ t → t ≡ false) [
+  | true ↦ λ t. absurd (never_after b.1 (sym (same_directory (d, []) b (sym (same_number b.0 d t))) ∙ h))
+  | false ↦ λ f. refl
+] refl
+
+run_skip : (d : ℕ) (e : NameEntry) (es : List NameEntry) → nat_eq e.0.0 d ≡ false → run_of d (e ∷ es) ≡ run_of d es
+run_skip d e es f = ap (λ b. map (λ (e : NameEntry). (e.0.1, e.1)) (cond b (e ∷ filter (λ (e : NameEntry). nat_eq e.0.0 d) es) (filter (λ (e : NameEntry). nat_eq e.0.0 d) es))) f
+
+run_before : (d : ℕ) (xs : List NameEntry) → AllGreater key_cmp (d, []) xs → run_of d xs ≡ []
+run_before d [] h = refl
+run_before d (x ∷ xs) h = run_skip d x xs (other_than d x.0 h.0) ∙ run_before d xs h.1
+
+run_append : (d : ℕ) (xs ys : List NameEntry) → run_of d (xs ++ ys) ≡ run_of d xs ++ run_of d ys
+run_append d xs ys = ap (map (λ (e : NameEntry). (e.0.1, e.1))) (filter-append (λ (e : NameEntry). nat_eq e.0.0 d) xs ys)
+    ∙ map-append (λ (e : NameEntry). (e.0.1, e.1)) (filter (λ (e : NameEntry). nat_eq e.0.0 d) xs) _
+
+apart : (m n : ℕ) → m < n → nat_eq n m ≡ false
+apart m n lt = grind (arith, nat_tests)
+
+later_of : (a b : ℕ) → a ≤ b → nat_eq b a ≡ false → a < b
+later_of a b le n = grind (arith, nat_tests)
+
+run_behind : (d : ℕ) (k : Key) (es : List NameEntry) → d < k.0 → AllLess key_cmp k es → run_of d es ≡ []
+run_behind d k [] lt h = refl
+run_behind d k (e ∷ es) lt h =
+    let le = not_later k e.0 (ap is_gt h.0) in
+    run_skip d e es (apart d e.0.0 (omega arith)) ∙ run_behind d k es lt h.1
+
+-- past its last name a directory has none
+pub run_past : (d : ℕ) (e : NameEntry) (es : List NameEntry) → Rises key_cmp (e ∷ es) → d ≤ e.0.0 → nat_eq e.0.0 d ≡ false
+    → run_of d (e ∷ es) ≡ []
+run_past d e es r le n = run_skip d e es n ∙ run_behind d e.0 es (later_of d e.0.0 le n) r.0
+
+-- the first key isn't below one
+abbrev StartsAt : Key → List NameEntry → Type 0
+StartsAt k [] = Unit {0}
+StartsAt k (e ∷ es) = is_gt (key_cmp k e.0) ≡ false
+
+all_from : (d : ℕ) (k : Key) (es : List NameEntry) → d ≤ k.0 → AllLess key_cmp k es → AllFrom d es
+all_from d k [] le h = tt
+all_from d k (e ∷ es) le h =
+    let more = not_later k e.0 (ap is_gt h.0) in
+    let here : d ≤ e.0.0 = omega arith in (here, all_from d k es le h.1)
+
+starts_from : (d : ℕ) (es : List NameEntry) → StartsAt (d, []) es → Rises key_cmp es → AllFrom d es
+starts_from d [] s r = tt
+starts_from d (e ∷ es) s r = let here = not_later (d, []) e.0 s in (here, all_from d e.0 es here r.0)
+
+before_place : (k : Key) (es : List NameEntry) → AllGreater key_cmp k (take (place_in key_cmp k es) es)
+unfolding front_len
+before_place k [] = tt
+before_place k (e ∷ es) = elim (key_cmp k e.0) as (λ q. key_cmp k e.0 ≡ q
+    → AllGreater key_cmp k (take (cond (is_gt q) (suc (place_in key_cmp k es)) 0) (e ∷ es))) [
+      | Less ↦ λ is. tt
+      | Equal ↦ λ is. tt
+      | Greater ↦ λ is. (is, before_place k es)
+    ] refl
+
+starts_append : (k : Key) (xs ys : List NameEntry) → StartsAt k xs → StartsAbove key_cmp k ys → StartsAt k (xs ++ ys)
+starts_append k [] [] s a = tt
+starts_append k [] (y ∷ ys) s a = ap is_gt a
+starts_append k (x ∷ xs) ys s a = s
+
+at_place : (k : Key) (es : List NameEntry) → StartsAt k (drop (place_in key_cmp k es) es)
+unfolding front_len
+at_place k [] = tt
+at_place k (e ∷ es) = elim (key_cmp k e.0) as (λ q. key_cmp k e.0 ≡ q
+    → StartsAt k (drop (cond (is_gt q) (suc (place_in key_cmp k es)) 0) (e ∷ es))) [
+      | Less ↦ λ is. ap is_gt is
+      | Equal ↦ λ is. ap is_gt is
+      | Greater ↦ λ is. at_place k es
+    ] refl
+
+module _ {Y : Type 0} (d : ℕ) (bs : List (Vec NameRow Y)) (h : AreBlocks bs) (k : ℕ)
+    (is : k ≡ list_place key_cmp block_entries (d, []) bs) (lt : k < length bs)
+    (at : ℕ) (here : at ≡ place_in key_cmp (d, []) (list_at block_entries bs k)) where
+  place_lt : list_place key_cmp block_entries (d, []) bs < length bs
+  place_lt = subst (λ n. n < length bs) is lt
+
+  halves : all_entries bs ≡ flat_map block_entries (take k bs) ++ (take at (list_at block_entries bs k)
+      ++ (drop at (list_at block_entries bs k) ++ flat_map block_entries (drop (suc k) bs)))
+  halves = lists_around block_entries bs k lt
+      ∙ ap (λ es. flat_map block_entries (take k bs) ++ (es ++ flat_map block_entries (drop (suc k) bs)))
+      (sym (take-append-drop at (list_at block_entries bs k)))
+      ∙ ap (λ es. flat_map block_entries (take k bs) ++ es)
+      (append_assoc (take at (list_at block_entries bs k)) (drop at (list_at block_entries bs k)) _)
+
+  pub tail_rises : Rises key_cmp (drop at (list_at block_entries bs k) ++ flat_map block_entries (drop (suc k) bs))
+  tail_rises = rises_right key_cmp (take at (list_at block_entries bs k)) _
+      (rises_right key_cmp (flat_map block_entries (take k bs)) _ (subst (Rises key_cmp) halves (rises key_cmp _ h.rises)))
+
+  pub tail_from : AllFrom d (drop at (list_at block_entries bs k) ++ flat_map block_entries (drop (suc k) bs))
+  tail_from = starts_from d _ (starts_append (d, []) (drop at (list_at block_entries bs k)) _
+      (subst (λ n. StartsAt (d, []) (drop n (list_at block_entries bs k))) (sym here) (at_place (d, []) (list_at block_entries bs k)))
+      (subst (λ n. StartsAbove key_cmp (d, []) (flat_map block_entries (drop (suc n) bs))) (sym is)
+      (around key_cmp block_entries key_total (d, []) bs (started bs h.each) (rises key_cmp _ h.rises)).after))
+      tail_rises
+
+  pub tail_run : run_of d (drop at (list_at block_entries bs k) ++ flat_map block_entries (drop (suc k) bs))
+      ≡ run_of d (all_entries bs)
+  tail_run = sym (ap (run_of d) halves
+      ∙ run_append d (flat_map block_entries (take k bs)) _
+      ∙ ap (λ xs. xs ++ run_of d (take at (list_at block_entries bs k)
+      ++ (drop at (list_at block_entries bs k) ++ flat_map block_entries (drop (suc k) bs))))
+      (run_before d _ (subst (λ n. AllGreater key_cmp (d, []) (flat_map block_entries (take n bs))) (sym is)
+      (around key_cmp block_entries key_total (d, []) bs (started bs h.each) (rises key_cmp _ h.rises)).before))
+      ∙ run_append d (take at (list_at block_entries bs k)) _
+      ∙ ap (λ xs. xs ++ run_of d (drop at (list_at block_entries bs k) ++ flat_map block_entries (drop (suc k) bs)))
+      (run_before d _ (subst (λ n. AllGreater key_cmp (d, []) (take n (list_at block_entries bs k))) (sym here)
+      (before_place (d, []) (list_at block_entries bs k)))))
+
+-- whether there is a next one
+pub none_is : {A X : Type 0} (g : A → X) (r : Bool) (o : Option A) (xs ys : List X) → is_some o ≡ not r
+    → MatchOption o (xs ≡ []) (λ f. xs ≡ g f ∷ ys) → r ≡ nat_eq (length xs) 0
+none_is g true None xs ys is h = rw h refl
+none_is g false None xs ys is h = absurd (true≢false (sym is))
+none_is g true (Some f) xs ys is h = absurd (true≢false is)
+none_is g false (Some f) xs ys is h = rw h (sym (apart 0 (length (g f ∷ ys)) (omega arith)))
+
+differ : (a b : ℕ) → (a ≡ b → ⊥) → nat_eq a b ≡ false
+differ a b n = grind (arith, nat_tests)
+
+-- a run whose first row is of another directory is over
+pub run_over : {Y : Type 0} (d : ℕ) (row : NameRow) (more here : List NameRow) (rest : List (Vec NameRow Y))
+    → here ≡ row ∷ more → IsRun d here rest → (row.directory ≡ d → ⊥) → run_of d (entries_from here rest) ≡ []
+run_over d row more here rest is run n =
+    let run' = subst (λ rows. IsRun d rows rest) is run in
+    ap (λ rows. run_of d (entries_from rows rest)) is
+    ∙ run_past d (row_entry row) (map row_entry more ++ all_entries rest)
+    (rises key_cmp (entries_from (row ∷ more) rest) run'.rises) run'.from.0 (differ row.directory d n)
+
+pub tail_is : {Y : Type 0} (here : List NameRow) (rest bs : List (Vec NameRow Y)) (k at : ℕ) (rows : List NameRow)
+    → map row_entry rows ≡ list_at block_entries bs k → here ≡ drop at rows → rest ≡ drop (k + 1) bs
+    → entries_from here rest ≡ drop at (list_at block_entries bs k) ++ flat_map block_entries (drop (suc k) bs)
+tail_is here rest bs k at rows are is behind =
+    (λ i. map row_entry (is i) ++ all_entries (behind i))
+    ∙ (λ i. (map_drop row_entry at rows ∙ ap (drop at) are) i ++ all_entries (drop (add-one k i) bs))
+
+-- ---- names in byte order
+
+names_less : (name : List ℕ) (es : List (List ℕ × ℕ)) → AllLess (slice_cmp nat_cmp) name es
+    → AllByRecursion (λ k. slice_cmp nat_cmp name k ≡ Less) (map (λ e. e.0) es)
+names_less name [] h = tt
+names_less name (e ∷ es) h = (h.0, names_less name es h.1)
+
+names_rise : (es : List (List ℕ × ℕ)) → Rises (slice_cmp nat_cmp) es
+    → IsStrictlySortedBy (slice_cmp nat_cmp) (map (λ e. e.0) es)
+unfolding IsStrictlySortedBy
+names_rise [] h = tt
+names_rise (e ∷ es) h = (names_less e.0 es h.0, names_rise es h.1)
+
+-- those of a directory
+pub run_in_order : (d : ℕ) (es : List NameEntry) → is_sorted key_cmp es ≡ true
+    → IsStrictlySortedBy (slice_cmp nat_cmp) (map (λ e. e.0) (run_of d es))
+run_in_order d es sorted = names_rise (run_of d es) (run_rises d es (rises key_cmp es sorted))

@@ -1,0 +1,11 @@
+use Rattle.std.proofs.Common.{◌∙◌, sym, ap}
+use Rattle.std.specs.FinMap.{get, get-from_sorted}
+use Rattle.wasi_names.specs.NameRows.{key_cmp}
+use Rattle.wasi_names.specs.Rows.{HeldNames}
+use Rattle.wasi_names.proofs.EntryLemmas.{told}
+use Rattle.wasi_names.proofs.rows.Rows.find.Goals as goal
+
+pub returns : goal.returns
+returns c = c.find.ensures
+    ∙ sym (get-from_sorted key_cmp _ (c.args.directory, c.args.name.now) (told c.self.invariant.kept.rises))
+    ∙ ap (λ (h : HeldNames). get h.names (c.args.directory, c.args.name.now)) c.self.view_is

@@ -1,0 +1,18 @@
+use Rattle.std.proofs.Common.{◌∙◌, sym, ap}
+use Rattle.std.specs.FinMap.{get, get-from_sorted, remove, from_sorted}
+use Rattle.wasi_names.specs.NameRows.{key_cmp}
+use Rattle.wasi_names.specs.Rows.{HeldNames}
+use Rattle.wasi_names.proofs.EntryLemmas.{told}
+use Rattle.wasi_names.proofs.NamesLemmas.{from_sorted-without}
+use Rattle.wasi_names.proofs.rows.Rows.remove.Goals as goal
+
+pub returns-clause-found : goal.returns-clause-found
+returns-clause-found c = c.remove.ensures.found
+    ∙ sym (get-from_sorted key_cmp _ (c.args.directory, c.args.name.now) (told c.self.invariant.kept.rises))
+    ∙ ap (λ (h : HeldNames). get h.names (c.args.directory, c.args.name.now)) c.self.view_is
+
+pub returns-clause-names : goal.returns-clause-names
+returns-clause-names c =
+    ap (from_sorted {R = key_cmp}) c.remove.ensures.removed
+    ∙ from_sorted-without _ (c.args.directory, c.args.name.now) c.self.invariant.kept.rises
+    ∙ ap (λ (h : HeldNames). remove h.names (c.args.directory, c.args.name.now)) c.self.view_is

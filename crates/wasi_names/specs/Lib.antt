@@ -1,0 +1,6 @@
+pub mod Fronts
+pub mod Places
+pub mod NameRows
+pub mod Blocks
+pub mod Rows
+pub mod Runs

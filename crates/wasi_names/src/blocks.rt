@@ -1,0 +1,367 @@
+//! Rows in blocks: each block has room for as many rows as a block may have, so one row moves less than a block's rows.
+ghost use Rattle.std.specs.Prelude.{◌≡◌, ◌+◌, ◌<◌, ◌≤◌, [], ◌∷◌, ◌++◌, slice_index_or, suc, is_some, Some, None, IfSome, map, length, take, drop, not, All, IsTrue};
+ghost use Rattle.std.specs.List.{insert, remove};
+ghost use Rattle.std.specs.Vec.{vec_len, vec_capacity};
+ghost use Rattle.std.specs.Ordering.{eq_by_cmp};
+ghost use Rattle.std.specs.FinMap.{is_sorted, find, put};
+ghost use Rattle.std.specs.FinMap.Entries.{where_key};
+ghost use Rattle.wasi_names.specs.Fronts.{list_at, with_list};
+ghost use Rattle.wasi_names.specs.Places.{place_in, first_at, starts_by, list_place, revalued};
+ghost use Rattle.wasi_names.specs.NameRows.{key_cmp, row_key, row_entry};
+ghost use Rattle.wasi_names.specs.NameRows.{run_of};
+ghost use Rattle.wasi_names.specs.Runs.{entries_from, IsRun};
+ghost use Rattle.wasi_names.specs.Blocks.{block_entries, all_entries, IsBlock, AreBlocks};
+
+use crate::name_row::NameRow;
+use std::mem;
+
+/// How many rows a block may have.
+pub const BLOCK: usize = 128;
+
+/// How many rows stay where a full block is split.
+const HALF: usize = 64;
+
+/// How many rows are before a name in a directory.
+pub fn place(rows: &[NameRow], directory: u64, name: &str) -> usize
+    requires { IsTrue (is_sorted key_cmp (map row_entry rows.now)) }
+    ensures place { result ≡ place_in key_cmp (directory, name.now) (map row_entry rows.now) }
+    ensures bound { result ≤ length rows.now }
+{
+    rows.partition_point(|row| row.is_before(directory, name))
+}
+
+/// The node of the first row, if it has this name in this directory.
+fn first_at(rows: &[NameRow], directory: u64, name: &str) -> Option<u64>
+    ensures { result ≡ first_at key_cmp (directory, name.now) (map row_entry rows.now) }
+{
+    let Some(row) = rows.first() else {
+        return None;
+    };
+    if !row.is_at(directory, name) {
+        return None;
+    }
+    Some(row.node)
+}
+
+/// The node of the row that has this name in this directory.
+fn find_in(rows: &[NameRow], directory: u64, name: &str) -> Option<u64>
+    requires { IsTrue (is_sorted key_cmp (map row_entry rows.now)) }
+    ensures { result ≡ find key_cmp (directory, name.now) (map row_entry rows.now) }
+{
+    let at = place(rows, directory, name);
+    first_at(from(rows, at), directory, name)
+}
+
+/// The rows from a place on.
+fn from(rows: &[NameRow], at: usize) -> &[NameRow]
+    requires { at ≤ length rows.now }
+    ensures { result.now ≡ drop at rows.now }
+{
+    &rows[at..]
+}
+
+/// Whether a block's first row isn't after a name in a directory.
+fn starts_by(block: &[NameRow], directory: u64, name: &str) -> bool
+    ensures { result ≡ starts_by key_cmp (directory, name.now) (map row_entry block.now) }
+{
+    match block.first() {
+        Some(row) => !row.is_after(directory, name),
+        None => true,
+    }
+}
+
+/// The block in which a name in a directory stands, if any does; else the one in which it would.
+pub fn block_place(blocks: &Vec<Vec<NameRow>>, directory: u64, name: &str) -> usize
+    requires { AreBlocks blocks.now.items }
+    ensures place { result ≡ list_place key_cmp block_entries (directory, name.now) blocks.now.items }
+{
+    place_among(blocks.as_slice(), directory, name)
+}
+
+/// The same, of a slice.
+fn place_among(blocks: &[Vec<NameRow>], directory: u64, name: &str) -> usize
+    requires { AreBlocks blocks.now }
+    ensures place { result ≡ list_place key_cmp block_entries (directory, name.now) blocks.now }
+{
+    let count = blocks.partition_point(|block| starts_by(block.as_slice(), directory, name));
+    count.saturating_sub(1)
+}
+
+/// The node of a name in a directory.
+pub fn find(blocks: &Vec<Vec<NameRow>>, directory: u64, name: &str) -> Option<u64>
+    requires { AreBlocks blocks.now.items }
+    ensures { result ≡ find key_cmp (directory, name.now) (all_entries blocks.now.items) }
+{
+    let k = block_place(blocks, directory, name);
+    if k >= blocks.len() {
+        return None;
+    }
+    let at = place_at(blocks, k, directory, name);
+    found_at(blocks, k, at, directory, name)
+}
+
+/// The rows of a block.
+fn rows_at(blocks: &Vec<Vec<NameRow>>, k: usize) -> &[NameRow]
+    requires { k < length blocks.now.items }
+    ensures { map row_entry result.now ≡ list_at block_entries blocks.now.items k }
+{
+    blocks[k].as_slice()
+}
+
+/// How many rows of a block are before a name in a directory.
+fn place_at(blocks: &Vec<Vec<NameRow>>, k: usize, directory: u64, name: &str) -> usize
+    requires kept { AreBlocks blocks.now.items }
+    requires within { k < length blocks.now.items }
+    ensures place { result ≡ place_in key_cmp (directory, name.now) (list_at block_entries blocks.now.items k) }
+    ensures bound { result ≤ length (list_at block_entries blocks.now.items k) }
+{
+    place(rows_at(blocks, k), directory, name)
+}
+
+/// The node of the row at a place of a block, if it has this name in this directory.
+fn found_at(
+    blocks: &Vec<Vec<NameRow>>,
+    k: usize,
+    at: usize,
+    directory: u64,
+    name: &str,
+) -> Option<u64>
+    requires within { k < length blocks.now.items }
+    requires at { at ≤ length (list_at block_entries blocks.now.items k) }
+    ensures { result ≡ first_at key_cmp (directory, name.now) (drop at (list_at block_entries blocks.now.items k)) }
+{
+    first_at(from(rows_at(blocks, k), at), directory, name)
+}
+
+/// Puts a row at a place of a block that has room for it.
+fn insert_row(block: &mut Vec<NameRow>, at: usize, row: NameRow)
+    requires within { at ≤ length block.old.items }
+    requires room { length block.old.items < vec_capacity block.old }
+    ensures items { block.new.items ≡ insert block.old.items at row }
+    ensures capacity { vec_capacity block.old ≤ vec_capacity block.new }
+{
+    let Ok(()) = block.insert(at, row) else {
+        unreachable!();
+    };
+}
+
+/// Moves a block's rows from a place on into another block, which is empty and has room for them.
+fn move_tail(block: &mut Vec<NameRow>, at: usize, back: &mut Vec<NameRow>)
+    requires within { at ≤ length block.old.items }
+    requires empty { back.old.items ≡ [] }
+    requires room { length block.old.items ≤ at + vec_capacity back.old }
+    ensures front { block.new.items ≡ take at block.old.items }
+    ensures back { back.new.items ≡ drop at block.old.items }
+    ensures capacity { vec_capacity block.new ≡ vec_capacity block.old }
+    ensures room { vec_capacity back.new ≡ vec_capacity back.old }
+{
+    while block.len() > at {
+        let row = block.take_last();
+        back.push_reserved(row);
+    }
+    back.reverse();
+}
+
+/// Gives a block's row at a place another node.
+fn set_node(block: &mut Vec<NameRow>, at: usize, node: u64)
+    requires { at < length block.old.items }
+    ensures rows { map row_entry block.new.items ≡ revalued node (map row_entry block.old.items) at }
+    ensures len { length block.new.items ≡ length block.old.items }
+    ensures capacity { vec_capacity block.new ≡ vec_capacity block.old }
+{
+    block[at].node = node;
+}
+
+/// Puts a row into the first block, where there is none.
+fn start(blocks: &mut Vec<Vec<NameRow>>, mut block: Vec<NameRow>, row: NameRow)
+    requires none { blocks.old.items ≡ [] }
+    requires room { 0 < vec_capacity blocks.old }
+    requires empty { block.items ≡ [] }
+    requires block { BLOCK ≤ vec_capacity block }
+    ensures each { All IsBlock blocks.new.items }
+    ensures rows { all_entries blocks.new.items ≡ row_entry row ∷ [] }
+{
+    block.push_reserved(row);
+    blocks.push_reserved(block);
+}
+
+/// Puts a row at a place of a block. A full block is split for it, so that its other half is the spare block.
+fn insert_at(blocks: &mut Vec<Vec<NameRow>>, back: Vec<NameRow>, k: usize, at: usize, row: NameRow)
+    requires within { k < length blocks.old.items }
+    requires at { at ≤ length (list_at block_entries blocks.old.items k) }
+    requires each { All IsBlock blocks.old.items }
+    requires room { length blocks.old.items < vec_capacity blocks.old }
+    requires empty { back.items ≡ [] }
+    requires block { BLOCK ≤ vec_capacity back }
+    ensures each { All IsBlock blocks.new.items }
+    ensures rows { all_entries blocks.new.items ≡ with_list block_entries blocks.old.items k
+        (insert (list_at block_entries blocks.old.items k) at (row_entry row)) }
+{
+    if blocks[k].len() < BLOCK {
+        insert_row(&mut blocks[k], at, row);
+        return;
+    }
+    let back = split_row(&mut blocks[k], back, at, row);
+    insert_block(blocks, k + 1, back);
+}
+
+/// Puts a row at a place of a full block, half of whose rows then stand in another block. A row that comes last stands
+/// alone there, so that rows which come in order fill their blocks.
+fn split_row(
+    block: &mut Vec<NameRow>,
+    mut back: Vec<NameRow>,
+    at: usize,
+    row: NameRow,
+) -> Vec<NameRow>
+    requires full { length block.old.items ≡ BLOCK }
+    requires capacity { BLOCK ≤ vec_capacity block.old }
+    requires at { at ≤ BLOCK }
+    requires empty { back.items ≡ [] }
+    requires block { BLOCK ≤ vec_capacity back }
+    ensures rows { block.new.items ++ result.items ≡ insert block.old.items at row }
+    ensures front { IsBlock block.new }
+    ensures back { IsBlock result }
+{
+    let cut = if at == BLOCK { BLOCK } else { HALF };
+    move_tail(block, cut, &mut back);
+    if at < cut {
+        insert_row(block, at, row);
+    } else {
+        insert_row(&mut back, at - cut, row);
+    }
+    back
+}
+
+/// Puts a block at a place among blocks that have room for it.
+fn insert_block(blocks: &mut Vec<Vec<NameRow>>, k: usize, block: Vec<NameRow>)
+    requires within { k ≤ length blocks.old.items }
+    requires room { length blocks.old.items < vec_capacity blocks.old }
+    ensures { blocks.new.items ≡ insert blocks.old.items k block }
+{
+    let Ok(()) = blocks.insert(k, block) else {
+        unreachable!();
+    };
+}
+
+/// Gives the row at a place of a block another node.
+fn set_at(blocks: &mut Vec<Vec<NameRow>>, k: usize, at: usize, node: u64)
+    requires within { k < length blocks.old.items }
+    requires at { at < length (list_at block_entries blocks.old.items k) }
+    requires each { All IsBlock blocks.old.items }
+    ensures each { All IsBlock blocks.new.items }
+    ensures rows { all_entries blocks.new.items ≡ with_list block_entries blocks.old.items k
+        (revalued node (list_at block_entries blocks.old.items k) at) }
+{
+    set_node(&mut blocks[k], at, node);
+}
+
+/// Puts a node under a name in a directory, in the place of any other, where there is room for a block more.
+pub fn put(blocks: &mut Vec<Vec<NameRow>>, spare: &mut Vec<NameRow>, row: NameRow)
+    requires kept { AreBlocks blocks.old.items }
+    requires room { length blocks.old.items < vec_capacity blocks.old }
+    requires empty { spare.old.items ≡ [] }
+    requires block { BLOCK ≤ vec_capacity spare.old }
+    ensures kept { AreBlocks blocks.new.items }
+    ensures empty { spare.new.items ≡ [] }
+    ensures put { all_entries blocks.new.items ≡ put key_cmp (row_key row) row.node (all_entries blocks.old.items) }
+{
+    let name = row.name.as_str();
+    let k = block_place(blocks, row.directory, name);
+    if k >= blocks.len() {
+        start(blocks, taken(spare), row);
+        return;
+    }
+    let at = place_at(blocks, k, row.directory, name);
+    let found = found_at(blocks, k, at, row.directory, name);
+    if found.is_some() {
+        set_at(blocks, k, at, row.node);
+        return;
+    }
+    insert_at(blocks, taken(spare), k, at, row);
+}
+
+/// A block, in whose place another stands that has no room yet.
+fn taken(spare: &mut Vec<NameRow>) -> Vec<NameRow>
+    ensures taken { result ≡ spare.old }
+    ensures empty { spare.new.items ≡ [] }
+{
+    let alloc = *spare.allocator();
+    mem::replace(spare, Vec::new(alloc))
+}
+
+/// Takes a name out of a directory, and gives the node that it held.
+pub fn remove(blocks: &mut Vec<Vec<NameRow>>, directory: u64, name: &str) -> Option<u64>
+    requires { AreBlocks blocks.old.items }
+    ensures kept { AreBlocks blocks.new.items }
+    ensures found { result ≡ find key_cmp (directory, name.now) (all_entries blocks.old.items) }
+    ensures removed { all_entries blocks.new.items
+        ≡ where_key key_cmp (λ k. not (eq_by_cmp key_cmp (directory, name.now) k)) (all_entries blocks.old.items) }
+{
+    let k = block_place(blocks, directory, name);
+    if k >= blocks.len() {
+        return None;
+    }
+    let at = place_at(blocks, k, directory, name);
+    let found = found_at(blocks, k, at, directory, name);
+    if found.is_some() {
+        take_row(blocks, k, at);
+    }
+    found
+}
+
+/// Takes the row at a place of a block out, and the block with its last row.
+fn take_row(blocks: &mut Vec<Vec<NameRow>>, k: usize, at: usize)
+    requires within { k < length blocks.old.items }
+    requires at { at < length (list_at block_entries blocks.old.items k) }
+    requires each { All IsBlock blocks.old.items }
+    ensures each { All IsBlock blocks.new.items }
+    ensures rows { all_entries blocks.new.items ≡ with_list block_entries blocks.old.items k
+        (remove (list_at block_entries blocks.old.items k) at) }
+{
+    if blocks[k].len() == 1 {
+        blocks.remove(k);
+        return;
+    }
+    blocks[k].remove(at);
+}
+
+/// Rows and the blocks behind them, where the first rows are there if any are.
+pub fn settled<'a>(
+    here: &'a [NameRow],
+    rest: &'a [Vec<NameRow>],
+) -> (&'a [NameRow], &'a [Vec<NameRow>])
+    requires { All IsBlock rest.now }
+    ensures same { entries_from result.0.now result.1.now ≡ entries_from here.now rest.now }
+    ensures each { All IsBlock result.1.now }
+    ensures some { result.0.now ≡ [] → result.1.now ≡ [] }
+{
+    if !here.is_empty() {
+        return (here, rest);
+    }
+    let Some((block, rest)) = rest.split_first() else {
+        return (here, rest);
+    };
+    (block.as_slice(), rest)
+}
+
+/// The rows of a directory and of those behind it.
+pub fn rows_from(blocks: &Vec<Vec<NameRow>>, directory: u64) -> (&[NameRow], &[Vec<NameRow>])
+    requires { AreBlocks blocks.now.items }
+    ensures run { IsRun directory result.0.now result.1.now }
+    ensures same { run_of directory (entries_from result.0.now result.1.now) ≡ run_of directory (all_entries blocks.now.items) }
+{
+    let k = block_place(blocks, directory, "");
+    if k >= blocks.len() {
+        return (&[], &[]);
+    }
+    let at = place_at(blocks, k, directory, "");
+    settled(from(rows_at(blocks, k), at), blocks_from(blocks, k + 1))
+}
+
+/// The blocks from one on.
+fn blocks_from(blocks: &Vec<Vec<NameRow>>, k: usize) -> &[Vec<NameRow>]
+    requires { k ≤ length blocks.now.items }
+    ensures { result.now ≡ drop k blocks.now.items }
+{
+    &blocks.as_slice()[k..]
+}

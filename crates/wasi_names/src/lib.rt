@@ -1,0 +1,11 @@
+//! The names of all directories of a tree, as rows that are sorted by directory and then by the bytes of the name.
+#![tactic(auto)]
+
+mod blocks;
+mod name_row;
+mod rows;
+mod run;
+
+pub use name_row::NameRow;
+pub use rows::{Rows, directories_are_apart};
+pub use run::Run;

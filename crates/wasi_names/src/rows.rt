@@ -1,0 +1,118 @@
+//! The rows of all directories.
+ghost use Rattle.std.specs.Prelude.{◌≡◌, ℕ, List, OnOk, true, false, nat_eq};
+ghost use Rattle.std.specs.FinMap as maps;
+ghost use Rattle.std.specs.String.{string_bytes};
+ghost use Rattle.wasi_names.specs.NameRows.{AllNames, names_at, run_of};
+
+use crate::blocks::{self, BLOCK};
+use crate::name_row::NameRow;
+use crate::run::Run;
+use std::alloc::{AllocError, Global};
+use std::marker::Model;
+
+/// The names of all directories of a tree, each with the node that it holds, in one sequence that is sorted by directory
+/// and then by the bytes of the name. It is kept in blocks, so that a change moves the rows of one block alone. Contracts
+/// see a finite map from directories and names, and whether there is room for one more name.
+#[derive(Debug, Drop)]
+pub struct Rows {
+    blocks: Vec<Vec<NameRow>>,
+    spare: Vec<NameRow>,
+}
+
+impl Model for Rows {
+    ghost use Rattle.wasi_names.specs.Rows.{HeldNames, held_names_code, held_names, AreRows};
+
+    ghost Value = { HeldNames };
+
+    ghost coded = { held_names_code };
+
+    ghost view = { λ a. held_names a.blocks a.spare };
+
+    ghost invariant = { λ a. AreRows a.blocks a.spare };
+}
+
+impl Rows {
+    /// No names.
+    pub fn new(alloc: Global) -> Rows
+        ensures { result.names ≡ maps.empty }
+    {
+        Rows {
+            blocks: Vec::new(alloc),
+            spare: Vec::new(alloc),
+        }
+    }
+
+    /// The node of a name in a directory.
+    pub fn find(&self, directory: u64, name: &str) -> Option<u64>
+        ensures { result ≡ maps.get self.now.names (directory, name.now) }
+    {
+        blocks::find(&self.blocks, directory, name)
+    }
+
+    /// Makes room for one more name.
+    pub fn reserve(&mut self) -> Result<(), AllocError>
+        ensures names { self.new.names ≡ self.old.names }
+        ensures room { OnOk result (self.new.has_room ≡ true) }
+    {
+        self.blocks.reserve(1)?;
+        if self.spare.capacity() < BLOCK {
+            let alloc = *self.blocks.allocator();
+            self.spare = Vec::with_capacity(alloc, BLOCK)?;
+        }
+        Ok(())
+    }
+
+    /// Puts a node under a name in a directory, in the place of any other.
+    pub fn insert(&mut self, directory: u64, name: String, node: u64)
+        requires { self.old.has_room ≡ true }
+        ensures names { self.new.names ≡ maps.insert self.old.names (directory, string_bytes name) node }
+    {
+        let row = NameRow {
+            directory,
+            name,
+            node,
+        };
+        blocks::put(&mut self.blocks, &mut self.spare, row);
+    }
+
+    /// Takes a name out of a directory, and gives the node that it held.
+    pub fn remove(&mut self, directory: u64, name: &str) -> Option<u64>
+        ensures found { result ≡ maps.get self.old.names (directory, name.now) }
+        ensures names { self.new.names ≡ maps.remove self.old.names (directory, name.now) }
+    {
+        blocks::remove(&mut self.blocks, directory, name)
+    }
+
+    /// The names of a directory, in byte order.
+    pub fn names(&self, directory: u64) -> Run<'_>
+        ensures { result ≡ maps.entries (names_at self.now.names directory) }
+    {
+        let (here, rest) = blocks::rows_from(&self.blocks, directory);
+        Run {
+            here,
+            rest,
+            directory,
+        }
+    }
+
+    /// Whether a directory has no names.
+    pub fn is_empty(&self, directory: u64) -> bool
+        ensures { result ≡ nat_eq (maps.len (names_at self.now.names directory)) 0 }
+    {
+        self.names(directory).next().is_none()
+    }
+}
+
+/// A directory's names, where one of its own is put or taken: the change is in its names, and those of others stay.
+pub fn directories_are_apart()
+    ensures get { (m : AllNames) (d : ℕ) (name : List ℕ) → maps.get (names_at m d) name ≡ maps.get m (d, name) }
+    ensures run { (m : AllNames) (d : ℕ) → maps.entries (names_at m d) ≡ run_of d (maps.entries m) }
+    ensures inserted { (m : AllNames) (d : ℕ) (name : List ℕ) (n : ℕ)
+        → names_at (maps.insert m (d, name) n) d ≡ maps.insert (names_at m d) name n }
+    ensures removed { (m : AllNames) (d : ℕ) (name : List ℕ)
+        → names_at (maps.remove m (d, name)) d ≡ maps.remove (names_at m d) name }
+    ensures others_inserted { (m : AllNames) (d e : ℕ) (name : List ℕ) (n : ℕ) → nat_eq d e ≡ false
+        → names_at (maps.insert m (d, name) n) e ≡ names_at m e }
+    ensures others_removed { (m : AllNames) (d e : ℕ) (name : List ℕ) → nat_eq d e ≡ false
+        → names_at (maps.remove m (d, name)) e ≡ names_at m e }
+{}

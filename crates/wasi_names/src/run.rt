@@ -1,0 +1,60 @@
+//! The names of one directory.
+ghost use Rattle.std.specs.Prelude.{◌≡◌, [], ◌∷◌, map, MatchOption};
+ghost use Rattle.std.specs.List.Sorted.{IsStrictlySortedBy};
+ghost use Rattle.std.specs.Cmp.Lexicographic.{slice_cmp};
+ghost use Rattle.std.specs.Ordering.{nat_cmp};
+
+use crate::blocks::settled;
+use crate::name_row::NameRow;
+use std::marker::Model;
+
+/// The names of a directory that are still to come, in byte order, each with the node that it holds. Contracts see them
+/// as a list.
+#[derive(Drop)]
+pub struct Run<'a> {
+    pub(crate) here: &'a [NameRow],
+    pub(crate) rest: &'a [Vec<NameRow>],
+    pub(crate) directory: u64,
+}
+
+impl<'a> Model for Run<'a> {
+    ghost use Rattle.std.specs.Prelude.{ℕ, List};
+    ghost use Rattle.wasi_names.specs.NameRows.{run_of};
+    ghost use Rattle.wasi_names.specs.Runs.{entries_from, IsRun};
+
+    ghost Value = { List (List ℕ × ℕ) };
+
+    ghost view = { λ a. run_of a.directory (entries_from a.here.now a.rest.now) };
+
+    ghost invariant = { λ a. IsRun a.directory a.here.now a.rest.now };
+}
+
+impl<'a> Run<'a> {
+    /// The same names once more. They stand in byte order, each once.
+    pub fn again(&self) -> Run<'a>
+        ensures same { result ≡ self.now }
+        ensures rising { IsStrictlySortedBy (slice_cmp nat_cmp) (map (λ e. e.0) self.now) }
+    {
+        Run {
+            here: self.here,
+            rest: self.rest,
+            directory: self.directory,
+        }
+    }
+
+    /// The next name with its node.
+    pub fn next(&mut self) -> Option<(&'a str, u64)>
+        ensures { MatchOption result (self.old ≡ []) (λ found. self.old ≡ (found.0.now, found.1) ∷ self.new) }
+    {
+        let Some((row, here)) = self.here.split_first() else {
+            return None;
+        };
+        if row.directory != self.directory {
+            return None;
+        }
+        let (here, rest) = settled(here, self.rest);
+        self.here = here;
+        self.rest = rest;
+        Some((row.name.as_str(), row.node))
+    }
+}
