@@ -1,0 +1,9 @@
+//! The calls of a view, by family.
+
+mod dropping;
+pub(crate) mod error_codes;
+mod nodes;
+mod opening;
+mod places;
+mod reading_and_writing;
+mod two_places;

@@ -1,0 +1,17 @@
+//! Preview2's calls on a guest's files: each is a call of what its resource stands for.
+#![tactic(auto)]
+
+mod calls;
+mod context;
+mod entries;
+mod error;
+mod found;
+mod named;
+mod read_result;
+pub mod types;
+mod views;
+
+pub use context::{Preopen, WasiFilesystemCtx, WasiFilesystemCtxView};
+pub use error::{FsError, FsResult};
+pub use read_result::ReadResult;
+pub use views::{NamedId, WasiCtxNamedView, WasiFilesystemNamedView, WasiFilesystemView};

@@ -1,0 +1,6 @@
+//! The calls of a named view, by family.
+
+mod entries;
+mod error_codes;
+mod nodes;
+mod places;
