@@ -2,13 +2,17 @@
 
 No answer is worked out here and no call is refused: a call that is answered otherwise than Ok did nothing. What comes
 out at the end is compared with the report, so that a report of another script is seen as such.
+
+A call that is answered `io`, since a call of the host failed, may have changed the tree all the same. So the run is
+told with these changes and without them, and what leads to the report is taken.
 """
 
 from __future__ import annotations
 
+import itertools
 import struct
-from dataclasses import dataclass, field
-from typing import Dict, List, Optional, Tuple
+from dataclasses import dataclass, field, replace
+from typing import Dict, FrozenSet, Iterator, List, Optional, Tuple
 
 from .calls import CALLS, ENTRY, EVENT, FIRST_PREOPEN, RECORD, STREAMS, SUBSCRIPTION, U64, bit
 from .scripts import Mistake, Node, Report, Script, answer_fits
@@ -19,6 +23,11 @@ FILETYPES = {"dir": 3, "file": 4, "link": 7}
 MOST_OF_A_PREAD = 65_536
 MOST_OF_A_FILE = 1_073_741_824
 MOST_GROWN = 268_435_456  # bytes of gaps and of new sizes, which take memory here
+MOST_LOST = 8  # calls of which a fault may hide what they did
+CHANGING = frozenset((
+    "path_open", "fd_write", "fd_pwrite", "fd_filestat_set_size", "fd_filestat_set_times", "path_filestat_set_times",
+    "path_create_directory", "path_symlink", "path_link", "path_rename", "path_remove_directory", "path_unlink_file",
+))
 
 
 class NotItsReport(Mistake):
@@ -67,13 +76,15 @@ class Told:
     sent_to: str = ""
     subscriptions: List[bytes] = field(default_factory=list)
     changes: List[Change] = field(default_factory=list)
+    lost: str = ""  # of a call that the host failed in: what became of what it was to change
 
 
 class Replay:
     """The state of a run, and each call as it is told again."""
 
-    def __init__(self, script: Script) -> None:
+    def __init__(self, script: Script, hidden: FrozenSet[int] = frozenset()) -> None:
         self.script = script
+        self.hidden = hidden  # calls that changed the tree though the host failed in them
         self.nodes: List[Node] = [node.copy() for node in script.nodes]
         self.memory = bytearray(script.memory)
         self.outputs = {1: bytearray(), 2: bytearray()}
@@ -135,11 +146,26 @@ class Replay:
         if not answer_fits(answer, row.answer):
             raise NotItsReport(f"call {number} is {name}, which isn't answered as the report says")
         if "ok" in answer:
-            try:
-                getattr(self, name, self.nothing)(told)
-            except (KeyError, IndexError, TypeError, AttributeError, ValueError, OverflowError, struct.error):
-                raise NotItsReport(f"call {number}, {name}, can't have been answered as the report says") from None
+            self.do(told)
+        elif number in self.hidden:
+            self.change_tree(told)
         return told
+
+    def do(self, told: Told) -> None:
+        """Does what a call did."""
+        try:
+            getattr(self, told.name, self.nothing)(told)
+        except (KeyError, IndexError, TypeError, AttributeError, ValueError, OverflowError, struct.error):
+            raise NotItsReport(
+                f"call {told.number}, {told.name}, can't have been answered as the report says") from None
+
+    def change_tree(self, told: Told) -> None:
+        """Does to the tree what a call did whose answer was lost; all else is as before it."""
+        answer, descriptors = told.answer, self.descriptors
+        told.answer = {"ok": U64}
+        self.descriptors = {number: replace(open_) for number, open_ in descriptors.items()}
+        self.do(told)
+        told.answer, self.descriptors = answer, descriptors
 
     def nothing(self, told: Told) -> None:
         """A call that changes nothing of what is told here."""
@@ -554,23 +580,72 @@ def differences(replay: Replay, report: Report) -> List[str]:
 
 def replayed(script: Script, report: Report) -> Replay:
     """The run of a script that a report tells of; a mistake where the report is another's."""
-    answers, calls = report.answers, script.calls
-    if len(answers) > len(calls):
-        raise NotItsReport(f"the report isn't this script's: {len(answers)} answers of {len(calls)} calls")
-    replay = Replay(script)
     try:
-        for number, (name, numbers) in enumerate(calls, 1):
-            answer = answers[number - 1] if number <= len(answers) else None
-            ended = number > 1 and number <= len(answers) and ends(answers[number - 2])
-            if ended or (answer is None and not ends(answers[-1] if answers else {})):
-                raise NotItsReport(f"call {number} has {'an' if ended else 'no'} answer, and the run "
-                                   f"{'had ended before it' if ended else 'did not end before it'}")
-            replay.tell(number, name, numbers, answer)
-        found = differences(replay, report)
-        if found:
-            raise NotItsReport(found[0])
+        return one_of(script, report, lost_in(script, report))
     except NotItsReport as mistake:
         raise NotItsReport(f"the report isn't this script's: {mistake}") from None
+
+
+def lost_in(script: Script, report: Report) -> List[int]:
+    """The calls in which the host failed, and that may have changed the tree all the same."""
+    answers, calls = report.answers, script.calls
+    if len(answers) > len(calls):
+        raise NotItsReport(f"{len(answers)} answers of {len(calls)} calls")
+    failed = [number for number, answer in enumerate(answers, 1) if answer == {"errno": "io"}]
+    if len(failed) > len(script.faults):
+        raise NotItsReport(f"{len(failed)} answers 'io', and the script lists {len(script.faults)} faults")
+    lost = [number for number in failed if calls[number - 1][0] in CHANGING]
+    if len(lost) > MOST_LOST:
+        raise Mistake(f"the host fails in {len(lost)} calls that change the tree; more than {MOST_LOST} aren't told")
+    return lost
+
+
+def one_of(script: Script, report: Report, lost: List[int]) -> Replay:
+    """The run that leads to the report, in which the fewest of these calls changed the tree."""
+    first, fits, why = None, [], None
+    for hidden in subsets(lost):
+        try:
+            replay = told_with(script, report, hidden)
+        except NotItsReport as mistake:
+            why = why or mistake
+            continue
+        first = first or replay
+        fits.append(hidden)
+    if first is None:
+        raise why
+    for number in lost:
+        first.told[number - 1].lost = became(sum(number in hidden for hidden in fits), len(fits))
+    return first
+
+
+def subsets(lost: List[int]) -> Iterator[FrozenSet[int]]:
+    """All sets of some of these calls, the smallest first."""
+    for size in range(len(lost) + 1):
+        yield from map(frozenset, itertools.combinations(lost, size))
+
+
+def became(changed: int, told: int) -> str:
+    """What became of what a call was to change, by in how many of the runs it changed it."""
+    if changed == 0:
+        return "nothing was changed"
+    return "it was done all the same" if changed == told else "whether it was done can't be told"
+
+
+def told_with(script: Script, report: Report, hidden: FrozenSet[int]) -> Replay:
+    """The run in which these calls changed the tree though the host failed in them; a mistake where it doesn't lead to
+    the report."""
+    answers = report.answers
+    replay = Replay(script, hidden)
+    for number, (name, numbers) in enumerate(script.calls, 1):
+        answer = answers[number - 1] if number <= len(answers) else None
+        ended = number > 1 and number <= len(answers) and ends(answers[number - 2])
+        if ended or (answer is None and not ends(answers[-1] if answers else {})):
+            raise NotItsReport(f"call {number} has {'an' if ended else 'no'} answer, and the run "
+                               f"{'had ended before it' if ended else 'did not end before it'}")
+        replay.tell(number, name, numbers, answer)
+    found = differences(replay, report)
+    if found:
+        raise NotItsReport(found[0])
     return replay
 
 

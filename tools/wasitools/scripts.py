@@ -70,6 +70,7 @@ class Script:
     wall: Tuple[int, int] = (0, 0)
     mono: int = 0
     limits: Dict[str, Any] = field(default_factory=dict)  # fuel, table and limits, where they are given
+    faults: List[Tuple[int, str]] = field(default_factory=list)  # calls of the host that fail, before or after
 
 
 @dataclass
@@ -236,11 +237,23 @@ def preopens_of(value: Any, nodes: List[Node]) -> List[Preopen]:
     return preopens
 
 
+def faults_of(value: Any) -> List[Tuple[int, str]]:
+    """Calls of the host that fail, by numbers that rise from 1 on."""
+    faults: List[Tuple[int, str]] = []
+    for place, pair in enumerate(listed(value, "'faults'")):
+        where = f"fault {place} of 'faults'"
+        fails, when = listed(pair, where, 2)
+        number(fails, f"the number of {where}", U64, faults[-1][0] + 1 if faults else 1)
+        need(when in ("before", "after"), f"{where} is neither 'before' nor 'after'")
+        faults.append((fails, when))
+    return faults
+
+
 def script_of(data: bytes) -> Script:
     """The script that some bytes are."""
     need(len(data) <= MOST_BYTES, f"the script has more than {MOST_BYTES:,} bytes")
     found = keyed(json_of(data, "the script"), "the script", "nodes preopens calls",
-                  "memory show limits fuel table args env stdin random wall wall_res mono mono_res")
+                  "memory show limits fuel table faults args env stdin random wall wall_res mono mono_res")
     nodes = nodes_of(found["nodes"], "the script")
     memory = memory_of(found["memory"]) if "memory" in found else bytearray()
     calls = [call_of(call, f"call {place}") for place, call in enumerate(listed(found["calls"], "'calls'"), 1)]
@@ -252,6 +265,7 @@ def script_of(data: bytes) -> Script:
         hexed(found.get("stdin", ""), "'stdin'"), hexed(found.get("random", ""), "'random'"),
         moment(found.get("wall", [0, 0]), "'wall'"), number(found.get("mono", 0), "'mono'"),
         {key: found[key] for key in ("fuel", "table", "limits") if key in found},
+        faults_of(found.get("faults", [])),
     )
 
 

@@ -21,6 +21,7 @@ LINE = 16  # bytes of a line of a dump
 MOST_LINES = 256  # of a dump
 MOST_CALLS = 8  # of a cause
 KINDS = {"dir": "directory", "file": "file", "link": "link"}
+WHEN = {"before": "before it is made", "after": "after it is made"}
 WHAT = {"made": "made", "bytes": "bytes", "size": "size", "times": "times", "name": "named", "unname": "gone"}
 
 
@@ -208,7 +209,7 @@ def answer_words(told: Told) -> Tuple[str, str]:
     if word == "ok":
         return ok_words(told), "ok"
     if word == "errno":
-        return f"{given}: {ERRNO_WORDS[given]}", "refused"
+        return f"{given}: {ERRNO_WORDS[given]}" + (f"; {told.lost}" if told.lost else ""), "refused"
     if word == "trap":
         return f"trap {given}: {TRAPS[given]}; the guest ends here", "end"
     return f"the guest ends with status {given}", "end"
@@ -438,6 +439,8 @@ def given_of(script: Script) -> List[Tuple[str, str]]:
         found.append(("monotonic clock", f"{script.mono} ns"))
     if script.random:
         found.append(("random bytes", f"hex {script.random[:MOST_SHOWN // 2].hex(' ', -4)}"))
+    if script.faults:
+        found.append(("faults", "; ".join(f"host call {number}, {WHEN[when]}" for number, when in script.faults)))
     for key in sorted(script.limits):
         given = script.limits[key]
         words = ", ".join(f"{name} {most}" for name, most in given.items()) if isinstance(given, dict) else str(given)

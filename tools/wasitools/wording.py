@@ -70,7 +70,7 @@ shutdown     sock_shutdown            fd ..
 ROOM_ALIGN = 16  # so that dumps of buffers are easy to read
 ALIASES = {"read": "fd_read", "write": "fd_write", "follow": "symlink_follow"}
 NUMBERS = {"fuel": U64, "table": U32, "mono": U64, "mono_res": U64}
-SETTINGS = "preopen args env stdin random wall wall_res limits".split() + list(NUMBERS)
+SETTINGS = "preopen args env stdin random wall wall_res limits faults".split() + list(NUMBERS)
 ESCAPES = {"n": b"\n", "t": b"\t", "r": b"\r", "0": b"\0", "\\": b"\\", '"': b'"'}
 TOKEN = re.compile(r'\s*(?:#.*|"((?:[^"\\]|\\.)*)"|([^\s"]+))')
 ESCAPE = re.compile(r"\\(?:x([0-9a-fA-F]{2})|u\{([0-9a-fA-F]{1,6})\}|(.))")
@@ -205,8 +205,20 @@ def setting(found: Settings, tokens: List[Token], folder: Folder) -> None:
         found.others[name] = number_of(given[0], name, 0, NUMBERS[name])
     elif name == "limits" and len(given) == 2:
         found.others[name] = {key: number_of(word, key, 1, 2**32) for key, word in zip(("nodes", "links"), given)}
+    elif name == "faults" and given and len(given) % 2 == 0:
+        found.others[name] = faults_of(given)
     else:
         raise Mistake(f"`set` takes one of {' '.join(SETTINGS)}, with what it is set to")
+
+
+def faults_of(given: List[str]) -> List[List[Any]]:
+    """Numbers of calls of the host that rise from 1 on, each with when the call fails."""
+    faults: List[List[Any]] = []
+    for word, when in zip(given[::2], given[1::2]):
+        if when not in ("before", "after"):
+            raise Mistake("`set faults` takes numbers of host calls, each with before or after: set faults 3 before")
+        faults.append([number_of(word, "the number of a fault", faults[-1][0] + 1 if faults else 1, U64), when])
+    return faults
 
 
 class Writer:

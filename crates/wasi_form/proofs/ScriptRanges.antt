@@ -1,24 +1,25 @@
--- What of a script is within its range: the limits of its tree, and what its wall clock stands at.
-use Rattle.std.proofs.Common.{◌≡◌, ℕ, ◌^◌, List, Bool, true, false, Option, Some, None, refl, lit≤, lit<, ◌&&◌, codes}
-use Rattle.std.specs.Prelude.{IfSome, nat_lt}
+-- What of a script is within its range: the limits of its tree, the numbers of its faults, and what its wall clock stands
+-- at.
+use Rattle.std.proofs.Common.{◌≡◌, ◌^◌, [], List, Bool, true, false, Option, Some, None, refl, lit≤, lit<, ◌&&◌, codes}
+use Rattle.std.specs.Prelude.{IfSome, IsTrue, if◌then◌else◌, nat_lt}
 use Rattle.std.proofs.lemmas.Bool.{and_parts, leb-true, ltb-true}
 use Rattle.serde_json.specs.Data.{Data, Members}
 use Rattle.serde_json.specs.Find as find
 use Rattle.serde_json.specs.Find.{get_member}
 use Rattle.wasi_host.specs.ValidTree.{AreLimits}
 use Rattle.wasi_host.specs.declared.limits.Limits.{Limits}
-use Rattle.wasi_tree.specs.Given.{Given}
-use Rattle.wasi_guest.specs.Services.{Handed, IsWallMoment, AreWithin}
-use Rattle.wasi_guest.specs.declared.call.Call.{Call}
+use Rattle.wasi_faults.specs.Faults.{are_rising}
+use Rattle.wasi_faults.specs.declared.fault.Fault.{Fault}
+use Rattle.wasi_guest.specs.Services.{IsWallMoment, AreWithin}
 use Rattle.wasi_guest.specs.declared.services.WallDatetime.{WallDatetime}
-use Rattle.wasi_form.specs.declared.script.Shown.{Shown}
 use Rattle.wasi_form.specs.declared.shapes.Form.TheVariants as forms
-use Rattle.wasi_form.specs.Lists.{◌>>=◌, only_if, needed, optional}
+use Rattle.wasi_form.specs.FaultsForm.{fault_of, where_rising, faults_of}
+use Rattle.wasi_form.specs.Lists.{◌>>=◌, only_if, needed, optional, list_of}
 use Rattle.wasi_form.specs.Shapes.{u64_of, u32_of, two_of, is_object}
 use Rattle.wasi_form.specs.LimitsForm.{default_limits, is_limit, limits_of}
 use Rattle.wasi_form.specs.ServicesForm.{wall_of, default_wall, default_wall_resolution, ServicesFound, services_in, services_found}
-use Rattle.wasi_form.specs.Plan.{PlannedPreopen, PlannedMemory, Plan}
-use Rattle.wasi_form.specs.ScriptForm.{ScriptFound, found_in, planned, script_found, script_of}
+use Rattle.wasi_form.specs.Plan.{Plan}
+use Rattle.wasi_form.specs.ScriptForm.{ScriptFound, found_in, script_found, script_of}
 
 -- what holds of all that a step goes on to
 kept : {A B : Type 0} (P : B → Type 0) (o : Option A) (f : A → Option B) → ((x : A) → IfSome (f x) P) → IfSome (o >>= f) P
@@ -109,39 +110,45 @@ services_within found are =
     kept AreWithin found.monotonic _ (λ monotonic. kept AreWithin found.monotonic_resolution _ (λ apart.
     kept AreWithin found.random _ (λ random. record { wall = is; wall_resolution = also }))))))))
 
+-- ---- the numbers of its faults
+
+abbrev Rise : List Fault → Type 0
+Rise faults = IsTrue (are_rising faults)
+
+rise_tested : (faults : List Fault) → IfSome (where_rising faults) Rise
+rise_tested faults = by (are_rising faults) refl
+  where
+    by : (test : Bool) → are_rising faults ≡ test → IfSome (if test then Some faults else None) Rise
+    by true is = is
+    by false is = tt
+
+faults_found : (part : Option Data) → IfSome (optional faults_of [] part) Rise
+faults_found None = refl
+faults_found (Some d) = kept Rise (list_of fault_of d) _ rise_tested
+
 -- ---- the script
 
 -- a plan of which all is within its range
 pub record IsInRange (p : Plan) : Type 0 where
   pub limits : AreLimits p.limits
+  pub faults : Rise p.faults
   pub services : AreWithin p.services
 
--- where none of its forms waits
-abbrev pub FormInRange : Option Plan → Type 0
-FormInRange form = IfSome form IsInRange
-
-planned_in_range : (limits : Limits) (fuel table : ℕ) (services : Handed) (nodes : Option (List Given))
-    (preopens : Option (List PlannedPreopen)) (calls : Option (List Call)) (memory : Option PlannedMemory)
-    (show : Option (List Shown)) (faults : Option (Unit {0})) → AreLimits limits → AreWithin services
-    → IfSome (planned limits fuel table services nodes preopens calls memory show faults) IsInRange
-planned_in_range limits fuel table services nodes preopens calls memory show faults are within =
-    kept IsInRange memory _ (λ m. kept IsInRange faults _ (λ _. kept IsInRange nodes _ (λ ns.
-    kept IsInRange preopens _ (λ ps. kept IsInRange show _ (λ ss. kept IsInRange calls _ (λ cs.
-    record { limits = are; services = within }))))))
-
-found_in_range : (found : ScriptFound) → IfSome found.limits AreLimits → AreWallsFound found.services
-    → IfSome (script_found found) FormInRange
+found_in_range : (found : ScriptFound) → IfSome found.limits AreLimits → IfSome found.faults Rise
+    → AreWallsFound found.services → IfSome (script_found found) IsInRange
 unfolding script_found
-found_in_range found are walls =
-    kept FormInRange (only_if _) _ (λ _. kept FormInRange found.nodes _ (λ nodes. kept FormInRange found.preopens _ (λ preopens.
-    kept FormInRange found.calls _ (λ calls. kept FormInRange found.memory _ (λ memory.
-    kept FormInRange found.show _ (λ show. kept_of FormInRange AreLimits found.limits _ are (λ limits range.
-    kept FormInRange found.fuel _ (λ fuel. kept FormInRange found.table _ (λ table. kept FormInRange found.faults _ (λ faults.
-    kept_of FormInRange AreWithin (services_found found.services) _ (services_within found.services walls) (λ services within.
-    planned_in_range limits fuel table services nodes preopens calls memory show faults range within)))))))))))
+found_in_range found are rise walls =
+    kept IsInRange (only_if _) _ (λ _. kept IsInRange found.nodes _ (λ nodes. kept IsInRange found.preopens _ (λ preopens.
+    kept IsInRange found.calls _ (λ calls. kept IsInRange found.memory _ (λ memory.
+    kept IsInRange found.show _ (λ show. kept_of IsInRange AreLimits found.limits _ are (λ limits range.
+    kept IsInRange found.fuel _ (λ fuel. kept IsInRange found.table _ (λ table.
+    kept_of IsInRange Rise found.faults _ rise (λ faults rising.
+    kept_of IsInRange AreWithin (services_found found.services) _ (services_within found.services walls) (λ services within.
+    record { limits = range; faults = rising; services = within })))))))))))
 
 -- of what is read as a script all is within its range
-pub script_in_range : (d : Data) → IfSome (script_of d) FormInRange
+pub script_in_range : (d : Data) → IfSome (script_of d) IsInRange
 script_in_range d =
-    kept FormInRange (find.as_object d) _ (λ ms.
-    found_in_range (found_in ms) (limits_found (get_member (codes "limits") ms)) (walls_found ms))
+    kept IsInRange (find.as_object d) _ (λ ms.
+    found_in_range (found_in ms) (limits_found (get_member (codes "limits") ms))
+    (faults_found (get_member (codes "faults") ms)) (walls_found ms))

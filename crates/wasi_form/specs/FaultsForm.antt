@@ -1,32 +1,28 @@
--- The form of the faults of a script, the calls of the host that are to fail: `[[NUMBER, "before"] ..]`, or `"after"`.
--- They wait: what stands there is to be of this form, and isn't used yet.
-use Rattle.std.specs.Prelude.{ℕ, List, [], ◌∷◌, Bool, true, false, ◌&&◌, ◌||◌, nat_lt, codes, if◌then◌else◌, Option, Some, None}
+-- The form of the faults of a script, the calls of the host that fail: `[[NUMBER, "before"] ..]`, or `"after"`, by
+-- numbers that rise from 1 or more on.
+use Rattle.std.specs.Prelude.{List, Bool, true, false, codes, if◌then◌else◌, Option, Some, None}
 use Rattle.serde_json.specs.Data.{Data}
-use Rattle.wasi_form.specs.Lists.{◌>>=◌, only_if, always, forms_of}
+use Rattle.wasi_faults.specs.Faults.{are_rising}
+use Rattle.wasi_faults.specs.declared.fault.Fault.{Fault}
+use Rattle.wasi_form.specs.Lists.{◌>>=◌, list_of}
 use Rattle.wasi_form.specs.Shapes.{u64_of, is_text, two_of}
 
--- the number of `[NUMBER, "before"]` or `[NUMBER, "after"]`
-abbrev pub fault_number : Data → Option ℕ
-fault_number d = do
+-- `"before"`, where the call isn't made, or `"after"`, where it is
+abbrev pub is_after : Data → Option Bool
+is_after d =
+    if is_text (codes "before") d then Some false else (if is_text (codes "after") d then Some true else None)
+
+-- `[NUMBER, "before"]` or `[NUMBER, "after"]`
+abbrev pub fault_of : Data → Option Fault
+fault_of d = do
   two ← two_of d
   number ← u64_of two.0
-  _ ← only_if (is_text (codes "before") two.1 || is_text (codes "after") two.1)
-  Some number
+  after ← is_after two.1
+  Some (record { number = number; after = after })
 
--- each number is above the one before it, and the first above this one
-abbrev pub rise_above : ℕ → List ℕ → Bool
-rise_above before [] = true
-rise_above before (n ∷ ns) = nat_lt before n && rise_above n ns
+-- faults, where their numbers rise
+abbrev pub where_rising : List Fault → Option (List Fault)
+where_rising faults = if are_rising faults then Some faults else None
 
--- they are there, and rise from 1 on
-abbrev pub rise : Option (Option (List ℕ)) → Bool
-rise None = false
-rise (Some None) = false
-rise (Some (Some numbers)) = rise_above 0 numbers
-
--- what is read of a value, by whether it is a list of faults
-abbrev pub waits_if : Bool → Option (Option (Unit {0}))
-waits_if is = if is then Some None else None
-
-abbrev pub faults_of : Data → Option (Option (Unit {0}))
-faults_of d = waits_if (rise (forms_of (always fault_number) d))
+abbrev pub faults_of : Data → Option (List Fault)
+faults_of d = list_of fault_of d >>= where_rising

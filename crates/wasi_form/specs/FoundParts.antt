@@ -9,7 +9,7 @@ use Rattle.wasi_form.specs.declared.parts.Parts.{Parts}
 use Rattle.wasi_form.specs.declared.services.ServiceKey.{ServiceKey}
 use Rattle.wasi_form.specs.declared.services.ServiceKey.TheVariants.{Args, Env, Stdin, Wall, WallResolution, Monotonic, MonotonicResolution, Random}
 use Rattle.wasi_form.specs.declared.services.ServiceParts.{ServiceParts}
-use Rattle.wasi_form.specs.Lists.{same, at_name, forms_seen}
+use Rattle.wasi_form.specs.Lists.{same, at_name, list_seen}
 use Rattle.wasi_form.specs.Plan.{planned_preopen, planned_piece, planned_memory}
 use Rattle.wasi_form.specs.MemoryForm.{memory_rows, MemoryFound}
 use Rattle.wasi_form.specs.ServicesForm.{args_of, env_of, wall_of, service_key, ServicesFound}
@@ -33,15 +33,15 @@ services_found_of parts = record {
 abbrev pub found_of : Parts → ScriptFound
 found_of parts = record {
   known = parts.known;
-  nodes = forms_seen given parts.nodes;
-  preopens = forms_seen planned_preopen parts.preopens;
-  calls = forms_seen same parts.calls;
-  memory = option_map (λ memory. option_map planned_memory memory) parts.memory;
-  show = forms_seen same parts.show;
+  nodes = list_seen given parts.nodes;
+  preopens = list_seen planned_preopen parts.preopens;
+  calls = list_seen same parts.calls;
+  memory = option_map planned_memory parts.memory;
+  show = list_seen same parts.show;
   limits = option_map same parts.limits;
   fuel = option_map same parts.fuel;
   table = option_map same parts.table;
-  faults = parts.faults;
+  faults = option_map (λ v. v.items) parts.faults;
   services = services_found_of parts.services;
 }
 
@@ -72,7 +72,7 @@ with_member key d found = unwrap_or (at_name part_rows key) (with_beside (servic
 -- of the parts of a memory that were read
 abbrev pub memory_found_of : MemoryParts → MemoryFound
 memory_found_of parts =
-    record { known = parts.known; size = option_map same parts.size; pieces = forms_seen planned_piece parts.pieces }
+    record { known = parts.known; size = option_map same parts.size; pieces = list_seen planned_piece parts.pieces }
 
 -- with one more member, which counts for those before it at its key
 unfoldable pub with_memory_member : List ℕ → Data → MemoryFound → MemoryFound

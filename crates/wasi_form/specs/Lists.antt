@@ -48,40 +48,12 @@ items_all of (item d ds) = do
 abbrev pub list_of : {A : Type 0} → (Data → Option A) → Data → Option (List A)
 list_of of d = find.as_array d >>= items_all of
 
--- A form may wait until it is built. Where it does, a value of its shape is read as `Some None`.
+-- what is seen of a list that was read
+abbrev pub list_seen : {T A : Type 0} → (T → A) → Option (Vec T Global) → Option (List A)
+list_seen see list = option_map (λ v. map see v.items) list
 
--- a form that never waits
-abbrev pub always : {A : Type 0} → (Data → Option A) → Data → Option (Option A)
-always of d = option_map Some (of d)
-
--- the list, where none of its items waits
-abbrev pub none_waits : {A : Type 0} → List (Option A) → Option (List A)
-none_waits [] = Some []
-none_waits (None ∷ xs) = None
-none_waits (Some x ∷ xs) = do
-  ys ← none_waits xs
-  Some (x ∷ ys)
-
--- items of a form that may wait
-abbrev pub forms_in : {A : Type 0} → (Data → Option (Option A)) → Items → Option (Option (List A))
-forms_in of ds = option_map none_waits (items_all of ds)
-
--- a list of such
-abbrev pub forms_of : {A : Type 0} → (Data → Option (Option A)) → Data → Option (Option (List A))
-forms_of of d = find.as_array d >>= forms_in of
-
--- what is seen of a list of forms that was read
-abbrev pub forms_seen : {T A : Type 0} → (T → A) → Option (Option (Vec T Global)) → Option (Option (List A))
-forms_seen see forms = option_map (option_map (λ v. map see v.items)) forms
-
--- the list with one more item, where both are there
+-- the list with one more item, where both are of their shapes
 abbrev pub pushed : {A : Type 0} → Option (List A) → Option A → Option (List A)
 pushed None x = None
 pushed (Some xs) None = None
 pushed (Some xs) (Some x) = Some (xs ++ x ∷ [])
-
--- the same, where both are of their shapes
-abbrev pub form_pushed : {A : Type 0} → Option (Option (List A)) → Option (Option A) → Option (Option (List A))
-form_pushed None x = None
-form_pushed (Some xs) None = None
-form_pushed (Some xs) (Some x) = Some (pushed xs x)

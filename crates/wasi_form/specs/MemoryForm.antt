@@ -1,10 +1,10 @@
 -- The forms of the guest's memory, of what stands in it, and of what is shown of it.
-use Rattle.std.specs.Prelude.{ℕ, List, [], ◌∷◌, Bool, codes, if◌then◌else◌, Option, Some, None, option_map}
+use Rattle.std.specs.Prelude.{ℕ, List, [], ◌∷◌, Bool, codes, if◌then◌else◌, Option, Some, None}
 use Rattle.serde_json.specs.Data.{Data, Items, Members}
 use Rattle.serde_json.specs.Find as find
 use Rattle.serde_json.specs.Find.{get_member}
 use Rattle.wasi_form.specs.declared.script.Shown.{Shown}
-use Rattle.wasi_form.specs.Lists.{◌>>=◌, names, only_if, needed, always, forms_of}
+use Rattle.wasi_form.specs.Lists.{◌>>=◌, names, only_if, needed, list_of}
 use Rattle.wasi_form.specs.Shapes.{u32_of, hex_of, is_text, two_in, three_in, all_keys}
 use Rattle.wasi_form.specs.Plan.{PlannedPiece, PlannedMemory}
 
@@ -32,13 +32,13 @@ no_memory = record { size = 0; pieces = [] }
 pub record MemoryFound : Type 0 where
   pub known : Bool
   pub size : Option ℕ
-  pub pieces : Option (Option (List PlannedPiece))
+  pub pieces : Option (List PlannedPiece)
 
 -- the keys, each with what a member adds there
 abbrev pub memory_rows : List (List ℕ × (Data → MemoryFound → MemoryFound))
 memory_rows =
     (codes "size", λ d found. record found { size = u32_of d })
-    ∷ (codes "pieces", λ d found. record found { pieces = forms_of (always piece_of) d })
+    ∷ (codes "pieces", λ d found. record found { pieces = list_of piece_of d })
     ∷ []
 
 -- of all members
@@ -46,19 +46,19 @@ abbrev pub memory_in : Members → MemoryFound
 memory_in ms = record {
   known = all_keys (names memory_rows) ms;
   size = needed u32_of (get_member (codes "size") ms);
-  pieces = needed (forms_of (always piece_of)) (get_member (codes "pieces") ms);
+  pieces = needed (list_of piece_of) (get_member (codes "pieces") ms);
 }
 
 -- the memory of what was found
-unfoldable pub memory_found : MemoryFound → Option (Option PlannedMemory)
+unfoldable pub memory_found : MemoryFound → Option PlannedMemory
 memory_found found = do
   _ ← only_if found.known
   size ← found.size
   pieces ← found.pieces
-  Some (option_map (λ ps. record { size = size; pieces = ps }) pieces)
+  Some (record { size = size; pieces = pieces })
 
 -- `{"size": BYTES, "pieces": [PIECE ..]}`
-abbrev pub memory_of : Data → Option (Option PlannedMemory)
+abbrev pub memory_of : Data → Option PlannedMemory
 memory_of d = find.as_object d >>= (λ ms. memory_found (memory_in ms))
 
 -- `[PTR, LEN]`

@@ -2,6 +2,7 @@
 use Rattle.std.specs.Prelude.{ℕ, List, map}
 use Rattle.std.specs.String.{string_bytes}
 use Rattle.wasi_host.specs.declared.limits.Limits.{Limits}
+use Rattle.wasi_faults.specs.declared.fault.Fault.{Fault}
 use Rattle.wasi_tree.specs.Given.{Given, given}
 use Rattle.wasi_fs.specs.declared.perms.FsPerms.{FsPerms}
 use Rattle.wasi_guest.specs.Services.{Handed, handed}
@@ -40,6 +41,7 @@ pub record Plan : Type 0 where
   pub calls : List Call
   pub fuel : ℕ
   pub table : ℕ
+  pub faults : List Fault
   pub services : Handed
 
 abbrev pub planned_preopen : ScriptPreopen → PlannedPreopen
@@ -63,6 +65,7 @@ plan s = record {
   calls = s.calls.items;
   fuel = s.fuel;
   table = s.table;
+  faults = s.faults.items;
   services = handed s.services;
 }
 
@@ -78,5 +81,6 @@ drafted s = record {
   calls = s.calls.items;
   fuel = s.fuel;
   table = s.table;
+  faults = s.faults.items;
   services = handed s.services;
 }

@@ -7,8 +7,9 @@ use Rattle.wasi_guest.specs.Services.{Handed}
 use Rattle.wasi_guest.specs.declared.call.Call.{Call}
 use Rattle.wasi_host.specs.declared.limits.Limits.{Limits}
 use Rattle.wasi_tree.specs.Given.{Given}
+use Rattle.wasi_faults.specs.declared.fault.Fault.{Fault}
 use Rattle.wasi_form.specs.declared.script.Shown.{Shown}
-use Rattle.wasi_form.specs.Lists.{◌>>=◌, names, only_if, needed, optional, always, forms_of}
+use Rattle.wasi_form.specs.Lists.{◌>>=◌, names, only_if, needed, optional, list_of}
 use Rattle.wasi_form.specs.Shapes.{u64_of, u32_of, all_keys}
 use Rattle.wasi_form.specs.Plan.{PlannedPreopen, PlannedMemory, Plan}
 use Rattle.wasi_form.specs.NodeForm.{script_node}
@@ -28,28 +29,28 @@ abbrev pub default_table : ℕ
 default_table = 1024
 
 -- Whether all keys are those of a script, and what stands at them. A part is `None` where it is of another shape, or is
--- missing and has to be there, and `Some None` where a form in it waits.
+-- missing and has to be there.
 pub record ScriptFound : Type 0 where
   pub known : Bool
-  pub nodes : Option (Option (List Given))
-  pub preopens : Option (Option (List PlannedPreopen))
-  pub calls : Option (Option (List Call))
-  pub memory : Option (Option PlannedMemory)
-  pub show : Option (Option (List Shown))
+  pub nodes : Option (List Given)
+  pub preopens : Option (List PlannedPreopen)
+  pub calls : Option (List Call)
+  pub memory : Option PlannedMemory
+  pub show : Option (List Shown)
   pub limits : Option Limits
   pub fuel : Option ℕ
   pub table : Option ℕ
-  pub faults : Option (Option (Unit {0}))
+  pub faults : Option (List Fault)
   pub services : ServicesFound
 
 -- the keys of its own parts, each with what a member adds there
 abbrev pub part_rows : List (List ℕ × (Data → ScriptFound → ScriptFound))
 part_rows =
-    (codes "nodes", λ d found. record found { nodes = forms_of (always script_node) d })
-    ∷ (codes "preopens", λ d found. record found { preopens = forms_of (always preopen_of) d })
-    ∷ (codes "calls", λ d found. record found { calls = forms_of (always call_of) d })
+    (codes "nodes", λ d found. record found { nodes = list_of script_node d })
+    ∷ (codes "preopens", λ d found. record found { preopens = list_of preopen_of d })
+    ∷ (codes "calls", λ d found. record found { calls = list_of call_of d })
     ∷ (codes "memory", λ d found. record found { memory = memory_of d })
-    ∷ (codes "show", λ d found. record found { show = forms_of (always shown_of) d })
+    ∷ (codes "show", λ d found. record found { show = list_of shown_of d })
     ∷ (codes "limits", λ d found. record found { limits = limits_of d })
     ∷ (codes "fuel", λ d found. record found { fuel = u64_of d })
     ∷ (codes "table", λ d found. record found { table = u32_of d })
@@ -63,43 +64,20 @@ script_keys = names part_rows ++ names service_keys
 abbrev pub found_in : Members → ScriptFound
 found_in ms = record {
   known = all_keys script_keys ms;
-  nodes = needed (forms_of (always script_node)) (get_member (codes "nodes") ms);
-  preopens = needed (forms_of (always preopen_of)) (get_member (codes "preopens") ms);
-  calls = needed (forms_of (always call_of)) (get_member (codes "calls") ms);
-  memory = optional memory_of (Some no_memory) (get_member (codes "memory") ms);
-  show = optional (forms_of (always shown_of)) (Some []) (get_member (codes "show") ms);
+  nodes = needed (list_of script_node) (get_member (codes "nodes") ms);
+  preopens = needed (list_of preopen_of) (get_member (codes "preopens") ms);
+  calls = needed (list_of call_of) (get_member (codes "calls") ms);
+  memory = optional memory_of no_memory (get_member (codes "memory") ms);
+  show = optional (list_of shown_of) [] (get_member (codes "show") ms);
   limits = optional limits_of default_limits (get_member (codes "limits") ms);
   fuel = optional u64_of default_fuel (get_member (codes "fuel") ms);
   table = optional u32_of default_table (get_member (codes "table") ms);
-  faults = optional faults_of (Some tt) (get_member (codes "faults") ms);
+  faults = optional faults_of [] (get_member (codes "faults") ms);
   services = services_in ms;
 }
 
--- the plan of these parts, where none of them waits
-abbrev pub planned : Limits → ℕ → ℕ → Handed → Option (List Given) → Option (List PlannedPreopen) → Option (List Call)
-    → Option PlannedMemory → Option (List Shown) → Option (Unit {0}) → Option Plan
-planned limits fuel table services nodes preopens calls memory show faults = do
-  m ← memory
-  _ ← faults
-  ns ← nodes
-  ps ← preopens
-  ss ← show
-  cs ← calls
-  Some (record {
-    nodes = ns;
-    limits = limits;
-    preopens = ps;
-    size = m.size;
-    pieces = m.pieces;
-    show = ss;
-    calls = cs;
-    fuel = fuel;
-    table = table;
-    services = services;
-  })
-
--- the plan of what was found, where it is of the shape of a script; `Some None` where a form in it waits
-unfoldable pub script_found : ScriptFound → Option (Option Plan)
+-- the plan of what was found, where it is of the shape of a script
+unfoldable pub script_found : ScriptFound → Option Plan
 script_found found = do
   _ ← only_if found.known
   nodes ← found.nodes
@@ -112,7 +90,19 @@ script_found found = do
   table ← found.table
   faults ← found.faults
   services ← services_found found.services
-  Some (planned limits fuel table services nodes preopens calls memory show faults)
+  Some (record {
+    nodes = nodes;
+    limits = limits;
+    preopens = preopens;
+    size = memory.size;
+    pieces = memory.pieces;
+    show = show;
+    calls = calls;
+    fuel = fuel;
+    table = table;
+    faults = faults;
+    services = services;
+  })
 
-abbrev pub script_of : Data → Option (Option Plan)
+abbrev pub script_of : Data → Option Plan
 script_of d = find.as_object d >>= (λ ms. script_found (found_in ms))

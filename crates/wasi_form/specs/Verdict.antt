@@ -1,5 +1,5 @@
 -- Which bytes are scripts, or why they are refused. The refusals are tried in their order, from the top to the bottom of
--- this file: long, json, shape, later, tree, limit.
+-- this file: long, json, shape, tree, limit.
 use Rattle.std.specs.Prelude.{◌≡◌, ℕ, List, length, Bool, nat_le, if◌then◌else◌, Option, Some, None, Result, Ok, Err}
 use Rattle.std.specs.Bool.{Decides}
 use Rattle.std.specs.Str.{is_utf8}
@@ -11,7 +11,7 @@ use Rattle.wasi_ends.specs.Ends.{most_bytes}
 use Rattle.wasi_form.specs.declared.script.Draft.{Draft}
 use Rattle.wasi_form.specs.declared.script.Script.{Script}
 use Rattle.wasi_form.specs.declared.verdict.Refusal.{Refusal}
-use Rattle.wasi_form.specs.declared.verdict.Refusal.TheVariants.{Long, Json, Shape, Later, Tree, Limit}
+use Rattle.wasi_form.specs.declared.verdict.Refusal.TheVariants.{Long, Json, Shape, Tree, Limit}
 use Rattle.wasi_form.specs.declared.verdict.ScriptError.{ScriptError}
 use Rattle.wasi_form.specs.declared.verdict.ScriptError.TheVariants.{Refused, Memory}
 use Rattle.wasi_form.specs.Plan.{Plan, plan, drafted}
@@ -35,23 +35,22 @@ most_script = most_bytes
 unfoldable pub value_of : List ℕ → Option Data
 value_of bytes = if is_utf8 bytes then read bytes else None
 
--- the plan of a value, where all its forms are built
+-- the plan of a value
 abbrev pub plan_in : Option Data → Result Plan Refusal
 plan_in value = do
   d ← found Json value
-  form ← found Shape (script_of d)
-  found Later form
+  found Shape (script_of d)
 
 -- the plan of bytes, all that is known of them but for what their nodes and numbers are
-unfoldable pub built_plan : List ℕ → Result Plan Refusal
-built_plan bytes = do
+unfoldable pub read_plan : List ℕ → Result Plan Refusal
+read_plan bytes = do
   _ ← refused_unless Long (nat_le (length bytes) most_script)
   plan_in (value_of bytes)
 
 -- The plan of bytes that are a script, or why they are refused; by whether a tree can be made of the nodes.
 unfoldable pub verdict_of : Bool → List ℕ → Result Plan Refusal
 verdict_of fit bytes = do
-  p ← built_plan bytes
+  p ← read_plan bytes
   _ ← refused_unless Tree fit
   _ ← refused_unless Limit (is_within_limits p)
   Ok p
@@ -62,7 +61,7 @@ IsFitFor fit (Err refusal) = Unit {0}
 
 -- Whether a tree can be made of the nodes of the plan. Bytes that are refused before have none to ask of.
 abbrev pub IsFitTest : Bool → List ℕ → Type 0
-IsFitTest fit bytes = IsFitFor fit (built_plan bytes)
+IsFitTest fit bytes = IsFitFor fit (read_plan bytes)
 
 -- the verdict on bytes; the test of their nodes has one outcome, so there is one verdict
 pub record IsVerdict (bytes : List ℕ) (verdict : Result Plan Refusal) : Type 0 where

@@ -2,11 +2,11 @@
 ghost use Rattle.std.specs.Prelude.{◌≡◌};
 ghost use Rattle.wasi_form.specs.Atoms.{atoms_data, values_left};
 ghost use Rattle.wasi_form.specs.CallForm as specs;
-ghost use Rattle.wasi_form.specs.Lists.{always, same};
+ghost use Rattle.wasi_form.specs.Lists.{same};
 
 use crate::arguments::Arguments;
 use crate::atoms::Atom;
-use crate::lists::{Item, Listed, MayWait, next_listed};
+use crate::lists::{Item, Listed, next_listed};
 use crate::shapes::{Reading, Unread};
 use json::Reader;
 use std::alloc::Global;
@@ -111,9 +111,9 @@ impl Item for Call {
 
     ghost see = { same };
 
-    ghost of = { always specs.call_of };
+    ghost of = { specs.call_of };
 
-    fn next(alloc: Global, reader: &mut Reader<'_>, depth: usize) -> Reading<MayWait<Call>> {
+    fn next(alloc: Global, reader: &mut Reader<'_>, depth: usize) -> Reading<Option<Call>> {
         next_listed(alloc, reader, depth)
     }
 }

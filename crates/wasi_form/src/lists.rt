@@ -7,7 +7,7 @@ ghost use Rattle.serde_json.specs.Find as find;
 ghost use Rattle.serde_json.specs.View.{view};
 ghost use Rattle.wasi_form.specs.Atoms.{atoms_data, SeesAtoms};
 ghost use Rattle.wasi_form.specs.IsRead.{IsRead};
-ghost use Rattle.wasi_form.specs.Lists.{always, forms_in, forms_of, forms_seen, pushed, form_pushed};
+ghost use Rattle.wasi_form.specs.Lists.{items_all, list_of, list_seen, pushed};
 ghost use Rattle.wasi_form.specs.Tokens.{next_value, next_items};
 
 use crate::atoms::{Atom, list_atoms};
@@ -17,31 +17,29 @@ use json::{Reader, Token};
 use serde_json::Value;
 use std::alloc::{AllocError, Global};
 
-/// What a value is read as: `None` where it is of another shape, `Some(None)` where it waits until its form is built.
-pub type MayWait<T> = Option<Option<T>>;
-
-/// An item of a list of a script, whose form may wait until it is built.
+/// An item of a list of a script.
 pub trait Item: Drop + Sized {
     /// What is seen of what is read.
     ghost Seen: { Type 0 };
 
     ghost see: { Self → Self.Seen };
 
-    ghost of: { Data → Option (Option Self.Seen) };
+    ghost of: { Data → Option Self.Seen };
 
-    /// The next value of a text.
-    fn next(alloc: Global, reader: &mut Reader<'_>, depth: usize) -> Reading<MayWait<Self>>
-        ensures { IsRead (λ found. (option_map (λ item. option_map see item) found, reader.new)) result
+    /// The next value of a text. `None` where it is of another shape.
+    fn next(alloc: Global, reader: &mut Reader<'_>, depth: usize) -> Reading<Option<Self>>
+        ensures { IsRead (λ found. (option_map see found, reader.new)) result
             (parse_map of (next_value depth reader.old)) };
 }
 
-/// What a list is read as: it waits where one of its items does.
-pub type Forms<T> = MayWait<Vec<T>>;
-
-/// The next value of a text, read as a list.
-pub fn list<T: Item>(alloc: Global, reader: &mut Reader<'_>, depth: usize) -> Reading<Forms<T>>
-    ensures { IsRead (λ found. (forms_seen T.see found, reader.new)) result
-        (parse_map (forms_of T.of) (next_value depth reader.old)) }
+/// The next value of a text, read as a list. `None` where it, or one of its items, is of another shape.
+pub fn list<T: Item>(
+    alloc: Global,
+    reader: &mut Reader<'_>,
+    depth: usize,
+) -> Reading<Option<Vec<T>>>
+    ensures { IsRead (λ found. (list_seen T.see found, reader.new)) result
+        (parse_map (list_of T.of) (next_value depth reader.old)) }
 {
     let Some(token) = reader.next() else {
         return Err(Unread::Shape);
@@ -54,9 +52,9 @@ fn list_after<T: Item>(
     token: Token<'_>,
     reader: &mut Reader<'_>,
     depth: usize,
-) -> Reading<Forms<T>>
-    ensures { IsRead (λ found. (forms_seen T.see found, reader.new)) result
-        (parse_map (forms_of T.of) (next_value depth (token_of token.entry ∷ reader.old))) }
+) -> Reading<Option<Vec<T>>>
+    ensures { IsRead (λ found. (list_seen T.see found, reader.new)) result
+        (parse_map (list_of T.of) (next_value depth (token_of token.entry ∷ reader.old))) }
 {
     match token {
         Token::BeginArray => {
@@ -72,33 +70,23 @@ fn list_after<T: Item>(
     }
 }
 
-fn items_left<T: Item>(alloc: Global, reader: &mut Reader<'_>, depth: usize) -> Reading<Forms<T>>
-    ensures { IsRead (λ found. (forms_seen T.see found, reader.new)) result
-        (parse_map (forms_in T.of) (next_items depth reader.old)) }
+fn items_left<T: Item>(
+    alloc: Global,
+    reader: &mut Reader<'_>,
+    depth: usize,
+) -> Reading<Option<Vec<T>>>
+    ensures { IsRead (λ found. (list_seen T.see found, reader.new)) result
+        (parse_map (items_all T.of) (next_items depth reader.old)) }
 {
-    let mut found = Some(Some(Vec::new(alloc)));
+    let mut found = Some(Vec::new(alloc));
     'items: while !reader.take_end_array() {
         let item = T::next(alloc, reader, depth)?;
-        found = with_form(found, item)?;
+        found = with_item(found, item)?;
     }
     Ok(found)
 }
 
 // The list with an item at its end, `None` where one of them is of another shape.
-fn with_form<T: Drop>(found: Forms<T>, item: MayWait<T>) -> Result<Forms<T>, AllocError>
-    ensures { IfOk result (λ all. option_map (λ list. option_map (λ v. v.items) list) all
-        ≡ form_pushed (option_map (λ list. option_map (λ v. v.items) list) found) item) }
-{
-    match found {
-        Some(list) => match item {
-            Some(item) => Ok(Some(with_item(list, item)?)),
-            None => Ok(None),
-        },
-        None => Ok(None),
-    }
-}
-
-// The list with an item at its end, `None` where one of them waits.
 fn with_item<T: Drop>(list: Option<Vec<T>>, item: Option<T>) -> Result<Option<Vec<T>>, AllocError>
     ensures { IfOk result (λ all. option_map (λ v. v.items) all ≡ pushed (option_map (λ v. v.items) list) item) }
 {
@@ -156,13 +144,13 @@ pub fn next_listed<T: Listed>(
     alloc: Global,
     reader: &mut Reader<'_>,
     depth: usize,
-) -> Reading<MayWait<T>>
+) -> Reading<Option<T>>
     requires { SeesAtoms T.of }
-    ensures { IsRead (λ found. (option_map (λ item. option_map T.see item) found, reader.new)) result
-        (parse_map (always (λ d. option_and_then T.of (find.as_array d))) (next_value depth reader.old)) }
+    ensures { IsRead (λ found. (option_map T.see found, reader.new)) result
+        (parse_map (λ d. option_and_then T.of (find.as_array d)) (next_value depth reader.old)) }
 {
     let atoms = list_atoms(alloc, reader, depth)?;
-    Ok(formed(alloc, atoms)?.map(Some))
+    Ok(formed(alloc, atoms)?)
 }
 
 // What numbers and texts are read as, where they are a list.

@@ -3,14 +3,14 @@ ghost use Rattle.std.specs.Prelude.{◌≡◌, option_map};
 ghost use Rattle.json.specs.Json.{parse_map};
 ghost use Rattle.wasi_form.specs.Atoms.{atom_data};
 ghost use Rattle.wasi_form.specs.IsRead.{IsRead};
-ghost use Rattle.wasi_form.specs.Lists.{same, always};
+ghost use Rattle.wasi_form.specs.Lists.{same};
 ghost use Rattle.wasi_form.specs.MemoryForm as specs;
 ghost use Rattle.wasi_form.specs.FoundParts.{memory_found_of};
 ghost use Rattle.wasi_form.specs.Plan as plans;
 ghost use Rattle.wasi_form.specs.Tokens.{next_value};
 
 use crate::atoms::Atom;
-use crate::lists::{Forms, Item, Listed, MayWait, list, next_listed, next_shaped};
+use crate::lists::{Item, Listed, list, next_listed, next_shaped};
 use crate::objects::{Fields, object};
 use crate::script::{Piece, Shown};
 use crate::shapes::{Reading, Unread, hex_of_text};
@@ -61,9 +61,9 @@ impl Item for Piece {
 
     ghost see = { plans.planned_piece };
 
-    ghost of = { always specs.piece_of };
+    ghost of = { specs.piece_of };
 
-    fn next(alloc: Global, reader: &mut Reader<'_>, depth: usize) -> Reading<MayWait<Piece>> {
+    fn next(alloc: Global, reader: &mut Reader<'_>, depth: usize) -> Reading<Option<Piece>> {
         next_listed(alloc, reader, depth)
     }
 }
@@ -81,7 +81,7 @@ struct MemoryParts {
     alloc: Global,
     known: bool,
     size: Option<u32>,
-    pieces: Forms<Piece>,
+    pieces: Option<Vec<Piece>>,
 }
 
 impl Fields for MemoryParts {
@@ -127,26 +127,22 @@ impl Fields for MemoryParts {
 
 impl MemoryParts {
     #[tactic(auto, unfolding(crate::specs::MemoryForm::memory_found))]
-    fn memory(self) -> Option<Option<ScriptMemory>>
-        ensures { option_map (λ memory. option_map plans.planned_memory memory) result
-            ≡ specs.memory_found (memory_found_of self) }
+    fn memory(self) -> Option<ScriptMemory>
+        ensures { option_map plans.planned_memory result ≡ specs.memory_found (memory_found_of self) }
     {
         if !self.known {
             return None;
         }
-        let size = self.size?;
-        let pieces = self.pieces?;
-        Some(pieces.map(|pieces| ScriptMemory { size, pieces }))
+        Some(ScriptMemory {
+            size: self.size?,
+            pieces: self.pieces?,
+        })
     }
 }
 
 /// The next value of a text, read as a memory. `None` where it is of another shape.
-pub fn memory(
-    alloc: Global,
-    reader: &mut Reader<'_>,
-    depth: usize,
-) -> Reading<MayWait<ScriptMemory>>
-    ensures { IsRead (λ found. (option_map (λ memory. option_map plans.planned_memory memory) found, reader.new)) result
+pub fn memory(alloc: Global, reader: &mut Reader<'_>, depth: usize) -> Reading<Option<ScriptMemory>>
+    ensures { IsRead (λ found. (option_map plans.planned_memory found, reader.new)) result
         (parse_map specs.memory_of (next_value depth reader.old)) }
 {
     let parts: Option<MemoryParts> = object(alloc, reader, depth)?;
@@ -184,9 +180,9 @@ impl Item for Shown {
 
     ghost see = { same };
 
-    ghost of = { always specs.shown_of };
+    ghost of = { specs.shown_of };
 
-    fn next(alloc: Global, reader: &mut Reader<'_>, depth: usize) -> Reading<MayWait<Shown>> {
+    fn next(alloc: Global, reader: &mut Reader<'_>, depth: usize) -> Reading<Option<Shown>> {
         next_listed(alloc, reader, depth)
     }
 }

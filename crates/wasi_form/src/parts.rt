@@ -1,19 +1,16 @@
 //! The parts of a script, read one after another.
-ghost use Rattle.std.specs.Prelude.{◌≡◌, option_map, map};
+ghost use Rattle.std.specs.Prelude.{◌≡◌, option_map};
 ghost use Rattle.json.specs.Json.{parse_map};
-ghost use Rattle.wasi_guest.specs.Services.{handed};
-ghost use Rattle.wasi_tree.specs.Given.{given};
 ghost use Rattle.wasi_form.specs.IsRead.{IsRead};
-ghost use Rattle.wasi_form.specs.Lists.{same};
 ghost use Rattle.wasi_form.specs.FoundParts.{found_of, with_beside};
-ghost use Rattle.wasi_form.specs.Plan.{drafted, planned_preopen, planned_memory};
-ghost use Rattle.wasi_form.specs.ScriptForm.{planned, script_found, script_of};
+ghost use Rattle.wasi_form.specs.Plan.{drafted};
+ghost use Rattle.wasi_form.specs.ScriptForm.{script_found, script_of};
 ghost use Rattle.wasi_form.specs.ServicesForm.{service_key};
 ghost use Rattle.wasi_form.specs.Tokens.{most_nesting, next_value};
 
 use crate::faults::faults;
 use crate::limits::DEFAULT_LIMITS;
-use crate::lists::{Forms, MayWait, list, next_shaped};
+use crate::lists::{list, next_shaped};
 use crate::memory::{ScriptMemory, memory, no_memory};
 use crate::objects::{Fields, object};
 use crate::script::{Draft, ScriptPreopen, Shown};
@@ -22,7 +19,8 @@ use crate::shapes::Reading;
 use crate::tokens::value;
 use json::Reader;
 use std::alloc::Global;
-use wasi_guest::{Call, Services};
+use wasi_faults::Fault;
+use wasi_guest::Call;
 use wasi_host::Limits;
 use wasi_tree::NewNode;
 
@@ -40,15 +38,15 @@ const DEFAULT_TABLE: u32 = 1_024;
 struct Parts {
     alloc: Global,
     known: bool,
-    nodes: Forms<NewNode>,
-    preopens: Forms<ScriptPreopen>,
-    calls: Forms<Call>,
-    memory: Option<Option<ScriptMemory>>,
-    show: Forms<Shown>,
+    nodes: Option<Vec<NewNode>>,
+    preopens: Option<Vec<ScriptPreopen>>,
+    calls: Option<Vec<Call>>,
+    memory: Option<ScriptMemory>,
+    show: Option<Vec<Shown>>,
     limits: Option<Limits>,
     fuel: Option<u64>,
     table: Option<u32>,
-    faults: MayWait<()>,
+    faults: Option<Vec<Fault>>,
     services: ServiceParts,
 }
 
@@ -71,12 +69,12 @@ impl Fields for Parts {
             nodes: None,
             preopens: None,
             calls: None,
-            memory: Some(Some(no_memory(alloc))),
-            show: Some(Some(Vec::new(alloc))),
+            memory: Some(no_memory(alloc)),
+            show: Some(Vec::new(alloc)),
             limits: Some(DEFAULT_LIMITS),
             fuel: Some(DEFAULT_FUEL),
             table: Some(DEFAULT_TABLE),
-            faults: Some(Some(())),
+            faults: Some(Vec::new(alloc)),
             services: ServiceParts::none(alloc),
         }
     }
@@ -146,10 +144,10 @@ impl Parts {
         }
     }
 
-    // The script of these parts. `None` where they are of another shape, `Some(None)` where one of them waits.
-    #[tactic(auto, unfolding(crate::specs::ScriptForm::script_found))]
-    fn draft(self) -> Option<Option<Draft>>
-        ensures { option_map (λ draft. option_map drafted draft) result ≡ script_found (found_of self) }
+    // The script of these parts. `None` where one of them is of another shape.
+    #[tactic(auto, using(crate::proofs::Items::map_same), unfolding(crate::specs::ScriptForm::script_found))]
+    fn draft(self) -> Option<Draft>
+        ensures { option_map drafted result ≡ script_found (found_of self) }
     {
         let Parts {
             alloc: _,
@@ -171,58 +169,32 @@ impl Parts {
         let nodes = nodes?;
         let preopens = preopens?;
         let calls = calls?;
-        let memory = memory?;
+        let ScriptMemory { size, pieces } = memory?;
         let show = show?;
         let limits = limits?;
         let fuel = fuel?;
         let table = table?;
         let faults = faults?;
         let services = services.services()?;
-        Some(built(
-            limits, fuel, table, services, nodes, preopens, calls, memory, show, faults,
-        ))
+        Some(Draft {
+            nodes,
+            limits,
+            preopens,
+            size,
+            pieces,
+            show,
+            calls,
+            fuel,
+            table,
+            faults,
+            services,
+        })
     }
 }
 
-// The script of these parts, `None` where one of them waits.
-#[tactic(auto, using(crate::proofs::Items::map_same))]
-fn built(
-    limits: Limits,
-    fuel: u64,
-    table: u32,
-    services: Services,
-    nodes: Option<Vec<NewNode>>,
-    preopens: Option<Vec<ScriptPreopen>>,
-    calls: Option<Vec<Call>>,
-    memory: Option<ScriptMemory>,
-    show: Option<Vec<Shown>>,
-    faults: Option<()>,
-) -> Option<Draft>
-    ensures { option_map drafted result ≡ planned limits fuel table (handed services)
-        (option_map (λ v. map given v.items) nodes) (option_map (λ v. map planned_preopen v.items) preopens)
-        (option_map (λ v. map same v.items) calls) (option_map planned_memory memory)
-        (option_map (λ v. map same v.items) show) faults }
-{
-    let ScriptMemory { size, pieces } = memory?;
-    faults?;
-    Some(Draft {
-        nodes: nodes?,
-        limits,
-        preopens: preopens?,
-        size,
-        pieces,
-        show: show?,
-        calls: calls?,
-        fuel,
-        table,
-        services,
-    })
-}
-
-/// The next value of a text, read as a script. `None` where it is of another shape, `Some(None)` where a form in it
-/// waits.
-pub fn draft(alloc: Global, reader: &mut Reader<'_>) -> Reading<MayWait<Draft>>
-    ensures { IsRead (λ found. (option_map (λ draft. option_map drafted draft) found, reader.new)) result
+/// The next value of a text, read as a script. `None` where it is of another shape.
+pub fn draft(alloc: Global, reader: &mut Reader<'_>) -> Reading<Option<Draft>>
+    ensures { IsRead (λ found. (option_map drafted found, reader.new)) result
         (parse_map script_of (next_value most_nesting reader.old)) }
 {
     let parts: Option<Parts> = object(alloc, reader, DEPTH)?;

@@ -1,9 +1,9 @@
 //! The directories of a script that the guest is given.
-ghost use Rattle.wasi_form.specs.Lists.{same, always};
+ghost use Rattle.wasi_form.specs.Lists.{same};
 ghost use Rattle.wasi_form.specs.Plan as plans;
 ghost use Rattle.wasi_form.specs.PreopenForm as specs;
 
-use crate::lists::{Item, MayWait, next_shaped};
+use crate::lists::{Item, next_shaped};
 use crate::script::ScriptPreopen;
 use crate::shapes::{Form, Reading, Shaped, Unread, is_text, needed, require};
 use json::Reader;
@@ -56,14 +56,13 @@ impl Item for ScriptPreopen {
 
     ghost see = { plans.planned_preopen };
 
-    ghost of = { always specs.preopen_of };
+    ghost of = { specs.preopen_of };
 
     fn next(
         alloc: Global,
         reader: &mut Reader<'_>,
         depth: usize,
-    ) -> Reading<MayWait<ScriptPreopen>> {
-        let found: Option<ScriptPreopen> = next_shaped(alloc, reader, depth)?;
-        Ok(found.map(Some))
+    ) -> Reading<Option<ScriptPreopen>> {
+        next_shaped(alloc, reader, depth)
     }
 }

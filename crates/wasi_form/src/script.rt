@@ -1,5 +1,6 @@
 //! A script: a tree of files, what the guest is given of it, its memory, and its calls.
 
+use wasi_faults::Fault;
 use wasi_fs::FsPerms;
 use wasi_guest::{Call, Services};
 use wasi_host::Limits;
@@ -30,8 +31,8 @@ pub struct Shown {
 
 /// The nodes of a tree of files and how large it may grow, the directories that the guest is given, the size of its
 /// memory in bytes, the pieces that are written there before the run, the ranges that are shown after it, the calls, how
-/// much fuel each of them has, how many descriptors may be live, streams and preopens among them, and what the guest is
-/// handed in beside the directories.
+/// much fuel each of them has, how many descriptors may be live, streams and preopens among them, which calls of the host
+/// fail, and what the guest is handed in beside the directories.
 #[derive(Drop)]
 pub struct Script {
     pub nodes: FitNodes,
@@ -42,6 +43,7 @@ pub struct Script {
     pub calls: Vec<Call>,
     pub fuel: u64,
     pub table: u32,
+    pub faults: Vec<Fault>,
     pub services: Services,
 }
 
@@ -57,5 +59,6 @@ pub struct Draft {
     pub calls: Vec<Call>,
     pub fuel: u64,
     pub table: u32,
+    pub faults: Vec<Fault>,
     pub services: Services,
 }

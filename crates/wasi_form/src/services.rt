@@ -1,17 +1,17 @@
 //! What a script hands its guest in beside the directories: a key for each part.
-ghost use Rattle.std.specs.Prelude.{◌≡◌, map, option_map, option_and_then, string_bytes};
+ghost use Rattle.std.specs.Prelude.{◌≡◌, map, option_map, string_bytes};
 ghost use Rattle.json.specs.Json.{parse_map};
 ghost use Rattle.serde_json.specs.Data.{no_members};
 ghost use Rattle.serde_json.specs.Find as find;
 ghost use Rattle.wasi_guest.specs.Services.{env_pair, handed};
 ghost use Rattle.wasi_form.specs.FoundParts.{services_found_of, services_with};
 ghost use Rattle.wasi_form.specs.IsRead.{IsRead};
-ghost use Rattle.wasi_form.specs.Lists.{same, always, forms_of};
+ghost use Rattle.wasi_form.specs.Lists.{same};
 ghost use Rattle.wasi_form.specs.ServicesForm as specs;
 ghost use Rattle.wasi_form.specs.Tokens.{next_value};
 
 use crate::atoms::Atom;
-use crate::lists::{Forms, Item, Listed, MayWait, list, next_listed, next_shaped};
+use crate::lists::{Item, Listed, list, next_listed, next_shaped};
 use crate::shapes::{Reading, Shaped, Unread, as_u32, require, two};
 use crate::texts::{hex, text};
 use json::Reader;
@@ -69,10 +69,10 @@ impl Item for String {
 
     ghost see = { string_bytes };
 
-    ghost of = { always find.as_str };
+    ghost of = { find.as_str };
 
-    fn next(alloc: Global, reader: &mut Reader<'_>, depth: usize) -> Reading<MayWait<String>> {
-        Ok(text(alloc, reader, depth)?.map(Some))
+    fn next(alloc: Global, reader: &mut Reader<'_>, depth: usize) -> Reading<Option<String>> {
+        text(alloc, reader, depth)
     }
 }
 
@@ -107,9 +107,9 @@ impl Item for EnvPair {
 
     ghost see = { env_pair };
 
-    ghost of = { always specs.env_pair_of };
+    ghost of = { specs.env_pair_of };
 
-    fn next(alloc: Global, reader: &mut Reader<'_>, depth: usize) -> Reading<MayWait<EnvPair>> {
+    fn next(alloc: Global, reader: &mut Reader<'_>, depth: usize) -> Reading<Option<EnvPair>> {
         next_listed(alloc, reader, depth)
     }
 }
@@ -134,33 +134,6 @@ impl Shaped for WallDatetime {
             nanoseconds,
         })
     }
-}
-
-// The next value of a text, read as a list of which no item waits. `None` where it is of another shape.
-fn whole_list<T: Item>(
-    alloc: Global,
-    reader: &mut Reader<'_>,
-    depth: usize,
-) -> Reading<Option<Vec<T>>>
-    ensures { IsRead (λ found. (option_map (λ v. map T.see v.items) found, reader.new)) result
-        (parse_map (λ d. option_and_then same (forms_of T.of d)) (next_value depth reader.old)) }
-{
-    let found: Forms<T> = list(alloc, reader, depth)?;
-    Ok(found.flatten())
-}
-
-fn args(alloc: Global, reader: &mut Reader<'_>, depth: usize) -> Reading<Option<Vec<String>>>
-    ensures { IsRead (λ found. (option_map (λ v. map string_bytes v.items) found, reader.new)) result
-        (parse_map specs.args_of (next_value depth reader.old)) }
-{
-    whole_list(alloc, reader, depth)
-}
-
-fn env(alloc: Global, reader: &mut Reader<'_>, depth: usize) -> Reading<Option<Vec<EnvPair>>>
-    ensures { IsRead (λ found. (option_map (λ v. map env_pair v.items) found, reader.new)) result
-        (parse_map specs.env_of (next_value depth reader.old)) }
-{
-    whole_list(alloc, reader, depth)
 }
 
 /// What stands at the keys of the services, or counts where nothing does: no arguments and no environment, an empty
@@ -214,11 +187,11 @@ impl ServiceParts {
     {
         match key {
             ServiceKey::Args => {
-                let args = args(alloc, reader, depth)?;
+                let args = list(alloc, reader, depth)?;
                 Ok(ServiceParts { args, ..self })
             }
             ServiceKey::Env => {
-                let env = env(alloc, reader, depth)?;
+                let env = list(alloc, reader, depth)?;
                 Ok(ServiceParts { env, ..self })
             }
             ServiceKey::Stdin => {

@@ -1,14 +1,14 @@
 //! Which bytes are scripts.
-ghost use Rattle.std.specs.Prelude.{◌≡◌, ℕ, List, Result, option_map, IfOk};
+ghost use Rattle.std.specs.Prelude.{◌≡◌, ℕ, List, Result, option_map, IfOk, IsTrue};
 ghost use Rattle.serde_json.specs.Read.{read as read_text};
+ghost use Rattle.wasi_faults.specs.Faults.{are_rising};
 ghost use Rattle.wasi_guest.specs.Services.{handed, AreWithin};
 ghost use Rattle.wasi_form.specs.IsRead.{IsRead};
 ghost use Rattle.wasi_form.specs.Plan.{Plan, drafted};
 ghost use Rattle.wasi_form.specs.ScriptForm.{script_of};
 ghost use Rattle.wasi_form.specs.declared.verdict.Refusal.{Refusal};
-ghost use Rattle.wasi_form.specs.Verdict.{Reads, ReadsDraft, IsTestOf, IsVerdict, value_of, plan_in, built_plan};
+ghost use Rattle.wasi_form.specs.Verdict.{Reads, ReadsDraft, IsTestOf, IsVerdict, value_of, plan_in, read_plan};
 
-use crate::lists::MayWait;
 use crate::parts::draft;
 use crate::script::{Draft, Script};
 use crate::shapes::{Reading, Unread};
@@ -29,8 +29,6 @@ pub enum Refusal {
     Json,
     /// Their value isn't of the shape of a script.
     Shape,
-    /// It has a form that isn't built yet.
-    Later,
     /// Its nodes are no tree: `MemTree::new` would refuse one of them.
     Tree,
     /// Its memory, or what is shown of it, has more than 16,777,216 bytes, a piece or a shown range leaves the memory, a
@@ -58,8 +56,8 @@ impl From<AllocError> for ScriptError {
 }
 
 /// The script that bytes are: the text of a JSON object with the keys `nodes`, `preopens` and `calls`, and with `memory`,
-/// `show`, `limits`, `fuel`, `table`, `args`, `env`, `stdin`, `wall`, `wall_res`, `mono`, `mono_res` and `random` where they are
-/// wanted. Numbers are whole, of 64 or 32 bits. Of equal keys the last counts.
+/// `show`, `limits`, `fuel`, `table`, `faults`, `args`, `env`, `stdin`, `wall`, `wall_res`, `mono`, `mono_res` and `random`
+/// where they are wanted. Numbers are whole, of 64 or 32 bits. Of equal keys the last counts.
 ///
 /// A node is `{"dir": {NAME: NODE ..}}`, `{"file": HEX}` or `{"link": TEXT}`, with `"bits"` beside it, as `"r--"`, and
 /// `"times"`, `[ACCESSED, MODIFIED, CREATED]`, where they aren't those of a new node. A time is `[SECONDS, NANOSECONDS]`
@@ -75,15 +73,16 @@ impl From<AllocError> for ScriptError {
 /// resolution; of the monotonic clock each is a number of nanoseconds. Where they aren't said, the clocks stand at 0, and
 /// their resolutions are a nanosecond; of the rest there is nothing.
 ///
-/// Forms that aren't built yet are refused as `Later`, where all else is of the shape of a script: the key `faults`, and
-/// calls that `wasi_guest::Call` doesn't have.
+/// The faults are a list of `[NUMBER, "before"]` or `[NUMBER, "after"]`, of calls of the host that fail, by numbers that rise
+/// from 1 or more on; where they aren't said, none does.
 ///
 /// More than 16,777,216 bytes are refused unread.
 pub fn read_script(alloc: Global, bytes: &[u8]) -> Result<Script, ScriptError>
     ensures verdict { Reads result (IsVerdict bytes.now) }
     ensures services { IfOk result (λ script. AreWithin (handed script.services)) }
+    ensures rising { IfOk result (λ script. IsTrue (are_rising script.faults.items)) }
 {
-    let draft = built_draft(alloc, bytes)?;
+    let draft = read_draft(alloc, bytes)?;
     let script = tested(alloc, draft)?;
     if !is_within_limits(&script) {
         return Err(ScriptError::Refused(Refusal::Limit));
@@ -105,6 +104,7 @@ fn tested(alloc: Global, draft: Draft) -> Result<Script, ScriptError>
         calls,
         fuel,
         table,
+        faults,
         services,
     } = draft;
     let nodes = match FitNodes::new(alloc, nodes, limits) {
@@ -121,13 +121,14 @@ fn tested(alloc: Global, draft: Draft) -> Result<Script, ScriptError>
         calls,
         fuel,
         table,
+        faults,
         services,
     })
 }
 
 #[tactic(auto, using(crate::proofs::Accepted::too_many, crate::proofs::Accepted::reads_within))]
-fn built_draft(alloc: Global, bytes: &[u8]) -> Result<Draft, ScriptError>
-    ensures { ReadsDraft result (λ verdict. built_plan bytes.now ≡ verdict) }
+fn read_draft(alloc: Global, bytes: &[u8]) -> Result<Draft, ScriptError>
+    ensures { ReadsDraft result (λ verdict. read_plan bytes.now ≡ verdict) }
 {
     if bytes.len() > MOST {
         return Err(ScriptError::Refused(Refusal::Long));
@@ -139,17 +140,16 @@ fn draft_in(alloc: Global, bytes: &[u8]) -> Result<Draft, ScriptError>
     ensures { ReadsDraft result (λ verdict. plan_in (value_of bytes.now) ≡ verdict) }
 {
     match draft_of_bytes(alloc, bytes) {
-        Ok(Some(Some(draft))) => Ok(draft),
-        Ok(Some(None)) => Err(ScriptError::Refused(Refusal::Later)),
+        Ok(Some(draft)) => Ok(draft),
         Ok(None) => Err(ScriptError::Refused(Refusal::Shape)),
         Err(Unread::Shape) => Err(ScriptError::Refused(Refusal::Json)),
         Err(Unread::Memory) => Err(ScriptError::Memory),
     }
 }
 
-// `Shape` where there is no value of JSON; `None` where it is no script, `Some(None)` where a form in it waits.
-fn draft_of_bytes(alloc: Global, bytes: &[u8]) -> Reading<MayWait<Draft>>
-    ensures { IsRead (λ found. option_map (λ draft. option_map drafted draft) found) result
+// `Shape` where there is no value of JSON; `None` where it is no script.
+fn draft_of_bytes(alloc: Global, bytes: &[u8]) -> Reading<Option<Draft>>
+    ensures { IsRead (λ found. option_map drafted found) result
         (option_map script_of (value_of bytes.now)) }
 {
     match str::from_utf8(bytes) {
@@ -158,8 +158,8 @@ fn draft_of_bytes(alloc: Global, bytes: &[u8]) -> Reading<MayWait<Draft>>
     }
 }
 
-fn draft_of_text(alloc: Global, text: &str) -> Reading<MayWait<Draft>>
-    ensures { IsRead (λ found. option_map (λ draft. option_map drafted draft) found) result
+fn draft_of_text(alloc: Global, text: &str) -> Reading<Option<Draft>>
+    ensures { IsRead (λ found. option_map drafted found) result
         (option_map script_of (read_text text.now)) }
 {
     let mut scratch = Scratch::new(alloc);

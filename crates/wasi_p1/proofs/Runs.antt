@@ -1,13 +1,13 @@
 -- Runs, one turn after another.
 use Rattle.std.proofs.Common.{map, ℕ, ◌+◌, ◌<◌, ◌≤◌, ◌≡◌, ◌⊎◌, inl, inr, Bool, true, false, List, [], ◌∷◌, ◌++◌, length, take, drop, refl, ap, sym, ◌∙◌, subst, arith, Some, None, Result, Ok, Err, append_assoc, append-nil, add_assoc, zero-add, add-zero, get_or}
-use Rattle.std.specs.Prelude.{All, is_ok, if◌then◌else◌}
+use Rattle.std.specs.Prelude.{All, IsTrue, is_ok, slice_get, option_map, if◌then◌else◌}
 use Rattle.std.specs.FinSet.{contains}
 use Rattle.std.proofs.lemmas.List.{map-append, take-append-drop, take_more}
 use Rattle.std.proofs.lemmas.List.Elements.{All-nil, All-append, All-weaker}
 use Rattle.wasi_host.specs.Tree.{Nodes}
 use Rattle.wasi_host.specs.Meaning.{World, Rose}
 use Rattle.wasi_p1.specs.Guest.{State, Guest}
-use Rattle.wasi_p1.specs.Rows.{turn}
+use Rattle.wasi_p1.specs.Rows.{turn, may_want}
 use Rattle.wasi_p1.specs.Turn.{IsTurn, ReachesHost, named_by}
 use Rattle.wasi_p1.specs.CallTurn.{Turns, Causes, in_world}
 use Rattle.wasi_p1.proofs.Completing.{run_completes}
@@ -17,6 +17,7 @@ use Rattle.wasi_guest.specs.declared.answer.Answer.TheVariants as answers
 use Rattle.wasi_guest.specs.declared.call.Call.{Call}
 use Rattle.wasi_p1.specs.Front.{FueledCall, with_fuel}
 use Rattle.std.proofs.lemmas.List.{get_or-map, length-map}
+use Rattle.std.proofs.lemmas.Option.{slice_get-get_or}
 use Rattle.wasi_guest.specs.declared.errno.Errno.{Errno as ErrorNumber}
 use Rattle.wasi_guest.specs.declared.errno.Errno.TheVariants.{Io}
 use Rattle.wasi_p1.specs.Owners.{one_if}
@@ -233,6 +234,14 @@ all_done {old = old} {new = new} {calls = calls} so =
 
 -- ---- want of memory
 
+-- no answer is want of memory
+pub wanted_memory : {r : Result Value P1Error} → answer_of r ≡ None → r ≡ Err Memory
+wanted_memory {r = Ok x} is = absurd (cc)
+wanted_memory {r = Err (Errno e)} is = absurd (cc)
+wanted_memory {r = Err (Trap kind)} is = absurd (cc)
+wanted_memory {r = Err (Exit status)} is = absurd (cc)
+wanted_memory {r = Err Memory} is = refl
+
 -- it leaves the state
 wanted_same : {rose : Type 0} {w v : World} {g g' : Guest} {call : FueledCall} {r : Result Value P1Error} → answer_of r ≡ None
     → Turns rose w v g g' call r → in_world v g' ≡ in_world w g
@@ -278,6 +287,11 @@ pub stood_first : {before : ℕ} {start : State} {calls : List FueledCall} {touc
 stood_first = record { answers = []; count = refl; run = all_done nothing_yet }
 
 -- ---- the call at a place of the list
+
+-- it may want memory
+pub may_want_at : (calls : List Call) (i : ℕ) (d : Call) → i < length calls → IsTrue (may_want (get_or calls i d))
+    → option_map may_want (slice_get calls i) ≡ Some true
+may_want_at calls i d within wants = ap (option_map may_want) (slice_get-get_or calls i d within) ∙ ap Some wants
 
 pub call_at : (fuel : ℕ) (calls : List Call) (i : ℕ) (d : Call) → i < length calls
     → take (i + 1) (map (with_fuel fuel) calls)

@@ -1,15 +1,17 @@
 -- Calls one after another, up to the first whose answer ends the run.
-use Rattle.std.specs.Prelude.{ℕ, suc, ◌+◌, ◌-◌, ◌^◌, ◌≤◌, ◌≡◌, ◌⊎◌, Bool, true, false, List, [], ◌∷◌, length, take, map, Result, Ok, Err, Option, Some, None, MatchBool, All, IsTrue, if◌then◌else◌}
+use Rattle.std.specs.Prelude.{ℕ, suc, ◌+◌, ◌-◌, ◌^◌, ◌≤◌, ◌≡◌, ◌⊎◌, Bool, true, false, List, [], ◌∷◌, length, take, map, slice_get, Result, Ok, Err, Option, Some, None, option_map, MatchBool, All, IsTrue, if◌then◌else◌}
 use Rattle.std.specs.List.{flat_map}
 use Rattle.std.specs.FinSet.{contains}
 use Rattle.wasi_host.specs.Tree.{Nodes}
 use Rattle.wasi_p1.specs.CallTurn.{IsValidCall}
 use Rattle.wasi_p1.specs.Guest.{State}
 use Rattle.wasi_p1.specs.Row.{Row}
-use Rattle.wasi_p1.specs.Rows.{turn}
+use Rattle.wasi_p1.specs.Rows.{turn, may_want}
+use Rattle.wasi_p1.specs.Slots.{View}
 use Rattle.wasi_p1.specs.Turn.{StepTaken, ReachesHost, named_by}
 use Rattle.wasi_guest.specs.declared.answer.Answer.{Answer}
 use Rattle.wasi_guest.specs.declared.answer.Answer.TheVariants as answers
+use Rattle.wasi_guest.specs.declared.call.Call.{Call}
 use Rattle.wasi_p1.specs.Front.{FueledCall}
 use Rattle.wasi_guest.specs.declared.errno.Errno.{Errno as ErrorNumber}
 use Rattle.wasi_guest.specs.declared.errno.Errno.TheVariants.{Io}
@@ -132,6 +134,12 @@ pub record StoodAt (before now : ℕ) (old : State) (calls : List FueledCall) (n
   pub answers : List Answer
   pub count : length answers ≡ n
   pub run : DidRun before now old (take n calls) answers new touched
+
+-- Memory was wanted once n of these calls were answered: by the next of them, which is one that takes memory; or for
+-- the answers, before the first, and nothing changed
+abbrev pub WantedAt : {H : Type 0} → View H → View H → List ℕ → List ℕ → List Call → ℕ → Type 0
+WantedAt old new before after calls n =
+    (option_map may_want (slice_get calls n) ≡ Some true) ⊎ ((n ≡ 0) × (new ≡ old) × (after ≡ before))
 
 -- how many calls were answered before memory was wanted
 abbrev pub answered_in : RunError → ℕ

@@ -1,12 +1,14 @@
 //! A list of calls, one after another.
-ghost use Rattle.std.specs.Prelude.{◌≡◌, ◌≤◌, length, map, All, IsTrue, IfOk, IfErr, IfSome};
+ghost use Rattle.std.specs.Prelude.{◌≡◌, ◌≤◌, length, map, Err, All, IsTrue, IfOk, IfErr, IfSome};
 ghost use Rattle.wasi_p1.specs.ErrorNumbers.{MayCome};
 ghost use Rattle.wasi_p1.specs.Front.{with_fuel};
 ghost use Rattle.wasi_p1.specs.CallTurn.{IsAnswered, IsValidCall, OthersStay, TakesTurn};
 ghost use Rattle.wasi_p1.specs.Method.{StaysInBounds, DoesItsRow};
 ghost use Rattle.wasi_host.specs.Meaning.{Rose};
 ghost use Rattle.wasi_p1.specs.Guest.{State, state_of};
-ghost use Rattle.wasi_p1.specs.Run.{AnswersEach, answer_of, ends, ios, Allows, answered_in, DidRun, StoodAt};
+ghost use Rattle.wasi_p1.specs.Rows.{may_want};
+ghost use Rattle.wasi_p1.specs.Run.{AnswersEach, answer_of, ends, ios, Allows, answered_in, WantedAt, DidRun, StoodAt};
+ghost use Rattle.wasi_p1.specs.declared.error.P1Error.TheVariants.{Memory};
 ghost use Rattle.wasi_p1.specs.Owners.{RunTraced, SlotsOfCall, SlotsOfRun};
 ghost use Rattle.wasi_p1.specs.Reach.{Confined, StaysTouched};
 ghost use Rattle.wasi_p1.specs.Validity.{IsValidState};
@@ -20,7 +22,7 @@ use wasi_host::Host;
 /// Why a run wasn't finished.
 #[derive(Clone, Copy, Debug, PartialEq, Eq)]
 pub enum RunError {
-    /// Memory was wanted. All stands as after the first `answered` calls.
+    /// Memory was wanted, for the answers or by the call behind the first `answered`. All stands as after these.
     Memory { answered: usize },
 }
 
@@ -256,6 +258,7 @@ fn call_with<H: Host>(
     ensures size { length memory.new ≡ length memory.old }
     ensures bounds { StaysInBounds H.Host context.old context.new memory.old one result }
     ensures slots { SlotsOfCall context.old.slots context.new.slots memory.old one }
+    ensures wants { result ≡ Err Memory → IsTrue (may_want one) }
     ensures turn { IsTrue H.told → TakesTurn H.world (Rose (H.faults context.old.host) (H.faults context.new.host))
         context.old context.new memory.old memory.new (with_fuel fuel one) result }
 {
@@ -263,10 +266,11 @@ fn call_with<H: Host>(
     call(context, memory, one)
 }
 
-/// The calls in order, up to and including the first whose answer is a trap or an exit, each with the same fuel. Room for
-/// all answers is taken first. No answer is an error number that `may_be_answered` doesn't list, and each call that is
-/// valid in the state before it is answered Ok, unless the host failed in it. Memory where room is wanted, or a call wants
-/// it: all stands as after the calls that were answered.
+/// The calls in order, up to and including the first whose answer is a trap or an exit, each with the same fuel. Room
+/// for all answers is taken first. No answer is an error number that `may_be_answered` doesn't list, and each call that
+/// is valid in the state before it is answered Ok, unless the host failed in it. Memory where room is wanted, and then
+/// nothing changed, or where the next call wants it, which is one of those that take some: all stands as after the
+/// calls that were answered.
 pub fn run_calls<H: Host>(
     alloc: Global,
     context: &mut WasiP1Ctx<H>,
@@ -278,6 +282,8 @@ pub fn run_calls<H: Host>(
     ensures count { H.faults context.old.host ≤ H.faults context.new.host }
     ensures answers { IfOk result (λ a. AnswersEach (map (with_fuel fuel) calls.now.items) a.answers) }
     ensures answered { IfErr result (λ e. answered_in e ≤ length calls.now.items) }
+    ensures wanted { IfErr result (λ e. WantedAt context.old context.new memory.old memory.new calls.now.items
+        (answered_in e)) }
     ensures errnos { IsTrue H.told → IfOk result (λ a. All MayCome a.answers) }
     ensures ios { IfOk result (λ a. Allows (H.faults context.old.host) (H.faults context.new.host) (ios a.answers)) }
     ensures handles { OthersStay H.live context.old context.new }

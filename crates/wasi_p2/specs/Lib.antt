@@ -1,4 +1,5 @@
 pub mod Advices
+pub mod Directories
 pub mod Drops
 pub mod ErrorCodes
 pub mod FileBytes

@@ -1,5 +1,6 @@
 //! The calls of a view, by family.
 
+mod directories;
 mod dropping;
 pub(crate) mod error_codes;
 mod nodes;

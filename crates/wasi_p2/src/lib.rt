@@ -7,11 +7,13 @@ mod entries;
 mod error;
 mod found;
 mod named;
+mod preopens;
 mod read_result;
 pub mod types;
 mod views;
 
 pub use context::{Preopen, WasiFilesystemCtx, WasiFilesystemCtxView};
 pub use error::{FsError, FsResult};
+pub use preopens::PreopenEntry;
 pub use read_result::ReadResult;
 pub use views::{NamedId, WasiCtxNamedView, WasiFilesystemNamedView, WasiFilesystemView};

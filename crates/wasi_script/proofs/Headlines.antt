@@ -1,6 +1,6 @@
 -- The report of a run over a tree in memory.
-use Rattle.std.proofs.Common.{ℕ, ◌≡◌, inl, inr, true, List, [], replicate, refl, sym, ap, ◌∙◌, subst, arith, nat_eq, Result, Ok, Err}
-use Rattle.std.specs.Prelude.{Contains, IfOk, OnOk, Vec}
+use Rattle.std.proofs.Common.{ℕ, ◌+◌, ◌-◌, ◌^◌, ◌<◌, ◌≤◌, ◌≡◌, inl, inr, Bool, true, false, List, [], ◌∷◌, length, replicate, refl, sym, ap, ◌∙◌, subst, arith, nat_eq, Result, Ok, Err}
+use Rattle.std.specs.Prelude.{Contains, IfOk, MatchBool, OnOk, Vec}
 use Rattle.std.specs.Global.{Global}
 use Rattle.std.specs.declared.alloc.AllocError.{AllocError}
 use Rattle.std.specs.List.Sorted.{IsStrictlySortedBy}
@@ -12,15 +12,19 @@ use Rattle.std.proofs.lemmas.List.Folds.{list_any_at}
 use Rattle.std.proofs.lemmas.Map.Views.{Contains-from_any}
 use Rattle.wasi_host.specs.Tree.{Nodes}
 use Rattle.wasi_tree.specs.Given.{tree_of}
-use Rattle.wasi_tree.specs.MemState.{MemState, world_of}
+use Rattle.wasi_faults.specs.Faults.{Calls, Failing, counted}
+use Rattle.wasi_faults.specs.declared.fault.Fault.{Fault}
+use Rattle.wasi_faults.proofs.Rising.{counts_few}
+use Rattle.wasi_tree.specs.MemState.{MemState}
 use Rattle.wasi_script.specs.Headline.{report_after, Reports, fueled_calls}
 use Rattle.wasi_p1.specs.Reach.{Confined}
 use Rattle.wasi_report.specs.Report.{report_text}
 use Rattle.wasi_report.specs.ReadBack.{IsOrdered}
-use Rattle.wasi_p1.specs.Run.{Run, Allows, DidRun, named}
+use Rattle.wasi_p1.specs.Front.{FueledCall}
+use Rattle.wasi_p1.specs.Run.{Turned, Spends, Run, Allows, DidRun, ends, ios, named}
 use Rattle.wasi_form.specs.Plan.{Plan}
 use Rattle.wasi_p1.specs.Slots.{View}
-use Rattle.wasi_script.specs.Start.{start, with_pieces, IsBegun}
+use Rattle.wasi_script.specs.Start.{start, with_pieces, world_behind, IsBegun}
 use Rattle.wasi_p1.specs.Guest.{State, state_of}
 use Rattle.wasi_guest.specs.declared.answer.Answer.{Answer}
 
@@ -31,21 +35,54 @@ in_listed nodes n has = Contains-from_any {eq = λ x y. nat_eq y x} (λ x y same
 in_list : (nodes : List ℕ) (n : ℕ) → Contains nodes n → contains (from_list {R = nat_cmp} nodes) n ≡ true
 in_list nodes n (k, within, is) = contains-from_list_nat nodes n ∙ list_any_at (λ y. nat_eq y n) nodes k n within (eq-eqb _ _ is)
 
--- a host whose count stands at 0 allows no faulted turn
-no_fault : (k : ℕ) → Allows 0 0 k → k ≡ 0
-no_fault k (inl fits) = omega arith
-no_fault k (inr full) = absurd (omega arith)
+-- a run with so many faulted turns at most is one with more of them at most
+run_more : (calls : List FueledCall) (turns : List Turned) (j k : ℕ) (old new : State) → j ≤ k
+    → Run j old calls turns new → Run k old calls turns new
+run_more [] [] j k old new fits run = run
+run_more [] (t ∷ turns) j k old new fits run = absurd run
+run_more (call ∷ calls) [] j k old new fits run = absurd run
+run_more (call ∷ calls) (t ∷ turns) j k old new fits (i, before, is, spends, rest) =
+    by (λ m less. run_more calls turns i m t.after new less) spends
+  where
+    later : (m : ℕ) → (Run i t.after calls turns new → Run m t.after calls turns new) → (b : Bool)
+        → MatchBool b ((turns ≡ []) × (new ≡ t.after)) (Run i t.after calls turns new)
+        → MatchBool b ((turns ≡ []) × (new ≡ t.after)) (Run m t.after calls turns new)
+    later m more true ended = ended
+    later m more false on = more on
 
-pub begun_at : {context : View MemState} {memory : List ℕ} (plan : Plan)
-    → IsBegun world_of context (tree_of plan.nodes plan.limits) plan.preopens plan.services plan.table
-    → memory ≡ with_pieces (replicate plan.size 0) plan.pieces → state_of world_of context memory ≡ start plan
+    by : ((m : ℕ) → i ≤ m → Run i t.after calls turns new → Run m t.after calls turns new) → Spends j i t
+        → Run k old (call ∷ calls) (t ∷ turns) new
+    by more (inl (played, same)) =
+        (k, before, is, inl (played, refl), later k (more k (omega (arith, same))) (ends t.answer) rest)
+    by more (inr (faulted, same)) =
+        (k - 1, before, is, inr (faulted, omega (arith, same)), later (k - 1) (more (k - 1) (omega (arith, same))) (ends t.answer) rest)
+
+-- a count that rose by so much at most, and isn't at its end, allows no more
+allows_few : (before now most k : ℕ) → now ≤ before + most → now < 2 ^ 64 - 1 → Allows before now k → k ≤ most
+allows_few before now most k little below (inl fits) = omega arith
+allows_few before now most k little below (inr full) = absurd (omega arith)
+
+-- so of calls that fail as they are listed, from the first one on
+pub few_listed : {faults : List Fault} (before now : Calls) → before ≡ record { faults = faults; calls = 0 } → (k : ℕ)
+    → Allows (counted 0 before) (counted 0 now) k → k ≤ length faults
+few_listed {faults} before now begins k allows =
+    let few = counts_few before now in
+    subst (λ (s : Calls). k ≤ length s.faults) begins (allows_few (counted 0 before) (counted 0 now) (length before.faults) k few.few few.goes_on allows)
+
+pub begun_at : {context : View (Failing MemState)} {memory : List ℕ} (plan : Plan)
+    → IsBegun world_behind context (tree_of plan.nodes plan.limits) plan.preopens plan.services plan.table
+    → memory ≡ with_pieces (replicate plan.size 0) plan.pieces → state_of world_behind context memory ≡ start plan
 begun_at {memory} plan is memory-is = is.state memory ∙ (rw memory-is refl)
 
--- a run of a plan's calls from its start, over a host that counts no fault
+-- a run of a plan's calls from its start, over a host that fails at most as often as the plan lists faults
 pub record RanPlan (plan : Plan) (last : State) (answers : List Answer) (touched : Nodes) : Type 0 where
+  pub before : ℕ
+  pub now : ℕ
+  pub few : (k : ℕ) → Allows before now k → k ≤ length plan.faults
   pub first : State
   pub begins : first ≡ start plan
-  pub ran : DidRun 0 0 first (fueled_calls plan) answers last touched
+  pub ran : DidRun before now first (fueled_calls plan) answers last touched
+  pub allowed : Allows before now (ios answers)
   pub confined : Confined first last touched
 
 -- the report of what a run came to, with its nodes listed rising
@@ -57,16 +94,17 @@ pub reports : {plan : Plan} {last : State} {answers : List Answer} {touched : No
     → IfOk result (λ text. Reports plan text.items)
 reports {plan} {last} {answers} {touched} listed (Err error) run nodes-are rising ordered text-is = tt
 reports {plan} {last} {answers} {touched} listed (Ok text) run nodes-are rising ordered text-is =
-    let from_start : DidRun 0 0 (start plan) (fueled_calls plan) answers last touched =
-    subst (λ s. DidRun 0 0 s (fueled_calls plan) answers last touched) run.begins run.ran in
+    let from_start : DidRun run.before run.now (start plan) (fueled_calls plan) answers last touched =
+    subst (λ s. DidRun run.before run.now s (fueled_calls plan) answers last touched) run.begins run.ran in
     let near : Confined (start plan) last touched = subst (λ s. Confined s last touched) run.begins run.confined in
     let told_is = ap (λ all. record (report_after plan.show [] last listed) { answers = all }) from_start.answers_are in
     record {
       turns = from_start.turns;
       last = last;
       touched = listed;
-      run = subst (λ k. Run k (start plan) (fueled_calls plan) from_start.turns last)
-          (no_fault from_start.faults from_start.allowed) from_start.run;
+      run = run_more (fueled_calls plan) from_start.turns from_start.faults (length plan.faults) (start plan) last
+          (run.few from_start.faults from_start.allowed) from_start.run;
+      few = subst (λ all. ios all ≤ length plan.faults) from_start.answers_are (run.few (ios answers) run.allowed);
       rising = rising;
       ends = All-weaker (λ n. contains touched n ≡ true) (Contains listed) (λ n has. in_listed listed n (rw nodes-are has))
           (named from_start.turns) from_start.ends_touched;

@@ -1,5 +1,5 @@
 -- A script that gives its guest read-only directories alone is reported with its own tree.
-use Rattle.std.proofs.Common.{ℕ, suc, zero, ◌+◌, ◌≡◌, List, [], ◌∷◌, map, slice_get, refl, ap, ◌∙◌, Some, Bool}
+use Rattle.std.proofs.Common.{ℕ, suc, zero, ◌+◌, ◌≡◌, List, [], ◌∷◌, length, map, slice_get, refl, ap, ◌∙◌, Some, Bool}
 use Rattle.std.specs.Prelude.{All}
 use Rattle.std.proofs.lemmas.List.Elements.{All-head, All-tail}
 use Rattle.wasi_fs.specs.declared.perms.FsPerms.{FsPerms}
@@ -63,7 +63,8 @@ tells_own plan reports only = record {
   text_is = reports.text_is;
   tree =
       ap (λ (t : Tree). map given_of t.nodes)
-      (run_leaves (fueled_calls plan) reports.turns 0 (start plan) reports.last reports.run (starts_read_only plan only))
+      (run_leaves (fueled_calls plan) reports.turns (length plan.faults) (start plan) reports.last reports.run
+      (starts_read_only plan only))
       ∙ tree_again plan;
 }
 

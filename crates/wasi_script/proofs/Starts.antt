@@ -19,7 +19,8 @@ use Rattle.wasi_host.specs.declared.held.Held.{Held}
 use Rattle.wasi_host.specs.declared.limits.Limits.{Limits}
 use Rattle.wasi_tree.specs.Given.{Given, GivenContent, file, directory, link, content_from, nodes_from, tree_of}
 use Rattle.wasi_tree.specs.GivenTests.{is_dir_content}
-use Rattle.wasi_tree.specs.MemState.{HeldMap, MemState, live_of, held_in, world_of}
+use Rattle.wasi_faults.specs.Faults.{Failing}
+use Rattle.wasi_tree.specs.MemState.{HeldMap, MemState, live_of, held_in}
 use Rattle.wasi_guest.specs.Range.{with_bytes}
 use Rattle.wasi_guest.specs.Services.{Handed}
 use Rattle.wasi_p1.specs.Reach.{Confined}
@@ -28,7 +29,7 @@ use Rattle.wasi_form.specs.Within.{are_preopens_directories, is_directory_given,
 use Rattle.wasi_p1.specs.Slots.{first_slots, given_mode, given_directory, given_name, given_slot, given_slots}
 use Rattle.wasi_p1.specs.Stock.{first_stock}
 use Rattle.wasi_p1.specs.declared.context.P1Preopen.{P1Preopen}
-use Rattle.wasi_script.specs.Start.{given_guest_slot, given_guest_slots, AreGiven, IsBegun, with_pieces}
+use Rattle.wasi_script.specs.Start.{given_guest_slot, given_guest_slots, AreGiven, IsBegun, with_pieces, world_behind}
 use Rattle.wasi_p1.specs.Guest.{State, directory as directory_slot, directory_by, guest_slot}
 use Rattle.wasi_form.specs.declared.script.Piece.{Piece}
 use Rattle.wasi_form.specs.declared.script.ScriptPreopen.{ScriptPreopen}
@@ -151,13 +152,13 @@ given_more {old} {new} {planned} {p} preopens given are is = record {
     got : IsLiveIn new p
     got = given_is_live (live_of old) (live_of new) p.handle is.live
 
--- a context over a tree in memory that has given handles
-pub begun_by : {given : MemState} {tree : Tree} {preopens : List PlannedPreopen} {services : Handed} {table fuel : ℕ}
-    {list : List P1Preopen}
-    → given.tree ≡ tree → given.touched ≡ empty → AreGiven given.handles preopens list
-    → IsBegun world_of
+-- a context over a tree in memory that has given handles, whose calls fail
+pub begun_by : {host : Failing MemState} {tree : Tree} {preopens : List PlannedPreopen} {services : Handed}
+    {table fuel : ℕ} {list : List P1Preopen}
+    → host.inner.tree ≡ tree → host.inner.touched ≡ empty → AreGiven host.inner.handles preopens list
+    → IsBegun world_behind
     (record {
-      host = given;
+      host = host;
       slots = first_slots list;
       table_max = table;
       holdings = first_stock services (map given_name list);

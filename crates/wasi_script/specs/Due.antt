@@ -6,7 +6,7 @@ use Rattle.wasi_script.specs.Headline.{Reports, GivesReadOnly, TellsOwnTree}
 use Rattle.wasi_form.specs.Plan.{Plan, plan}
 use Rattle.wasi_form.specs.Verdict.{most_script, IsVerdict}
 use Rattle.wasi_form.specs.declared.verdict.Refusal.{Refusal}
-use Rattle.wasi_form.specs.declared.verdict.Refusal.TheVariants.{Long, Json, Shape, Later, Tree, Limit}
+use Rattle.wasi_form.specs.declared.verdict.Refusal.TheVariants.{Long, Json, Shape, Tree, Limit}
 use Rattle.wasi_form.specs.declared.script.Script.{Script}
 use Rattle.wasi_script.specs.declared.status.Status.{Status}
 use Rattle.wasi_script.specs.declared.status.Status.TheVariants as statuses
@@ -28,7 +28,6 @@ abbrev pub refusal_line : Refusal → List ℕ
 refusal_line Long = codes "refused: long" ++ 10 ∷ []
 refusal_line Json = codes "refused: json" ++ 10 ∷ []
 refusal_line Shape = codes "refused: shape" ++ 10 ∷ []
-refusal_line Later = codes "refused: later" ++ 10 ∷ []
 refusal_line Tree = codes "refused: tree" ++ 10 ∷ []
 refusal_line Limit = codes "refused: limit" ++ 10 ∷ []
 

@@ -1,5 +1,5 @@
 -- What the report of a script holds.
-use Rattle.std.specs.Prelude.{◌≡◌, ℕ, ◌+◌, List, map, slice_range, All, Contains}
+use Rattle.std.specs.Prelude.{◌≡◌, ◌≤◌, ℕ, ◌+◌, List, length, map, slice_range, All, Contains}
 use Rattle.std.specs.FinMap as maps
 use Rattle.std.specs.List.Sorted.{IsStrictlySortedBy}
 use Rattle.std.specs.Ordering.{nat_cmp}
@@ -10,7 +10,7 @@ use Rattle.wasi_p1.specs.Front.{FueledCall, with_fuel}
 use Rattle.wasi_p1.specs.Reach.{InReach}
 use Rattle.wasi_report.specs.Report.{Report, report_text}
 use Rattle.wasi_report.specs.ReadBack.{IsOrdered}
-use Rattle.wasi_p1.specs.Run.{Turned, Run, answers_of, named}
+use Rattle.wasi_p1.specs.Run.{Turned, Run, answers_of, ios, named}
 use Rattle.wasi_form.specs.Plan.{Plan}
 use Rattle.wasi_script.specs.Start.{start}
 use Rattle.wasi_p1.specs.Guest.{State}
@@ -35,14 +35,17 @@ report_after show turns last touched = record {
 abbrev pub fueled_calls : Plan → List FueledCall
 fueled_calls plan = map (with_fuel plan.fuel) plan.calls
 
--- The text is the report of the run of the plan's calls from its start, in which no turn is faulted. The touched nodes are
--- listed rising; each at which a path of a call answered Ok ended is among them, and each is reached from a directory
--- that the guest was given, or was made by the run. It is in range and order, so that its text tells it.
+-- The text is the report of a run of the plan's calls from its start, in which at most as many turns are faulted, and
+-- at most as many answers are `io`, as the plan lists faults. So without one it is the report of the one run there is,
+-- with no `io`. The touched nodes are listed rising; each at which a path of a call answered Ok ended is among them,
+-- and each is reached from a directory that the guest was given, or was made by the run. It is in range and order, so
+-- that its text tells it.
 pub record Reports (plan : Plan) (text : List ℕ) : Type 0 where
   pub turns : List Turned
   pub last : State
   pub touched : List ℕ
-  pub run : Run 0 (start plan) (fueled_calls plan) turns last
+  pub run : Run (length plan.faults) (start plan) (fueled_calls plan) turns last
+  pub few : ios (answers_of turns) ≤ length plan.faults
   pub rising : IsStrictlySortedBy nat_cmp touched
   pub ends : All (Contains touched) (named turns)
   pub in_reach : (n : ℕ) → Contains touched n → InReach (start plan) last n

@@ -5,7 +5,8 @@ use Rattle.std.specs.String.{string_bytes}
 use Rattle.wasi_host.specs.Tree.{Tree}
 use Rattle.wasi_host.specs.Meaning.{World}
 use Rattle.wasi_tree.specs.Given.{tree_of}
-use Rattle.wasi_tree.specs.MemState.{HeldMap, live_of, held_in}
+use Rattle.wasi_faults.specs.Faults.{Failing}
+use Rattle.wasi_tree.specs.MemState.{MemState, HeldMap, live_of, held_in, world_of}
 use Rattle.wasi_guest.specs.Range.{with_bytes}
 use Rattle.wasi_guest.specs.Services.{Handed}
 use Rattle.wasi_form.specs.Plan.{Plan, PlannedPiece, PlannedPreopen}
@@ -56,6 +57,10 @@ begun tree preopens services table memory = record {
 abbrev pub start : Plan → State
 start plan = begun (tree_of plan.nodes plan.limits) plan.preopens plan.services plan.table
     (with_pieces (replicate plan.size 0) plan.pieces)
+
+-- the world of a tree in memory behind calls that fail
+abbrev pub world_behind : Failing MemState → World
+world_behind host = world_of host.inner
 
 -- a context in which nothing was done yet, and no node touched
 pub record IsBegun {H : Type 0} (world : H → World) (context : View H) (tree : Tree)

@@ -7,6 +7,7 @@ mod status;
 mod top;
 mod words;
 
+pub use start::{first_context, first_memory, shown};
 pub use status::Status;
 pub use top::run_script;
 pub use words::words_after_name;

@@ -1,16 +1,17 @@
 //! The context and the memory in which the calls of a script begin, and the memory that is shown after them.
-ghost use Rattle.std.specs.Prelude.{◌≡◌, ◌≤◌, ◌+◌, true, length, map, replicate, All, IfOk};
+ghost use Rattle.std.specs.Prelude.{◌≡◌, ◌≤◌, ◌+◌, true, length, map, replicate, All, IfOk, IsTrue};
 ghost use Rattle.std.specs.List.{list_all};
 ghost use Rattle.wasi_host.specs.Tree.{node_at, is_directory};
 ghost use Rattle.wasi_tree.specs.Given.{tree_of};
-ghost use Rattle.wasi_tree.specs.MemState.{world_of};
+ghost use Rattle.wasi_faults.specs.Faults.{are_rising};
 ghost use Rattle.wasi_guest.specs.Services.{handed};
 ghost use Rattle.wasi_form.specs.Plan.{planned_piece, planned_preopen};
 ghost use Rattle.wasi_form.specs.Within.{are_preopens_directories, is_piece_within, is_shown_within};
-ghost use Rattle.wasi_script.specs.Start.{with_pieces, IsBegun, AreGiven};
+ghost use Rattle.wasi_script.specs.Start.{with_pieces, world_behind, IsBegun, AreGiven};
 ghost use Rattle.wasi_script.specs.Headline.{bytes_shown};
 
 use std::alloc::{AllocError, Global};
+use wasi_faults::{FailAt, Fault};
 use wasi_form::{Piece, ScriptPreopen, Shown};
 use wasi_guest::{GuestMemory, Services, slice_at};
 use wasi_p1::{CtxError, P1Preopen, WasiP1Ctx};
@@ -45,23 +46,27 @@ fn given_handles(
     Ok(given)
 }
 
-/// A context over the tree of these nodes, in which the guest is handed in these services and given these directories, and
-/// as many descriptors may be live as its table has room for.
+/// A context over the tree of these nodes, in which the guest is handed in these services and given these directories, as
+/// many descriptors may be live as its table has room for, and these calls of the host fail.
 pub fn first_context(
     alloc: Global,
     nodes: FitNodes,
     services: Services,
+    faults: Vec<Fault>,
     preopens: &[ScriptPreopen],
     table: u32,
-) -> Result<WasiP1Ctx<MemTree>, AllocError>
+) -> Result<WasiP1Ctx<FailAt<MemTree>>, AllocError>
     requires directories { are_preopens_directories nodes.nodes (map planned_preopen preopens.now) ≡ true }
     requires table { 3 + length preopens.now ≤ table }
-    ensures begun { IfOk result (λ c. IsBegun world_of c (tree_of nodes.nodes nodes.limits)
+    requires rising { IsTrue (are_rising faults.items) }
+    ensures begun { IfOk result (λ c. IsBegun world_behind c (tree_of nodes.nodes nodes.limits)
         (map planned_preopen preopens.now) (handed services) table) }
+    ensures faults { IfOk result (λ c. c.host.calls ≡ record { faults = faults.items; calls = 0 }) }
 {
     let mut tree = MemTree::of(alloc, nodes)?;
     let given = given_handles(alloc, &mut tree, preopens)?;
-    match WasiP1Ctx::new(alloc, tree, given, services, table) {
+    let host = FailAt::new(tree, faults);
+    match WasiP1Ctx::new(alloc, host, given, services, table) {
         Ok(context) => Ok(context),
         Err(refused) => match refused.error {
             CtxError::Memory => Err(AllocError),

@@ -66,9 +66,6 @@ fn why_refused(refusal: Refusal) -> &'static str {
         Refusal::Shape => {
             "wasirun: the script is JSON, and isn't of a script's shape; docs/SCRIPT.md says what a script is"
         }
-        Refusal::Later => {
-            "wasirun: the script has a form that isn't built; docs/SCRIPT.md says what is built"
-        }
         Refusal::Tree => {
             "wasirun: the nodes of the script are no tree; docs/SCRIPT.md says what a tree is"
         }

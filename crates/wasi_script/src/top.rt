@@ -1,6 +1,7 @@
 //! The program as a call: from the words of the command line and the bytes of a script to a report.
 ghost use Rattle.std.specs.Prelude.{◌≡◌, ◌≤◌, ◌⊎◌, true, false, map, IsTrue, Err, IfOk, IfErr};
 ghost use Rattle.std.specs.String.{string_bytes};
+ghost use Rattle.wasi_faults.specs.Faults.{are_rising};
 ghost use Rattle.wasi_host.specs.Meaning.{Rose};
 ghost use Rattle.wasi_form.specs.Plan.{plan};
 ghost use Rattle.wasi_form.specs.Within.{is_within_limits};
@@ -33,7 +34,6 @@ fn refusal_line(refusal: Refusal) -> &'static str
         Refusal::Long => "refused: long\n",
         Refusal::Json => "refused: json\n",
         Refusal::Shape => "refused: shape\n",
-        Refusal::Later => "refused: later\n",
         Refusal::Tree => "refused: tree\n",
         Refusal::Limit => "refused: limit\n",
     }
@@ -45,6 +45,7 @@ fn read_from<S: Source>(alloc: Global, source: &mut S) -> Result<Script, Status>
     ensures cause { result ≡ Err Status.ReadFault → Rose (S.faults source.old) (S.faults source.new) }
     ensures ends { IfErr result EndsReading }
     ensures within { IfOk result (λ script. is_within_limits (plan script) ≡ true) }
+    ensures rising { IfOk result (λ script. IsTrue (are_rising script.faults.items)) }
     ensures read { IsTrue S.told → ReadsScript result (S.left source.old) (S.left source.new) }
 {
     let bytes = read_all(alloc, source)?;
@@ -52,7 +53,8 @@ fn read_from<S: Source>(alloc: Global, source: &mut S) -> Result<Script, Status>
 }
 
 fn report_of(alloc: Global, script: Script) -> Result<Vec<u8>, AllocError>
-    requires { is_within_limits (plan script) ≡ true }
+    requires within { is_within_limits (plan script) ≡ true }
+    requires rising { IsTrue (are_rising script.faults.items) }
     ensures { IfOk result (λ text. Reports (plan script) text.items) }
 {
     let mut memory = first_memory(alloc, script.size, script.pieces.as_slice())?;
@@ -60,6 +62,7 @@ fn report_of(alloc: Global, script: Script) -> Result<Vec<u8>, AllocError>
         alloc,
         script.nodes,
         script.services,
+        script.faults,
         script.preopens.as_slice(),
         script.table,
     )?;
@@ -69,7 +72,7 @@ fn report_of(alloc: Global, script: Script) -> Result<Vec<u8>, AllocError>
         return Err(AllocError);
     };
     let shown = shown(alloc, memory.bytes(), script.show.as_slice())?;
-    let touched = context.host().touched(alloc)?;
+    let touched = context.host().inner().touched(alloc)?;
     let ended = context.into_parts();
     let outputs = ended.holdings.into_outputs();
     let outcome = Outcome {
@@ -79,7 +82,7 @@ fn report_of(alloc: Global, script: Script) -> Result<Vec<u8>, AllocError>
         stderr: outputs.stderr,
         touched,
     };
-    report(alloc, &outcome, &ended.host)
+    report(alloc, &outcome, ended.host.inner())
 }
 
 fn written<K: Sink>(sink: &mut K, text: &[u8], status: Status) -> Status

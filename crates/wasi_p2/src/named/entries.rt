@@ -1,17 +1,43 @@
 //! The calls of a named view that put entries into its table, take them out, or read on in one.
 ghost use Rattle.std.specs.Prelude.{◌≡◌, ◌<◌, length};
+ghost use Rattle.std.specs.Result.{result_map_both};
+ghost use Rattle.wasi_p2.specs.Directories.{GivesDirectories};
 ghost use Rattle.wasi_p2.specs.Drops.{DropsDescriptor, DropsStream, ReadsNext};
 ghost use Rattle.wasi_p2.specs.Opens.{OpensAt, StreamsFrom, StreamsToOffset, StreamsToEnd, ListsIt};
 ghost use Rattle.wasi_p2.specs.Named.{AtOne, OneDoes};
 ghost use Rattle.wasi_p2.specs.Views.{FilesOwned, files_of};
 
 use crate::types::{DescriptorFlags, DirectoryEntry, OpenFlags, PathFlags};
-use crate::{FsResult, NamedId, WasiCtxNamedView, WasiFilesystemCtxView, WasiFilesystemNamedView};
+use crate::{
+    FsResult, NamedId, PreopenEntry, WasiCtxNamedView, WasiFilesystemCtxView,
+    WasiFilesystemNamedView,
+};
 use wasi_host::Host;
 use wasi_streams::Resource;
 
 /// Each call is that of the same name of the view at a place, which is to be there; every other pair stays as it is.
 impl<'a, T> WasiCtxNamedView<'a, T> {
+    /// `get_directories` of the view at a place.
+    pub fn get_directories<H: Host>(&mut self, id: NamedId) -> FsResult<Vec<PreopenEntry>>
+    where
+        T: WasiFilesystemNamedView<H>,
+        requires named { id.0 < length (T.all self.old.0.now) }
+        requires owned { AtOne (T.all self.old.0.now) id.0 (FilesOwned H.Host) }
+        ensures same { self.new.0.ghost_name ≡ self.old.0.ghost_name }
+        ensures call { OneDoes (T.all self.old.0.now) (T.all self.new.0.now) id.0
+            (λ old new. GivesDirectories H.Host old new (result_map_both (λ made. made.items) (λ e. e) result)) }
+    {
+        self.0.with_filesystem(
+            id,
+            |ctx, table|
+                requires owned { FilesOwned H.Host (files_of ctx.old table.old) }
+            {
+                let mut view = WasiFilesystemCtxView { ctx, table };
+                view.get_directories()
+            },
+        )
+    }
+
     /// `open_at` of the view at a place.
     pub fn open_at<H: Host>(
         &mut self,

@@ -3,5 +3,8 @@ use Rattle.wasi_p1.proofs.run.call_with.Goals as goal
 pub returns-clause-turn : goal.returns-clause-turn
 returns-clause-turn g c = λ told. rw c.set_hostcall_fuel.ensures.set at (c.call.ensures.turn.turn told)
 
+pub returns-clause-wants : goal.returns-clause-wants
+returns-clause-wants g c = c.call.ensures.turn.wants
+
 pub returns-clause-slots : goal.returns-clause-slots
 returns-clause-slots g c = rw c.set_hostcall_fuel.ensures.set at c.call.ensures.turn.slots

@@ -5,7 +5,7 @@ use Rattle.wasi_p1.specs.Front.{with_fuel}
 use Rattle.wasi_guest.specs.declared.call.Call.TheVariants.{ArgsGet}
 use Rattle.wasi_host.proofs.Tracing.{traced_none}
 use Rattle.wasi_p1.proofs.CallTracing.{traced_on}
-use Rattle.wasi_p1.proofs.Runs.{nothing_yet, io_counted, turned_on, stood, stood_first, ended, all_done, call_at, calls_at}
+use Rattle.wasi_p1.proofs.Runs.{nothing_yet, io_counted, turned_on, stood, stood_first, ended, all_done, wanted_memory, may_want_at, call_at, calls_at}
 use Rattle.wasi_p1.proofs.RunAnswers.{goes_on-push, each_answered, last_answered}
 use Rattle.wasi_p1.proofs.Confining.{turn_confines}
 use Rattle.wasi_p1.proofs.ErrorNumbers.{did_errnos}
@@ -84,6 +84,15 @@ returns-in-None-clause-memory g c = λ told.
     let at : c.loop-one.one-index ≡ c.len-in-None.result = sym (n ∙ c.loop-one.invariant.count) in
     stood (sym c.in-None.ensures) c.call_with-outcome.ensures.bounds.cause (c.call_with-outcome.ensures.turn told) (sym n)
     (rw at at (c.loop-one.invariant.run told))
+
+pub returns-in-None-clause-wanted : goal.returns-in-None-clause-wanted
+returns-in-None-clause-wanted g c =
+    let within : c.loop-one.one-index < length c.args.calls.now.items = omega arith in
+    let n : c.len-in-None.result ≡ length c.loop-one.answers.answers = c.len-in-None.ensures.count in
+    let at : c.loop-one.one-index ≡ c.len-in-None.result = sym (n ∙ c.loop-one.invariant.count) in
+    let wants = c.call_with-outcome.ensures.wants (wanted_memory (sym c.in-None.ensures)) in
+    inl (rw at at (may_want_at c.args.calls.now.items c.loop-one.one-index (ArgsGet 0 0) within
+    (rw c.deref-one-items.ensures.value at wants)))
 
 pub returns-in-None-clause-slots : goal.returns-in-None-clause-slots
 returns-in-None-clause-slots g c = stay_on c.args.calls.now.items _ c.loop-one.memory

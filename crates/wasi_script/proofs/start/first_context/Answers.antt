@@ -1,6 +1,7 @@
-use Rattle.std.proofs.Common.{arith, ◌∙◌}
+use Rattle.std.proofs.Common.{ap, arith, ◌∙◌}
 use Rattle.std.proofs.lemmas.List.{length-map}
 use Rattle.wasi_form.specs.Plan.{planned_preopen}
+use Rattle.wasi_tree.specs.MemState.{MemState}
 use Rattle.wasi_script.proofs.Starts.{begun_by, directories_given, given_length}
 use Rattle.wasi_script.proofs.start.first_context.Goals as goal
 
@@ -14,8 +15,11 @@ pub returns-in-Ok : goal.returns-in-Ok
 returns-in-Ok c =
     let tree = c.in_ok-tree.ensures in
     let given = c.in_ok-given.ensures in
+    let host = c.new-host.ensures in
     record {
-      begun = rw c.in-Ok.ensures.made (begun_by (given.tree ∙ tree.tree) (given.touched ∙ tree.touched) given.given);
+      begun = rw c.in-Ok.ensures.made (begun_by (ap (λ (t : MemState). t.tree) host.inner ∙ given.tree ∙ tree.tree)
+          (ap (λ (t : MemState). t.touched) host.inner ∙ given.touched ∙ tree.touched) (rw host.inner given.given));
+      faults = rw c.in-Ok.ensures.made host.calls;
     }
 
 pub unreachable-requires : goal.unreachable-requires

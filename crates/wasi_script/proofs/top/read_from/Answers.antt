@@ -19,6 +19,9 @@ returns-in_err-read_script-clause-read g c = λ told.
 pub returns-clause-within : goal.returns-clause-within
 returns-clause-within g c = (accepted c.in_ok-read_script.ensures.verdict).within
 
+pub returns-clause-rising : goal.returns-clause-rising
+returns-clause-rising g c = c.in_ok-read_script.ensures.rising
+
 pub returns-clause-read : goal.returns-clause-read
 returns-clause-read g c = λ told.
     let all = c.in_ok-bytes.ensures.bytes told in

@@ -1,0 +1,88 @@
+-- Which calls of a host fail, by a list of their numbers.
+use Rattle.std.specs.Prelude.{ℕ, ◌+◌, ◌<◌, ◌-◌, ◌^◌, ◌≤◌, Bool, true, false, ◌&&◌, if◌then◌else◌, nat_eq, nat_le, nat_lt, count_by, min, slice_get, length, List, [], ◌∷◌, Option, Some, None}
+use Rattle.wasi_faults.specs.declared.fault.Fault.{Fault}
+use Rattle.wasi_faults.specs.declared.schedule.Turn.{Turn}
+use Rattle.wasi_faults.specs.declared.schedule.Turn.TheVariants.{Passes, FailsBefore, FailsAfter}
+
+-- the numbers rise, and the first is above this one
+abbrev pub rise_from : ℕ → List Fault → Bool
+rise_from n [] = true
+rise_from n (fault ∷ faults) = nat_lt n fault.number && rise_from fault.number faults
+
+-- the numbers rise, from 1 or more on
+abbrev pub are_rising : List Fault → Bool
+are_rising faults = rise_from 0 faults
+
+-- the calls that fail, and how many calls came
+pub record Calls : Type 0 where
+  pub faults : List Fault
+  pub calls : ℕ
+
+-- the fault of a number
+abbrev pub listed : List Fault → ℕ → Option Fault
+listed [] n = None
+listed (fault ∷ faults) n = if nat_eq fault.number n then Some fault else listed faults n
+
+-- the next call's; one after that of number 2^64 - 1 has no number
+unfoldable pub next_fault : Calls → Option Fault
+next_fault s = if nat_lt s.calls (2 ^ 64 - 1) then listed s.faults (s.calls + 1) else None
+
+-- a fault, where it has this number
+abbrev pub of_number : ℕ → Option Fault → Option Fault
+of_number n None = None
+of_number n (Some fault) = if nat_eq fault.number n then Some fault else None
+
+-- the same of a list whose numbers rise, where so many stand before
+abbrev pub standing_at : List Fault → ℕ → ℕ → Option Fault
+standing_at faults place calls =
+    if nat_lt calls (2 ^ 64 - 1) then of_number (calls + 1) (slice_get faults place) else None
+
+-- what becomes of a call whose fault this is
+abbrev pub turn_by : Option Fault → Turn
+turn_by None = Passes
+turn_by (Some fault) = if fault.after then FailsAfter else FailsBefore
+
+-- what becomes of the next call
+abbrev pub next_turn : Calls → Turn
+next_turn s = turn_by (next_fault s)
+
+abbrev pub one_if : Bool → ℕ
+one_if true = 1
+one_if false = 0
+
+-- one call more came
+abbrev pub after_call : Calls → Calls
+after_call s = record s { calls = min (s.calls + 1) (2 ^ 64 - 1) }
+
+-- how many of the calls that fail came
+unfoldable pub met : Calls → ℕ
+met s = count_by (λ (fault : Fault). nat_le fault.number s.calls) s.faults
+
+-- and after one more of which that became
+abbrev pub met_after : ℕ → Turn → ℕ
+met_after n Passes = n
+met_after n FailsBefore = n + 1
+met_after n FailsAfter = n + 1
+
+-- How high a count stands for these calls: at 2^63 where all that fail came, and before that lower by those to come. Only
+-- how far a count rises means anything; begun so, it rises by no more than as many as are listed, whatever becomes of the
+-- list, and over an inner host whose count stands lower than 2^63 it doesn't come to its end.
+unfoldable pub stands_at : Calls → ℕ
+stands_at s = 2 ^ 63 - (length s.faults - met s)
+
+-- the count of a host whose inner one stands so high
+abbrev pub counted : ℕ → Calls → ℕ
+counted inner s = min (inner + stands_at s) (2 ^ 64 - 1)
+
+-- a host over an inner one
+pub record Failing (H : Type 0) : Type 0 where
+  pub inner : H
+  pub calls : Calls
+
+-- over an inner host that counts nothing: the count rises by no more than as many as are listed, and isn't at its end
+pub record CountsFew (before now : Calls) : Type 0 where
+  pub few : counted 0 now ≤ counted 0 before + length before.faults
+  pub goes_on : counted 0 now < 2 ^ 64 - 1
+
+abbrev pub FaultsAreFew : Type 0
+FaultsAreFew = (before now : Calls) → CountsFew before now

@@ -1,0 +1,8 @@
+//! Laws of faults.
+ghost use Rattle.wasi_faults.specs.Faults.{FaultsAreFew};
+
+/// A host that fails at listed calls, over one that doesn't fail by itself, fails no more often than calls are listed, and
+/// its count isn't at its end.
+pub fn faults_are_few()
+    ensures few { FaultsAreFew }
+{}

@@ -1,0 +1,85 @@
+//! Which calls fail, and how many came.
+ghost use Rattle.std.specs.Prelude.{◌≡◌, IsTrue};
+ghost use Rattle.wasi_faults.specs.Faults.{after_call, are_rising, met_after, next_turn, standing_at, stands_at, turn_by};
+
+use crate::fault::Fault;
+use std::marker::Model;
+
+/// What becomes of a call.
+#[derive(Clone, Copy, Debug, PartialEq, Eq)]
+pub enum Turn {
+    /// It isn't listed.
+    Passes,
+    /// It is listed, and isn't made.
+    FailsBefore,
+    /// It is listed, and is made first.
+    FailsAfter,
+}
+
+/// The calls that fail, by their numbers, and how many calls came. `place` is that of the next fault in the list.
+#[derive(Debug, Drop)]
+pub struct Schedule {
+    faults: Vec<Fault>,
+    calls: u64,
+    place: usize,
+}
+
+impl Model for Schedule {
+    ghost use Rattle.std.specs.Prelude.{◌≡◌, IsTrue};
+    ghost use Rattle.wasi_faults.specs.Faults.{Calls, are_rising, met};
+
+    ghost Value = { Calls };
+
+    ghost view = { λ s. record { faults = s.faults.items; calls = s.calls } };
+
+    ghost invariant = { λ s. IsTrue (are_rising s.faults.items)
+        × (s.place ≡ met (record { faults = s.faults.items; calls = s.calls })) };
+}
+
+impl Schedule {
+    /// No call came yet.
+    pub fn new(faults: Vec<Fault>) -> Schedule
+        requires rising { IsTrue (are_rising faults.items) }
+        ensures { result ≡ record { faults = faults.items; calls = 0 } }
+    {
+        Schedule {
+            faults,
+            calls: 0,
+            place: 0,
+        }
+    }
+
+    /// Counts a call, and says what becomes of it.
+    pub fn next(&mut self) -> Turn
+        ensures turn { result ≡ next_turn self.old }
+        ensures after { self.new ≡ after_call self.old }
+        ensures count { stands_at self.new ≡ met_after (stands_at self.old) result }
+    {
+        let fault = listed_at(&self.faults, self.place, self.calls);
+        self.calls = self.calls.saturating_add(1);
+        self.place += fault.is_some() as usize;
+        turn_of(fault)
+    }
+}
+
+/// The fault at a place, where that of the next call stands if it is listed.
+fn listed_at(faults: &Vec<Fault>, place: usize, calls: u64) -> Option<Fault>
+    ensures { result ≡ standing_at faults.now.items place calls }
+{
+    let number = calls.checked_add(1)?;
+    let fault = faults.get(place)?;
+    if fault.number != number {
+        return None;
+    }
+    Some(*fault)
+}
+
+fn turn_of(fault: Option<Fault>) -> Turn
+    ensures { result ≡ turn_by fault }
+{
+    match fault {
+        None => Turn::Passes,
+        Some(fault) if fault.after => Turn::FailsAfter,
+        Some(_) => Turn::FailsBefore,
+    }
+}

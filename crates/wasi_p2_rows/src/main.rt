@@ -1,0 +1,21 @@
+//! The program `wasi_p2_rows`: it tries tables of preview2's calls over trees in memory, on a view and on one of
+//! several. Its standard input is the tables, which say what their lines are.
+#![tactic(auto)]
+
+mod answers;
+mod calls;
+mod guests;
+mod lines;
+mod trees;
+
+use lines::ViewRows;
+use std::process::ExitCode;
+use wasi_ends::{StdinSource, StdoutSink};
+use wasi_table::try_table;
+
+fn main(rt: HostRuntime) -> ExitCode {
+    let mut source = StdinSource::new(rt.stdin());
+    let mut sink = StdoutSink::new(rt.stdout());
+    let tried = try_table(rt.alloc(), &mut ViewRows, &mut source, &mut sink);
+    ExitCode::from(tried.exit_code())
+}
