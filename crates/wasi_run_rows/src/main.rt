@@ -1,0 +1,73 @@
+//! The program `wasi_run_rows`: reports of scripts, by `run_script` and by the calls that it stands on.
+//!
+//! Called with no words, it reads scripts from its standard input, a line each, and runs each with every one of its first
+//! twelve host calls failing in turn, before it is made and after: where `FAULTS` stands in a script, the fault is put. The
+//! report that `run_script` writes has to be the one that `report` gives of what `run_calls` comes to over a tree in memory
+//! whose calls fail so.
+//!
+//! Called with the word `refused`, by a tool that refuses a request for memory, it runs each script by `run_calls`; where
+//! memory was wanted it makes the calls again that weren't answered, and holds what comes of it against a run in which
+//! nothing was refused. It ends with status 3 where memory was wanted elsewhere.
+//!
+//! Empty lines and those that begin with `#` are nothing.
+#![tactic(auto)]
+
+mod begun;
+mod by_calls;
+mod by_script;
+mod faults;
+mod refused;
+mod tally;
+
+use faults::try_faults;
+use refused::try_refused;
+use std::process::ExitCode;
+use std::{env, io, str};
+use tally::Tally;
+use wasi_ends::{StdinSource, read_all};
+
+const WANTED_ELSEWHERE: u8 = 3;
+
+// Whether the one word behind the program's name is `refused`.
+fn is_refused(rt: &HostRuntime) -> io::Result<bool> {
+    let mut words = env::args(rt)?;
+    let _program = words.next();
+    Ok(words.next().is_some_and(|word| word.as_str() == "refused"))
+}
+
+// Tries each line that is a script.
+fn try_all(rt: &HostRuntime, text: &str, is_refused: bool) -> io::Result<Tally> {
+    let mut tally = Tally::new();
+    for line in text.lines() {
+        if line.is_empty() || line.starts_with('#') {
+            continue;
+        }
+        tally = if is_refused {
+            try_refused(rt, tally, line)?
+        } else {
+            try_faults(rt, tally, line)?
+        };
+    }
+    Ok(tally)
+}
+
+fn run(rt: &HostRuntime) -> io::Result<ExitCode> {
+    let is_refused = is_refused(rt)?;
+    let mut source = StdinSource::new(rt.stdin());
+    let Ok(bytes) = read_all(rt.alloc(), &mut source) else {
+        eprintln!(rt; "wasi_run_rows: standard input couldn't be read")?;
+        return Ok(ExitCode::FAILURE);
+    };
+    let Ok(text) = str::from_utf8(bytes.as_slice()) else {
+        eprintln!(rt; "wasi_run_rows: standard input isn't UTF-8")?;
+        return Ok(ExitCode::FAILURE);
+    };
+    try_all(rt, text, is_refused)?.end(rt)
+}
+
+fn main(rt: HostRuntime) -> ExitCode {
+    match run(&rt) {
+        Ok(code) => code,
+        Err(_) => ExitCode::from(WANTED_ELSEWHERE),
+    }
+}
