@@ -4,9 +4,9 @@ use Rattle.std.specs.Prelude.{is_some}
 use Rattle.std.proofs.lemmas.Bool.{and_parts, cases_eq, cases_lt, lt-ltb}
 use Rattle.std.proofs.lemmas.Bool.Decides.{nat_tests}
 use Rattle.std.proofs.lemmas.List.Sums.{count_by-le-length, sum_by-cons}
-use Rattle.wasi_faults.specs.Faults.{Calls, CountsFew, after_call, listed, met, next_fault, of_number, one_if, rise_from, standing_at, stands_at, met_after, turn_by}
+use Rattle.wasi_faults.specs.Faults.{Calls, CountsFew, after_call, listed, met, next_fault, of_number, one_if, rise_from, standing_at, stands_at, met_after, fate_by}
 use Rattle.wasi_faults.specs.declared.fault.Fault.{Fault}
-use Rattle.wasi_faults.specs.declared.schedule.Turn.TheVariants.{FailsBefore, FailsAfter}
+use Rattle.wasi_host.specs.declared.fate.Fate.TheVariants.{FailsBefore, FailsAfter}
 
 -- how many have at most this number
 pub passed : List Fault → ℕ → ℕ
@@ -142,9 +142,9 @@ stands_within faults place calls is = by (nat_lt calls (2 ^ 64 - 1)) is
     by true is = found place faults is
     by false is = absurd (cc)
 
-pub met_turn : (n : ℕ) (fault : Option Fault) → n + one_if (is_some fault) ≡ met_after n (turn_by fault)
-met_turn n None = omega arith
-met_turn n (Some fault) = elim fault.after as (λ b. n + 1 ≡ met_after n (cond b FailsAfter FailsBefore)) [ true ↦ refl | false ↦ refl ]
+pub met_fate : (n : ℕ) (fault : Option Fault) → n + one_if (is_some fault) ≡ met_after n (fate_by fault)
+met_fate n None = omega arith
+met_fate n (Some fault) = elim fault.after as (λ b. n + 1 ≡ met_after n (cond b FailsAfter FailsBefore)) [ true ↦ refl | false ↦ refl ]
 
 pub met_more : (s : Calls) → rise_from 0 s.faults ≡ true → s.calls ≤ 2 ^ 64 - 1
     → met (after_call s) ≡ met s + one_if (is_some (next_fault s))

@@ -1,8 +1,10 @@
 -- Which calls of a host fail, by a list of their numbers.
-use Rattle.std.specs.Prelude.{ℕ, ◌+◌, ◌<◌, ◌-◌, ◌^◌, ◌≤◌, Bool, true, false, ◌&&◌, if◌then◌else◌, nat_eq, nat_le, nat_lt, count_by, min, slice_get, length, List, [], ◌∷◌, Option, Some, None}
+use Rattle.std.specs.Prelude.{ℕ, zero, suc, ◌+◌, ◌-◌, ◌^◌, ◌<◌, ◌≤◌, Bool, true, false, ◌&&◌, if◌then◌else◌, nat_eq, nat_le, nat_lt, count_by, min, slice_get, length, List, [], ◌∷◌, Option, Some, None}
+use Rattle.wasi_host.specs.Fates.{Fates}
+use Rattle.wasi_host.specs.declared.fate.Fate.{Fate}
+use Rattle.wasi_host.specs.declared.fate.Fate.TheVariants.{Passes, FailsBefore, FailsAfter}
+use Rattle.wasi_host.specs.declared.host.Host.{Ghosts}
 use Rattle.wasi_faults.specs.declared.fault.Fault.{Fault}
-use Rattle.wasi_faults.specs.declared.schedule.Turn.{Turn}
-use Rattle.wasi_faults.specs.declared.schedule.Turn.TheVariants.{Passes, FailsBefore, FailsAfter}
 
 -- the numbers rise, and the first is above this one
 abbrev pub rise_from : ℕ → List Fault → Bool
@@ -38,13 +40,13 @@ standing_at faults place calls =
     if nat_lt calls (2 ^ 64 - 1) then of_number (calls + 1) (slice_get faults place) else None
 
 -- what becomes of a call whose fault this is
-abbrev pub turn_by : Option Fault → Turn
-turn_by None = Passes
-turn_by (Some fault) = if fault.after then FailsAfter else FailsBefore
+abbrev pub fate_by : Option Fault → Fate
+fate_by None = Passes
+fate_by (Some fault) = if fault.after then FailsAfter else FailsBefore
 
--- what becomes of the next call
-abbrev pub next_turn : Calls → Turn
-next_turn s = turn_by (next_fault s)
+-- what becomes of the next call by the list
+abbrev pub next_fate : Calls → Fate
+next_fate s = fate_by (next_fault s)
 
 abbrev pub one_if : Bool → ℕ
 one_if true = 1
@@ -59,7 +61,7 @@ unfoldable pub met : Calls → ℕ
 met s = count_by (λ (fault : Fault). nat_le fault.number s.calls) s.faults
 
 -- and after one more of which that became
-abbrev pub met_after : ℕ → Turn → ℕ
+abbrev pub met_after : ℕ → Fate → ℕ
 met_after n Passes = n
 met_after n FailsBefore = n + 1
 met_after n FailsAfter = n + 1
@@ -78,6 +80,25 @@ counted inner s = min (inner + stands_at s) (2 ^ 64 - 1)
 pub record Failing (H : Type 0) : Type 0 where
   pub inner : H
   pub calls : Calls
+
+-- what becomes of a call, by the list and then by the inner host
+abbrev pub joined : Fate → Fate → Fate
+joined Passes inner = inner
+joined FailsBefore inner = FailsBefore
+joined FailsAfter Passes = FailsAfter
+joined FailsAfter FailsBefore = FailsBefore
+joined FailsAfter FailsAfter = FailsAfter
+
+-- the inner host's calls to come, after a call of which that becomes by the list: one that isn't made is none of them
+abbrev pub passed_on : Fate → Fates → Fates
+passed_on Passes inner n = inner (n + 1)
+passed_on FailsBefore inner n = inner n
+passed_on FailsAfter inner n = inner (n + 1)
+
+-- what becomes of the calls to come
+abbrev pub fates_of : Fates → Calls → Fates
+fates_of inner s zero = joined (next_fate s) (inner 0)
+fates_of inner s (suc n) = fates_of (passed_on (next_fate s) inner) (after_call s) n
 
 -- over an inner host that counts nothing: the count rises by no more than as many as are listed, and isn't at its end
 pub record CountsFew (before now : Calls) : Type 0 where

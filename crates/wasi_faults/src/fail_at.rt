@@ -1,13 +1,13 @@
 //! A host that fails at listed calls.
 ghost use Rattle.std.specs.Prelude.{◌≡◌, IsTrue};
-ghost use Rattle.wasi_faults.specs.Faults.{are_rising, counted};
+ghost use Rattle.wasi_faults.specs.Faults.{are_rising, counted, fates_of};
 
 use crate::fault::Fault;
-use crate::schedule::{Schedule, Turn};
+use crate::schedule::Schedule;
 use std::alloc::Global;
 use std::marker::Model;
 use wasi_host::{
-    Advice, DirEntry, ErrorCode, Handle, Host, HostError, Metadata, OpenOptions, SyncFlags,
+    Advice, DirEntry, ErrorCode, Fate, Handle, Host, HostError, Metadata, OpenOptions, SyncFlags,
     SystemTime,
 };
 use wasi_paths::Name;
@@ -54,6 +54,7 @@ impl<H: Host> FailAt<H> {
     }
 }
 
+#[tactic(auto, using(crate::proofs::Fating::fate_rules))]
 impl<H: Host> Host for FailAt<H> {
     ghost faults = { λ s. counted (H.faults s.inner) s.calls };
 
@@ -65,6 +66,16 @@ impl<H: Host> Host for FailAt<H> {
 
     ghost world = { λ s. H.world s.inner };
 
+    ghost tells_fails = { H.tells_fails };
+
+    ghost fails = { λ s. fates_of (H.fails s.inner) s.calls };
+
+    ghost tells_found = { H.tells_found };
+
+    ghost found = { λ s. H.found s.inner };
+
+    ghost left = { λ s. H.left s.inner };
+
     fn open_at(
         &mut self,
         start: Handle,
@@ -72,9 +83,9 @@ impl<H: Host> Host for FailAt<H> {
         options: &OpenOptions,
     ) -> Result<Handle, HostError> {
         match self.schedule.next() {
-            Turn::Passes => self.inner.open_at(start, name, options),
-            Turn::FailsBefore => Err(FAILED),
-            Turn::FailsAfter => match self.inner.open_at(start, name, options) {
+            Fate::Passes => self.inner.open_at(start, name, options),
+            Fate::FailsBefore => Err(FAILED),
+            Fate::FailsAfter => match self.inner.open_at(start, name, options) {
                 Ok(handle) => {
                     self.inner.close(handle);
                     Err(FAILED)
@@ -86,9 +97,9 @@ impl<H: Host> Host for FailAt<H> {
 
     fn stat_at(&mut self, start: Handle, name: Name<'_>) -> Result<Metadata, HostError> {
         match self.schedule.next() {
-            Turn::Passes => self.inner.stat_at(start, name),
-            Turn::FailsBefore => Err(FAILED),
-            Turn::FailsAfter => {
+            Fate::Passes => self.inner.stat_at(start, name),
+            Fate::FailsBefore => Err(FAILED),
+            Fate::FailsAfter => {
                 let _ = self.inner.stat_at(start, name);
                 Err(FAILED)
             }
@@ -102,9 +113,9 @@ impl<H: Host> Host for FailAt<H> {
         name: Name<'_>,
     ) -> Result<String, HostError> {
         match self.schedule.next() {
-            Turn::Passes => self.inner.read_link_at(alloc, start, name),
-            Turn::FailsBefore => Err(FAILED),
-            Turn::FailsAfter => {
+            Fate::Passes => self.inner.read_link_at(alloc, start, name),
+            Fate::FailsBefore => Err(FAILED),
+            Fate::FailsAfter => {
                 let _ = self.inner.read_link_at(alloc, start, name);
                 Err(FAILED)
             }
@@ -113,9 +124,9 @@ impl<H: Host> Host for FailAt<H> {
 
     fn make_dir_at(&mut self, start: Handle, name: Name<'_>) -> Result<(), HostError> {
         match self.schedule.next() {
-            Turn::Passes => self.inner.make_dir_at(start, name),
-            Turn::FailsBefore => Err(FAILED),
-            Turn::FailsAfter => {
+            Fate::Passes => self.inner.make_dir_at(start, name),
+            Fate::FailsBefore => Err(FAILED),
+            Fate::FailsAfter => {
                 let _ = self.inner.make_dir_at(start, name);
                 Err(FAILED)
             }
@@ -124,9 +135,9 @@ impl<H: Host> Host for FailAt<H> {
 
     fn symlink_at(&mut self, target: &str, start: Handle, name: Name<'_>) -> Result<(), HostError> {
         match self.schedule.next() {
-            Turn::Passes => self.inner.symlink_at(target, start, name),
-            Turn::FailsBefore => Err(FAILED),
-            Turn::FailsAfter => {
+            Fate::Passes => self.inner.symlink_at(target, start, name),
+            Fate::FailsBefore => Err(FAILED),
+            Fate::FailsAfter => {
                 let _ = self.inner.symlink_at(target, start, name);
                 Err(FAILED)
             }
@@ -141,9 +152,9 @@ impl<H: Host> Host for FailAt<H> {
         new_name: Name<'_>,
     ) -> Result<(), HostError> {
         match self.schedule.next() {
-            Turn::Passes => self.inner.link_at(old, old_name, new, new_name),
-            Turn::FailsBefore => Err(FAILED),
-            Turn::FailsAfter => {
+            Fate::Passes => self.inner.link_at(old, old_name, new, new_name),
+            Fate::FailsBefore => Err(FAILED),
+            Fate::FailsAfter => {
                 let _ = self.inner.link_at(old, old_name, new, new_name);
                 Err(FAILED)
             }
@@ -159,11 +170,11 @@ impl<H: Host> Host for FailAt<H> {
         requires_dir: bool,
     ) -> Result<(), HostError> {
         match self.schedule.next() {
-            Turn::Passes => self
+            Fate::Passes => self
                 .inner
                 .rename_at(old, old_name, new, new_name, requires_dir),
-            Turn::FailsBefore => Err(FAILED),
-            Turn::FailsAfter => {
+            Fate::FailsBefore => Err(FAILED),
+            Fate::FailsAfter => {
                 let _ = self
                     .inner
                     .rename_at(old, old_name, new, new_name, requires_dir);
@@ -174,9 +185,9 @@ impl<H: Host> Host for FailAt<H> {
 
     fn unlink_at(&mut self, start: Handle, name: Name<'_>) -> Result<(), HostError> {
         match self.schedule.next() {
-            Turn::Passes => self.inner.unlink_at(start, name),
-            Turn::FailsBefore => Err(FAILED),
-            Turn::FailsAfter => {
+            Fate::Passes => self.inner.unlink_at(start, name),
+            Fate::FailsBefore => Err(FAILED),
+            Fate::FailsAfter => {
                 let _ = self.inner.unlink_at(start, name);
                 Err(FAILED)
             }
@@ -185,9 +196,9 @@ impl<H: Host> Host for FailAt<H> {
 
     fn remove_dir_at(&mut self, start: Handle, name: Name<'_>) -> Result<(), HostError> {
         match self.schedule.next() {
-            Turn::Passes => self.inner.remove_dir_at(start, name),
-            Turn::FailsBefore => Err(FAILED),
-            Turn::FailsAfter => {
+            Fate::Passes => self.inner.remove_dir_at(start, name),
+            Fate::FailsBefore => Err(FAILED),
+            Fate::FailsAfter => {
                 let _ = self.inner.remove_dir_at(start, name);
                 Err(FAILED)
             }
@@ -202,9 +213,9 @@ impl<H: Host> Host for FailAt<H> {
         mtime: Option<SystemTime>,
     ) -> Result<(), HostError> {
         match self.schedule.next() {
-            Turn::Passes => self.inner.times_at(start, name, atime, mtime),
-            Turn::FailsBefore => Err(FAILED),
-            Turn::FailsAfter => {
+            Fate::Passes => self.inner.times_at(start, name, atime, mtime),
+            Fate::FailsBefore => Err(FAILED),
+            Fate::FailsAfter => {
                 let _ = self.inner.times_at(start, name, atime, mtime);
                 Err(FAILED)
             }
@@ -213,9 +224,9 @@ impl<H: Host> Host for FailAt<H> {
 
     fn list(&mut self, alloc: Global, directory: Handle) -> Result<Vec<DirEntry>, HostError> {
         match self.schedule.next() {
-            Turn::Passes => self.inner.list(alloc, directory),
-            Turn::FailsBefore => Err(FAILED),
-            Turn::FailsAfter => {
+            Fate::Passes => self.inner.list(alloc, directory),
+            Fate::FailsBefore => Err(FAILED),
+            Fate::FailsAfter => {
                 let _ = self.inner.list(alloc, directory);
                 Err(FAILED)
             }
@@ -228,9 +239,9 @@ impl<H: Host> Host for FailAt<H> {
 
     fn access(&mut self, directory: Handle) -> Result<(), ErrorCode> {
         match self.schedule.next() {
-            Turn::Passes => self.inner.access(directory),
-            Turn::FailsBefore => Err(ErrorCode::Io),
-            Turn::FailsAfter => {
+            Fate::Passes => self.inner.access(directory),
+            Fate::FailsBefore => Err(ErrorCode::Io),
+            Fate::FailsAfter => {
                 let _ = self.inner.access(directory);
                 Err(ErrorCode::Io)
             }
@@ -239,9 +250,9 @@ impl<H: Host> Host for FailAt<H> {
 
     fn stat(&mut self, handle: Handle) -> Result<Metadata, ErrorCode> {
         match self.schedule.next() {
-            Turn::Passes => self.inner.stat(handle),
-            Turn::FailsBefore => Err(ErrorCode::Io),
-            Turn::FailsAfter => {
+            Fate::Passes => self.inner.stat(handle),
+            Fate::FailsBefore => Err(ErrorCode::Io),
+            Fate::FailsAfter => {
                 let _ = self.inner.stat(handle);
                 Err(ErrorCode::Io)
             }
@@ -255,9 +266,9 @@ impl<H: Host> Host for FailAt<H> {
         mtime: Option<SystemTime>,
     ) -> Result<(), ErrorCode> {
         match self.schedule.next() {
-            Turn::Passes => self.inner.set_times(handle, atime, mtime),
-            Turn::FailsBefore => Err(ErrorCode::Io),
-            Turn::FailsAfter => {
+            Fate::Passes => self.inner.set_times(handle, atime, mtime),
+            Fate::FailsBefore => Err(ErrorCode::Io),
+            Fate::FailsAfter => {
                 let _ = self.inner.set_times(handle, atime, mtime);
                 Err(ErrorCode::Io)
             }
@@ -266,9 +277,9 @@ impl<H: Host> Host for FailAt<H> {
 
     fn pread(&mut self, file: Handle, buf: &mut [u8], offset: u64) -> Result<usize, ErrorCode> {
         match self.schedule.next() {
-            Turn::Passes => self.inner.pread(file, buf, offset),
-            Turn::FailsBefore => Err(ErrorCode::Io),
-            Turn::FailsAfter => {
+            Fate::Passes => self.inner.pread(file, buf, offset),
+            Fate::FailsBefore => Err(ErrorCode::Io),
+            Fate::FailsAfter => {
                 let _ = self.inner.pread(file, &mut [], offset);
                 Err(ErrorCode::Io)
             }
@@ -277,9 +288,9 @@ impl<H: Host> Host for FailAt<H> {
 
     fn pwrite(&mut self, file: Handle, piece: &[u8], offset: u64) -> Result<usize, HostError> {
         match self.schedule.next() {
-            Turn::Passes => self.inner.pwrite(file, piece, offset),
-            Turn::FailsBefore => Err(FAILED),
-            Turn::FailsAfter => {
+            Fate::Passes => self.inner.pwrite(file, piece, offset),
+            Fate::FailsBefore => Err(FAILED),
+            Fate::FailsAfter => {
                 let _ = self.inner.pwrite(file, piece, offset);
                 Err(FAILED)
             }
@@ -288,9 +299,9 @@ impl<H: Host> Host for FailAt<H> {
 
     fn append(&mut self, file: Handle, piece: &[u8]) -> Result<usize, HostError> {
         match self.schedule.next() {
-            Turn::Passes => self.inner.append(file, piece),
-            Turn::FailsBefore => Err(FAILED),
-            Turn::FailsAfter => {
+            Fate::Passes => self.inner.append(file, piece),
+            Fate::FailsBefore => Err(FAILED),
+            Fate::FailsAfter => {
                 let _ = self.inner.append(file, piece);
                 Err(FAILED)
             }
@@ -299,9 +310,9 @@ impl<H: Host> Host for FailAt<H> {
 
     fn set_size(&mut self, file: Handle, size: u64) -> Result<(), HostError> {
         match self.schedule.next() {
-            Turn::Passes => self.inner.set_size(file, size),
-            Turn::FailsBefore => Err(FAILED),
-            Turn::FailsAfter => {
+            Fate::Passes => self.inner.set_size(file, size),
+            Fate::FailsBefore => Err(FAILED),
+            Fate::FailsAfter => {
                 let _ = self.inner.set_size(file, size);
                 Err(FAILED)
             }
@@ -310,9 +321,9 @@ impl<H: Host> Host for FailAt<H> {
 
     fn sync(&mut self, handle: Handle) -> Result<(), ErrorCode> {
         match self.schedule.next() {
-            Turn::Passes => self.inner.sync(handle),
-            Turn::FailsBefore => Err(ErrorCode::Io),
-            Turn::FailsAfter => {
+            Fate::Passes => self.inner.sync(handle),
+            Fate::FailsBefore => Err(ErrorCode::Io),
+            Fate::FailsAfter => {
                 let _ = self.inner.sync(handle);
                 Err(ErrorCode::Io)
             }
@@ -327,9 +338,9 @@ impl<H: Host> Host for FailAt<H> {
         advice: Advice,
     ) -> Result<(), ErrorCode> {
         match self.schedule.next() {
-            Turn::Passes => self.inner.advise(file, offset, len, advice),
-            Turn::FailsBefore => Err(ErrorCode::Io),
-            Turn::FailsAfter => {
+            Fate::Passes => self.inner.advise(file, offset, len, advice),
+            Fate::FailsBefore => Err(ErrorCode::Io),
+            Fate::FailsAfter => {
                 let _ = self.inner.advise(file, offset, len, advice);
                 Err(ErrorCode::Io)
             }
@@ -338,9 +349,9 @@ impl<H: Host> Host for FailAt<H> {
 
     fn flags(&mut self, handle: Handle) -> Result<SyncFlags, ErrorCode> {
         match self.schedule.next() {
-            Turn::Passes => self.inner.flags(handle),
-            Turn::FailsBefore => Err(ErrorCode::Io),
-            Turn::FailsAfter => {
+            Fate::Passes => self.inner.flags(handle),
+            Fate::FailsBefore => Err(ErrorCode::Io),
+            Fate::FailsAfter => {
                 let _ = self.inner.flags(handle);
                 Err(ErrorCode::Io)
             }

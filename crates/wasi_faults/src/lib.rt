@@ -9,4 +9,3 @@ mod schedule;
 pub use fail_at::FailAt;
 pub use fault::Fault;
 pub use laws::faults_are_few;
-pub use schedule::Turn;

@@ -1,20 +1,10 @@
 //! Which calls fail, and how many came.
 ghost use Rattle.std.specs.Prelude.{◌≡◌, IsTrue};
-ghost use Rattle.wasi_faults.specs.Faults.{after_call, are_rising, met_after, next_turn, standing_at, stands_at, turn_by};
+ghost use Rattle.wasi_faults.specs.Faults.{after_call, are_rising, met_after, next_fate, standing_at, stands_at, fate_by};
 
 use crate::fault::Fault;
 use std::marker::Model;
-
-/// What becomes of a call.
-#[derive(Clone, Copy, Debug, PartialEq, Eq)]
-pub enum Turn {
-    /// It isn't listed.
-    Passes,
-    /// It is listed, and isn't made.
-    FailsBefore,
-    /// It is listed, and is made first.
-    FailsAfter,
-}
+use wasi_host::Fate;
 
 /// The calls that fail, by their numbers, and how many calls came. `place` is that of the next fault in the list.
 #[derive(Debug, Drop)]
@@ -50,15 +40,15 @@ impl Schedule {
     }
 
     /// Counts a call, and says what becomes of it.
-    pub fn next(&mut self) -> Turn
-        ensures turn { result ≡ next_turn self.old }
+    pub fn next(&mut self) -> Fate
+        ensures fate { result ≡ next_fate self.old }
         ensures after { self.new ≡ after_call self.old }
         ensures count { stands_at self.new ≡ met_after (stands_at self.old) result }
     {
         let fault = listed_at(&self.faults, self.place, self.calls);
         self.calls = self.calls.saturating_add(1);
         self.place += fault.is_some() as usize;
-        turn_of(fault)
+        fate_of(fault)
     }
 }
 
@@ -74,12 +64,12 @@ fn listed_at(faults: &Vec<Fault>, place: usize, calls: u64) -> Option<Fault>
     Some(*fault)
 }
 
-fn turn_of(fault: Option<Fault>) -> Turn
-    ensures { result ≡ turn_by fault }
+fn fate_of(fault: Option<Fault>) -> Fate
+    ensures { result ≡ fate_by fault }
 {
     match fault {
-        None => Turn::Passes,
-        Some(fault) if fault.after => Turn::FailsAfter,
-        Some(_) => Turn::FailsBefore,
+        None => Fate::Passes,
+        Some(fault) if fault.after => Fate::FailsAfter,
+        Some(_) => Fate::FailsBefore,
     }
 }

@@ -8,7 +8,9 @@ ghost use Rattle.wasi_paths.specs.Text.{is_entry_name};
 ghost use Rattle.wasi_host.specs.HostCall.{OpenAt, StatAt, ReadLinkAt, MakeDirAt, SymlinkAt, LinkAt, RenameAt, UnlinkAt, RemoveDirAt, TimesAt, Access, Stat, SetTimes, Pread, Pwrite, Append, SetSize, Sync, Advise, Flags, ListDir, Dup, Close};
 ghost use Rattle.wasi_host.specs.Answer.{entry_of};
 ghost use Rattle.wasi_host.specs.Meaning.{World, AllHeld, HasCause, Rose, LiveGot, Told, Logged, LoggedGot, one_looked, both_looked, hosted, answered};
+ghost use Rattle.wasi_host.specs.Fates.{Fated, Fates, Finds};
 ghost use Rattle.wasi_host.specs.Numbers.{longest_link};
+ghost use Rattle.wasi_host.specs.Tree.{Tree};
 ghost use Rattle.wasi_host.specs.declared.lookup.Lookup.{Lookup};
 ghost use Rattle.wasi_host.specs.Time.{HasTimes};
 
@@ -50,6 +52,24 @@ pub trait Host {
     /// The tree, what each live handle stands for, and the touched nodes. It says nothing where it isn't told.
     ghost world: { Self → World };
 
+    /// Whether the host tells which of its calls fail by themselves.
+    ghost tells_fails: { Bool };
+
+    /// What becomes of the calls to come but `dup` and `close`, of the next one at 0. Where it is told, a call answers `Io`
+    /// exactly where it fails.
+    ghost fails: { Self → Fates };
+
+    /// Whether the host tells what its calls find and leave, be it that others change its tree between them.
+    ghost tells_found: { Bool };
+
+    /// The tree that the next call but `dup` and `close` finds.
+    ghost found: { Self → Tree };
+
+    /// The tree as the last call left it, what each live handle stands for, and the touched nodes. Where it is told, a
+    /// call does to `found` and `left` what it does to the world of a host that tells its own, unless it fails before it
+    /// is made; `dup` and `close` find what is left, and leave `found`.
+    ghost left: { Self → World };
+
     /// Opens a name in a directory. A link is never followed. The handle has the read and write of the options, or is
     /// for the path alone. A missing name is made where the options ask to create, and a file is cut to no bytes where
     /// they ask to truncate it. Refusals: the rows of `open_at` in the host's table.
@@ -65,7 +85,11 @@ pub trait Host {
         ensures logged { LoggedGot (live self.old) (lookups self.old) LookKind.Open start result (lookups self.new) }
         ensures told { IsTrue told → Told (live self.old) (live self.new) (world self.old) (world self.new)
             (OpenAt ((world self.old).held start).node (name_bytes name.entry) options.now)
-            (world self.new).held result };
+            (world self.new).held result }
+        ensures fails { IsTrue tells_fails → Fated (fails self.old) (fails self.new) result }
+        ensures found { IsTrue tells_found → Finds (live self.old) (live self.new) (left self.old) (found self.old) (left self.new)
+            (OpenAt ((left self.old).held start).node (name_bytes name.entry) options.now)
+            (left self.new).held result };
 
     /// The metadata of the node under a name in a directory. A link is not followed: the metadata are its own.
     /// Refusals: the rows for a name; NoEntry where it is missing.
@@ -77,6 +101,10 @@ pub trait Host {
         ensures times { IfOk result HasTimes }
         ensures told { IsTrue told → Told (live self.old) (live self.new) (world self.old) (world self.new)
             (StatAt ((world self.old).held start).node (name_bytes name.entry))
+            (λ metadata. metadata) result }
+        ensures fails { IsTrue tells_fails → Fated (fails self.old) (fails self.new) result }
+        ensures found { IsTrue tells_found → Finds (live self.old) (live self.new) (left self.old) (found self.old) (left self.new)
+            (StatAt ((left self.old).held start).node (name_bytes name.entry))
             (λ metadata. metadata) result };
 
     /// The text of the link under a name in a directory, which has 1 to 4,095 bytes. Refusals: the rows for a name;
@@ -95,6 +123,10 @@ pub trait Host {
         ensures most { IfOk result (λ text. length (string_bytes text) ≤ longest_link) }
         ensures told { IsTrue told → Told (live self.old) (live self.new) (world self.old) (world self.new)
             (ReadLinkAt ((world self.old).held start).node (name_bytes name.entry))
+            (λ text. string_bytes text) result }
+        ensures fails { IsTrue tells_fails → Fated (fails self.old) (fails self.new) result }
+        ensures found { IsTrue tells_found → Finds (live self.old) (live self.new) (left self.old) (found self.old) (left self.new)
+            (ReadLinkAt ((left self.old).held start).node (name_bytes name.entry))
             (λ text. string_bytes text) result };
 
     /// Makes an empty directory under a name in a directory. It may be read, written and searched, and has zero times.
@@ -107,6 +139,10 @@ pub trait Host {
         ensures logged { Logged (lookups self.old) (one_looked LookKind.Make start) result (lookups self.new) }
         ensures told { IsTrue told → Told (live self.old) (live self.new) (world self.old) (world self.new)
             (MakeDirAt ((world self.old).held start).node (name_bytes name.entry))
+            (λ unit. unit) result }
+        ensures fails { IsTrue tells_fails → Fated (fails self.old) (fails self.new) result }
+        ensures found { IsTrue tells_found → Finds (live self.old) (live self.new) (left self.old) (found self.old) (left self.new)
+            (MakeDirAt ((left self.old).held start).node (name_bytes name.entry))
             (λ unit. unit) result };
 
     /// Makes a link of this text under a name in a directory; nothing need be where the text leads. Refusals, before
@@ -119,6 +155,10 @@ pub trait Host {
         ensures logged { Logged (lookups self.old) (one_looked LookKind.MakeLink start) result (lookups self.new) }
         ensures told { IsTrue told → Told (live self.old) (live self.new) (world self.old) (world self.new)
             (SymlinkAt target.now ((world self.old).held start).node (name_bytes name.entry))
+            (λ unit. unit) result }
+        ensures fails { IsTrue tells_fails → Fated (fails self.old) (fails self.new) result }
+        ensures found { IsTrue tells_found → Finds (live self.old) (live self.new) (left self.old) (found self.old) (left self.new)
+            (SymlinkAt target.now ((left self.old).held start).node (name_bytes name.entry))
             (λ unit. unit) result };
 
     /// Gives the file or link under the old name in a directory a new name in another, which may be the same; a link is
@@ -139,6 +179,11 @@ pub trait Host {
         ensures told { IsTrue told → Told (live self.old) (live self.new) (world self.old) (world self.new)
             (LinkAt ((world self.old).held old).node (name_bytes old_name.entry)
             ((world self.old).held new).node (name_bytes new_name.entry))
+            (λ unit. unit) result }
+        ensures fails { IsTrue tells_fails → Fated (fails self.old) (fails self.new) result }
+        ensures found { IsTrue tells_found → Finds (live self.old) (live self.new) (left self.old) (found self.old) (left self.new)
+            (LinkAt ((left self.old).held old).node (name_bytes old_name.entry)
+            ((left self.old).held new).node (name_bytes new_name.entry))
             (λ unit. unit) result };
 
     /// Moves what the old name in a directory holds to the new name in another, which may be the same; a link is not
@@ -163,6 +208,11 @@ pub trait Host {
         ensures told { IsTrue told → Told (live self.old) (live self.new) (world self.old) (world self.new)
             (RenameAt ((world self.old).held old).node (name_bytes old_name.entry)
             ((world self.old).held new).node (name_bytes new_name.entry) requires_dir)
+            (λ unit. unit) result }
+        ensures fails { IsTrue tells_fails → Fated (fails self.old) (fails self.new) result }
+        ensures found { IsTrue tells_found → Finds (live self.old) (live self.new) (left self.old) (found self.old) (left self.new)
+            (RenameAt ((left self.old).held old).node (name_bytes old_name.entry)
+            ((left self.old).held new).node (name_bytes new_name.entry) requires_dir)
             (λ unit. unit) result };
 
     /// Drops a name of a file or link, which has one name fewer, and stays with none too. Refusals: the rows for a
@@ -175,6 +225,10 @@ pub trait Host {
         ensures logged { Logged (lookups self.old) (one_looked LookKind.Unlink start) result (lookups self.new) }
         ensures told { IsTrue told → Told (live self.old) (live self.new) (world self.old) (world self.new)
             (UnlinkAt ((world self.old).held start).node (name_bytes name.entry))
+            (λ unit. unit) result }
+        ensures fails { IsTrue tells_fails → Fated (fails self.old) (fails self.new) result }
+        ensures found { IsTrue tells_found → Finds (live self.old) (live self.new) (left self.old) (found self.old) (left self.new)
+            (UnlinkAt ((left self.old).held start).node (name_bytes name.entry))
             (λ unit. unit) result };
 
     /// Drops the name of an empty directory, which is removed from then on: a handle may still stand for it, but it
@@ -188,6 +242,10 @@ pub trait Host {
         ensures logged { Logged (lookups self.old) (one_looked LookKind.RemoveDir start) result (lookups self.new) }
         ensures told { IsTrue told → Told (live self.old) (live self.new) (world self.old) (world self.new)
             (RemoveDirAt ((world self.old).held start).node (name_bytes name.entry))
+            (λ unit. unit) result }
+        ensures fails { IsTrue tells_fails → Fated (fails self.old) (fails self.new) result }
+        ensures found { IsTrue tells_found → Finds (live self.old) (live self.new) (left self.old) (found self.old) (left self.new)
+            (RemoveDirAt ((left self.old).held start).node (name_bytes name.entry))
             (λ unit. unit) result };
 
     /// Sets the given times of the node under a name in a directory, that of its last read and that of its last change;
@@ -206,6 +264,10 @@ pub trait Host {
         ensures logged { Logged (lookups self.old) (one_looked LookKind.Times start) result (lookups self.new) }
         ensures told { IsTrue told → Told (live self.old) (live self.new) (world self.old) (world self.new)
             (TimesAt ((world self.old).held start).node (name_bytes name.entry) atime mtime)
+            (λ unit. unit) result }
+        ensures fails { IsTrue tells_fails → Fated (fails self.old) (fails self.new) result }
+        ensures found { IsTrue tells_found → Finds (live self.old) (live self.new) (left self.old) (found self.old) (left self.new)
+            (TimesAt ((left self.old).held start).node (name_bytes name.entry) atime mtime)
             (λ unit. unit) result };
 
     /// All names of a directory but `.` and `..`, in byte order, each with the kind of the node that it holds, a link's
@@ -220,6 +282,10 @@ pub trait Host {
         ensures names { IfOk result (λ entries. All (λ entry. IsTrue (is_entry_name entry.0)) (map entry_of entries.items)) }
         ensures told { IsTrue told → Told (live self.old) (live self.new) (world self.old) (world self.new)
             (ListDir ((world self.old).held directory))
+            (λ entries. map entry_of entries.items) result }
+        ensures fails { IsTrue tells_fails → Fated (fails self.old) (fails self.new) result }
+        ensures found { IsTrue tells_found → Finds (live self.old) (live self.new) (left self.old) (found self.old) (left self.new)
+            (ListDir ((left self.old).held directory))
             (λ entries. map entry_of entries.items) result };
 
     /// Another live handle of the same node and access.
@@ -229,7 +295,11 @@ pub trait Host {
         ensures live { LiveGot (live self.old) result (live self.new) }
         ensures logged { LoggedGot (live self.old) (lookups self.old) LookKind.Dup handle result (lookups self.new) }
         ensures told { IsTrue told → Told (live self.old) (live self.new) (world self.old) (world self.new)
-            (Dup ((world self.old).held handle)) (world self.new).held result };
+            (Dup ((world self.old).held handle)) (world self.new).held result }
+        ensures fails { IsTrue tells_fails → (n : ℕ) → fails self.new n ≡ fails self.old n }
+        ensures found { IsTrue tells_found → found self.new ≡ found self.old }
+        ensures left { IsTrue tells_found → Told (live self.old) (live self.new) (left self.old) (left self.new)
+            (Dup ((left self.old).held handle)) (left self.new).held result };
 
     /// Whether names may be looked up in a directory: `Access` where its search bit is missing. It takes no memory.
     fn access(&mut self, directory: Handle) -> Result<(), ErrorCode>
@@ -239,6 +309,10 @@ pub trait Host {
         ensures logged { lookups self.new ≡ lookups self.old }
         ensures told { IsTrue told → Told (live self.old) (live self.new) (world self.old) (world self.new)
             (Access ((world self.old).held directory).node)
+            (λ unit. unit) (hosted result) }
+        ensures fails { IsTrue tells_fails → Fated (fails self.old) (fails self.new) (hosted result) }
+        ensures found { IsTrue tells_found → Finds (live self.old) (live self.new) (left self.old) (found self.old) (left self.new)
+            (Access ((left self.old).held directory).node)
             (λ unit. unit) (hosted result) };
 
     /// The metadata of what a handle stands for. It takes no memory.
@@ -250,6 +324,10 @@ pub trait Host {
         ensures times { IfOk result HasTimes }
         ensures told { IsTrue told → Told (live self.old) (live self.new) (world self.old) (world self.new)
             (Stat ((world self.old).held handle).node)
+            (λ metadata. metadata) (hosted result) }
+        ensures fails { IsTrue tells_fails → Fated (fails self.old) (fails self.new) (hosted result) }
+        ensures found { IsTrue tells_found → Finds (live self.old) (live self.new) (left self.old) (found self.old) (left self.new)
+            (Stat ((left self.old).held handle).node)
             (λ metadata. metadata) (hosted result) };
 
     /// Sets the given times of what a handle stands for, as `times_at` does. It takes no memory, and no row refuses it.
@@ -265,6 +343,10 @@ pub trait Host {
         ensures logged { lookups self.new ≡ lookups self.old }
         ensures told { IsTrue told → Told (live self.old) (live self.new) (world self.old) (world self.new)
             (SetTimes ((world self.old).held handle).node atime mtime)
+            (λ unit. unit) (hosted result) }
+        ensures fails { IsTrue tells_fails → Fated (fails self.old) (fails self.new) (hosted result) }
+        ensures found { IsTrue tells_found → Finds (live self.old) (live self.new) (left self.old) (found self.old) (left self.new)
+            (SetTimes ((left self.old).held handle).node atime mtime)
             (λ unit. unit) (hosted result) };
 
     /// Reads a file's bytes from an offset on into the front of `buf`, and answers how many: where the host tells its
@@ -281,6 +363,10 @@ pub trait Host {
         ensures kept { OnErr result (buf.new ≡ buf.old) }
         ensures told { IsTrue told → Told (live self.old) (live self.new) (world self.old) (world self.new)
             (Pread ((world self.old).held file) offset (length buf.old))
+            (λ n. take n buf.new) (hosted result) }
+        ensures fails { IsTrue tells_fails → Fated (fails self.old) (fails self.new) (hosted result) }
+        ensures found { IsTrue tells_found → Finds (live self.old) (live self.new) (left self.old) (found self.old) (left self.new)
+            (Pread ((left self.old).held file) offset (length buf.old))
             (λ n. take n buf.new) (hosted result) };
 
     /// Puts a piece of bytes into a file from an offset on, with zeros in a gap before it, and answers how many it
@@ -297,6 +383,10 @@ pub trait Host {
         ensures offset { OnOk result (offset < 2 ^ 63) }
         ensures told { IsTrue told → Told (live self.old) (live self.new) (world self.old) (world self.new)
             (Pwrite ((world self.old).held file) offset piece.now)
+            (λ n. n) result }
+        ensures fails { IsTrue tells_fails → Fated (fails self.old) (fails self.new) result }
+        ensures found { IsTrue tells_found → Finds (live self.old) (live self.new) (left self.old) (found self.old) (left self.new)
+            (Pwrite ((left self.old).held file) offset piece.now)
             (λ n. n) result };
 
     /// Puts a piece of bytes behind a file's last one, and answers how many it took, which is all where the host tells
@@ -312,6 +402,10 @@ pub trait Host {
         ensures takes { result ≡ Ok 0 → 0 < length piece.now → Rose (faults self.old) (faults self.new) }
         ensures told { IsTrue told → Told (live self.old) (live self.new) (world self.old) (world self.new)
             (Append ((world self.old).held file) piece.now)
+            (λ n. n) result }
+        ensures fails { IsTrue tells_fails → Fated (fails self.old) (fails self.new) result }
+        ensures found { IsTrue tells_found → Finds (live self.old) (live self.new) (left self.old) (found self.old) (left self.new)
+            (Append ((left self.old).held file) piece.now)
             (λ n. n) result };
 
     /// Cuts a file to so many bytes, or fills it up to them with zeros, as POSIX's `ftruncate` does. Refusals: Invalid
@@ -323,6 +417,10 @@ pub trait Host {
         ensures logged { lookups self.new ≡ lookups self.old }
         ensures told { IsTrue told → Told (live self.old) (live self.new) (world self.old) (world self.new)
             (SetSize ((world self.old).held file) size)
+            (λ unit. unit) result }
+        ensures fails { IsTrue tells_fails → Fated (fails self.old) (fails self.new) result }
+        ensures found { IsTrue tells_found → Finds (live self.old) (live self.new) (left self.old) (found self.old) (left self.new)
+            (SetSize ((left self.old).held file) size)
             (λ unit. unit) result };
 
     /// Waits until what a handle stands for is stored, as POSIX's `fsync` does. It takes no memory, and no row refuses
@@ -334,6 +432,10 @@ pub trait Host {
         ensures logged { lookups self.new ≡ lookups self.old }
         ensures told { IsTrue told → Told (live self.old) (live self.new) (world self.old) (world self.new)
             (Sync ((world self.old).held handle).node)
+            (λ unit. unit) (hosted result) }
+        ensures fails { IsTrue tells_fails → Fated (fails self.old) (fails self.new) (hosted result) }
+        ensures found { IsTrue tells_found → Finds (live self.old) (live self.new) (left self.old) (found self.old) (left self.new)
+            (Sync ((left self.old).held handle).node)
             (λ unit. unit) (hosted result) };
 
     /// Tells how the bytes from an offset on will be used, as POSIX's `posix_fadvise` does. Nothing changes. It takes no
@@ -351,6 +453,10 @@ pub trait Host {
         ensures logged { lookups self.new ≡ lookups self.old }
         ensures told { IsTrue told → Told (live self.old) (live self.new) (world self.old) (world self.new)
             (Advise ((world self.old).held file).node offset len advice)
+            (λ unit. unit) (hosted result) }
+        ensures fails { IsTrue tells_fails → Fated (fails self.old) (fails self.new) (hosted result) }
+        ensures found { IsTrue tells_found → Finds (live self.old) (live self.new) (left self.old) (found self.old) (left self.new)
+            (Advise ((left self.old).held file).node offset len advice)
             (λ unit. unit) (hosted result) };
 
     /// The synchronized modes of a handle: none, where the host tells its world. It takes no memory, and no row refuses
@@ -362,6 +468,10 @@ pub trait Host {
         ensures logged { lookups self.new ≡ lookups self.old }
         ensures told { IsTrue told → Told (live self.old) (live self.new) (world self.old) (world self.new)
             (Flags ((world self.old).held handle).node)
+            (λ flags. flags) (hosted result) }
+        ensures fails { IsTrue tells_fails → Fated (fails self.old) (fails self.new) (hosted result) }
+        ensures found { IsTrue tells_found → Finds (live self.old) (live self.new) (left self.old) (found self.old) (left self.new)
+            (Flags ((left self.old).held handle).node)
             (λ flags. flags) (hosted result) };
 
     /// The handle isn't live any more. It can't fail, and takes no memory.
@@ -371,12 +481,18 @@ pub trait Host {
         ensures live { live self.new ≡ remove (live self.old) handle }
         ensures logged { lookups self.new ≡ lookups self.old }
         ensures told { IsTrue told → Told (live self.old) (live self.new) (world self.old) (world self.new)
+            Close (λ unit. unit) answered }
+        ensures fails { IsTrue tells_fails → (n : ℕ) → fails self.new n ≡ fails self.old n }
+        ensures found { IsTrue tells_found → found self.new ≡ found self.old }
+        ensures left { IsTrue tells_found → Told (live self.old) (live self.new) (left self.old) (left self.new)
             Close (λ unit. unit) answered };
 
     /// What holds of every host at any time, told or not: its count of faults is a number of 64 bits, and where it
     /// tells its world, each live handle's node is a node of the tree, and a file where the handle was opened for
-    /// writing. It does nothing: its clauses are laws, for a caller that needs one of them.
+    /// writing; the next call finds that world, as the last one left it. It does nothing: its clauses are laws, for a
+    /// caller that needs one of them.
     fn laws(&self)
         ensures faults { faults self.now ≤ 2 ^ 64 - 1 }
-        ensures held { IsTrue told → AllHeld (live self.now) (world self.now) };
+        ensures held { IsTrue told → AllHeld (live self.now) (world self.now) }
+        ensures found { IsTrue told → IsTrue tells_found × (found self.now ≡ (world self.now).tree) × (left self.now ≡ world self.now) };
 }

@@ -23,7 +23,7 @@ map_take g zero xs = refl
 map_take g (suc n) [] = refl
 map_take g (suc n) (x ∷ xs) = ap (λ zs. g x ∷ zs) (map_take g n xs)
 
-map_insert : {X Z : Type 0} (g : X → Z) (xs : List X) (n : ℕ) (x : X) → map g (insert xs n x) ≡ insert (map g xs) n (g x)
+pub map_insert : {X Z : Type 0} (g : X → Z) (xs : List X) (n : ℕ) (x : X) → map g (insert xs n x) ≡ insert (map g xs) n (g x)
 map_insert g xs zero x = refl
 map_insert g [] (suc n) x = refl
 map_insert g (y ∷ xs) (suc n) x = ap (λ zs. g y ∷ zs) (map_insert g xs n x)

@@ -7,3 +7,4 @@ pub mod BlockLemmas
 pub mod SplitLemmas
 pub mod NamesLemmas
 pub mod RunLemmas
+pub mod ShiftLemmas

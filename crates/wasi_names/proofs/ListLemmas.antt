@@ -1,5 +1,5 @@
 -- Entries in lists one after another.
-use Rattle.std.proofs.Common.{◌≡◌, ℕ, zero, suc, pred, ◌<◌, ◌≤◌, true, false, cond, List, [], ◌∷◌, ◌++◌, length, get_or, set, take, drop, refl, sym, ap, ◌∙◌, subst, arith, append_assoc}
+use Rattle.std.proofs.Common.{◌≡◌, ℕ, zero, suc, pred, ◌<◌, ◌≤◌, true, false, cond, List, [], ◌∷◌, ◌++◌, length, get_or, set, take, drop, refl, sym, ap, ◌∙◌, subst, arith, append_assoc, append-nil}
 use Rattle.std.specs.Prelude.{not}
 use Rattle.std.proofs.lemmas.Bool.{true≢false}
 use Rattle.std.specs.Cmp.{IsTotalOrder}
@@ -49,6 +49,48 @@ module _ {B X : Type 0} (f : B → List X) where
   lists-remove (b ∷ bs) zero lt = refl
   lists-remove (b ∷ bs) (suc k) lt =
       ap (λ xs. f b ++ xs) (lists-remove bs k (omega arith)) ∙ sym (append_assoc (f b) (flat_map f (take k bs)) _)
+
+  pub list_at-set : (bs : List B) (k : ℕ) (c : B) → k < length bs → list_at f (set bs k c) k ≡ f c
+  unfolding list_at
+  list_at-set [] k c lt = absurd (omega arith)
+  list_at-set (b ∷ bs) zero c lt = refl
+  list_at-set (b ∷ bs) (suc k) c lt = list_at-set bs k c (omega arith)
+
+  pub list_at-set_other : (bs : List B) (i k : ℕ) (c : B) → (i ≡ k → ⊥) → list_at f (set bs i c) k ≡ list_at f bs k
+  unfolding list_at
+  list_at-set_other [] i k c apart = refl
+  list_at-set_other (b ∷ bs) zero zero c apart = absurd (apart refl)
+  list_at-set_other (b ∷ bs) zero (suc k) c apart = refl
+  list_at-set_other (b ∷ bs) (suc i) zero c apart = refl
+  list_at-set_other (b ∷ bs) (suc i) (suc k) c apart = list_at-set_other bs i k c (λ e. apart (ap suc e))
+
+  -- an element more before the next list
+  pub passed_on : (bs : List B) (k : ℕ) (c : B) (x : X) → suc k < length bs
+      → with_list f (set bs k c) (suc k) (x ∷ list_at f (set bs k c) (suc k)) ≡ with_list f bs k (f c ++ x ∷ [])
+  unfolding list_at
+  passed_on [] k c x lt = absurd (omega arith)
+  passed_on (b ∷ []) k c x lt = absurd (omega arith)
+  passed_on (b ∷ d ∷ bs) zero c x lt =
+      ap (λ xs. xs ++ (x ∷ (f d ++ flat_map f bs))) (append-nil (f c))
+      ∙ sym (append_assoc (f c) (x ∷ []) (f d ++ flat_map f bs))
+  passed_on (b ∷ d ∷ bs) (suc k) c x lt =
+      append_assoc (f b) (flat_map f (take (suc k) (set (d ∷ bs) k c))) _
+      ∙ ap (λ xs. f b ++ xs) (passed_on (d ∷ bs) k c x (omega arith))
+      ∙ sym (append_assoc (f b) (flat_map f (take k (d ∷ bs))) _)
+
+  -- an element more behind the list before
+  pub passed_back : (bs : List B) (k : ℕ) (c : B) (x : X) → suc k < length bs
+      → with_list f (set bs (suc k) c) k (list_at f (set bs (suc k) c) k ++ x ∷ []) ≡ with_list f bs (suc k) (x ∷ f c)
+  unfolding list_at
+  passed_back [] k c x lt = absurd (omega arith)
+  passed_back (b ∷ []) k c x lt = absurd (omega arith)
+  passed_back (b ∷ d ∷ bs) zero c x lt =
+      append_assoc (f b) (x ∷ []) (f c ++ flat_map f bs)
+      ∙ ap (λ xs. xs ++ (x ∷ (f c ++ flat_map f bs))) (sym (append-nil (f b)))
+  passed_back (b ∷ d ∷ bs) (suc k) c x lt =
+      append_assoc (f b) (flat_map f (take k (set (d ∷ bs) (suc k) c))) _
+      ∙ ap (λ xs. f b ++ xs) (passed_back (d ∷ bs) k c x (omega arith))
+      ∙ sym (append_assoc (f b) (flat_map f (take (suc k) (d ∷ bs))) _)
 
 module _ {K V : Type 0} where
   abbrev pub Started : List (K × V) → Type 0

@@ -6,6 +6,7 @@ use Rattle.std.proofs.lemmas.Bool.Decides.{nat_tests}
 use Rattle.std.specs.Ordering.{nat_cmp, ordering_then, is_eq, eq_by_cmp}
 use Rattle.std.specs.Cmp.Lexicographic.{slice_cmp, nat_list_cmp_total}
 use Rattle.std.proofs.lemmas.Cmp.{tied_itself, nat_cmp_total, eq_by_cmp_equiv, alike_right}
+use Rattle.std.specs.Cmp.{Equal-is}
 use Rattle.std.specs.declared.cmp.Ordering.TheVariants.{Less, Equal, Greater}
 use Rattle.std.specs.List.{filter}
 use Rattle.std.specs.FinMap.{FinMap, find, put, is_sorted, empty, empty_of_len, len-entries, get, insert, remove, entries, from_sorted, entries_sorted, entries-from_sorted, get-from_sorted, get-entries, get-insert, get-remove, entries-insert, same_entries_map, same_map, nat_cmp-IsAntisymmetric, slice_cmp-IsAntisymmetric}
@@ -109,6 +110,26 @@ names_at-remove_other m d e name apart = same_names _ _ (λ q.
     get-names_at (remove m (d, name)) e q ∙ get-remove key_total m (d, name) (e, q)
     ∙ ap (λ b. cond b None (get m (e, q))) (other_directory (e, q) (d, name) apart) ∙ sym (get-names_at m e q))
 
+-- a key that isn't another's is the same before and after a removal of that
+either_order : {X : Type 0} (at_a at_b : Bool) (x y z : X) → (at_a ≡ true → at_b ≡ true → ⊥)
+    → cond at_b y (cond at_a x z) ≡ cond at_a x (cond at_b y z)
+either_order true true x y z apart = absurd (apart refl refl)
+either_order true false x y z apart = refl
+either_order false true x y z apart = refl
+either_order false false x y z apart = refl
+
+same_key : (a b : Key) → eq_by_cmp key_cmp a b ≡ true → a ≡ b
+same_key a b is = key_exact a b ((Equal-is (key_cmp a b)).0 is)
+
+pub insert-remove : (m : AllNames) (a b : Key) (n : ℕ) → (a ≡ b → ⊥) → insert (remove m a) b n ≡ remove (insert m b n) a
+insert-remove m a b n apart = same_map key_total key_exact _ _ (λ q.
+    get-insert key_total (remove m a) b n q
+    ∙ ap (cond (eq_by_cmp key_cmp q b) (Some n)) (get-remove key_total m a q)
+    ∙ either_order (eq_by_cmp key_cmp q a) (eq_by_cmp key_cmp q b) None (Some n) (get m q)
+    (λ at_a at_b. apart (sym (same_key q a at_a) ∙ same_key q b at_b))
+    ∙ ap (cond (eq_by_cmp key_cmp q a) None) (sym (get-insert key_total m b n q))
+    ∙ sym (get-remove key_total (insert m b n) a q))
+
 -- the map of the entries after a put
 pub from_sorted-put : (es : List NameEntry) (key : Key) (v : ℕ) → is_sorted key_cmp es ≡ true
     → from_sorted {R = key_cmp} (put key_cmp key v es) ≡ insert (from_sorted es) key v
@@ -131,6 +152,14 @@ from_sorted-without es key h = same_map key_total key_exact _ _ (λ q.
     ∙ turned (eq_by_cmp key_cmp key q) _ _
     ∙ (λ i. cond ((eq_by_cmp_equiv key_total).symm key q i) None (sym (get-from_sorted key_cmp es q (told h)) i))
     ∙ sym (get-remove key_total (from_sorted es) key q))
+
+-- and after a removal and then a put
+pub from_sorted-renamed : (es : List NameEntry) (a b : Key) (v : ℕ) → is_sorted key_cmp es ≡ true
+    → from_sorted {R = key_cmp} (put key_cmp b v (where_key key_cmp (λ k. not (eq_by_cmp key_cmp a k)) es))
+    ≡ insert (remove (from_sorted es) a) b v
+from_sorted-renamed es a b v h =
+    from_sorted-put _ b v (true_of _ (is_sorted-where_key key_cmp (λ k. not (eq_by_cmp key_cmp a k)) es (told h)))
+    ∙ ap (λ (m : AllNames). insert m b v) (from_sorted-without es a h)
 
 pub from_sorted-none : from_sorted {X = ℕ} {R = key_cmp} [] ≡ empty
 from_sorted-none =

@@ -1,11 +1,12 @@
 -- Rows in blocks.
-use Rattle.std.specs.Prelude.{◌<◌, ◌≤◌, List, map, length, All, IsTrue}
-use Rattle.std.specs.List.{flat_map}
-use Rattle.std.specs.Vec.{vec_capacity}
+use Rattle.std.specs.Prelude.{ℕ, ◌<◌, ◌≤◌, Bool, ◌&&◌, nat_lt, nat_le, List, map, length, All, IsTrue}
+use Rattle.std.specs.List.{flat_map, insert}
+use Rattle.std.specs.Vec.{vec_len, vec_capacity}
 use Rattle.std.specs.FinMap.{is_sorted}
 use Rattle.std.specs.declared.vec.Vec.{Vec}
 use Rattle.wasi_names.specs.declared.name_row.NameRow.{NameRow}
 use Rattle.wasi_names.specs.declared.blocks.TheConstants.{BLOCK}
+use Rattle.wasi_names.specs.Fronts.{list_at, with_list}
 use Rattle.wasi_names.specs.NameRows.{NameEntry, key_cmp, row_entry}
 
 module _ {Y : Type 0} where
@@ -14,6 +15,11 @@ module _ {Y : Type 0} where
 
   abbrev pub all_entries : List (Vec NameRow Y) → List NameEntry
   all_entries blocks = flat_map block_entries blocks
+
+  -- all entries, with one more at a place of a block
+  abbrev pub with_row : List (Vec NameRow Y) → ℕ → ℕ → NameRow → List NameEntry
+  with_row blocks k at row =
+      with_list block_entries blocks k (insert (list_at block_entries blocks k) at (row_entry row))
 
   -- some rows, not too many, and room for as many as there may be
   pub record IsBlock (block : Vec NameRow Y) : Type 0 where
@@ -25,3 +31,12 @@ module _ {Y : Type 0} where
   pub record AreBlocks (blocks : List (Vec NameRow Y)) : Type 0 where
     pub rises : IsTrue (is_sorted key_cmp (all_entries blocks))
     pub each : All IsBlock blocks
+
+  -- a block that has room for a row
+  pub record HasSpace (blocks : List (Vec NameRow Y)) (k : ℕ) : Type 0 where
+    pub within : k < length blocks
+    pub space : length (list_at block_entries blocks k) < BLOCK
+
+-- whether there is room for a block more, and a spare one that has room for its rows
+abbrev pub has_block : {Y Z : Type 0} → Vec (Vec NameRow Y) Z → Vec NameRow Y → Bool
+has_block blocks spare = nat_lt (vec_len blocks) (vec_capacity blocks) && nat_le BLOCK (vec_capacity spare)

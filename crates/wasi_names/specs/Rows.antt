@@ -1,13 +1,11 @@
 -- What contracts see of the rows.
-use Rattle.std.specs.Prelude.{◌≡◌, Bool, ◌&&◌, nat_lt, nat_le, [], refl}
+use Rattle.std.specs.Prelude.{◌≡◌, Bool, [], refl}
 use Rattle.std.specs.Coded.{Coded, code_by, coded×, coded_ℕ, coded_list, coded_bool}
-use Rattle.std.specs.Vec.{vec_len, vec_capacity}
 use Rattle.std.specs.FinMap as maps
 use Rattle.std.specs.declared.vec.Vec.{Vec}
 use Rattle.wasi_names.specs.declared.name_row.NameRow.{NameRow}
-use Rattle.wasi_names.specs.declared.blocks.TheConstants.{BLOCK}
 use Rattle.wasi_names.specs.NameRows.{AllNames}
-use Rattle.wasi_names.specs.Blocks.{all_entries, AreBlocks}
+use Rattle.wasi_names.specs.Blocks.{all_entries, has_block, AreBlocks}
 
 -- what the names hold, and whether there is room for one more
 pub record HeldNames : Type 0 where
@@ -23,7 +21,7 @@ module _ {Y Z : Type 0} where
   abbrev pub held_names : Vec (Vec NameRow Y) Z → Vec NameRow Y → HeldNames
   held_names blocks spare = record {
     names = maps.from_sorted (all_entries blocks.items);
-    has_room = nat_lt (vec_len blocks) (vec_capacity blocks) && nat_le BLOCK (vec_capacity spare);
+    has_room = has_block blocks spare;
   }
 
   pub record AreRows (blocks : Vec (Vec NameRow Y) Z) (spare : Vec NameRow Y) : Type 0 where

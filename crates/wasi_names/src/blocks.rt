@@ -1,5 +1,5 @@
 //! Rows in blocks: each block has room for as many rows as a block may have, so one row moves less than a block's rows.
-ghost use Rattle.std.specs.Prelude.{◌≡◌, ◌+◌, ◌<◌, ◌≤◌, [], ◌∷◌, ◌++◌, slice_index_or, suc, is_some, Some, None, IfSome, map, length, take, drop, not, All, IsTrue};
+ghost use Rattle.std.specs.Prelude.{◌≡◌, ℕ, ◌+◌, ◌<◌, ◌≤◌, [], ◌∷◌, ◌++◌, slice_index_or, suc, is_some, Some, None, MatchOption, true, false, map, length, take, drop, not, All, IsTrue, if◌then◌else◌};
 ghost use Rattle.std.specs.List.{insert, remove};
 ghost use Rattle.std.specs.Vec.{vec_len, vec_capacity};
 ghost use Rattle.std.specs.Ordering.{eq_by_cmp};
@@ -10,9 +10,11 @@ ghost use Rattle.wasi_names.specs.Places.{place_in, first_at, starts_by, list_pl
 ghost use Rattle.wasi_names.specs.NameRows.{key_cmp, row_key, row_entry};
 ghost use Rattle.wasi_names.specs.NameRows.{run_of};
 ghost use Rattle.wasi_names.specs.Runs.{entries_from, IsRun};
-ghost use Rattle.wasi_names.specs.Blocks.{block_entries, all_entries, IsBlock, AreBlocks};
+ghost use Rattle.std.specs.String.{string_bytes};
+ghost use Rattle.wasi_names.specs.Blocks.{block_entries, all_entries, with_row, has_block, IsBlock, AreBlocks, HasSpace};
 
 use crate::name_row::NameRow;
+use crate::shift::{insert_into, insert_row, insert_through};
 use std::mem;
 
 /// How many rows a block may have.
@@ -133,18 +135,6 @@ fn found_at(
     first_at(from(rows_at(blocks, k), at), directory, name)
 }
 
-/// Puts a row at a place of a block that has room for it.
-fn insert_row(block: &mut Vec<NameRow>, at: usize, row: NameRow)
-    requires within { at ≤ length block.old.items }
-    requires room { length block.old.items < vec_capacity block.old }
-    ensures items { block.new.items ≡ insert block.old.items at row }
-    ensures capacity { vec_capacity block.old ≤ vec_capacity block.new }
-{
-    let Ok(()) = block.insert(at, row) else {
-        unreachable!();
-    };
-}
-
 /// Moves a block's rows from a place on into another block, which is empty and has room for them.
 fn move_tail(block: &mut Vec<NameRow>, at: usize, back: &mut Vec<NameRow>)
     requires within { at ≤ length block.old.items }
@@ -185,23 +175,34 @@ fn start(blocks: &mut Vec<Vec<NameRow>>, mut block: Vec<NameRow>, row: NameRow)
     blocks.push_reserved(block);
 }
 
-/// Puts a row at a place of a block. A full block is split for it, so that its other half is the spare block.
-fn insert_at(blocks: &mut Vec<Vec<NameRow>>, back: Vec<NameRow>, k: usize, at: usize, row: NameRow)
+/// Puts a row at a place of a block. Where that is full, a block that has room for a row gets one, and the rows between
+/// move on by one; if none is named, the full block is split, so that its other half is the spare block.
+fn insert_at(
+    blocks: &mut Vec<Vec<NameRow>>,
+    spare: &mut Vec<NameRow>,
+    free: Option<usize>,
+    k: usize,
+    at: usize,
+    row: NameRow,
+)
     requires within { k < length blocks.old.items }
     requires at { at ≤ length (list_at block_entries blocks.old.items k) }
     requires each { All IsBlock blocks.old.items }
-    requires room { length blocks.old.items < vec_capacity blocks.old }
-    requires empty { back.items ≡ [] }
-    requires block { BLOCK ≤ vec_capacity back }
+    requires empty { spare.old.items ≡ [] }
+    requires room { MatchOption free (has_block blocks.old spare.old ≡ true) (HasSpace blocks.old.items) }
     ensures each { All IsBlock blocks.new.items }
-    ensures rows { all_entries blocks.new.items ≡ with_list block_entries blocks.old.items k
-        (insert (list_at block_entries blocks.old.items k) at (row_entry row)) }
+    ensures empty { spare.new.items ≡ [] }
+    ensures rows { all_entries blocks.new.items ≡ with_row blocks.old.items k at row }
 {
     if blocks[k].len() < BLOCK {
-        insert_row(&mut blocks[k], at, row);
+        insert_into(blocks, k, at, row);
         return;
     }
-    let back = split_row(&mut blocks[k], back, at, row);
+    if let Some(free) = free {
+        insert_through(blocks, k, at, free, row);
+        return;
+    }
+    let back = split_row(&mut blocks[k], taken(spare), at, row);
     insert_block(blocks, k + 1, back);
 }
 
@@ -255,12 +256,17 @@ fn set_at(blocks: &mut Vec<Vec<NameRow>>, k: usize, at: usize, node: u64)
     set_node(&mut blocks[k], at, node);
 }
 
-/// Puts a node under a name in a directory, in the place of any other, where there is room for a block more.
-pub fn put(blocks: &mut Vec<Vec<NameRow>>, spare: &mut Vec<NameRow>, row: NameRow)
+/// Puts a node under a name in a directory, in the place of any other, where a block is named that has room for a row,
+/// or there is room for a block more.
+pub fn put(
+    blocks: &mut Vec<Vec<NameRow>>,
+    spare: &mut Vec<NameRow>,
+    free: Option<usize>,
+    row: NameRow,
+)
     requires kept { AreBlocks blocks.old.items }
-    requires room { length blocks.old.items < vec_capacity blocks.old }
     requires empty { spare.old.items ≡ [] }
-    requires block { BLOCK ≤ vec_capacity spare.old }
+    requires room { MatchOption free (has_block blocks.old spare.old ≡ true) (HasSpace blocks.old.items) }
     ensures kept { AreBlocks blocks.new.items }
     ensures empty { spare.new.items ≡ [] }
     ensures put { all_entries blocks.new.items ≡ put key_cmp (row_key row) row.node (all_entries blocks.old.items) }
@@ -277,7 +283,7 @@ pub fn put(blocks: &mut Vec<Vec<NameRow>>, spare: &mut Vec<NameRow>, row: NameRo
         set_at(blocks, k, at, row.node);
         return;
     }
-    insert_at(blocks, taken(spare), k, at, row);
+    insert_at(blocks, spare, free, k, at, row);
 }
 
 /// A block, in whose place another stands that has no room yet.
@@ -289,13 +295,23 @@ fn taken(spare: &mut Vec<NameRow>) -> Vec<NameRow>
     mem::replace(spare, Vec::new(alloc))
 }
 
-/// Takes a name out of a directory, and gives the node that it held.
-pub fn remove(blocks: &mut Vec<Vec<NameRow>>, directory: u64, name: &str) -> Option<u64>
-    requires { AreBlocks blocks.old.items }
+/// Takes a name out of a directory, and gives the node that it held. Then there is room for a block more, or the block
+/// in which the name stood has room for a row.
+pub fn remove(
+    blocks: &mut Vec<Vec<NameRow>>,
+    spare: &mut Vec<NameRow>,
+    directory: u64,
+    name: &str,
+) -> Option<u64>
+    requires kept { AreBlocks blocks.old.items }
+    requires empty { spare.old.items ≡ [] }
     ensures kept { AreBlocks blocks.new.items }
+    ensures empty { spare.new.items ≡ [] }
     ensures found { result ≡ find key_cmp (directory, name.now) (all_entries blocks.old.items) }
     ensures removed { all_entries blocks.new.items
         ≡ where_key key_cmp (λ k. not (eq_by_cmp key_cmp (directory, name.now) k)) (all_entries blocks.old.items) }
+    ensures room { is_some result ≡ true → has_block blocks.new spare.new ≡ false
+        → HasSpace blocks.new.items (list_place key_cmp block_entries (directory, name.now) blocks.old.items) }
 {
     let k = block_place(blocks, directory, name);
     if k >= blocks.len() {
@@ -304,25 +320,72 @@ pub fn remove(blocks: &mut Vec<Vec<NameRow>>, directory: u64, name: &str) -> Opt
     let at = place_at(blocks, k, directory, name);
     let found = found_at(blocks, k, at, directory, name);
     if found.is_some() {
-        take_row(blocks, k, at);
+        take_row(blocks, spare, k, at);
     }
     found
 }
 
-/// Takes the row at a place of a block out, and the block with its last row.
-fn take_row(blocks: &mut Vec<Vec<NameRow>>, k: usize, at: usize)
+/// Takes the row at a place of a block out. A block goes with its last row, and is the spare one from then on.
+fn take_row(blocks: &mut Vec<Vec<NameRow>>, spare: &mut Vec<NameRow>, k: usize, at: usize)
     requires within { k < length blocks.old.items }
     requires at { at < length (list_at block_entries blocks.old.items k) }
     requires each { All IsBlock blocks.old.items }
+    requires empty { spare.old.items ≡ [] }
     ensures each { All IsBlock blocks.new.items }
+    ensures empty { spare.new.items ≡ [] }
     ensures rows { all_entries blocks.new.items ≡ with_list block_entries blocks.old.items k
         (remove (list_at block_entries blocks.old.items k) at) }
+    ensures room { has_block blocks.new spare.new ≡ false → HasSpace blocks.new.items k }
 {
     if blocks[k].len() == 1 {
-        blocks.remove(k);
+        let mut block = blocks.remove(k);
+        block.clear();
+        *spare = block;
         return;
     }
     blocks[k].remove(at);
+}
+
+/// The block, unless there is room for a block more.
+fn unless_room(blocks: &Vec<Vec<NameRow>>, spare: &Vec<NameRow>, k: usize) -> Option<usize>
+    ensures { result ≡ (if has_block blocks.now spare.now then None else Some k) }
+{
+    if blocks.len() < blocks.capacity() && spare.capacity() >= BLOCK {
+        return None;
+    }
+    Some(k)
+}
+
+/// Takes a name out of a directory, and puts the node that it held under a name of a directory, in the place of any
+/// other.
+pub fn rename(
+    blocks: &mut Vec<Vec<NameRow>>,
+    spare: &mut Vec<NameRow>,
+    directory: u64,
+    name: &str,
+    new_directory: u64,
+    new_name: String,
+)
+    requires kept { AreBlocks blocks.old.items }
+    requires empty { spare.old.items ≡ [] }
+    requires held { is_some (find key_cmp (directory, name.now) (all_entries blocks.old.items)) ≡ true }
+    ensures kept { AreBlocks blocks.new.items }
+    ensures empty { spare.new.items ≡ [] }
+    ensures renamed { (node : ℕ) → find key_cmp (directory, name.now) (all_entries blocks.old.items) ≡ Some node
+        → all_entries blocks.new.items ≡ put key_cmp (new_directory, string_bytes new_name) node
+        (where_key key_cmp (λ k. not (eq_by_cmp key_cmp (directory, name.now) k)) (all_entries blocks.old.items)) }
+{
+    let k = block_place(blocks, directory, name);
+    let Some(node) = remove(blocks, spare, directory, name) else {
+        unreachable!();
+    };
+    let free = unless_room(blocks, spare, k);
+    let row = NameRow {
+        directory: new_directory,
+        name: new_name,
+        node,
+    };
+    put(blocks, spare, free, row);
 }
 
 /// Rows and the blocks behind them, where the first rows are there if any are.

@@ -5,7 +5,8 @@ mod blocks;
 mod name_row;
 mod rows;
 mod run;
+mod shift;
 
 pub use name_row::NameRow;
-pub use rows::{Rows, directories_are_apart};
+pub use rows::{Rows, directories_are_apart, names_are_apart};
 pub use run::Run;

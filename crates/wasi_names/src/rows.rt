@@ -1,8 +1,8 @@
 //! The rows of all directories.
-ghost use Rattle.std.specs.Prelude.{◌≡◌, ℕ, List, OnOk, true, false, nat_eq};
+ghost use Rattle.std.specs.Prelude.{◌≡◌, ℕ, List, OnOk, Some, is_some, true, false, nat_eq};
 ghost use Rattle.std.specs.FinMap as maps;
 ghost use Rattle.std.specs.String.{string_bytes};
-ghost use Rattle.wasi_names.specs.NameRows.{AllNames, names_at, run_of};
+ghost use Rattle.wasi_names.specs.NameRows.{AllNames, Key, names_at, run_of};
 
 use crate::blocks::{self, BLOCK};
 use crate::name_row::NameRow;
@@ -11,8 +11,8 @@ use std::alloc::{AllocError, Global};
 use std::marker::Model;
 
 /// The names of all directories of a tree, each with the node that it holds, in one sequence that is sorted by directory
-/// and then by the bytes of the name. It is kept in blocks, so that a change moves the rows of one block alone. Contracts
-/// see a finite map from directories and names, and whether there is room for one more name.
+/// and then by the bytes of the name. It is kept in blocks, so that an insert or a removal moves the rows of one block
+/// alone. Contracts see a finite map from directories and names, and whether there is room for one more name.
 #[derive(Debug, Drop)]
 pub struct Rows {
     blocks: Vec<Vec<NameRow>>,
@@ -72,7 +72,7 @@ impl Rows {
             name,
             node,
         };
-        blocks::put(&mut self.blocks, &mut self.spare, row);
+        blocks::put(&mut self.blocks, &mut self.spare, None, row);
     }
 
     /// Takes a name out of a directory, and gives the node that it held.
@@ -80,7 +80,26 @@ impl Rows {
         ensures found { result ≡ maps.get self.old.names (directory, name.now) }
         ensures names { self.new.names ≡ maps.remove self.old.names (directory, name.now) }
     {
-        blocks::remove(&mut self.blocks, directory, name)
+        blocks::remove(&mut self.blocks, &mut self.spare, directory, name)
+    }
+
+    /// Takes a name out of a directory, and puts the node that it held under a name of a directory, which may be the
+    /// same, in the place of any other. It takes no memory: where the new name's block is full, and there is no room for
+    /// a block more, the rows between the two places move on by one.
+    pub fn rename(&mut self, directory: u64, name: &str, new_directory: u64, new_name: String)
+        requires { is_some (maps.get self.old.names (directory, name.now)) ≡ true }
+        ensures names { (node : ℕ) → maps.get self.old.names (directory, name.now) ≡ Some node
+            → self.new.names ≡ maps.insert (maps.remove self.old.names (directory, name.now))
+            (new_directory, string_bytes new_name) node }
+    {
+        blocks::rename(
+            &mut self.blocks,
+            &mut self.spare,
+            directory,
+            name,
+            new_directory,
+            new_name,
+        );
     }
 
     /// The names of a directory, in byte order.
@@ -115,4 +134,10 @@ pub fn directories_are_apart()
         → names_at (maps.insert m (d, name) n) e ≡ names_at m e }
     ensures others_removed { (m : AllNames) (d e : ℕ) (name : List ℕ) → nat_eq d e ≡ false
         → names_at (maps.remove m (d, name)) e ≡ names_at m e }
+{}
+
+/// Two names that differ: it is the same whether one is taken before the other is put, or behind it.
+pub fn names_are_apart()
+    ensures { (m : AllNames) (a b : Key) (n : ℕ) → (a ≡ b → ⊥)
+        → maps.insert (maps.remove m a) b n ≡ maps.remove (maps.insert m b n) a }
 {}

@@ -23,6 +23,7 @@ mod Alike
 mod Moving
 pub mod Permitting
 mod Completing
+mod Unchanged
 mod ErrorNumbers
 mod Turns
 mod Taking
@@ -56,6 +57,8 @@ mod DescriptorLaws
 mod Stemming
 mod Validity
 mod RunsAlike
+mod InReach
+mod InTurn
 mod Confining
 pub mod Texts
 mod Cycling

@@ -11,7 +11,7 @@ use Rattle.wasi_p1.specs.Rows.{turn, may_want}
 use Rattle.wasi_p1.specs.Turn.{IsTurn, ReachesHost, named_by}
 use Rattle.wasi_p1.specs.CallTurn.{Turns, Causes, in_world}
 use Rattle.wasi_p1.proofs.Completing.{run_completes}
-use Rattle.wasi_p1.specs.Run.{Turned, Run, Spends, Played, Faulted, Gives, Allows, answer_of, answers_of, is_io_errno, io_in, ios, ends, named, is_success, DidRun, StoodAt}
+use Rattle.wasi_p1.specs.Run.{Turned, Run, Spends, Played, Faulted, Gives, Allows, answer_of, answers_of, is_io_errno, io_in, ios, ends, named, is_success, DidRun, StoodAt, GoOn}
 use Rattle.wasi_guest.specs.declared.answer.Answer.{Answer}
 use Rattle.wasi_guest.specs.declared.answer.Answer.TheVariants as answers
 use Rattle.wasi_guest.specs.declared.call.Call.{Call}
@@ -260,14 +260,15 @@ pub stood : {before now after : ℕ} {start : State} {w v : World} {g g' : Guest
     {answered : List Answer}
     {call : FueledCall} {r : Result Value P1Error} → answer_of r ≡ None → Causes now after r
     → Turns (Rose now after) w v g g' call r
-    → length answered ≡ n → SoFar before now start (take n calls) answered (in_world w g) w.touched
+    → length answered ≡ n → GoOn answered → SoFar before now start (take n calls) answered (in_world w g) w.touched
     → StoodAt before after start calls n (in_world v g') v.touched
-stood {before = before} {start = start} {w = w} {v = v} {g' = g'} {calls = calls} {n = n} {answered = answered} is cause takes sized so =
+stood {before = before} {start = start} {w = w} {v = v} {g' = g'} {calls = calls} {n = n} {answered = answered} is cause takes sized goes so =
     let run : Run (so.faults + 0) start (take n calls) so.turns (in_world v g') =
     rw (append-nil, append-nil) at (so.on 0 [] [] (in_world v g') (wanted_same is takes)) in
     record {
       answers = answered;
       count = sized;
+      go_on = goes;
       run = record {
         turns = so.turns;
         faults = so.faults + 0;
@@ -284,7 +285,7 @@ stood {before = before} {start = start} {w = w} {v = v} {g' = g'} {calls = calls
 -- memory for the answers was wanted
 pub stood_first : {before : ℕ} {start : State} {calls : List FueledCall} {touched : Nodes}
     → StoodAt before before start calls 0 start touched
-stood_first = record { answers = []; count = refl; run = all_done nothing_yet }
+stood_first = record { answers = []; count = refl; go_on = tt; run = all_done nothing_yet }
 
 -- ---- the call at a place of the list
 

@@ -5,8 +5,8 @@ use Rattle.wasi_host.specs.Tree.{next_of}
 use Rattle.wasi_p1.specs.Guest.{State}
 use Rattle.wasi_p1.specs.Row.{Row}
 use Rattle.wasi_p1.specs.Rows.{row, turn}
-use Rattle.wasi_p1.specs.StatesAgree.{Alike, AnswerAlike, RunAlike}
-use Rattle.wasi_p1.specs.Run.{Turned, Run, Gives, ends, answer_of}
+use Rattle.wasi_p1.specs.StatesAgree.{Alike, AnswerAlike}
+use Rattle.wasi_p1.specs.Run.{Turned, Run, Gives, ends, answer_of, answers_of}
 use Rattle.wasi_guest.specs.declared.answer.Answer.{Answer}
 use Rattle.wasi_guest.specs.declared.answer.Answer.TheVariants as answers
 use Rattle.wasi_p1.specs.Front.{FueledCall}
@@ -41,6 +41,16 @@ alike_still {Seen} {s} {s'} mid same alike = subst (λ (z : State). AlikeAfter S
   alike = alike_as (OrMade Seen s.tree s.tree) (λ n has. inl has) (λ n has. none_made Seen has) alike;
   grows = omega arith;
 })
+
+-- the calls have the same answers from a state that is alike, and the states after them are alike
+pub record RunAlike (Seen : ℕ → Type 0) (old old' : State) (calls : List FueledCall) (turns : List Turned)
+    (new : State) : Type 0 where
+  pub turns' : List Turned
+  pub new' : State
+  pub run : Run 0 old' calls turns' new'
+  pub same : answers_of turns' ≡ answers_of turns
+  pub alike : Alike (OrMade Seen old.tree new.tree) new new'
+  pub grows : next_of old.tree ≤ next_of new.tree
 
 -- a turn over a state that is alike
 pub record TurnAlike (Seen : ℕ → Type 0) (s s' mid : State) (answer : Answer)

@@ -28,6 +28,8 @@ pub mod Turn
 pub mod CallTurn
 pub mod Method
 pub mod Run
+pub mod Unchanged
+pub mod InTurn
 pub mod Reach
 pub mod StatesAgree
 pub mod ErrorNumbers

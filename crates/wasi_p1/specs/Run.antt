@@ -37,6 +37,11 @@ ends (answers.Errno e) = false
 ends (answers.Trap kind) = true
 ends (answers.Exit status) = true
 
+-- none of the answers ends the run
+abbrev pub GoOn : List Answer → Type 0
+GoOn [] = Unit {0}
+GoOn (a ∷ answers) = (ends a ≡ false) × GoOn answers
+
 -- one call of a run
 pub record Turned : Type 0 where
   pub before : State
@@ -128,11 +133,12 @@ pub record DidRun (before now : ℕ) (old : State) (calls : List FueledCall) (an
   pub complete : All IsComplete turns
   pub ends_touched : All (λ n. contains touched n ≡ true) (named turns)
 
--- want of memory: all stands as after the first n calls
+-- want of memory: all stands as after the first n calls, none of which was answered so that it ends the run
 pub record StoodAt (before now : ℕ) (old : State) (calls : List FueledCall) (n : ℕ) (new : State)
     (touched : Nodes) : Type 0 where
   pub answers : List Answer
   pub count : length answers ≡ n
+  pub go_on : GoOn answers
   pub run : DidRun before now old (take n calls) answers new touched
 
 -- Memory was wanted once n of these calls were answered: by the next of them, which is one that takes memory; or for

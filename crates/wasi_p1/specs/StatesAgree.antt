@@ -1,14 +1,24 @@
 -- When two states are the same to a guest.
-use Rattle.std.specs.Prelude.{ℕ, ◌≡◌, ◌≤◌, List, Contains, Ok, Err}
+use Rattle.std.specs.Prelude.{ℕ, ◌≡◌, ◌↔◌, List, Contains, Ok, Err}
 use Rattle.wasi_host.specs.Agree.{AgreeOn, IsClosed, OrMade}
-use Rattle.wasi_host.specs.Tree.{next_of}
 use Rattle.wasi_p1.specs.Guest.{State, open_nodes}
 use Rattle.wasi_p1.specs.Row.{Row}
 use Rattle.wasi_p1.specs.Rows.{turn}
-use Rattle.wasi_p1.specs.Reach.{Inside}
+use Rattle.wasi_p1.specs.Reach.{Inside, InReach}
 use Rattle.wasi_p1.specs.Run.{Turned, Run, answers_of}
 use Rattle.wasi_p1.specs.Front.{FueledCall}
+use Rattle.wasi_guest.specs.declared.answer.Answer.{Answer}
 use Rattle.wasi_guest.specs.declared.answer.Value.{Value}
+
+-- Two states that differ only where the guest can't come to: all but the tree is equal, and the trees have the same next
+-- number, the same limits, and equal nodes on what is in reach in the first
+pub record Agrees (s s' : State) : Type 0 where
+  pub guest : s.guest ≡ s'.guest
+  pub trees : AgreeOn (Inside s) s.tree s'.tree
+
+-- the same is in reach in both
+abbrev pub ReachIsOne : Type 0
+ReachIsOne = (s s' : State) → Agrees s s' → (n : ℕ) → Inside s n ↔ Inside s' n
 
 -- two states with the same guest, whose trees are equal on a closed set that has its descriptors' nodes
 pub record Alike (Seen : ℕ → Type 0) (s s' : State) : Type 0 where
@@ -27,20 +37,25 @@ AnswerAlike Seen s (Err e) (Ok q) = ⊥
 -- what a call answers, and does to what is in its reach, rests on the guest and on what is in reach
 abbrev pub TurnsAgree : Type 0
 TurnsAgree =
-    (s s' : State) (call : FueledCall) → Alike (Inside s) s s' → AnswerAlike (Inside s) s (turn s call) (turn s' call)
+    (s s' : State) (call : FueledCall) → Agrees s s' → AnswerAlike (Inside s) s (turn s call) (turn s' call)
 
--- the calls have the same answers from a state that is alike, and the states after them are alike
-pub record RunAlike (Seen : ℕ → Type 0) (old old' : State) (calls : List FueledCall) (turns : List Turned)
-    (new : State) : Type 0 where
-  pub turns' : List Turned
-  pub new' : State
-  pub run : Run 0 old' calls turns' new'
-  pub same : answers_of turns' ≡ answers_of turns
-  pub alike : Alike (OrMade Seen old.tree new.tree) new new'
-  pub grows : next_of old.tree ≤ next_of new.tree
+-- From another state the run of the calls with no faulted turn gives these answers, and ends with the same guest, its
+-- memory and its outputs among it, and with a tree that has the same next number, the same limits, and equal nodes on what
+-- was in reach at the start or was made
+pub record RunsSame (old other : State) (calls : List FueledCall) (answers : List Answer) (new : State) : Type 0 where
+  pub turns : List Turned
+  pub last : State
+  pub run : Run 0 other calls turns last
+  pub answers_are : answers ≡ answers_of turns
+  pub guest : new.guest ≡ last.guest
+  pub trees : AgreeOn (InReach old new) new.tree last.tree
+
+-- from whatever state that agrees with the first
+abbrev pub SeesOnlyReach : State → List FueledCall → List Answer → State → Type 0
+SeesOnlyReach old calls answers new = (other : State) → Agrees old other → RunsSame old other calls answers new
 
 -- what the calls of a run answer, and do to what is in reach, rests on the guest and on what is in reach at the start
 abbrev pub RunsAgree : Type 0
 RunsAgree =
-    (old old' new : State) (calls : List FueledCall) (turns : List Turned) → Alike (Inside old) old old'
-    → Run 0 old calls turns new → RunAlike (Inside old) old old' calls turns new
+    (old new : State) (calls : List FueledCall) (turns : List Turned) → Run 0 old calls turns new
+    → SeesOnlyReach old calls (answers_of turns) new

@@ -2,7 +2,7 @@
 ghost use Rattle.wasi_p1.specs.PageLaws.{RecordLength, PageLength, PastTheEnd};
 ghost use Rattle.wasi_p1.specs.PageLaws.{ListingsFit, WholeOfPage, LargePagesHold, PagesInOrder, PagesHaveAll, EmptyPageEnds};
 ghost use Rattle.wasi_p1.specs.Owners.{LiveStays};
-ghost use Rattle.wasi_p1.specs.StatesAgree.{TurnsAgree, RunsAgree};
+ghost use Rattle.wasi_p1.specs.StatesAgree.{ReachIsOne, TurnsAgree, RunsAgree};
 ghost use Rattle.wasi_p1.specs.RunLaws.{OtherErrorsNeverCome, RowsAreComplete, RunsAreComplete, RunsAreFunctions, TurnsAreConfined};
 ghost use Rattle.wasi_p1.specs.Stems.{PermissionsStem};
 ghost use Rattle.wasi_p1.specs.ReadOnly.{ReadOnlyTurnsLeaveTheTree, ReadOnlyRunsLeaveTheTree};
@@ -48,9 +48,11 @@ pub fn turns_are_confined<H: Host>()
     ensures confined { TurnsAreConfined H.world }
 {}
 
-/// Calls answer the same, and do the same to what is in reach, from two states that are the same to the guest.
+/// Calls answer the same, and do the same to what is in reach, from two states that differ only where the guest can't come
+/// to; and the same is in reach in two such states.
 pub fn runs_agree()
     ensures agree { RunsAgree }
+    ensures reach { ReachIsOne }
 {}
 
 /// A call that leaves the descriptors, and the handles of no descriptor, leaves all live handles.

@@ -11,6 +11,9 @@ ghost use Rattle.wasi_p1.specs.Run.{AnswersEach, answer_of, ends, ios, Allows, a
 ghost use Rattle.wasi_p1.specs.declared.error.P1Error.TheVariants.{Memory};
 ghost use Rattle.wasi_p1.specs.Owners.{RunTraced, SlotsOfCall, SlotsOfRun};
 ghost use Rattle.wasi_p1.specs.Reach.{Confined, StaysTouched};
+ghost use Rattle.wasi_p1.specs.InTurn.{DoesCall, DoCalls, DoCallsUntil};
+ghost use Rattle.wasi_p1.specs.StatesAgree.{SeesOnlyReach};
+ghost use Rattle.wasi_p1.specs.Unchanged.{LeavesAll};
 ghost use Rattle.wasi_p1.specs.Validity.{IsValidState};
 
 use crate::context::WasiP1Ctx;
@@ -48,7 +51,9 @@ fn ends_run(answer: Answer) -> bool
 
 /// One call of the context, by the method of its name, with its arguments in the order of `wasi_snapshot_preview1`.
 /// Where it is valid, so that its row answers it, it is answered, unless memory was wanted or the host failed. No error
-/// number is answered that `may_be_answered` doesn't list.
+/// number is answered that `may_be_answered` doesn't list. A trap, want of memory and every error number but `io` leave all
+/// as before: the descriptors, the guest's memory, its outputs, what it has left of its input, the clocks, the place in the
+/// random bytes, and the tree of a host that tells it.
 #[tactic(auto, using(crate::proofs::Completing::turn_completes))]
 pub fn call<H: Host>(
     context: &mut WasiP1Ctx<H>,
@@ -61,6 +66,7 @@ pub fn call<H: Host>(
         → IsValidCall (state_of H.world context.old memory.old) (with_fuel context.old.fuel call)
         → IsAnswered call result }
     ensures errnos { IsTrue H.told → IfSome (answer_of result) MayCome }
+    ensures unchanged { LeavesAll H.told H.world context.old context.new memory.old memory.new result }
 {
     by_name(context, memory, call)
 }
@@ -261,6 +267,7 @@ fn call_with<H: Host>(
     ensures wants { result ≡ Err Memory → IsTrue (may_want one) }
     ensures turn { IsTrue H.told → TakesTurn H.world (Rose (H.faults context.old.host) (H.faults context.new.host))
         context.old context.new memory.old memory.new (with_fuel fuel one) result }
+    ensures does { DoesCall H.Host fuel context.old context.new memory.old memory.new one result }
 {
     context.set_hostcall_fuel(fuel);
     call(context, memory, one)
@@ -271,6 +278,10 @@ fn call_with<H: Host>(
 /// is valid in the state before it is answered Ok, unless the host failed in it. Memory where room is wanted, and then
 /// nothing changed, or where the next call wants it, which is one of those that take some: all stands as after the
 /// calls that were answered.
+///
+/// Where the host didn't fail, what a guest is answered, has in its memory and writes out rests on what is in its reach
+/// alone: from each state that differs from the one before only where the guest can't come to, the same calls are answered
+/// the same, and leave the same guest, and the same nodes where it could come to and of what it made.
 pub fn run_calls<H: Host>(
     alloc: Global,
     context: &mut WasiP1Ctx<H>,
@@ -303,6 +314,13 @@ pub fn run_calls<H: Host>(
         → Confined start (state_of H.world context.new memory.new) (H.world context.new.host).touched }
     ensures valid { IsTrue H.told → IsValidState (state_of H.world context.old memory.old)
         → IsValidState (state_of H.world context.new memory.new) }
+    ensures in_turn { IfOk result (λ a. DoCalls H.Host fuel context.old memory.old calls.now.items a.answers
+        context.new memory.new) }
+    ensures until { IfErr result (λ e. DoCallsUntil H.Host fuel context.old memory.old calls.now.items (answered_in e)
+        context.new memory.new) }
+    ensures agree { IsTrue H.told → (Rose (H.faults context.old.host) (H.faults context.new.host) → ⊥)
+        → IfOk result (λ a. SeesOnlyReach (state_of H.world context.old memory.old)
+        (map (with_fuel fuel) calls.now.items) a.answers (state_of H.world context.new memory.new)) }
 {
     let Ok(mut answers) = Answers::with_room(alloc, calls.len()) else {
         return Err(RunError::Memory { answered: 0 });

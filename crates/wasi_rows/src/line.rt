@@ -1,9 +1,10 @@
 //! What the lines of the rows are.
 
-/// A row's first line, `WORD SCRIPT`: how the program is called, and the script. The word is `failing_source` or
-/// `failing_sink`, where the program is called with `run` and the first read or write fails; `none`, where it is called
-/// with no words; `error`, where no program is called, and the name of an error of scripts stands for the script; else
-/// the words themselves, with commas between them.
+/// A row's first line, `WORD SCRIPT`: how the program is called, and the script. The word is `failing_source,NUMBER`
+/// or `failing_sink,NUMBER`, where the program is called with `run` and the read or write of this number fails, from 1
+/// on; `cut`, where it is called with `run` for each text that the script begins with, and that is shorter; `none`,
+/// where it is called with no words; `error`, where no program is called, and the name of an error of scripts stands
+/// for the script; else the words themselves, with commas between them.
 #[derive(Clone, Copy)]
 pub struct Asked<'a> {
     pub word: &'a str,

@@ -15,13 +15,33 @@ const SHOWN: usize = 240;
 // What stands in a text for anything.
 const ANYTHING: &str = " .. ";
 
-// The number of the first call, where it is to fail.
-fn first_call(alloc: Global, fails: bool) -> Result<Vec<u64>, AllocError> {
+// The words before the number of the read, or of the write, that is to fail.
+const FAILING_SOURCE: &str = "failing_source";
+
+const FAILING_SINK: &str = "failing_sink";
+
+// The number of the call that is to fail, where the word is `END,NUMBER`.
+fn failing_call(word: &str, end: &str) -> Option<u64> {
+    let (failing, number) = word.split_once(',')?;
+    if failing == end {
+        number.parse().ok()
+    } else {
+        None
+    }
+}
+
+// The numbers of the calls of such an end that are to fail.
+fn failing_calls(alloc: Global, word: &str, end: &str) -> Result<Vec<u64>, AllocError> {
     let mut failing = Vec::new(alloc);
-    if fails {
-        failing.push(1)?;
+    if let Some(number) = failing_call(word, end) {
+        failing.push(number)?;
     }
     Ok(failing)
+}
+
+// Whether a read or a write is to fail.
+fn is_failing(word: &str) -> bool {
+    failing_call(word, FAILING_SOURCE).is_some() || failing_call(word, FAILING_SINK).is_some()
 }
 
 // The words with which the program is called.
@@ -30,10 +50,7 @@ fn words_of(alloc: Global, word: &str) -> Result<Vec<String>, AllocError> {
     if word == "none" {
         return Ok(words);
     }
-    let called = match word {
-        "failing_source" | "failing_sink" => "run",
-        others => others,
-    };
+    let called = if is_failing(word) { "run" } else { word };
     for word in called.split(',') {
         words.push(String::from_str(alloc, word)?)?;
     }
@@ -47,12 +64,12 @@ fn ended(alloc: Global, words: &Vec<String>, source: &mut BytesSource, sink: &mu
 
 fn source_of(alloc: Global, asked: Asked<'_>) -> Result<BytesSource, AllocError> {
     let script = expanded(alloc, asked.script)?;
-    let failing = first_call(alloc, asked.word == "failing_source")?;
+    let failing = failing_calls(alloc, asked.word, FAILING_SOURCE)?;
     Ok(BytesSource::new(script.into_bytes(), failing))
 }
 
 fn sink_of(alloc: Global, word: &str) -> Result<BytesSink, AllocError> {
-    let failing = first_call(alloc, word == "failing_sink")?;
+    let failing = failing_calls(alloc, word, FAILING_SINK)?;
     BytesSink::new(alloc, ROOM, failing)
 }
 
@@ -118,8 +135,8 @@ fn told(alloc: Global, exit: u8, taken: &[u8]) -> Result<String, AllocError> {
     format!(in alloc; "ended with {exit}, and wrote {shown}")
 }
 
-/// How the run of a row's script ended, if otherwise than the row says.
-pub fn difference(
+// How the run of a script ended, if otherwise than the row says.
+fn difference_of(
     alloc: Global,
     asked: Asked<'_>,
     wanted: Wanted<'_>,
@@ -129,4 +146,36 @@ pub fn difference(
         return Ok(None);
     }
     Ok(Some(told(alloc, exit, sink.taken())?))
+}
+
+// How the first run ended otherwise than the row says, of each text that a script begins with, and that is shorter.
+fn cut_difference(
+    alloc: Global,
+    script: &str,
+    wanted: Wanted<'_>,
+) -> Result<Option<String>, AllocError> {
+    for (end, _) in script.char_indices() {
+        let cut = Asked {
+            word: "run",
+            script: script.get(..end).unwrap_or(script),
+        };
+        let difference = difference_of(alloc, cut, wanted)?;
+        if difference.is_some() {
+            return Ok(difference);
+        }
+    }
+    Ok(None)
+}
+
+/// How a run of a row ended, if otherwise than the row says.
+pub fn difference(
+    alloc: Global,
+    asked: Asked<'_>,
+    wanted: Wanted<'_>,
+) -> Result<Option<String>, AllocError> {
+    if asked.word == "cut" {
+        cut_difference(alloc, asked.script, wanted)
+    } else {
+        difference_of(alloc, asked, wanted)
+    }
 }

@@ -27,6 +27,7 @@ pub mod LoopLemmas
 pub mod GoodNames
 pub mod ListLemmas
 pub mod MoveLemmas
+pub mod ExchangeLemmas
 pub mod TouchedLemmas
 pub mod MemLemmas
 pub mod NewTreeLemmas

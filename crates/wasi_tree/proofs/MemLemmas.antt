@@ -1,5 +1,5 @@
 -- Lemmas on the host in memory: what its live handles stand for, and that it has no faults.
-use Rattle.std.proofs.Common.{◌≡◌, ◌≢◌, ◌<◌, inl, inr, ℕ, Bool, true, false, cond, List, [], Option, Some, Result, Ok, Err, sym, ap, ◌∙◌, arith}
+use Rattle.std.proofs.Common.{◌≡◌, ◌≢◌, ◌<◌, inl, inr, ℕ, Bool, true, false, cond, List, [], Option, Some, Result, Ok, Err, refl, sym, ap, ◌∙◌, arith}
 use Rattle.std.proofs.lemmas.Bool.{true≢false}
 use Rattle.std.specs.Ordering.{nat_cmp}
 use Rattle.std.specs.FinSet.{contains, empty, contains-empty}
@@ -7,10 +7,12 @@ use Rattle.wasi_host.specs.Tree.{Tree, is_directory, node_at, next_of, child, ho
 use Rattle.wasi_host.specs.HostCall.{HostCall, OpenAt, StatAt, ReadLinkAt, MakeDirAt, SymlinkAt, LinkAt, RenameAt, UnlinkAt, RemoveDirAt, TimesAt, Access, Stat, SetTimes, Pread, Pwrite, Append, SetSize, Sync, Advise, Flags, ListDir, Dup, Close}
 use Rattle.wasi_host.specs.Refusal.{refusal, first_row, naming_rows, loop_rows, moving_rows, renaming_rows}
 use Rattle.wasi_host.specs.Answer.{HostAnswer}
+use Rattle.wasi_host.specs.Fates.{Fated}
 use Rattle.wasi_host.specs.Meaning.{AllHeld, IsHeld, HasCause}
 use Rattle.wasi_host.specs.declared.errors.ErrorCode.TheVariants.{Io}
 use Rattle.wasi_host.specs.declared.errors.HostError.{HostError}
 use Rattle.wasi_host.specs.declared.errors.HostError.TheVariants.{Code, Memory}
+use Rattle.wasi_host.specs.declared.fate.Fate.TheVariants.{Passes}
 use Rattle.wasi_host.specs.declared.held.AccessMode.TheVariants.{PathOnly}
 use Rattle.wasi_host.proofs.Changes.{directory_within}
 use Rattle.wasi_host.proofs.Refusals.{refusal_of, part_refuses}
@@ -119,5 +121,13 @@ pub cause_done : {A : Type 0} (s u : Touched) (call : HostCall) (shown : A → H
     (result : Result A HostError) → FollowsTable s u call shown result → HasCause 0 0 result
 cause_done s u call shown (Ok a) is = no_fault (Ok a) (λ io. (cc))
 cause_done s u call shown (Err error) is = cause_of call error is
+
+-- a host that has no faults tells that its calls pass
+pub fated : {A : Type 0} (result : Result A HostError) → HasCause 0 0 result
+    → Fated (λ _. Passes) (λ _. Passes) result
+fated (Ok a) cause = record { failed = refl; later = λ n. refl }
+fated (Err Memory) cause = record { failed = refl; later = λ n. refl }
+fated (Err (Code Io)) cause = absurd (omega (arith, cause.io refl))
+fated (Err (Code code)) cause = record { failed = refl; later = λ n. refl }
 
 pub ruleset mem_rules = (holds_none, held_within, path_held, all_held, holds-released, holds-given)

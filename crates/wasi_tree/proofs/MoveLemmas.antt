@@ -193,7 +193,7 @@ module _ {t put gone : Tree} {old new n : ℕ} {old_name name : List ℕ} {is_lo
 -- ---- the step
 
 module _ (t : Tree) (old new n : ℕ) (old_name new_name : List ℕ) where
-  names_apart : {there : Option ℕ} → IsMove t old old_name new new_name n there → old ≡ new → old_name ≢ new_name
+  pub names_apart : {there : Option ℕ} → IsMove t old old_name new new_name n there → old ≡ new → old_name ≢ new_name
   names_apart is here same =
       is.other (sym is.onto ∙ (λ i. named_at t (sym here i) (sym same i)) ∙ is.named)
 

@@ -1,6 +1,7 @@
 //! `MemTree`, the tree of files in memory: a host that tells its tree, its handles and the nodes that were touched.
 #![tactic(auto)]
 
+mod change;
 mod errors;
 mod fit;
 mod fit_nodes;
@@ -13,8 +14,10 @@ mod row;
 mod slots;
 mod store;
 mod store_names;
+mod touched_changes;
 mod touched_tree;
 
+pub use change::TreeChange;
 pub use errors::{HandleError, TreeError};
 pub use fit::{fit_trees_are_valid, valid_trees_are_fit};
 pub use fit_nodes::FitNodes;

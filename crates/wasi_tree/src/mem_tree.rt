@@ -5,12 +5,15 @@ ghost use Rattle.std.specs.List.Sorted.{IsStrictlySortedBy};
 ghost use Rattle.std.specs.FinSet.{contains, insert, empty, from_list};
 ghost use Rattle.wasi_host.specs.Tree.{next_of, node_at, is_directory};
 ghost use Rattle.wasi_tree.specs.Given.{given, given_of, tree_of};
+ghost use Rattle.wasi_host.specs.declared.fate.Fate.TheVariants.{Passes};
 ghost use Rattle.wasi_host.specs.Meaning.{both_looked};
 ghost use Rattle.wasi_host.specs.ValidTree.{AreLimits};
 ghost use Rattle.wasi_tree.specs.Fit.{AreFit, IsTreeCause};
+ghost use Rattle.wasi_tree.specs.Changed.{changed};
 ghost use Rattle.wasi_tree.specs.Lent.{lent};
 ghost use Rattle.wasi_tree.specs.MemState.{live_of, held_in, world_of};
 
+use crate::change::TreeChange;
 use crate::errors::{HandleError, TreeError};
 use crate::fit_nodes::FitNodes;
 use crate::node::{LentNode, NewNode};
@@ -126,6 +129,18 @@ impl MemTree {
         Ok(self.slots.give(Held { node, mode }))
     }
 
+    /// Makes a change that no call makes, as the host's step of that kind; one that a row of the host's table refuses, that
+    /// has a name which isn't plain, or that names as a directory a number which isn't one, is skipped. It takes no memory:
+    /// the row of the old name holds the new one. Nothing is touched, and no look-up is added.
+    pub fn change(&mut self, change: TreeChange)
+        ensures tree { self.new.tree ≡ changed self.old.tree change }
+        ensures handles { self.new.handles ≡ self.old.handles }
+        ensures touched { self.new.touched ≡ self.old.touched }
+        ensures lookups { self.new.lookups ≡ self.old.lookups }
+    {
+        self.tree.change(change);
+    }
+
     /// The numbers of the touched nodes, rising: of each call's handles, of the nodes under its names, and of those made.
     pub fn touched(&self, alloc: Global) -> Result<Vec<u64>, AllocError>
         ensures nodes { IfOk result (λ nodes. from_list nodes.items ≡ self.now.touched) }
@@ -154,6 +169,16 @@ impl Host for MemTree {
     ghost told = { true };
 
     ghost world = { world_of };
+
+    ghost tells_fails = { true };
+
+    ghost fails = { λ _ _. Passes };
+
+    ghost tells_found = { true };
+
+    ghost found = { λ m. m.tree };
+
+    ghost left = { world_of };
 
     fn open_at(
         &mut self,

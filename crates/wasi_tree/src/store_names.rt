@@ -1,6 +1,7 @@
 //! What is done to the names of directories.
 ghost use Rattle.std.specs.Prelude.{◌≡◌, ◌-◌, ◌<◌, ◌^◌, OnOk, Some, IfOk, OnErr, true, false, nat_eq, IsTrue};
 ghost use Rattle.std.specs.Option.{ForSome};
+ghost use Rattle.std.specs.String.{string_bytes};
 ghost use Rattle.wasi_paths.specs.Name.{name_bytes};
 ghost use Rattle.wasi_paths.specs.Text.{is_entry_name};
 ghost use Rattle.wasi_host.specs.Tree.{next_of, node_at, child, is_directory, links_of};
@@ -9,7 +10,7 @@ ghost use Rattle.wasi_host.specs.Refusal.{refusal, refused_with, first_row, both
 ghost use Rattle.wasi_host.specs.Step.{with_entry, without_entry, content_changed, one_name_more, name_lost, name_dropped, unlink_step, remove_step, times_step, name_added, name_moved_onto};
 ghost use Rattle.wasi_tree.specs.Looked.{IsLooked};
 ghost use Rattle.wasi_tree.specs.Sound.{NodesStay};
-ghost use Rattle.wasi_tree.specs.Move.{IsMove, found_lost};
+ghost use Rattle.wasi_tree.specs.Move.{IsExchange, IsMove, found_lost};
 
 use crate::looked::Looked;
 use crate::store::Store;
@@ -267,6 +268,40 @@ impl Store {
         self.lose_found(there);
         self.take_name(old, old_name);
         Ok(())
+    }
+
+    /// Moves a name as `move_name` does, to a name whose text is given over. It takes no memory.
+    pub fn rename(
+        &mut self,
+        old: u64,
+        old_name: Name<'_>,
+        new: u64,
+        new_name: String,
+        node: u64,
+        there: Option<u64>,
+    )
+        requires { IsMove self.old old (name_bytes old_name) new (string_bytes new_name) node there }
+        ensures moved { self.new ≡ name_moved_onto self.old old (name_bytes old_name.entry)
+            new (string_bytes new_name) node there }
+        ensures stays { NodesStay self.old self.new }
+        ensures count { next_of self.new ≡ next_of self.old }
+    {
+        self.exchange(old, old_name, new, new_name, node);
+        self.lose_found(there);
+    }
+
+    /// Puts a name into a directory, which this node gets, and takes another name of it out of a directory.
+    fn exchange(&mut self, old: u64, old_name: Name<'_>, new: u64, new_name: String, node: u64)
+        requires { IsExchange self.old old (name_bytes old_name) new (string_bytes new_name) node }
+        ensures exchanged { self.new ≡ content_changed
+            (content_changed self.old new (with_entry (string_bytes new_name) node))
+            old (without_entry (name_bytes old_name.entry)) }
+        ensures stays { NodesStay self.old self.new }
+        ensures count { next_of self.new ≡ next_of self.old }
+    {
+        self.names.rename(old, old_name.as_str(), new, new_name);
+        self.worked.mark(new);
+        self.worked.mark(old);
     }
 
     /// Takes a name from the node that has it, if there is one.

@@ -7,7 +7,7 @@ ghost use Rattle.wasi_paths.specs.Name.{name_bytes};
 ghost use Rattle.wasi_paths.specs.Text.{is_entry_name};
 ghost use Rattle.wasi_host.specs.Tree.{next_of, node_at, is_directory, hold_one};
 ghost use Rattle.wasi_host.specs.Below.{is_below};
-ghost use Rattle.wasi_host.specs.Refusal.{first_row, loop_rows};
+ghost use Rattle.wasi_host.specs.Refusal.{first_row, loop_rows, refusal, refused_with};
 ghost use Rattle.wasi_host.specs.Answer.{entry_of};
 ghost use Rattle.wasi_host.specs.HostCall.{OpenAt, StatAt, ReadLinkAt, MakeDirAt, SymlinkAt, LinkAt, UnlinkAt, RemoveDirAt, TimesAt, Access, Stat, SetTimes, Pread, Pwrite, Append, SetSize, Sync, Advise, Flags, RenameAt, ListDir};
 ghost use Rattle.wasi_host.specs.Meaning.{IsHeld, hosted, answered};
@@ -16,7 +16,7 @@ ghost use Rattle.wasi_tree.specs.Given.{tree_of};
 ghost use Rattle.wasi_tree.specs.Sound.{NodesStay, IsSoundNode, IsSoundText};
 ghost use Rattle.wasi_host.specs.Step.{found_under, node_made, with_nodes};
 ghost use Rattle.wasi_tree.specs.Looked.{IsLooked, looked_at};
-ghost use Rattle.wasi_tree.specs.Move.{MayName};
+ghost use Rattle.wasi_tree.specs.Move.{MayName, Moves};
 ghost use Rattle.wasi_tree.specs.StoredTree.{stored_node};
 ghost use Rattle.wasi_tree.specs.TouchedTree.{FollowsTable};
 
@@ -37,9 +37,9 @@ use wasi_paths::Name;
 /// touched nodes.
 #[derive(Debug, Drop)]
 pub struct TouchedTree {
-    store: Store,
-    parents: Parents,
-    touched: Marks,
+    pub(crate) store: Store,
+    pub(crate) parents: Parents,
+    pub(crate) touched: Marks,
 }
 
 impl Model for TouchedTree {
@@ -242,20 +242,43 @@ impl TouchedTree {
     {
         let from = find(&self.store, &mut self.touched, old, old_name);
         let to = find(&self.store, &mut self.touched, new, new_name);
-        let node = self.store.node_to_rename(&from, &to, requires_dir)?;
-        if let Some(code) = self.refuse_loop(old, new, node, to.found) {
-            return Err(HostError::Code(code));
-        }
-        if holds_node(to.found, node) {
+        let Some(node) = self.node_to_move(&from, &to, requires_dir)? else {
             return Ok(());
-        }
-        if let Some(code) = self.store.refuse_move(old, new, node, to.found) {
-            return Err(HostError::Code(code));
-        }
+        };
         self.store
             .move_name(old, old_name, new, new_name, node, to.found)?;
         self.parents.replace(to.found, node, new);
         Ok(())
+    }
+
+    /// The node that a rename moves, or nothing where both names hold it already; where a row refuses the rename, its code.
+    pub fn node_to_move(
+        &self,
+        from: &Looked<'_>,
+        to: &Looked<'_>,
+        requires_dir: bool,
+    ) -> Result<Option<u64>, ErrorCode>
+        requires from { IsLooked self.now.tree from.now }
+        requires to { IsLooked self.now.tree to.now }
+        ensures refusal { refused_with result ≡ refusal self.now.tree
+            (RenameAt from.now.directory (name_bytes from.now.name) to.now.directory (name_bytes to.now.name) requires_dir) }
+        ensures moves { IfOk result (Moves self.now.tree from.now.directory (name_bytes from.now.name)
+            to.now.directory (name_bytes to.now.name) to.now.found) }
+    {
+        let node = self.store.node_to_rename(from, to, requires_dir)?;
+        if let Some(code) = self.refuse_loop(from.directory, to.directory, node, to.found) {
+            return Err(code);
+        }
+        if holds_node(to.found, node) {
+            return Ok(None);
+        }
+        if let Some(code) = self
+            .store
+            .refuse_move(from.directory, to.directory, node, to.found)
+        {
+            return Err(code);
+        }
+        Ok(Some(node))
     }
 
     /// The rows for a node that would come below itself, or in the place of a directory that is above it.

@@ -1,11 +1,17 @@
 use Rattle.std.proofs.Common.{◌∙◌, arith}
 use Rattle.wasi_names.specs.NameRows.{row_key}
 use Rattle.wasi_names.proofs.BlockLemmas.{put_found, put_absent, put_kept, no_blocks, put_first}
+use Rattle.wasi_names.proofs.ShiftLemmas.{block_given}
 use Rattle.wasi_names.proofs.blocks.put.Goals as goal
 
 pub start-requires-clause-none : goal.start-requires-clause-none
 start-requires-clause-none c = no_blocks (c.args.row.directory, c.as_str-name.result.now) c.args.blocks.now.items
     (rw (← c.block_place-k.ensures.place) (omega arith))
+
+pub start-requires-clause-block : goal.start-requires-clause-block
+start-requires-clause-block c = rw c.taken.ensures.taken (block_given c.args.blocks.now c.args.spare.now c.args.free
+    c.requires.room (no_blocks (c.args.row.directory, c.as_str-name.result.now) c.args.blocks.now.items
+    (rw (← c.block_place-k.ensures.place) (omega arith))))
 
 pub returns-then-k-len-clause-put : goal.returns-then-k-len-clause-put
 returns-then-k-len-clause-put c = c.start.ensures.rows ∙ put_first (row_key c.args.row) c.args.row.node

@@ -12,29 +12,32 @@ returns-then-k-len-clause-removed c = without_first (c.args.directory, c.args.na
     (no_blocks (c.args.directory, c.args.name.now) c.args.blocks.now.items (rw (← c.block_place-k.ensures.place) (omega arith)))
 
 pub returns-then-is_some-clause-kept : goal.returns-then-is_some-clause-kept
-returns-then-is_some-clause-kept c = without_kept (c.args.directory, c.args.name.now) c.args.blocks.now.items _ c.requires
+returns-then-is_some-clause-kept c = without_kept (c.args.directory, c.args.name.now) c.args.blocks.now.items _ c.requires.kept
     c.take_row.ensures.each
-    (c.take_row.ensures.rows ∙ without_found (c.args.directory, c.args.name.now) c.args.blocks.now.items c.requires
+    (c.take_row.ensures.rows ∙ without_found (c.args.directory, c.args.name.now) c.args.blocks.now.items c.requires.kept
     c.block_place-k.result c.block_place-k.ensures.place (omega arith) c.place_at-at.result c.place_at-at.ensures.place
     (rw (← c.found_at-found.ensures, ← c.is_some.ensures) c.if-is_some.true))
 
 pub returns-then-is_some-clause-found : goal.returns-then-is_some-clause-found
 returns-then-is_some-clause-found c = c.found_at-found.ensures ∙ sym (find_here (c.args.directory, c.args.name.now)
-    c.args.blocks.now.items c.requires c.block_place-k.result c.block_place-k.ensures.place (omega arith)
+    c.args.blocks.now.items c.requires.kept c.block_place-k.result c.block_place-k.ensures.place (omega arith)
     c.place_at-at.result c.place_at-at.ensures.place)
 
 pub returns-then-is_some-clause-removed : goal.returns-then-is_some-clause-removed
 returns-then-is_some-clause-removed c =
-    c.take_row.ensures.rows ∙ without_found (c.args.directory, c.args.name.now) c.args.blocks.now.items c.requires
+    c.take_row.ensures.rows ∙ without_found (c.args.directory, c.args.name.now) c.args.blocks.now.items c.requires.kept
     c.block_place-k.result c.block_place-k.ensures.place (omega arith) c.place_at-at.result c.place_at-at.ensures.place
     (rw (← c.found_at-found.ensures, ← c.is_some.ensures) c.if-is_some.true)
 
 pub returns-else-is_some-clause-found : goal.returns-else-is_some-clause-found
 returns-else-is_some-clause-found c = c.found_at-found.ensures ∙ sym (find_here (c.args.directory, c.args.name.now)
-    c.args.blocks.now.items c.requires c.block_place-k.result c.block_place-k.ensures.place (omega arith)
+    c.args.blocks.now.items c.requires.kept c.block_place-k.result c.block_place-k.ensures.place (omega arith)
     c.place_at-at.result c.place_at-at.ensures.place)
 
 pub returns-else-is_some-clause-removed : goal.returns-else-is_some-clause-removed
-returns-else-is_some-clause-removed c = without_absent (c.args.directory, c.args.name.now) c.args.blocks.now.items c.requires
+returns-else-is_some-clause-removed c = without_absent (c.args.directory, c.args.name.now) c.args.blocks.now.items c.requires.kept
     c.block_place-k.result c.block_place-k.ensures.place (omega arith) c.place_at-at.result c.place_at-at.ensures.place
     (rw (← c.found_at-found.ensures, ← c.is_some.ensures) c.if-is_some.false)
+
+pub returns-then-is_some-clause-room : goal.returns-then-is_some-clause-room
+returns-then-is_some-clause-room c = λ some none. rw (← c.block_place-k.ensures.place) (c.take_row.ensures.room none)

@@ -1,5 +1,5 @@
-use Rattle.wasi_p1.proofs.RunsAlike.{runs_alike}
+use Rattle.wasi_p1.proofs.InReach.{runs_same, reach_is_one}
 use Rattle.wasi_p1.proofs.laws.runs_agree.Goals as goal
 
 pub returns : goal.returns
-returns c = record { agree = λ old old' new calls turns alike run. runs_alike calls new turns alike run }
+returns c = record { agree = λ old new calls turns run. runs_same old new calls turns run; reach = reach_is_one }

@@ -8,3 +8,9 @@ returns-clause-wants g c = c.call.ensures.turn.wants
 
 pub returns-clause-slots : goal.returns-clause-slots
 returns-clause-slots g c = rw c.set_hostcall_fuel.ensures.set at c.call.ensures.turn.slots
+
+pub returns-clause-does : goal.returns-clause-does
+returns-clause-does g c = record {
+  row = rw c.set_hostcall_fuel.ensures.set at c.call.ensures.turn;
+  bounds = rw c.set_hostcall_fuel.ensures.set at c.call.ensures.bounds;
+}

@@ -1,10 +1,13 @@
 use Rattle.std.proofs.Common.{map, ◌∙◌, inl, arith, sym, refl, length, drop, length-append, ◌≡◌, ◌+◌, ◌<◌, ◌≤◌}
-use Rattle.std.proofs.lemmas.List.{take_all, length-map}
+use Rattle.std.proofs.lemmas.List.{take_all, take_more, length-map}
 use Rattle.std.proofs.lemmas.List.Elements.{Contains-get_or}
+use Rattle.std.proofs.lemmas.Option.{slice_get-get_or}
 use Rattle.wasi_p1.specs.Front.{with_fuel}
 use Rattle.wasi_guest.specs.declared.call.Call.TheVariants.{ArgsGet}
 use Rattle.wasi_host.proofs.Tracing.{traced_none}
 use Rattle.wasi_p1.proofs.CallTracing.{traced_on}
+use Rattle.wasi_p1.proofs.InReach.{did_same}
+use Rattle.wasi_p1.proofs.InTurn.{none_done, done, done_on, done_last, none_until, done_until, all_calls}
 use Rattle.wasi_p1.proofs.Runs.{nothing_yet, io_counted, turned_on, stood, stood_first, ended, all_done, wanted_memory, may_want_at, call_at, calls_at}
 use Rattle.wasi_p1.proofs.RunAnswers.{goes_on-push, each_answered, last_answered}
 use Rattle.wasi_p1.proofs.Confining.{turn_confines}
@@ -18,6 +21,9 @@ use Rattle.wasi_p1.proofs.run.run_calls.Goals as goal
 pub returns-in_default-clause-memory : goal.returns-in_default-clause-memory
 returns-in_default-clause-memory g c = λ told. stood_first
 
+pub returns-in_default-clause-until : goal.returns-in_default-clause-until
+returns-in_default-clause-until g c = none_until
+
 pub loop-one-init : goal.loop-one-init
 loop-one-init g c = record {
   size = refl;
@@ -30,6 +36,7 @@ loop-one-init g c = record {
   touched = λ told n was. was;
   confined = λ told start is. is;
   valid = λ told start. start;
+  done = rw c.in-Ok.ensures.empty none_done;
   later = omega arith;
   count = rw c.in-Ok.ensures.empty (omega arith);
   room = let fits : c.len.result ≤ c.in-Ok.answers.spare = c.in-Ok.ensures.room in omega (arith, fits, c.len.ensures);
@@ -62,6 +69,12 @@ loop-one-preserved g c = record {
   confined = λ told start is.
       turn_confines (c.call_with-outcome.ensures.turn told) (c.loop-one.invariant.confined told start is);
   valid = λ told start. turn_valid (c.call_with-outcome.ensures.turn told) (c.loop-one.invariant.valid told start);
+  done =
+      let within : c.loop-one.one-index < length c.args.calls.now.items = omega arith in
+      let one = take_more c.args.calls.now.items c.loop-one.one-index (ArgsGet 0 0) within in
+      let on = done_on (sym c.in-Some.ensures) c.call_with-outcome.ensures.does c.loop-one.invariant.done
+      (sym c.ends_run.ensures ∙ c.if-ends_run.false) in
+      rw (c.push.ensures.answers, one) (rw c.deref-one-items.ensures.value at on);
   later = omega arith;
   count = rw (c.push.ensures.answers, length-append) (omega arith);
   room = omega arith;
@@ -83,7 +96,17 @@ returns-in-None-clause-memory g c = λ told.
     let n : c.len-in-None.result ≡ length c.loop-one.answers.answers = c.len-in-None.ensures.count in
     let at : c.loop-one.one-index ≡ c.len-in-None.result = sym (n ∙ c.loop-one.invariant.count) in
     stood (sym c.in-None.ensures) c.call_with-outcome.ensures.bounds.cause (c.call_with-outcome.ensures.turn told) (sym n)
-    (rw at at (c.loop-one.invariant.run told))
+    c.loop-one.invariant.goes (rw at at (c.loop-one.invariant.run told))
+
+pub returns-in-None-clause-until : goal.returns-in-None-clause-until
+returns-in-None-clause-until g c =
+    let within : c.loop-one.one-index < length c.args.calls.now.items = omega arith in
+    let n : c.len-in-None.result ≡ length c.loop-one.answers.answers = c.len-in-None.ensures.count in
+    let at : c.loop-one.one-index ≡ c.len-in-None.result = sym (n ∙ c.loop-one.invariant.count) in
+    let there = slice_get-get_or c.args.calls.now.items c.loop-one.one-index (ArgsGet 0 0) within in
+    let does = rw (wanted_memory (sym c.in-None.ensures)) at c.call_with-outcome.ensures.does in
+    done_until _ (rw at at c.loop-one.invariant.done) (sym n) c.loop-one.invariant.goes (rw at at there)
+    (rw at at (rw c.deref-one-items.ensures.value at does))
 
 pub returns-in-None-clause-wanted : goal.returns-in-None-clause-wanted
 returns-in-None-clause-wanted g c =
@@ -141,6 +164,17 @@ returns-then-ends_run-clause-run g c = λ told.
     (sym c.ends_run.ensures ∙ c.if-ends_run.true) in
     rw (c.push.ensures.answers) (rw (c.deref-one-items.ensures.value, all) at on)
 
+pub returns-then-ends_run-clause-in_turn : goal.returns-then-ends_run-clause-in_turn
+returns-then-ends_run-clause-in_turn g c =
+    let within : c.loop-one.one-index < length c.args.calls.now.items = omega arith in
+    let all = all_calls c.args.calls.now.items c.loop-one.one-index (ArgsGet 0 0) within in
+    let last = done_last (sym c.in-Some.ensures) c.call_with-outcome.ensures.does c.loop-one.invariant.done
+    (drop (c.loop-one.one-index + 1) c.args.calls.now.items) (sym c.ends_run.ensures ∙ c.if-ends_run.true) in
+    rw c.push.ensures.answers (rw (c.deref-one-items.ensures.value, all) at last)
+
+pub returns-then-ends_run-clause-agree : goal.returns-then-ends_run-clause-agree
+returns-then-ends_run-clause-agree g c = λ told never. did_same (returns-then-ends_run-clause-run g c told) never
+
 pub returns-then-ends_run-clause-errnos : goal.returns-then-ends_run-clause-errnos
 returns-then-ends_run-clause-errnos g c = λ told. did_errnos (returns-then-ends_run-clause-run g c told)
 
@@ -176,3 +210,10 @@ returns-clause-run g c = λ told.
 
 pub returns-clause-errnos : goal.returns-clause-errnos
 returns-clause-errnos g c = λ told. did_errnos (returns-clause-run g c told)
+
+pub returns-clause-in_turn : goal.returns-clause-in_turn
+returns-clause-in_turn g c =
+    rw (take_all c.loop-one.one-index c.args.calls.now.items (omega arith)) at (done c.loop-one.invariant.done)
+
+pub returns-clause-agree : goal.returns-clause-agree
+returns-clause-agree g c = λ told never. did_same (returns-clause-run g c told) never

@@ -3,19 +3,19 @@ use Rattle.std.proofs.Common.{map, take, length, ◌+◌, ◌≤◌, ◌≡◌}
 use Rattle.std.specs.Prelude.{IsTrue}
 use Rattle.wasi_p1.specs.Guest.{State, state_of}
 use Rattle.wasi_p1.specs.Reach.{Confined, StaysTouched}
-use Rattle.wasi_p1.specs.Run.{ios, Allows}
+use Rattle.wasi_p1.specs.Run.{ios, Allows, GoOn}
 use Rattle.wasi_p1.specs.CallTurn.{OthersStay}
 use Rattle.wasi_p1.specs.Owners.{RunTraced, SlotsOfRun}
 use Rattle.wasi_p1.specs.Validity.{IsValidState}
 use Rattle.wasi_p1.proofs.Runs.{SoFar}
-use Rattle.wasi_p1.proofs.RunAnswers.{GoesOn}
+use Rattle.wasi_p1.proofs.InTurn.{DoneSoFar}
 use Rattle.wasi_p1.proofs.run.run_calls.Given as goal
 
 abbrev pub invariant-loop-one : goal.invariant-loop-one
 invariant-loop-one g l = record {
   size : length l.memory ≡ length l.fn.memory;
   ios : Allows (g.H.Host.faults l.fn.context.host) (g.H.Host.faults l.context.host) (ios l.answers.answers);
-  goes : GoesOn l.answers.answers;
+  goes : GoOn l.answers.answers;
   handles : OthersStay g.H.Host.live l.fn.context l.context;
   slots : SlotsOfRun l.fn.context.slots l.context.slots l.calls.items;
   lineage : RunTraced l.fn.context.slots l.context.slots (g.H.Host.lookups l.fn.context.host)
@@ -32,6 +32,8 @@ invariant-loop-one g l = record {
       → Confined start (state_of g.H.Host.world l.context l.memory) (g.H.Host.world l.context.host).touched;
   valid : IsTrue g.H.Host.told → IsValidState (state_of g.H.Host.world l.fn.context l.fn.memory)
       → IsValidState (state_of g.H.Host.world l.context l.memory);
+  done : DoneSoFar g.H.Host l.fuel l.fn.context l.fn.memory (take l.one-index l.calls.items) l.answers.answers l.context
+      l.memory;
   later : g.H.Host.faults l.fn.context.host ≤ g.H.Host.faults l.context.host;
   count : length l.answers.answers ≡ l.one-index;
   room : length l.calls.items ≤ l.answers.spare + l.one-index;

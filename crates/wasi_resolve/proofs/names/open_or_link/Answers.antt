@@ -49,3 +49,7 @@ returns-clause-told g c told =
     (doubtful_code c.in-Err.refused _ (sym c.may_be_link.ensures ∙ c.if-not-may_be_link.false)) c.in-Err.ensures.live
     c.requires.live (c.in-Err.ensures.told told) c.in-Ok-stat_at.ensures.live (c.in-Ok-stat_at.ensures.told told)
     (sym c.is_read.ensures ∙ c.if-not-is_read.false)
+
+pub returns-then-not-may_be_link-clause-lineage : goal.returns-then-not-may_be_link-clause-lineage
+returns-then-not-may_be_link-clause-lineage g c =
+    traced_got_err _ _ _ Open c.args.here c.in-Err.refused c.in-Err.ensures.logged

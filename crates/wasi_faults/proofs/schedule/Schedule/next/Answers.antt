@@ -1,11 +1,11 @@
 use mir.Val.{bool_byte}
 use Rattle.std.proofs.Common.{refl, true, false, ◌≡◌, ◌<◌, ◌+◌, ◌-◌, ◌^◌, ◌∙◌, ap, sym, ℕ, arith, length, Option}
 use Rattle.std.specs.Prelude.{is_some}
-use Rattle.wasi_faults.specs.Faults.{Calls, after_call, met, met_after, next_fault, one_if, stands_at, turn_by}
+use Rattle.wasi_faults.specs.Faults.{Calls, after_call, met, met_after, next_fault, one_if, stands_at, fate_by}
 use Rattle.wasi_faults.specs.declared.fault.Fault.{Fault}
-use Rattle.wasi_faults.specs.declared.schedule.Turn.{Turn}
-use Rattle.wasi_faults.specs.declared.schedule.Turn.TheVariants.{Passes, FailsBefore, FailsAfter}
-use Rattle.wasi_faults.proofs.Rising.{met_more, met_turn, met_within, next_is}
+use Rattle.wasi_host.specs.declared.fate.Fate.{Fate}
+use Rattle.wasi_host.specs.declared.fate.Fate.TheVariants.{Passes, FailsBefore, FailsAfter}
+use Rattle.wasi_faults.proofs.Rising.{met_more, met_fate, met_within, next_is}
 use Rattle.wasi_faults.proofs.schedule.Schedule.next.Goals as goal
 
 pub invariant_of-self : goal.invariant_of-self
@@ -20,15 +20,15 @@ invariant_of-self c =
           ]),
     )
 
-pub returns-clause-turn : goal.returns-clause-turn
-returns-clause-turn c =
+pub returns-clause-fate : goal.returns-clause-fate
+returns-clause-fate c =
     let s : Calls = record { faults = c.self.inside.faults.items; calls = c.self.inside.calls } in
-    rw (← c.self.view_is) (c.turn_of.ensures
-    ∙ ap turn_by (c.listed_at-fault.ensures ∙ next_is s c.self.inside.place c.self.invariant.0 c.self.invariant.1))
+    rw (← c.self.view_is) (c.fate_of.ensures
+    ∙ ap fate_by (c.listed_at-fault.ensures ∙ next_is s c.self.inside.place c.self.invariant.0 c.self.invariant.1))
 
 -- one more stands higher by what came
-higher : (s : Calls) (turn : Turn) → met (after_call s) ≡ met_after (met s) turn → length s.faults < 2 ^ 63
-    → stands_at (after_call s) ≡ met_after (stands_at s) turn
+higher : (s : Calls) (fate : Fate) → met (after_call s) ≡ met_after (met s) fate → length s.faults < 2 ^ 63
+    → stands_at (after_call s) ≡ met_after (stands_at s) fate
 unfolding stands_at
 higher s Passes is fits = ap (λ n. 2 ^ 63 - (length s.faults - n)) is
 higher s FailsBefore is fits = omega (arith, is, fits, met_within (after_call s))
@@ -38,7 +38,7 @@ pub returns-clause-count : goal.returns-clause-count
 returns-clause-count c =
     let s : Calls = record { faults = c.self.inside.faults.items; calls = c.self.inside.calls } in
     let fault = c.listed_at-fault.ensures ∙ next_is s c.self.inside.place c.self.invariant.0 c.self.invariant.1 in
-    let more : met (after_call s) ≡ met_after (met s) (turn_by (next_fault s)) =
-    met_more s c.self.invariant.0 (omega arith) ∙ met_turn (met s) (next_fault s) in
-    rw (← c.self.view_is, c.saturating_add-self-inside.ensures, c.turn_of.ensures, fault)
-    (higher s (turn_by (next_fault s)) more (omega arith))
+    let more : met (after_call s) ≡ met_after (met s) (fate_by (next_fault s)) =
+    met_more s c.self.invariant.0 (omega arith) ∙ met_fate (met s) (next_fault s) in
+    rw (← c.self.view_is, c.saturating_add-self-inside.ensures, c.fate_of.ensures, fault)
+    (higher s (fate_by (next_fault s)) more (omega arith))

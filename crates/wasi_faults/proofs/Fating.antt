@@ -1,0 +1,107 @@
+-- What becomes of the calls of a host that fails at listed ones.
+use Rattle.std.proofs.Common.{arith, ◌≡◌, ◌∙◌, inl, inr, refl, sym, ap, ℕ, zero, suc, ◌+◌, Bool, true, false, IsTrue, Result, Ok, Err}
+use Rattle.std.specs.FinSet.{contains}
+use Rattle.wasi_host.specs.Answer.{HostAnswer}
+use Rattle.wasi_host.specs.Fates.{Fated, Fates, Finds, changed_to, has_failed, is_failing}
+use Rattle.wasi_host.specs.HostCall.{HostCall, Close}
+use Rattle.wasi_host.specs.Meaning.{Handles, Told, World, answered}
+use Rattle.wasi_host.specs.Tree.{Tree}
+use Rattle.wasi_host.specs.declared.errors.ErrorCode.TheVariants.{Io}
+use Rattle.wasi_host.specs.declared.errors.HostError.{HostError}
+use Rattle.wasi_host.specs.declared.errors.HostError.TheVariants.{Code, Memory}
+use Rattle.wasi_host.specs.declared.fate.Fate.{Fate}
+use Rattle.wasi_host.specs.declared.fate.Fate.TheVariants.{Passes, FailsBefore, FailsAfter}
+use Rattle.wasi_host.proofs.Refusals.{free_of}
+use Rattle.wasi_faults.specs.Faults.{Calls, after_call, fates_of, joined, next_fate, passed_on}
+
+-- hosts of the same fates have them under the same list
+same_fates : (f g : Fates) (s : Calls) → ((n : ℕ) → f n ≡ g n) → (n : ℕ) → fates_of f s n ≡ fates_of g s n
+same_fates f g s same zero = ap (joined (next_fate s)) (same 0)
+same_fates f g s same (suc n) =
+    same_fates (passed_on fate f) (passed_on fate g) (after_call s) (passed fate) n
+  where
+    fate : Fate
+    fate = next_fate s
+
+    passed : (fate : Fate) (m : ℕ) → passed_on fate f m ≡ passed_on fate g m
+    passed Passes m = same (m + 1)
+    passed FailsBefore m = same m
+    passed FailsAfter m = same (m + 1)
+
+-- the fates after one call of which that becomes by the list
+later_by : (inner inner' : Fates) (s : Calls) {s' : Calls} (fate : Fate) → fate ≡ next_fate s → s' ≡ after_call s
+    → ((n : ℕ) → inner' n ≡ passed_on fate inner n) → (n : ℕ) → fates_of inner' s' n ≡ fates_of inner s (n + 1)
+later_by inner inner' s fate is after same n =
+    let one : suc n ≡ n + 1 = omega arith in
+    ap (λ u. fates_of inner' u n) after
+    ∙ same_fates inner' (passed_on (next_fate s) inner) (after_call s) (λ m. same m ∙ ap (λ f. passed_on f inner m) is) n
+    ∙ ap (fates_of inner s) one
+
+module _ {A : Type 0} (tells : Bool) (inner : Fates) (s : Calls) {inner' : Fates} {s' : Calls} (after : s' ≡ after_call s) where
+  -- one that isn't listed
+  pub fated_passed : {r : Result A HostError} → Passes ≡ next_fate s → (IsTrue tells → Fated inner inner' r)
+      → IsTrue tells → Fated (fates_of inner s) (fates_of inner' s') r
+  fated_passed is fated told = record {
+    failed = (fated told).failed ∙ ap (λ f. is_failing (joined f (inner 0))) is;
+    later = later_by inner inner' s Passes is after (fated told).later;
+  }
+
+  -- one that is made, and its answer lost
+  pub fated_after : {B : Type 0} {r : Result B HostError} → FailsAfter ≡ next_fate s → (IsTrue tells → Fated inner inner' r)
+      → IsTrue tells → Fated {A = A} (fates_of inner s) (fates_of inner' s') (Err (Code Io))
+  fated_after is fated told = record {
+    failed = elim (inner 0) as (λ f. true ≡ is_failing (joined FailsAfter f)) [
+      | Passes ↦ refl
+      | FailsBefore ↦ refl
+      | FailsAfter ↦ refl
+    ] ∙ ap (λ f. is_failing (joined f (inner 0))) is;
+    later = later_by inner inner' s FailsAfter is after (fated told).later;
+  }
+
+-- one that isn't made
+pub fated_before : {A : Type 0} (tells : Bool) (inner : Fates) (s : Calls) {s' : Calls} → s' ≡ after_call s
+    → FailsBefore ≡ next_fate s
+    → IsTrue tells → Fated {A = A} (fates_of inner s) (fates_of inner s') (Err (Code Io))
+fated_before tells inner s after is told = record {
+  failed = ap (λ f. is_failing (joined f (inner 0))) is;
+  later = later_by inner inner s FailsBefore is after (λ n. refl);
+}
+
+-- a handle that was got is closed again
+pub fated_closed : {A : Type 0} {old mid new : Fates} {r : Result A HostError} → Fated old mid r
+    → ((n : ℕ) → new n ≡ mid n) → Fated old new r
+fated_closed fated same = record { failed = fated.failed; later = λ n. same n ∙ fated.later n }
+
+-- a call whose answer is lost did what it did
+pub told_lost : {A B : Type 0} {old new : Handles} {w v : World} {call : HostCall} {shown : A → HostAnswer call}
+    {shown' : B → HostAnswer call} (r : Result A HostError) → Told old new w v call shown r
+    → Told old new w v call shown' (Err (Code Io))
+told_lost {w = w} {call = call} (Ok a) told = record { meaning = tt; after = inr (inr (free_of w.tree call told.meaning, told.after)); keeps = told.keeps }
+told_lost (Err Memory) told = record { meaning = tt; after = elim told.after [ inl stayed ↦ inl stayed | inr looked ↦ inr (inl looked) ]; keeps = told.keeps }
+told_lost (Err (Code Io)) told = record { meaning = tt; after = told.after; keeps = told.keeps }
+told_lost (Err (Code code)) told = record { meaning = tt; after = inr (inl told.after); keeps = told.keeps }
+
+-- an open whose answer is lost, and the handle that it gave closed again
+module _ {old mid new : Handles} {w u v : World} {call : HostCall} {A B : Type 0} {shown : A → HostAnswer call}
+    {shown' : B → HostAnswer call} (within : (h : ℕ) → contains old h ≡ true → contains mid h ≡ true)
+    (closed : Told mid new u v Close (λ unit. unit) answered) where
+  pub told_closed : {a : A} → Told old mid w u call shown (Ok a) → Told old new w v call shown' (Err (Code Io))
+  told_closed opened = record {
+    meaning = tt;
+    after = inr (inr (
+      free_of w.tree call opened.meaning,
+      record {
+        tree = closed.after.tree ∙ opened.after.tree;
+        touched = closed.after.touched ∙ opened.after.touched;
+      },
+    ));
+    keeps = λ h old new. closed.keeps h (within h old) new ∙ opened.keeps h old (within h old);
+  }
+
+pub finds_lost : {A B : Type 0} {old new : Handles} {left after : World} {found : Tree} {call : HostCall}
+    {shown : A → HostAnswer call} {shown' : B → HostAnswer call} (r : Result A HostError)
+    → Finds old new left found after call shown r → Finds old new left found after call shown' (Err (Code Io))
+finds_lost r (inl told) = inl (told_lost r told)
+finds_lost r (inr failed) = inr (refl, failed.1)
+
+pub ruleset fate_rules = (fated_passed, fated_before, fated_after, fated_closed, told_lost, finds_lost)
