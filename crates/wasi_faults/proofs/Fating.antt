@@ -1,8 +1,8 @@
 -- What becomes of the calls of a host that fails at listed ones.
-use Rattle.std.proofs.Common.{arith, ◌≡◌, ◌∙◌, inl, inr, refl, sym, ap, ℕ, zero, suc, ◌+◌, Bool, true, false, IsTrue, Result, Ok, Err}
+use Rattle.std.proofs.Common.{arith, ◌≡◌, ◌∙◌, inl, inr, refl, ap, ℕ, zero, suc, ◌+◌, Bool, true, IsTrue, Result, Ok, Err}
 use Rattle.std.specs.FinSet.{contains}
 use Rattle.wasi_host.specs.Answer.{HostAnswer}
-use Rattle.wasi_host.specs.Fates.{Fated, Fates, Finds, changed_to, has_failed, is_failing}
+use Rattle.wasi_host.specs.Fates.{Fated, Fates, Finds, Follow, Others, is_failing}
 use Rattle.wasi_host.specs.HostCall.{HostCall, Close}
 use Rattle.wasi_host.specs.Meaning.{Handles, Told, World, answered}
 use Rattle.wasi_host.specs.Tree.{Tree}
@@ -12,13 +12,12 @@ use Rattle.wasi_host.specs.declared.errors.HostError.TheVariants.{Code, Memory}
 use Rattle.wasi_host.specs.declared.fate.Fate.{Fate}
 use Rattle.wasi_host.specs.declared.fate.Fate.TheVariants.{Passes, FailsBefore, FailsAfter}
 use Rattle.wasi_host.proofs.Refusals.{free_of}
-use Rattle.wasi_faults.specs.Faults.{Calls, after_call, fates_of, joined, next_fate, passed_on}
+use Rattle.wasi_faults.specs.Faults.{Calls, one_came, fates_of, joined, next_fate, others_of, passed_on}
 
 -- hosts of the same fates have them under the same list
 same_fates : (f g : Fates) (s : Calls) → ((n : ℕ) → f n ≡ g n) → (n : ℕ) → fates_of f s n ≡ fates_of g s n
 same_fates f g s same zero = ap (joined (next_fate s)) (same 0)
-same_fates f g s same (suc n) =
-    same_fates (passed_on fate f) (passed_on fate g) (after_call s) (passed fate) n
+same_fates f g s same (suc n) = same_fates (passed_on fate f) (passed_on fate g) (one_came s) (passed fate) n
   where
     fate : Fate
     fate = next_fate s
@@ -28,16 +27,69 @@ same_fates f g s same (suc n) =
     passed FailsBefore m = same m
     passed FailsAfter m = same (m + 1)
 
+-- hosts of which others change the tree alike find it changed alike under the same list
+same_others : (f g : Others) (s : Calls) → ((n : ℕ) (t : Tree) → f n t ≡ g n t) → (n : ℕ) (t : Tree)
+    → others_of f s n t ≡ others_of g s n t
+same_others f g s same zero t = same 0 t
+same_others f g s same (suc n) t = same_others (passed_on fate f) (passed_on fate g) (one_came s) (passed fate) n t
+  where
+    fate : Fate
+    fate = next_fate s
+
+    passed : (fate : Fate) (m : ℕ) (t : Tree) → passed_on fate f m t ≡ passed_on fate g m t
+    passed Passes m = same (m + 1)
+    passed FailsBefore m = same m
+    passed FailsAfter m = same (m + 1)
+
+-- where nobody else changes the tree, nobody does under a list
+pub alone_too : (inner : Others) (s : Calls) → ((n : ℕ) (t : Tree) → inner n t ≡ t) → (n : ℕ) (t : Tree)
+    → others_of inner s n t ≡ t
+alone_too inner s alone zero t = alone 0 t
+alone_too inner s alone (suc n) t = alone_too (passed_on fate inner) (one_came s) (passed fate) n t
+  where
+    fate : Fate
+    fate = next_fate s
+
+    passed : (fate : Fate) (m : ℕ) (t : Tree) → passed_on fate inner m t ≡ t
+    passed Passes m = alone (m + 1)
+    passed FailsBefore m = alone m
+    passed FailsAfter m = alone (m + 1)
+
 -- the fates after one call of which that becomes by the list
-later_by : (inner inner' : Fates) (s : Calls) {s' : Calls} (fate : Fate) → fate ≡ next_fate s → s' ≡ after_call s
+later_by : (inner inner' : Fates) (s : Calls) {s' : Calls} (fate : Fate) → fate ≡ next_fate s → s' ≡ one_came s
     → ((n : ℕ) → inner' n ≡ passed_on fate inner n) → (n : ℕ) → fates_of inner' s' n ≡ fates_of inner s (n + 1)
 later_by inner inner' s fate is after same n =
     let one : suc n ≡ n + 1 = omega arith in
     ap (λ u. fates_of inner' u n) after
-    ∙ same_fates inner' (passed_on (next_fate s) inner) (after_call s) (λ m. same m ∙ ap (λ f. passed_on f inner m) is) n
+    ∙ same_fates inner' (passed_on (next_fate s) inner) (one_came s) (λ m. same m ∙ ap (λ f. passed_on f inner m) is) n
     ∙ ap (fates_of inner s) one
 
-module _ {A : Type 0} (tells : Bool) (inner : Fates) (s : Calls) {inner' : Fates} {s' : Calls} (after : s' ≡ after_call s) where
+-- what others do after one call of which that becomes by the list
+follow_by : (inner inner' : Others) (s : Calls) {s' : Calls} (fate : Fate) → fate ≡ next_fate s → s' ≡ one_came s
+    → ((n : ℕ) (t : Tree) → inner' n t ≡ passed_on fate inner n t) → Follow (others_of inner s) (others_of inner' s')
+follow_by inner inner' s fate is after same n t =
+    let one : suc n ≡ n + 1 = omega arith in
+    ap (λ u. others_of inner' u n t) after
+    ∙ same_others inner' (passed_on (next_fate s) inner) (one_came s)
+    (λ m u. same m u ∙ ap (λ f. passed_on f inner m u) is) n t
+    ∙ ap (λ m. others_of inner s m t) one
+
+module _ (tells : Bool) (inner : Others) (s : Calls) {s' : Calls} (after : s' ≡ one_came s) where
+  -- after one that isn't listed
+  pub follow_passed : {inner' : Others} → Passes ≡ next_fate s → (IsTrue tells → Follow inner inner')
+      → IsTrue tells → Follow (others_of inner s) (others_of inner' s')
+  follow_passed {inner' = inner'} is follow told = follow_by inner inner' s Passes is after (follow told)
+
+  -- after one that is made, and its answer lost
+  pub follow_after : {inner' : Others} → FailsAfter ≡ next_fate s → (IsTrue tells → Follow inner inner')
+      → IsTrue tells → Follow (others_of inner s) (others_of inner' s')
+  follow_after {inner' = inner'} is follow told = follow_by inner inner' s FailsAfter is after (follow told)
+
+  -- after one that isn't made
+  pub follow_before : FailsBefore ≡ next_fate s → IsTrue tells → Follow (others_of inner s) (others_of inner s')
+  follow_before is told = follow_by inner inner s FailsBefore is after (λ n t. refl)
+
+module _ {A : Type 0} (tells : Bool) (inner : Fates) (s : Calls) {inner' : Fates} {s' : Calls} (after : s' ≡ one_came s) where
   -- one that isn't listed
   pub fated_passed : {r : Result A HostError} → Passes ≡ next_fate s → (IsTrue tells → Fated inner inner' r)
       → IsTrue tells → Fated (fates_of inner s) (fates_of inner' s') r
@@ -59,7 +111,7 @@ module _ {A : Type 0} (tells : Bool) (inner : Fates) (s : Calls) {inner' : Fates
   }
 
 -- one that isn't made
-pub fated_before : {A : Type 0} (tells : Bool) (inner : Fates) (s : Calls) {s' : Calls} → s' ≡ after_call s
+pub fated_before : {A : Type 0} (tells : Bool) (inner : Fates) (s : Calls) {s' : Calls} → s' ≡ one_came s
     → FailsBefore ≡ next_fate s
     → IsTrue tells → Fated {A = A} (fates_of inner s) (fates_of inner s') (Err (Code Io))
 fated_before tells inner s after is told = record {
@@ -71,6 +123,9 @@ fated_before tells inner s after is told = record {
 pub fated_closed : {A : Type 0} {old mid new : Fates} {r : Result A HostError} → Fated old mid r
     → ((n : ℕ) → new n ≡ mid n) → Fated old new r
 fated_closed fated same = record { failed = fated.failed; later = λ n. same n ∙ fated.later n }
+
+pub follow_closed : (old mid new : Others) → Follow old mid → ((n : ℕ) (t : Tree) → new n t ≡ mid n t) → Follow old new
+follow_closed old mid new follow same n t = same n t ∙ follow n t
 
 -- a call whose answer is lost did what it did
 pub told_lost : {A B : Type 0} {old new : Handles} {w v : World} {call : HostCall} {shown : A → HostAnswer call}
@@ -104,4 +159,4 @@ pub finds_lost : {A B : Type 0} {old new : Handles} {left after : World} {found 
 finds_lost r (inl told) = inl (told_lost r told)
 finds_lost r (inr failed) = inr (refl, failed.1)
 
-pub ruleset fate_rules = (fated_passed, fated_before, fated_after, fated_closed, told_lost, finds_lost)
+pub ruleset fate_rules = (fated_passed, fated_before, fated_after, fated_closed, follow_passed, follow_before, follow_after, told_lost, finds_lost)

@@ -1,9 +1,8 @@
 -- Which calls of a host fail, by a list of their numbers.
-use Rattle.std.specs.Prelude.{ℕ, zero, suc, ◌+◌, ◌-◌, ◌^◌, ◌<◌, ◌≤◌, Bool, true, false, ◌&&◌, if◌then◌else◌, nat_eq, nat_le, nat_lt, count_by, min, slice_get, length, List, [], ◌∷◌, Option, Some, None}
-use Rattle.wasi_host.specs.Fates.{Fates}
+use Rattle.std.specs.Prelude.{◌≡◌, IsTrue, ℕ, zero, suc, ◌+◌, ◌-◌, ◌^◌, ◌<◌, ◌≤◌, Bool, true, ◌&&◌, if◌then◌else◌, nat_eq, nat_le, nat_lt, count_by, min, slice_get, length, List, [], ◌∷◌, Option, Some, None}
+use Rattle.wasi_host.specs.Fates.{Fates, Others}
 use Rattle.wasi_host.specs.declared.fate.Fate.{Fate}
 use Rattle.wasi_host.specs.declared.fate.Fate.TheVariants.{Passes, FailsBefore, FailsAfter}
-use Rattle.wasi_host.specs.declared.host.Host.{Ghosts}
 use Rattle.wasi_faults.specs.declared.fault.Fault.{Fault}
 
 -- the numbers rise, and the first is above this one
@@ -12,8 +11,8 @@ rise_from n [] = true
 rise_from n (fault ∷ faults) = nat_lt n fault.number && rise_from fault.number faults
 
 -- the numbers rise, from 1 or more on
-abbrev pub are_rising : List Fault → Bool
-are_rising faults = rise_from 0 faults
+abbrev pub numbers_rise : List Fault → Bool
+numbers_rise faults = rise_from 0 faults
 
 -- the calls that fail, and how many calls came
 pub record Calls : Type 0 where
@@ -21,13 +20,13 @@ pub record Calls : Type 0 where
   pub calls : ℕ
 
 -- the fault of a number
-abbrev pub listed : List Fault → ℕ → Option Fault
-listed [] n = None
-listed (fault ∷ faults) n = if nat_eq fault.number n then Some fault else listed faults n
+abbrev pub fault_numbered : List Fault → ℕ → Option Fault
+fault_numbered [] n = None
+fault_numbered (fault ∷ faults) n = if nat_eq fault.number n then Some fault else fault_numbered faults n
 
 -- the next call's; one after that of number 2^64 - 1 has no number
 unfoldable pub next_fault : Calls → Option Fault
-next_fault s = if nat_lt s.calls (2 ^ 64 - 1) then listed s.faults (s.calls + 1) else None
+next_fault s = if nat_lt s.calls (2 ^ 64 - 1) then fault_numbered s.faults (s.calls + 1) else None
 
 -- a fault, where it has this number
 abbrev pub of_number : ℕ → Option Fault → Option Fault
@@ -48,13 +47,9 @@ fate_by (Some fault) = if fault.after then FailsAfter else FailsBefore
 abbrev pub next_fate : Calls → Fate
 next_fate s = fate_by (next_fault s)
 
-abbrev pub one_if : Bool → ℕ
-one_if true = 1
-one_if false = 0
-
 -- one call more came
-abbrev pub after_call : Calls → Calls
-after_call s = record s { calls = min (s.calls + 1) (2 ^ 64 - 1) }
+abbrev pub one_came : Calls → Calls
+one_came s = record s { calls = min (s.calls + 1) (2 ^ 64 - 1) }
 
 -- how many of the calls that fail came
 unfoldable pub met : Calls → ℕ
@@ -90,7 +85,7 @@ joined FailsAfter FailsBefore = FailsBefore
 joined FailsAfter FailsAfter = FailsAfter
 
 -- the inner host's calls to come, after a call of which that becomes by the list: one that isn't made is none of them
-abbrev pub passed_on : Fate → Fates → Fates
+abbrev pub passed_on : {A : Type 0} → Fate → (ℕ → A) → ℕ → A
 passed_on Passes inner n = inner (n + 1)
 passed_on FailsBefore inner n = inner n
 passed_on FailsAfter inner n = inner (n + 1)
@@ -98,7 +93,12 @@ passed_on FailsAfter inner n = inner (n + 1)
 -- what becomes of the calls to come
 abbrev pub fates_of : Fates → Calls → Fates
 fates_of inner s zero = joined (next_fate s) (inner 0)
-fates_of inner s (suc n) = fates_of (passed_on (next_fate s) inner) (after_call s) n
+fates_of inner s (suc n) = fates_of (passed_on (next_fate s) inner) (one_came s) n
+
+-- what others do before the calls to come: before one that isn't made what they do before the next one that is
+abbrev pub others_of : Others → Calls → Others
+others_of inner s zero = inner 0
+others_of inner s (suc n) = others_of (passed_on (next_fate s) inner) (one_came s) n
 
 -- over an inner host that counts nothing: the count rises by no more than as many as are listed, and isn't at its end
 pub record CountsFew (before now : Calls) : Type 0 where
@@ -107,3 +107,16 @@ pub record CountsFew (before now : Calls) : Type 0 where
 
 abbrev pub FaultsAreFew : Type 0
 FaultsAreFew = (before now : Calls) → CountsFew before now
+
+-- the same calls, where none came yet
+abbrev pub none_came : Calls → Calls
+none_came s = record s { calls = 0 }
+
+-- over an inner host that counts nothing: the count stands higher than at the start by those of the calls that fail which
+-- came, and they are no more than are listed
+pub record CountsMet (s : Calls) : Type 0 where
+  pub count : counted 0 s ≡ counted 0 (none_came s) + met s
+  pub most : met s ≤ length s.faults
+
+abbrev pub FaultsAreMet : Type 0
+FaultsAreMet = (s : Calls) → IsTrue (numbers_rise s.faults) → length s.faults ≤ 2 ^ 63 → CountsMet s

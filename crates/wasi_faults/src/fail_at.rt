@@ -1,6 +1,6 @@
 //! A host that fails at listed calls.
 ghost use Rattle.std.specs.Prelude.{◌≡◌, IsTrue};
-ghost use Rattle.wasi_faults.specs.Faults.{are_rising, counted, fates_of};
+ghost use Rattle.wasi_faults.specs.Faults.{numbers_rise, counted, fates_of, others_of};
 
 use crate::fault::Fault;
 use crate::schedule::Schedule;
@@ -36,7 +36,7 @@ impl<H: Host> Model for FailAt<H> {
 impl<H: Host> FailAt<H> {
     /// A host that fails at these calls, whose numbers rise from 1 or more on; none came yet.
     pub fn new(inner: H, faults: Vec<Fault>) -> FailAt<H>
-        requires rising { IsTrue (are_rising faults.items) }
+        requires rising { IsTrue (numbers_rise faults.items) }
         ensures inner { result.inner ≡ inner }
         ensures calls { result.calls ≡ record { faults = faults.items; calls = 0 } }
     {
@@ -71,6 +71,8 @@ impl<H: Host> Host for FailAt<H> {
     ghost fails = { λ s. fates_of (H.fails s.inner) s.calls };
 
     ghost tells_found = { H.tells_found };
+
+    ghost others = { λ s. others_of (H.others s.inner) s.calls };
 
     ghost found = { λ s. H.found s.inner };
 

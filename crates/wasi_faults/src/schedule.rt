@@ -1,6 +1,6 @@
 //! Which calls fail, and how many came.
 ghost use Rattle.std.specs.Prelude.{◌≡◌, IsTrue};
-ghost use Rattle.wasi_faults.specs.Faults.{after_call, are_rising, met_after, next_fate, standing_at, stands_at, fate_by};
+ghost use Rattle.wasi_faults.specs.Faults.{one_came, numbers_rise, met_after, next_fate, standing_at, stands_at, fate_by};
 
 use crate::fault::Fault;
 use std::marker::Model;
@@ -16,20 +16,20 @@ pub struct Schedule {
 
 impl Model for Schedule {
     ghost use Rattle.std.specs.Prelude.{◌≡◌, IsTrue};
-    ghost use Rattle.wasi_faults.specs.Faults.{Calls, are_rising, met};
+    ghost use Rattle.wasi_faults.specs.Faults.{Calls, numbers_rise, met};
 
     ghost Value = { Calls };
 
     ghost view = { λ s. record { faults = s.faults.items; calls = s.calls } };
 
-    ghost invariant = { λ s. IsTrue (are_rising s.faults.items)
+    ghost invariant = { λ s. IsTrue (numbers_rise s.faults.items)
         × (s.place ≡ met (record { faults = s.faults.items; calls = s.calls })) };
 }
 
 impl Schedule {
     /// No call came yet.
     pub fn new(faults: Vec<Fault>) -> Schedule
-        requires rising { IsTrue (are_rising faults.items) }
+        requires rising { IsTrue (numbers_rise faults.items) }
         ensures { result ≡ record { faults = faults.items; calls = 0 } }
     {
         Schedule {
@@ -42,7 +42,7 @@ impl Schedule {
     /// Counts a call, and says what becomes of it.
     pub fn next(&mut self) -> Fate
         ensures fate { result ≡ next_fate self.old }
-        ensures after { self.new ≡ after_call self.old }
+        ensures after { self.new ≡ one_came self.old }
         ensures count { stands_at self.new ≡ met_after (stands_at self.old) result }
     {
         let fault = listed_at(&self.faults, self.place, self.calls);

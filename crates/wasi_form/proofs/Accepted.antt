@@ -6,7 +6,7 @@ use Rattle.std.specs.List.{list_all}
 use Rattle.std.proofs.lemmas.Bool.{and_parts, leb-true}
 use Rattle.std.proofs.lemmas.Bool.Decides.{same_from_decides}
 use Rattle.serde_json.specs.Data.{Data}
-use Rattle.wasi_faults.specs.Faults.{are_rising}
+use Rattle.wasi_faults.specs.Faults.{numbers_rise}
 use Rattle.wasi_guest.specs.Services.{AreWithin}
 use Rattle.wasi_host.specs.Steps.{◌>>=◌}
 use Rattle.wasi_host.specs.ValidTree.{AreLimits}
@@ -136,7 +136,7 @@ pub record IsAccepted (p : Plan) : Type 0 where
   pub within : is_within_limits p ≡ true
   pub limits : AreLimits p.limits
   pub fit : AreFit p.limits p.nodes
-  pub faults : IsTrue (are_rising p.faults)
+  pub faults : IsTrue (numbers_rise p.faults)
   pub services : AreWithin p.services
 
 accepted_within : (q p : Plan) (within : Bool) → is_within_limits q ≡ within → AreFit q.limits q.nodes

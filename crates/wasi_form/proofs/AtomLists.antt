@@ -8,7 +8,9 @@ use Rattle.wasi_form.specs.Atoms.{flat, flat_items, atom_data, SeesAtoms}
 use Rattle.wasi_form.specs.CallForm.{Argument, U32, U64, I64, number_of, first_number, Maker, call_made, CallRow, Takes, call_rows, call_by, call_with, call_in}
 use Rattle.wasi_form.specs.Lists.{◌>>=◌, at_name}
 use Rattle.wasi_form.specs.MemoryForm.{piece_bytes, piece_of_items, shown_of_items}
-use Rattle.wasi_form.specs.ServicesForm.{env_pair_of_items}
+use Rattle.wasi_form.specs.FaultsForm.{is_after, fault_of_items}
+use Rattle.wasi_form.specs.NodeForm.{moment_of_items}
+use Rattle.wasi_form.specs.ServicesForm.{env_pair_of_items, wall_of_items}
 use Rattle.wasi_form.specs.Shapes.{u64_of, i64_of, u32_of, is_text}
 use Rattle.wasi_form.proofs.Grammar.{items_before, items_before-push}
 use Rattle.wasi_form.specs.declared.atoms.Atom.{Atom}
@@ -78,6 +80,27 @@ env_pair_sees no_items = refl
 env_pair_sees (item d no_items) = refl
 env_pair_sees (item d (item e no_items)) = rw (str_flat d, str_flat e) refl
 env_pair_sees (item d (item e (item f ds))) = refl
+
+after_flat : (d : Data) → is_after (flat d) ≡ is_after d
+after_flat d = rw (is_text_flat _ d, is_text_flat _ d) refl
+
+pub fault_sees : SeesAtoms fault_of_items
+fault_sees no_items = refl
+fault_sees (item d no_items) = refl
+fault_sees (item d (item e no_items)) = rw (number_flat U64 d, after_flat e) refl
+fault_sees (item d (item e (item f ds))) = refl
+
+pub wall_sees : SeesAtoms wall_of_items
+wall_sees no_items = refl
+wall_sees (item d no_items) = refl
+wall_sees (item d (item e no_items)) = rw (number_flat U64 d, number_flat U32 e) refl
+wall_sees (item d (item e (item f ds))) = refl
+
+pub moment_sees : SeesAtoms moment_of_items
+moment_sees no_items = refl
+moment_sees (item d no_items) = refl
+moment_sees (item d (item e no_items)) = rw (number_flat I64 d, number_flat U64 e) refl
+moment_sees (item d (item e (item f ds))) = refl
 
 before_same : {A : Type 0} (o : Option A) (ds es : Items) (make : A → Items → Option Call) → ((x : A) → make x ds ≡ make x es)
     → option_and_then {T = A × Items} (λ first. make first.0 first.1) (option_map (λ x. (x, ds)) o)

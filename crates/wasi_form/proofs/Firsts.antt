@@ -12,7 +12,7 @@ use Rattle.serde_json.specs.Data.{Num, Data, null, boolean, number, string, arra
 use Rattle.serde_json.specs.Find.{as_object, as_array}
 use Rattle.serde_json.specs.Read.{number_of, of_json, converted}
 use Rattle.wasi_form.specs.Atoms.{flat}
-use Rattle.wasi_form.specs.Tokens.{next_value}
+use Rattle.wasi_form.specs.Tokens.{next_value, nothing}
 use Rattle.wasi_form.proofs.Grammar.{next_null, next_boolean, next_string, next_number, next_array, next_deep_array, next_object, next_deep_object}
 
 -- a test of the value at the front
@@ -137,3 +137,30 @@ other_is_no_atom depth t ts r d no_number no_string is =
     }) in
     let none = no_atom d (rw is at first) in
     rw is (rw none refl)
+
+-- whether a token is a value by itself, and no number
+abbrev pub is_lone : Read.Token → Bool
+is_lone tokens.BeginObject = false
+is_lone tokens.EndObject = false
+is_lone tokens.BeginArray = false
+is_lone tokens.EndArray = false
+is_lone (tokens.Key k) = false
+is_lone (tokens.String s) = true
+is_lone (tokens.Number s) = false
+is_lone (tokens.Bool b) = true
+is_lone tokens.Null = true
+is_lone tokens.Bad = false
+
+-- such a value is passed with its token
+pub lone_passed : (depth : ℕ) (t : Read.Token) (ts : List Token) → is_lone t ≡ true
+    → parse_map nothing (next_value depth (token_of t ∷ ts)) ≡ Some (tt, ts)
+lone_passed depth tokens.BeginObject ts lone = absurd (cc)
+lone_passed depth tokens.EndObject ts lone = absurd (cc)
+lone_passed depth tokens.BeginArray ts lone = absurd (cc)
+lone_passed depth tokens.EndArray ts lone = absurd (cc)
+lone_passed depth (tokens.Key k) ts lone = absurd (cc)
+lone_passed depth (tokens.String s) ts lone = ap (parse_map nothing) (next_string depth s.now ts)
+lone_passed depth (tokens.Number s) ts lone = absurd (cc)
+lone_passed depth (tokens.Bool b) ts lone = ap (parse_map nothing) (next_boolean depth b ts)
+lone_passed depth tokens.Null ts lone = ap (parse_map nothing) (next_null depth ts)
+lone_passed depth tokens.Bad ts lone = absurd (cc)

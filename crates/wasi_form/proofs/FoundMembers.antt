@@ -1,4 +1,4 @@
--- The members of a script and of its memory, found one after another.
+-- The members of a script, and of the objects at its keys, found one after another.
 use Rattle.std.proofs.Common.{◌≡◌, ℕ, List, [], ◌∷◌, ◌++◌, false, Option, Some, None, refl, codes}
 use Rattle.std.specs.Str.{bytes_eq}
 use Rattle.std.proofs.lemmas.Bool.{or_parts}
@@ -10,7 +10,9 @@ use Rattle.wasi_form.specs.declared.services.ServiceKey.{ServiceKey}
 use Rattle.wasi_form.specs.declared.services.ServiceKey.TheVariants.{Args, Env, Stdin, Wall, WallResolution, Monotonic, MonotonicResolution, Random}
 use Rattle.wasi_form.specs.MemoryForm.{memory_rows, memory_in}
 use Rattle.wasi_form.specs.ScriptForm.{part_rows, script_keys, found_in}
-use Rattle.wasi_form.specs.FoundParts.{with_service, with_beside, with_member, with_memory_member}
+use Rattle.wasi_form.specs.LimitsForm.{limits_rows, limits_in}
+use Rattle.wasi_form.specs.PreopenForm.{preopen_rows, preopen_in}
+use Rattle.wasi_form.specs.FoundParts.{with_service, with_beside, with_member, with_memory_member, with_limits_member, with_preopen_member}
 use Rattle.wasi_form.proofs.Members.{all_keys-put, puts, stays, by_rows}
 use Rattle.wasi_form.proofs.ServiceMembers.{name_of, at_service, in_no_row}
 
@@ -69,3 +71,21 @@ memory_in-put k d ms =
     (simp puts, (simp puts, tt))
     (λ none. let still = stays (names memory_rows) k d ms none in
     rw (all_keys-put, none, still (codes "size") refl, still (codes "pieces") refl) refl)
+
+pub limits_in-put : (k : List ℕ) (d : Data) (ms : Members)
+    → limits_in (put k d ms) ≡ with_limits_member k d (limits_in ms)
+unfolding with_limits_member
+limits_in-put k d ms =
+    by_rows (λ key. limits_in (put key d ms)) limits_rows (λ _ all. record all { known = false }) d (limits_in ms) k
+    (simp puts, (simp puts, tt))
+    (λ none. let still = stays (names limits_rows) k d ms none in
+    rw (all_keys-put, none, still (codes "nodes") refl, still (codes "links") refl) refl)
+
+pub preopen_in-put : (k : List ℕ) (d : Data) (ms : Members)
+    → preopen_in (put k d ms) ≡ with_preopen_member k d (preopen_in ms)
+unfolding with_preopen_member
+preopen_in-put k d ms =
+    by_rows (λ key. preopen_in (put key d ms)) preopen_rows (λ _ all. record all { known = false }) d (preopen_in ms) k
+    (simp puts, (simp puts, (simp puts, tt)))
+    (λ none. let still = stays (names preopen_rows) k d ms none in
+    rw (all_keys-put, none, still (codes "node") refl, still (codes "name") refl, still (codes "perms") refl) refl)

@@ -246,10 +246,6 @@ pub items_before-no_items : {T : Type 0} (see : T → Data) (xs : List T)
 items_before-no_items see [] = refl
 items_before-no_items see (x ∷ xs) = ap (item (see x)) (items_before-no_items see xs)
 
-pub as_it_is : {A : Type 0} (o : Option (A × List Token)) → o ≡ parse_map (λ a. a) o
-as_it_is None = refl
-as_it_is (Some p) = refl
-
 -- what else is made of it
 pub remade : {A B C : Type 0} (f : A → B) (g : A → C) (h : B → C) (o : Option (A × List Token)) (b : B) (r : List Token)
     → ((a : A) → h (f a) ≡ g a)

@@ -7,7 +7,6 @@ pub mod FoundMembers
 pub mod NodeMembers
 pub mod Items
 pub mod AtomLists
-pub mod Keys
 pub mod Digits
 pub mod Entries
 pub mod Lengths

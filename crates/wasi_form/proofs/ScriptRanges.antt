@@ -8,15 +8,14 @@ use Rattle.serde_json.specs.Find as find
 use Rattle.serde_json.specs.Find.{get_member}
 use Rattle.wasi_host.specs.ValidTree.{AreLimits}
 use Rattle.wasi_host.specs.declared.limits.Limits.{Limits}
-use Rattle.wasi_faults.specs.Faults.{are_rising}
+use Rattle.wasi_faults.specs.Faults.{numbers_rise}
 use Rattle.wasi_faults.specs.declared.fault.Fault.{Fault}
 use Rattle.wasi_guest.specs.Services.{IsWallMoment, AreWithin}
 use Rattle.wasi_guest.specs.declared.services.WallDatetime.{WallDatetime}
-use Rattle.wasi_form.specs.declared.shapes.Form.TheVariants as forms
 use Rattle.wasi_form.specs.FaultsForm.{fault_of, where_rising, faults_of}
-use Rattle.wasi_form.specs.Lists.{◌>>=◌, only_if, needed, optional, list_of}
-use Rattle.wasi_form.specs.Shapes.{u64_of, u32_of, two_of, is_object}
-use Rattle.wasi_form.specs.LimitsForm.{default_limits, is_limit, limits_of}
+use Rattle.wasi_form.specs.Lists.{◌>>=◌, only_if, optional, list_of}
+use Rattle.wasi_form.specs.Shapes.{u64_of, u32_of, two_in}
+use Rattle.wasi_form.specs.LimitsForm.{default_limits, is_limit, LimitsFound, limits_in, limits_found, limits_of}
 use Rattle.wasi_form.specs.ServicesForm.{wall_of, default_wall, default_wall_resolution, ServicesFound, services_in, services_found}
 use Rattle.wasi_form.specs.Plan.{Plan}
 use Rattle.wasi_form.specs.ScriptForm.{ScriptFound, found_in, script_found, script_of}
@@ -51,17 +50,19 @@ tested : (limits : Limits) (test : Bool) → is_limit limits.nodes && is_limit l
 tested limits true is = in_range limits is
 tested limits false is = tt
 
-limits_read : (d : Data) → IfSome (limits_of d) AreLimits
-limits_read d =
-    let nodes_of = needed u64_of (find.get (codes "nodes") d) in
-    let links_of = needed u64_of (find.get (codes "links") d) in
-    kept AreLimits (only_if (is_object forms.Limits d)) _ (λ _. kept AreLimits nodes_of _ (λ nodes.
-    kept AreLimits links_of _ (λ links. tested (record { nodes = nodes; links = links }) _ refl)))
+limits_within : (found : LimitsFound) → IfSome (limits_found found) AreLimits
+unfolding limits_found
+limits_within found =
+    kept AreLimits (only_if found.known) _ (λ _. kept AreLimits found.nodes _ (λ nodes.
+    kept AreLimits found.links _ (λ links. tested (record { nodes = nodes; links = links }) _ refl)))
 
-limits_found : (part : Option Data) → IfSome (optional limits_of default_limits part) AreLimits
-limits_found None =
+limits_read : (d : Data) → IfSome (limits_of d) AreLimits
+limits_read d = kept AreLimits (find.as_object d) _ (λ ms. limits_within (limits_in ms))
+
+limits_at : (part : Option Data) → IfSome (optional limits_of default_limits part) AreLimits
+limits_at None =
     record { some_nodes = lit≤ tt; most_nodes = lit≤ tt; some_links = lit≤ tt; most_links = lit≤ tt }
-limits_found (Some d) = limits_read d
+limits_at (Some d) = limits_read d
 
 -- ---- what its wall clock stands at
 
@@ -79,9 +80,9 @@ moment_tested moment false is = tt
 
 wall_read : (d : Data) → IfSome (wall_of d) IsWallMoment
 wall_read d =
-    kept IsWallMoment (two_of d) _ (λ two. kept IsWallMoment (u64_of two.0) _ (λ seconds.
-    kept IsWallMoment (u32_of two.1) _ (λ nanoseconds.
-    moment_tested (record { seconds = seconds; nanoseconds = nanoseconds }) _ refl)))
+    kept IsWallMoment (find.as_array d) _ (λ ds. kept IsWallMoment (two_in ds) _ (λ two.
+    kept IsWallMoment (u64_of two.0) _ (λ seconds. kept IsWallMoment (u32_of two.1) _ (λ nanoseconds.
+    moment_tested (record { seconds = seconds; nanoseconds = nanoseconds }) _ refl))))
 
 wall_found : (absent : WallDatetime) (part : Option Data) → IsWallMoment absent
     → IfSome (optional wall_of absent part) IsWallMoment
@@ -113,12 +114,12 @@ services_within found are =
 -- ---- the numbers of its faults
 
 abbrev Rise : List Fault → Type 0
-Rise faults = IsTrue (are_rising faults)
+Rise faults = IsTrue (numbers_rise faults)
 
 rise_tested : (faults : List Fault) → IfSome (where_rising faults) Rise
-rise_tested faults = by (are_rising faults) refl
+rise_tested faults = by (numbers_rise faults) refl
   where
-    by : (test : Bool) → are_rising faults ≡ test → IfSome (if test then Some faults else None) Rise
+    by : (test : Bool) → numbers_rise faults ≡ test → IfSome (if test then Some faults else None) Rise
     by true is = is
     by false is = tt
 
@@ -150,5 +151,5 @@ found_in_range found are rise walls =
 pub script_in_range : (d : Data) → IfSome (script_of d) IsInRange
 script_in_range d =
     kept IsInRange (find.as_object d) _ (λ ms.
-    found_in_range (found_in ms) (limits_found (get_member (codes "limits") ms))
+    found_in_range (found_in ms) (limits_at (get_member (codes "limits") ms))
     (faults_found (get_member (codes "faults") ms)) (walls_found ms))

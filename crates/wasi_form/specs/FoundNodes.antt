@@ -15,10 +15,9 @@ use Rattle.wasi_tree.specs.Given.{Given, GivenContent, file, directory, link, ne
 use Rattle.wasi_form.specs.declared.nodes.EntryParts.{EntryParts}
 use Rattle.wasi_form.specs.declared.nodes.NodeParts.{NodeParts}
 use Rattle.wasi_form.specs.declared.nodes.NodeTimes.{NodeTimes}
-use Rattle.wasi_form.specs.declared.shapes.Form.TheVariants as forms
 use Rattle.wasi_form.specs.Lists.{same, ◌>>=◌, at_name, only_if}
-use Rattle.wasi_form.specs.NodeForm.{script_entries, bits_of, times_of, no_times, given_at}
-use Rattle.wasi_form.specs.Shapes.{u64_of, hex_of, keys_of, all_keys}
+use Rattle.wasi_form.specs.NodeForm.{node_keys, script_entries, bits_of, times_of, no_times, given_at}
+use Rattle.wasi_form.specs.Shapes.{u64_of, hex_of, all_keys}
 
 -- ---- the names of a directory
 
@@ -69,7 +68,7 @@ pub record NodeFound : Type 0 where
 -- of all members
 abbrev pub node_parts_in : Members → NodeFound
 node_parts_in ms = record {
-  known = all_keys (keys_of forms.Node) ms;
+  known = all_keys node_keys ms;
   dir = option_map script_entries (get_member (codes "dir") ms);
   file = option_map hex_of (get_member (codes "file") ms);
   link = option_map find.as_str (get_member (codes "link") ms);

@@ -1,17 +1,21 @@
--- What the members of a script and of its memory are read as, one after another.
+-- What the members of a script, and of the objects at its keys, are read as, one after another.
 use Rattle.std.specs.Prelude.{ℕ, List, false, map, Option, Some, None, option_map, unwrap_or}
 use Rattle.std.specs.String.{string_bytes}
 use Rattle.serde_json.specs.Data.{Data}
 use Rattle.wasi_tree.specs.Given.{given}
 use Rattle.wasi_guest.specs.Services.{env_pair}
+use Rattle.wasi_form.specs.declared.limits.LimitsParts.{LimitsParts}
 use Rattle.wasi_form.specs.declared.memory.MemoryParts.{MemoryParts}
 use Rattle.wasi_form.specs.declared.parts.Parts.{Parts}
+use Rattle.wasi_form.specs.declared.preopens.PreopenParts.{PreopenParts}
 use Rattle.wasi_form.specs.declared.services.ServiceKey.{ServiceKey}
 use Rattle.wasi_form.specs.declared.services.ServiceKey.TheVariants.{Args, Env, Stdin, Wall, WallResolution, Monotonic, MonotonicResolution, Random}
 use Rattle.wasi_form.specs.declared.services.ServiceParts.{ServiceParts}
 use Rattle.wasi_form.specs.Lists.{same, at_name, list_seen}
 use Rattle.wasi_form.specs.Plan.{planned_preopen, planned_piece, planned_memory}
+use Rattle.wasi_form.specs.LimitsForm.{limits_rows, LimitsFound}
 use Rattle.wasi_form.specs.MemoryForm.{memory_rows, MemoryFound}
+use Rattle.wasi_form.specs.PreopenForm.{preopen_rows, PreopenFound}
 use Rattle.wasi_form.specs.ServicesForm.{args_of, env_of, wall_of, service_key, ServicesFound}
 use Rattle.wasi_form.specs.Shapes.{u64_of, hex_of}
 use Rattle.wasi_form.specs.ScriptForm.{part_rows, ScriptFound}
@@ -77,3 +81,25 @@ memory_found_of parts =
 -- with one more member, which counts for those before it at its key
 unfoldable pub with_memory_member : List ℕ → Data → MemoryFound → MemoryFound
 with_memory_member key d found = unwrap_or (at_name memory_rows key) (λ _ all. record all { known = false }) d found
+
+-- of the limits that were read
+abbrev pub limits_found_of : LimitsParts → LimitsFound
+limits_found_of parts =
+    record { known = parts.known; nodes = option_map same parts.nodes; links = option_map same parts.links }
+
+-- with one more member, which counts for those before it at its key
+unfoldable pub with_limits_member : List ℕ → Data → LimitsFound → LimitsFound
+with_limits_member key d found = unwrap_or (at_name limits_rows key) (λ _ all. record all { known = false }) d found
+
+-- of the directory that was read
+abbrev pub preopen_found_of : PreopenParts → PreopenFound
+preopen_found_of parts = record {
+  known = parts.known;
+  node = option_map same parts.node;
+  name = option_map string_bytes parts.name;
+  perms = option_map same parts.perms;
+}
+
+-- with one more member, which counts for those before it at its key
+unfoldable pub with_preopen_member : List ℕ → Data → PreopenFound → PreopenFound
+with_preopen_member key d found = unwrap_or (at_name preopen_rows key) (λ _ all. record all { known = false }) d found

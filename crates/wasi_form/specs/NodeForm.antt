@@ -2,16 +2,19 @@
 -- `"bits": "rwx"` and `"times": [TIME, TIME, TIME]` where they are wanted.
 use Rattle.std.specs.Prelude.{◌≡◌, refl, ℕ, ℤ, List, [], ◌∷◌, Bool, true, false, nat_eq, nat_lt, codes, if◌then◌else◌, Option, Some, None, option_map}
 use Rattle.std.proofs.lemmas.Bool.{ltb-true}
-use Rattle.serde_json.specs.Data.{Data, Members, no_members, member}
+use Rattle.serde_json.specs.Data.{Data, Items, Members, no_members, member}
 use Rattle.serde_json.specs.Find as find
 use Rattle.wasi_host.specs.Time.{zero_time}
 use Rattle.wasi_host.specs.declared.bits.Bits.{Bits}
 use Rattle.wasi_host.specs.declared.system_time.SystemTime.{SystemTime}
 use Rattle.wasi_tree.specs.Given.{Given, GivenContent, file, directory, link, new_given}
 use Rattle.wasi_form.specs.declared.nodes.NodeTimes.{NodeTimes}
-use Rattle.wasi_form.specs.declared.shapes.Form.TheVariants as forms
-use Rattle.wasi_form.specs.Lists.{◌>>=◌, only_if, optional}
-use Rattle.wasi_form.specs.Shapes.{u64_of, i64_of, hex_of, two_of, three_of, is_object}
+use Rattle.wasi_form.specs.Lists.{◌>>=◌, only_if, optional, list_of}
+use Rattle.wasi_form.specs.Shapes.{u64_of, i64_of, hex_of, two_in, is_object}
+
+-- the keys that a node may have
+abbrev pub node_keys : List (List ℕ)
+node_keys = codes "dir" ∷ codes "file" ∷ codes "link" ∷ codes "bits" ∷ codes "times" ∷ []
 
 -- names with the numbers of their nodes
 unfoldable pub entries_all : Members → Option (List (List ℕ × ℕ))
@@ -65,21 +68,28 @@ unfoldable pub moment_at : ℤ → ℕ → Option SystemTime
 moment_at seconds nanoseconds = moment_by seconds nanoseconds (nat_lt nanoseconds 1000000000) refl
 
 -- `[SECONDS, NANOSECONDS]`, the seconds with a sign
-abbrev pub moment_in : Data → Option SystemTime
-moment_in d = do
-  two ← two_of d
+abbrev pub moment_of_items : Items → Option SystemTime
+moment_of_items ds = do
+  two ← two_in ds
   seconds ← i64_of two.0
   nanoseconds ← u64_of two.1
   moment_at seconds nanoseconds
 
+abbrev pub moment_in : Data → Option SystemTime
+moment_in d = find.as_array d >>= moment_of_items
+
 -- when it was accessed, modified and created
+abbrev pub three_times : List SystemTime → Option NodeTimes
+three_times [] = None
+three_times (accessed ∷ []) = None
+three_times (accessed ∷ modified ∷ []) = None
+three_times (accessed ∷ modified ∷ created ∷ []) =
+    Some (record { accessed = accessed; modified = modified; created = created })
+three_times (accessed ∷ modified ∷ created ∷ more ∷ times) = None
+
+-- a list of these three
 abbrev pub times_of : Data → Option NodeTimes
-times_of d = do
-  three ← three_of d
-  accessed ← moment_in three.0
-  modified ← moment_in three.1
-  created ← moment_in three.2
-  Some (record { accessed = accessed; modified = modified; created = created })
+times_of d = list_of moment_in d >>= three_times
 
 -- where nothing is said of its times
 abbrev pub no_times : NodeTimes
@@ -98,7 +108,7 @@ given_at content bits times = record {
 -- its bits and times are those of a new node where none are given
 abbrev pub script_node : Data → Option Given
 script_node d = do
-  _ ← only_if (is_object forms.Node d)
+  _ ← only_if (is_object node_keys d)
   content ← script_content (find.get (codes "dir") d) (find.get (codes "file") d) (find.get (codes "link") d)
   bits ← optional bits_of (new_given content).bits (find.get (codes "bits") d)
   times ← optional times_of no_times (find.get (codes "times") d)

@@ -1,23 +1,57 @@
 -- The form of a directory that the guest is given.
-use Rattle.std.specs.Prelude.{codes, if◌then◌else◌, Option, Some, None}
-use Rattle.serde_json.specs.Data.{Data}
+use Rattle.std.specs.Prelude.{ℕ, List, [], ◌∷◌, Bool, codes, if◌then◌else◌, Option, Some, None}
+use Rattle.std.specs.Str.{bytes_eq}
+use Rattle.serde_json.specs.Data.{Data, Members}
 use Rattle.serde_json.specs.Find as find
+use Rattle.serde_json.specs.Find.{get_member}
 use Rattle.wasi_fs.specs.declared.perms.FsPerms.{FsPerms}
 use Rattle.wasi_fs.specs.declared.perms.FsPerms.TheVariants.{ReadOnly, ReadWrite}
-use Rattle.wasi_form.specs.declared.shapes.Form.TheVariants as forms
-use Rattle.wasi_form.specs.Lists.{◌>>=◌, only_if, needed}
-use Rattle.wasi_form.specs.Shapes.{u64_of, is_text, is_object}
+use Rattle.wasi_form.specs.Lists.{◌>>=◌, names, only_if, needed}
+use Rattle.wasi_form.specs.Shapes.{u64_of, all_keys}
 use Rattle.wasi_form.specs.Plan.{PlannedPreopen}
 
 -- `"ro"` or `"rw"`
+abbrev pub perms_in : List ℕ → Option FsPerms
+perms_in text =
+    if bytes_eq text (codes "ro") then Some ReadOnly else (if bytes_eq text (codes "rw") then Some ReadWrite else None)
+
 abbrev pub perms_named : Data → Option FsPerms
-perms_named d = if is_text (codes "ro") d then Some ReadOnly else (if is_text (codes "rw") d then Some ReadWrite else None)
+perms_named d = find.as_str d >>= perms_in
+
+-- whether all keys are those of a directory that is given, and what stands at them: `None` where it is missing or of
+-- another shape
+pub record PreopenFound : Type 0 where
+  pub known : Bool
+  pub node : Option ℕ
+  pub name : Option (List ℕ)
+  pub perms : Option FsPerms
+
+-- the keys, each with what a member adds there
+abbrev pub preopen_rows : List (List ℕ × (Data → PreopenFound → PreopenFound))
+preopen_rows =
+    (codes "node", λ d found. record found { node = u64_of d })
+    ∷ (codes "name", λ d found. record found { name = find.as_str d })
+    ∷ (codes "perms", λ d found. record found { perms = perms_named d })
+    ∷ []
+
+-- of all members
+abbrev pub preopen_in : Members → PreopenFound
+preopen_in ms = record {
+  known = all_keys (names preopen_rows) ms;
+  node = needed u64_of (get_member (codes "node") ms);
+  name = needed find.as_str (get_member (codes "name") ms);
+  perms = needed perms_named (get_member (codes "perms") ms);
+}
+
+-- the directory of what was found
+unfoldable pub preopen_found : PreopenFound → Option PlannedPreopen
+preopen_found found = do
+  _ ← only_if found.known
+  node ← found.node
+  name ← found.name
+  perms ← found.perms
+  Some (record { node = node; name = name; perms = perms })
 
 -- `{"node": NODE, "name": NAME, "perms": PERMS}`
 abbrev pub preopen_of : Data → Option PlannedPreopen
-preopen_of d = do
-  _ ← only_if (is_object forms.Preopen d)
-  node ← needed u64_of (find.get (codes "node") d)
-  name ← needed find.as_str (find.get (codes "name") d)
-  perms ← needed perms_named (find.get (codes "perms") d)
-  Some (record { node = node; name = name; perms = perms })
+preopen_of d = find.as_object d >>= (λ ms. preopen_found (preopen_in ms))

@@ -8,7 +8,7 @@ use Rattle.wasi_guest.specs.declared.services.WallDatetime.{WallDatetime}
 use Rattle.wasi_form.specs.declared.services.ServiceKey.{ServiceKey}
 use Rattle.wasi_form.specs.declared.services.ServiceKey.TheVariants.{Args, Env, Stdin, Wall, WallResolution, Monotonic, MonotonicResolution, Random}
 use Rattle.wasi_form.specs.Lists.{◌>>=◌, at_name, only_if, optional, list_of}
-use Rattle.wasi_form.specs.Shapes.{u64_of, u32_of, hex_of, two_in, two_of}
+use Rattle.wasi_form.specs.Shapes.{u64_of, u32_of, hex_of, two_in}
 
 -- a list of texts
 abbrev pub args_of : Data → Option (List (List ℕ))
@@ -30,13 +30,16 @@ abbrev pub env_of : Data → Option (List (List ℕ × List ℕ))
 env_of d = list_of env_pair_of d
 
 -- `[SECONDS, NANOSECONDS]`: below 2^63 seconds, and nanoseconds that make no second
-abbrev pub wall_of : Data → Option WallDatetime
-wall_of d = do
-  two ← two_of d
+abbrev pub wall_of_items : Items → Option WallDatetime
+wall_of_items ds = do
+  two ← two_in ds
   seconds ← u64_of two.0
   nanoseconds ← u32_of two.1
   _ ← only_if (nat_lt seconds (2 ^ 63) && nat_lt nanoseconds 1000000000)
   Some (record { seconds = seconds; nanoseconds = nanoseconds })
+
+abbrev pub wall_of : Data → Option WallDatetime
+wall_of d = find.as_array d >>= wall_of_items
 
 -- the keys, each with the part that stands at it
 abbrev pub service_keys : List (List ℕ × ServiceKey)

@@ -1,12 +1,10 @@
 -- The shapes of numbers and texts, of short lists, and of an object's keys.
-use Rattle.std.specs.Prelude.{ℕ, ℤ, ◌^◌, List, [], ◌∷◌, Bool, true, false, ◌&&◌, codes, Option, Some, None, Result, Ok, Err, nat_lt, if◌then◌else◌}
+use Rattle.std.specs.Prelude.{ℕ, ℤ, ◌^◌, List, Bool, true, false, ◌&&◌, Option, Some, None, Result, Ok, Err, nat_lt, if◌then◌else◌}
 use Rattle.std.specs.List.{list_any}
 use Rattle.std.specs.Str.{bytes_eq}
 use Rattle.serde_json.specs.Data.{Data, null, boolean, number, string, array, object, Items, no_items, item, Members, no_members, member}
 use Rattle.serde_json.specs.Find as find
 use Rattle.hex.specs.Hex.{decode_of}
-use Rattle.wasi_form.specs.declared.shapes.Form.{Form}
-use Rattle.wasi_form.specs.declared.shapes.Form.TheVariants as forms
 use Rattle.wasi_form.specs.Lists.{◌>>=◌}
 
 -- a whole number of 64 bits
@@ -53,9 +51,6 @@ two_in (item d no_items) = None
 two_in (item d (item e no_items)) = Some (d, e)
 two_in (item d (item e (item more ds))) = None
 
-abbrev pub two_of : Data → Option (Data × Data)
-two_of d = find.as_array d >>= two_in
-
 -- the items of a list of three
 abbrev pub three_in : Items → Option (Data × Data × Data)
 three_in no_items = None
@@ -64,15 +59,7 @@ three_in (item d (item e no_items)) = None
 three_in (item d (item e (item f no_items))) = Some (d, e, f)
 three_in (item d (item e (item f (item more ds)))) = None
 
-abbrev pub three_of : Data → Option (Data × Data × Data)
-three_of d = find.as_array d >>= three_in
-
--- the keys that an object of a form may have
-abbrev pub keys_of : Form → List (List ℕ)
-keys_of forms.Node = codes "dir" ∷ codes "file" ∷ codes "link" ∷ codes "bits" ∷ codes "times" ∷ []
-keys_of forms.Preopen = codes "node" ∷ codes "name" ∷ codes "perms" ∷ []
-keys_of forms.Limits = codes "nodes" ∷ codes "links" ∷ []
-
+-- the key is one of these
 abbrev pub has_key : List (List ℕ) → List ℕ → Bool
 has_key keys key = list_any (bytes_eq key) keys
 
@@ -81,10 +68,10 @@ all_keys keys no_members = true
 all_keys keys (member k d ms) = has_key keys k && all_keys keys ms
 
 -- it is an object with these keys and no others
-abbrev pub is_object : Form → Data → Bool
-is_object form null = false
-is_object form (boolean b) = false
-is_object form (number n) = false
-is_object form (string s) = false
-is_object form (array ds) = false
-is_object form (object ms) = all_keys (keys_of form) ms
+abbrev pub is_object : List (List ℕ) → Data → Bool
+is_object keys null = false
+is_object keys (boolean b) = false
+is_object keys (number n) = false
+is_object keys (string s) = false
+is_object keys (array ds) = false
+is_object keys (object ms) = all_keys keys ms

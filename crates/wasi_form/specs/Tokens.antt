@@ -21,6 +21,10 @@ next_items depth ts = converted of_items (json.items (json.value depth) (length 
 abbrev pub next_members : ℕ → Members → List Token → Option (Members × List Token)
 next_members depth before ts = converted (λ ms. of_members ms before) (json.members (json.value depth) (length ts) ts)
 
+-- what is kept of what is passed
+abbrev pub nothing : {A : Type 0} → A → Unit {0}
+nothing a = tt
+
 -- what all members come to is what is seen of one after another, of which the last one of equal keys counts
 abbrev pub TakesMembers : {S : Type 0} → (Members → S) → (List ℕ → Data → S → S) → Type 0
 TakesMembers of with = (k : List ℕ) (d : Data) (ms : Members) → of (put k d ms) ≡ with k d (of ms)

@@ -1,4 +1,4 @@
-//! Lists of numbers and texts: any other value in them is read, and let go.
+//! Lists of numbers and texts: any other value in them is passed, and nothing of it is kept.
 ghost use Rattle.std.specs.Prelude.{◌≡◌, ◌∷◌, option_map};
 ghost use Rattle.json.specs.Json.{parse_map};
 ghost use Rattle.json.specs.Reads.{token_of};
@@ -6,16 +6,17 @@ ghost use Rattle.serde_json.specs.Find as find;
 ghost use Rattle.serde_json.specs.View.{number_view};
 ghost use Rattle.wasi_form.specs.Atoms.{flat, flat_items, atom_data, atoms_data};
 ghost use Rattle.wasi_form.specs.IsRead.{IsRead};
+ghost use Rattle.wasi_form.specs.Lists.{same};
 ghost use Rattle.wasi_form.specs.Shapes as shapes;
 ghost use Rattle.wasi_form.specs.Tokens.{next_value, next_items};
 
 use crate::shapes::{Reading, Unread};
-use crate::tokens::{number, value_after};
+use crate::tokens::{number, pass_after};
 use json::{Reader, Token};
 use serde_json::Number;
 use std::alloc::Global;
 
-/// An item of a list: a number, a text, or any other value, which was let go.
+/// An item of a list: a number, a text, or any other value, which was passed.
 #[derive(Clone, Copy)]
 pub enum Atom<'a> {
     Number(Number),
@@ -79,21 +80,16 @@ impl<'a> Atom<'a> {
 }
 
 /// The next value of a text.
-pub fn next_atom<'a>(alloc: Global, reader: &mut Reader<'a>, depth: usize) -> Reading<Atom<'a>>
+pub fn next_atom<'a>(reader: &mut Reader<'a>, depth: usize) -> Reading<Atom<'a>>
     ensures { IsRead (λ atom. (atom_data atom, reader.new)) result (parse_map flat (next_value depth reader.old)) }
 {
     match reader.next() {
-        Some(token) => atom_after(alloc, token, reader, depth),
+        Some(token) => atom_after(token, reader, depth),
         None => Err(Unread::Shape),
     }
 }
 
-fn atom_after<'a>(
-    alloc: Global,
-    token: Token<'a>,
-    reader: &mut Reader<'a>,
-    depth: usize,
-) -> Reading<Atom<'a>>
+fn atom_after<'a>(token: Token<'a>, reader: &mut Reader<'a>, depth: usize) -> Reading<Atom<'a>>
     ensures { IsRead (λ atom. (atom_data atom, reader.new)) result
         (parse_map flat (next_value depth (token_of token.entry ∷ reader.old))) }
 {
@@ -104,22 +100,34 @@ fn atom_after<'a>(
         },
         Token::String(text) => Ok(Atom::Text(text)),
         _ => {
-            drop(value_after(alloc, token, reader, depth)?);
+            pass_after(token, reader, depth)?;
             Ok(Atom::Other)
         }
     }
 }
 
 /// The next value of a text, where it is a text itself.
-pub fn next_text<'a>(
-    alloc: Global,
-    reader: &mut Reader<'a>,
-    depth: usize,
-) -> Reading<Option<&'a str>>
+pub fn next_text<'a>(reader: &mut Reader<'a>, depth: usize) -> Reading<Option<&'a str>>
     ensures { IsRead (λ found. (option_map (λ text. text.now) found, reader.new)) result
         (parse_map find.as_str (next_value depth reader.old)) }
 {
-    Ok(next_atom(alloc, reader, depth)?.as_str())
+    Ok(next_atom(reader, depth)?.as_str())
+}
+
+/// The next value of a text, where it is a whole number of 64 bits.
+pub fn next_u64(reader: &mut Reader<'_>, depth: usize) -> Reading<Option<u64>>
+    ensures { IsRead (λ found. (option_map same found, reader.new)) result
+        (parse_map shapes.u64_of (next_value depth reader.old)) }
+{
+    Ok(next_atom(reader, depth)?.as_u64())
+}
+
+/// The next value of a text, where it is a whole number of 32 bits.
+pub fn next_u32(reader: &mut Reader<'_>, depth: usize) -> Reading<Option<u32>>
+    ensures { IsRead (λ found. (option_map same found, reader.new)) result
+        (parse_map shapes.u32_of (next_value depth reader.old)) }
+{
+    Ok(next_atom(reader, depth)?.as_u32())
 }
 
 // How many items a list has at most of which a form is made.
@@ -132,7 +140,7 @@ fn atoms_left<'a>(alloc: Global, reader: &mut Reader<'a>, depth: usize) -> Readi
 {
     let mut found = Vec::with_capacity(alloc, MOST_ITEMS)?;
     'items: while !reader.take_end_array() {
-        let item = next_atom(alloc, reader, depth)?;
+        let item = next_atom(reader, depth)?;
         found.push(item)?;
     }
     Ok(found)
@@ -170,7 +178,7 @@ fn list_atoms_after<'a>(
             Ok(Some(atoms_left(alloc, reader, depth - 1)?))
         }
         _ => {
-            drop(value_after(alloc, token, reader, depth)?);
+            pass_after(token, reader, depth)?;
             Ok(None)
         }
     }

@@ -1,46 +1,49 @@
 //! The calls of the host that a script lets fail.
 ghost use Rattle.std.specs.Prelude.{◌≡◌, option_map};
 ghost use Rattle.json.specs.Json.{parse_map};
-ghost use Rattle.serde_json.specs.View.{view};
-ghost use Rattle.wasi_faults.specs.Faults.{are_rising};
+ghost use Rattle.wasi_faults.specs.Faults.{numbers_rise};
+ghost use Rattle.wasi_form.specs.Atoms.{atom_data};
 ghost use Rattle.wasi_form.specs.FaultsForm as specs;
 ghost use Rattle.wasi_form.specs.IsRead.{IsRead};
 ghost use Rattle.wasi_form.specs.Lists.{same};
 ghost use Rattle.wasi_form.specs.Tokens.{next_value};
 
-use crate::lists::{Item, list, next_shaped};
-use crate::shapes::{Reading, Shaped, Unread, is_text, two};
+use crate::atoms::Atom;
+use crate::lists::{Item, Listed, list, next_listed};
+use crate::shapes::{Reading, Unread};
 use json::Reader;
-use serde_json::Value;
 use std::alloc::Global;
 use wasi_faults::Fault;
 
 // Whether a call that fails is made first, by the text that says so. `None` where it is another value.
-fn is_after(value: &Value) -> Option<bool>
-    ensures { result ≡ specs.is_after (view value.now) }
+fn is_after(atom: Atom<'_>) -> Option<bool>
+    ensures { result ≡ specs.is_after (atom_data atom.entry) }
 {
-    if is_text(value, "before") {
+    if atom.is_text("before") {
         Some(false)
-    } else if is_text(value, "after") {
+    } else if atom.is_text("after") {
         Some(true)
     } else {
         None
     }
 }
 
-impl Shaped for Fault {
+impl Listed for Fault {
     ghost use Rattle.wasi_faults.specs.declared.fault.Fault.{Fault};
 
     ghost Seen = { Fault };
 
     ghost see = { same };
 
-    ghost of = { specs.fault_of };
+    ghost of = { specs.fault_of_items };
 
-    fn read(_alloc: Global, value: &Value) -> Reading<Fault> {
-        let (number, when) = two(value).ok_or(Unread::Shape)?;
+    #[tactic(auto, using(crate::proofs::Lengths::short_is_no_two, crate::proofs::Lengths::long_is_no_two))]
+    fn read(_alloc: Global, atoms: &[Atom<'_>]) -> Reading<Fault> {
+        let [number, when] = atoms else {
+            return Err(Unread::Shape);
+        };
         let number = number.as_u64().ok_or(Unread::Shape)?;
-        let after = is_after(when).ok_or(Unread::Shape)?;
+        let after = is_after(*when).ok_or(Unread::Shape)?;
         Ok(Fault { number, after })
     }
 }
@@ -55,12 +58,12 @@ impl Item for Fault {
     ghost of = { specs.fault_of };
 
     fn next(alloc: Global, reader: &mut Reader<'_>, depth: usize) -> Reading<Option<Fault>> {
-        next_shaped(alloc, reader, depth)
+        next_listed(alloc, reader, depth)
     }
 }
 
-fn are_rising(faults: &[Fault]) -> bool
-    ensures { result ≡ are_rising faults.now }
+fn numbers_rise(faults: &[Fault]) -> bool
+    ensures { result ≡ numbers_rise faults.now }
 {
     let mut before = 0;
     for fault in faults {
@@ -75,7 +78,7 @@ fn are_rising(faults: &[Fault]) -> bool
 fn where_rising(faults: Vec<Fault>) -> Option<Vec<Fault>>
     ensures { option_map (λ v. v.items) result ≡ specs.where_rising faults.items }
 {
-    if are_rising(&faults) {
+    if numbers_rise(&faults) {
         Some(faults)
     } else {
         None

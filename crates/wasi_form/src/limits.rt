@@ -1,10 +1,17 @@
 //! How large the tree of a script may grow.
-ghost use Rattle.std.specs.Prelude.{◌≡◌};
+ghost use Rattle.std.specs.Prelude.{◌≡◌, option_map};
+ghost use Rattle.json.specs.Json.{parse_map};
+ghost use Rattle.wasi_form.specs.FoundParts.{limits_found_of};
+ghost use Rattle.wasi_form.specs.IsRead.{IsRead};
 ghost use Rattle.wasi_form.specs.LimitsForm as specs;
 ghost use Rattle.wasi_form.specs.Lists.{same};
+ghost use Rattle.wasi_form.specs.Tokens.{next_value};
 
-use crate::shapes::{Form, Reading, Shaped, needed, require};
-use serde_json::Value;
+use crate::atoms::next_u64;
+use crate::objects::{Fields, object};
+use crate::shapes::Reading;
+use crate::tokens::pass;
+use json::Reader;
 use std::alloc::Global;
 use wasi_host::Limits;
 
@@ -20,20 +27,81 @@ fn is_limit(n: u64) -> bool
     1 <= n && n <= 1 << 32
 }
 
-impl Shaped for Limits {
-    ghost use Rattle.wasi_host.specs.declared.limits.Limits.{Limits};
+// Whether all keys are those of limits, and what stands at them.
+#[derive(Drop)]
+struct LimitsParts {
+    known: bool,
+    nodes: Option<u64>,
+    links: Option<u64>,
+}
 
-    ghost Seen = { Limits };
+impl Fields for LimitsParts {
+    ghost use Rattle.wasi_form.specs.LimitsForm.{LimitsFound, limits_in};
+    ghost use Rattle.wasi_form.specs.FoundParts.{limits_found_of, with_limits_member};
 
-    ghost see = { same };
+    ghost Seen = { LimitsFound };
 
-    ghost of = { specs.limits_of };
+    ghost see = { limits_found_of };
 
-    fn read(alloc: Global, value: &Value) -> Reading<Limits> {
-        require(Form::Limits.is_of(value))?;
-        let nodes = needed(alloc, value.get("nodes"))?;
-        let links = needed(alloc, value.get("links"))?;
-        require(is_limit(nodes) && is_limit(links))?;
-        Ok(Limits { nodes, links })
+    ghost of = { limits_in };
+
+    ghost with = { with_limits_member };
+
+    fn none(_alloc: Global) -> LimitsParts {
+        LimitsParts {
+            known: true,
+            nodes: None,
+            links: None,
+        }
+    }
+
+    #[tactic(auto, unfolding(crate::specs::FoundParts::with_limits_member))]
+    fn with_member(self, key: &str, reader: &mut Reader<'_>, depth: usize) -> Reading<Self> {
+        match key {
+            "nodes" => {
+                let nodes = next_u64(reader, depth)?;
+                Ok(LimitsParts { nodes, ..self })
+            }
+            "links" => {
+                let links = next_u64(reader, depth)?;
+                Ok(LimitsParts { links, ..self })
+            }
+            _ => {
+                pass(reader, depth)?;
+                let known = false;
+                Ok(LimitsParts { known, ..self })
+            }
+        }
+    }
+}
+
+impl LimitsParts {
+    // The limits of these parts. `None` where they are of another shape.
+    #[tactic(auto, unfolding(crate::specs::LimitsForm::limits_found))]
+    fn limits(self) -> Option<Limits>
+        ensures { option_map same result ≡ specs.limits_found (limits_found_of self) }
+    {
+        if !self.known {
+            return None;
+        }
+        let nodes = self.nodes?;
+        let links = self.links?;
+        if is_limit(nodes) && is_limit(links) {
+            Some(Limits { nodes, links })
+        } else {
+            None
+        }
+    }
+}
+
+/// The next value of a text, read as the limits of a tree. `None` where it is of another shape.
+pub fn limits(alloc: Global, reader: &mut Reader<'_>, depth: usize) -> Reading<Option<Limits>>
+    ensures { IsRead (λ found. (option_map same found, reader.new)) result
+        (parse_map specs.limits_of (next_value depth reader.old)) }
+{
+    let parts: Option<LimitsParts> = object(alloc, reader, depth)?;
+    match parts {
+        Some(parts) => Ok(parts.limits()),
+        None => Ok(None),
     }
 }

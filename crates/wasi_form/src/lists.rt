@@ -1,20 +1,18 @@
-//! Lists that are read item by item: the value of an item is let go before the next is read.
+//! Lists that are read item by item: no value of JSON is built of an item.
 ghost use Rattle.std.specs.Prelude.{◌≡◌, ◌∷◌, Option, option_map, option_and_then, IfOk};
 ghost use Rattle.json.specs.Json.{parse_map};
 ghost use Rattle.json.specs.Reads.{token_of};
 ghost use Rattle.serde_json.specs.Data.{Data, Items};
 ghost use Rattle.serde_json.specs.Find as find;
-ghost use Rattle.serde_json.specs.View.{view};
 ghost use Rattle.wasi_form.specs.Atoms.{atoms_data, SeesAtoms};
 ghost use Rattle.wasi_form.specs.IsRead.{IsRead};
 ghost use Rattle.wasi_form.specs.Lists.{items_all, list_of, list_seen, pushed};
 ghost use Rattle.wasi_form.specs.Tokens.{next_value, next_items};
 
 use crate::atoms::{Atom, list_atoms};
-use crate::shapes::{Reading, Shaped, Unread};
-use crate::tokens::{value, value_after};
+use crate::shapes::{Reading, Unread};
+use crate::tokens::pass_after;
 use json::{Reader, Token};
-use serde_json::Value;
 use std::alloc::{AllocError, Global};
 
 /// An item of a list of a script.
@@ -64,7 +62,7 @@ fn list_after<T: Item>(
             items_left(alloc, reader, depth - 1)
         }
         _ => {
-            drop(value_after(alloc, token, reader, depth)?);
+            pass_after(token, reader, depth)?;
             Ok(None)
         }
     }
@@ -99,30 +97,6 @@ fn with_item<T: Drop>(list: Option<Vec<T>>, item: Option<T>) -> Result<Option<Ve
             None => Ok(None),
         },
         None => Ok(None),
-    }
-}
-
-/// The next value of a text, in its shape. `None` where it is of another shape.
-pub fn next_shaped<T: Shaped>(
-    alloc: Global,
-    reader: &mut Reader<'_>,
-    depth: usize,
-) -> Reading<Option<T>>
-    ensures { IsRead (λ found. (option_map T.see found, reader.new)) result
-        (parse_map T.of (next_value depth reader.old)) }
-{
-    let value = value(alloc, reader, depth)?;
-    Ok(shaped(alloc, &value)?)
-}
-
-// A value in its shape. `None` where it is of another one.
-fn shaped<T: Shaped>(alloc: Global, value: &Value) -> Result<Option<T>, AllocError>
-    ensures { IfOk result (λ found. option_map T.see found ≡ T.of (view value.now)) }
-{
-    match T::read(alloc, value) {
-        Ok(found) => Ok(Some(found)),
-        Err(Unread::Shape) => Ok(None),
-        Err(Unread::Memory) => Err(AllocError),
     }
 }
 

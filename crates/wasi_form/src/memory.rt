@@ -9,12 +9,12 @@ ghost use Rattle.wasi_form.specs.FoundParts.{memory_found_of};
 ghost use Rattle.wasi_form.specs.Plan as plans;
 ghost use Rattle.wasi_form.specs.Tokens.{next_value};
 
-use crate::atoms::Atom;
-use crate::lists::{Item, Listed, list, next_listed, next_shaped};
+use crate::atoms::{Atom, next_u32};
+use crate::lists::{Item, Listed, list, next_listed};
 use crate::objects::{Fields, object};
 use crate::script::{Piece, Shown};
 use crate::shapes::{Reading, Unread, hex_of_text};
-use crate::tokens::value;
+use crate::tokens::pass;
 use json::Reader;
 use std::alloc::Global;
 
@@ -109,7 +109,7 @@ impl Fields for MemoryParts {
     fn with_member(self, key: &str, reader: &mut Reader<'_>, depth: usize) -> Reading<Self> {
         match key {
             "size" => {
-                let size = next_shaped(self.alloc, reader, depth)?;
+                let size = next_u32(reader, depth)?;
                 Ok(MemoryParts { size, ..self })
             }
             "pieces" => {
@@ -117,7 +117,7 @@ impl Fields for MemoryParts {
                 Ok(MemoryParts { pieces, ..self })
             }
             _ => {
-                drop(value(self.alloc, reader, depth)?);
+                pass(reader, depth)?;
                 let known = false;
                 Ok(MemoryParts { known, ..self })
             }

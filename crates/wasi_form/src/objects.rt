@@ -1,5 +1,4 @@
-//! Objects that are read member by member: the value of a member is let go before the next is read. Of equal keys the
-//! last counts.
+//! Objects that are read member by member: no value of JSON is built of a member. Of equal keys the last counts.
 ghost use Rattle.std.specs.Prelude.{◌≡◌, ◌∷◌, ℕ, List, option_map};
 ghost use Rattle.json.specs.Json.{parse_map};
 ghost use Rattle.json.specs.Reads.{token_of};
@@ -9,7 +8,7 @@ ghost use Rattle.wasi_form.specs.IsRead.{IsRead};
 ghost use Rattle.wasi_form.specs.Tokens.{next_value, next_members, TakesMembers};
 
 use crate::shapes::{Reading, Unread};
-use crate::tokens::value_after;
+use crate::tokens::pass_after;
 use json::{Reader, Token};
 use std::alloc::Global;
 
@@ -66,7 +65,7 @@ fn object_after<F: Fields>(
             Ok(Some(members_left(alloc, reader, depth - 1)?))
         }
         _ => {
-            drop(value_after(alloc, token, reader, depth)?);
+            pass_after(token, reader, depth)?;
             Ok(None)
         }
     }

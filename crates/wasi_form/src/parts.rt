@@ -8,15 +8,16 @@ ghost use Rattle.wasi_form.specs.ScriptForm.{script_found, script_of};
 ghost use Rattle.wasi_form.specs.ServicesForm.{service_key};
 ghost use Rattle.wasi_form.specs.Tokens.{most_nesting, next_value};
 
+use crate::atoms::{next_u32, next_u64};
 use crate::faults::faults;
-use crate::limits::DEFAULT_LIMITS;
-use crate::lists::{list, next_shaped};
+use crate::limits::{DEFAULT_LIMITS, limits};
+use crate::lists::list;
 use crate::memory::{ScriptMemory, memory, no_memory};
 use crate::objects::{Fields, object};
 use crate::script::{Draft, ScriptPreopen, Shown};
 use crate::services::{ServiceKey, ServiceParts};
 use crate::shapes::Reading;
-use crate::tokens::value;
+use crate::tokens::pass;
 use json::Reader;
 use std::alloc::Global;
 use wasi_faults::Fault;
@@ -103,15 +104,15 @@ impl Fields for Parts {
                 Ok(Parts { show, ..self })
             }
             "limits" => {
-                let limits = next_shaped(self.alloc, reader, depth)?;
+                let limits = limits(self.alloc, reader, depth)?;
                 Ok(Parts { limits, ..self })
             }
             "fuel" => {
-                let fuel = next_shaped(self.alloc, reader, depth)?;
+                let fuel = next_u64(reader, depth)?;
                 Ok(Parts { fuel, ..self })
             }
             "table" => {
-                let table = next_shaped(self.alloc, reader, depth)?;
+                let table = next_u32(reader, depth)?;
                 Ok(Parts { table, ..self })
             }
             "faults" => {
@@ -137,7 +138,7 @@ impl Parts {
                 Ok(Parts { services, ..self })
             }
             None => {
-                drop(value(self.alloc, reader, depth)?);
+                pass(reader, depth)?;
                 let known = false;
                 Ok(Parts { known, ..self })
             }

@@ -10,12 +10,11 @@ ghost use Rattle.wasi_form.specs.Lists.{same};
 ghost use Rattle.wasi_form.specs.ServicesForm as specs;
 ghost use Rattle.wasi_form.specs.Tokens.{next_value};
 
-use crate::atoms::Atom;
-use crate::lists::{Item, Listed, list, next_listed, next_shaped};
-use crate::shapes::{Reading, Shaped, Unread, as_u32, require, two};
+use crate::atoms::{Atom, next_u64};
+use crate::lists::{Item, Listed, list, next_listed};
+use crate::shapes::{Reading, Unread, require};
 use crate::texts::{hex, text};
 use json::Reader;
-use serde_json::Value;
 use std::alloc::Global;
 use wasi_guest::{EnvPair, Services, WallDatetime};
 use wasi_host::NANOSECONDS;
@@ -114,26 +113,36 @@ impl Item for EnvPair {
     }
 }
 
-/// A moment of the wall clock.
-impl Shaped for WallDatetime {
+impl Listed for WallDatetime {
     ghost use Rattle.wasi_guest.specs.declared.services.WallDatetime.{WallDatetime};
 
     ghost Seen = { WallDatetime };
 
     ghost see = { same };
 
-    ghost of = { specs.wall_of };
+    ghost of = { specs.wall_of_items };
 
-    fn read(_alloc: Global, value: &Value) -> Reading<WallDatetime> {
-        let (seconds, nanoseconds) = two(value).ok_or(Unread::Shape)?;
+    #[tactic(auto, using(crate::proofs::Lengths::short_is_no_two, crate::proofs::Lengths::long_is_no_two))]
+    fn read(_alloc: Global, atoms: &[Atom<'_>]) -> Reading<WallDatetime> {
+        let [seconds, nanoseconds] = atoms else {
+            return Err(Unread::Shape);
+        };
         let seconds = seconds.as_u64().ok_or(Unread::Shape)?;
-        let nanoseconds = as_u32(nanoseconds).ok_or(Unread::Shape)?;
+        let nanoseconds = nanoseconds.as_u32().ok_or(Unread::Shape)?;
         require(seconds < 1 << 63 && nanoseconds < NANOSECONDS)?;
         Ok(WallDatetime {
             seconds,
             nanoseconds,
         })
     }
+}
+
+// The next value of a text, read as a moment of the wall clock. `None` where it is of another shape.
+fn wall(alloc: Global, reader: &mut Reader<'_>, depth: usize) -> Reading<Option<WallDatetime>>
+    ensures { IsRead (λ found. (option_map same found, reader.new)) result
+        (parse_map specs.wall_of (next_value depth reader.old)) }
+{
+    next_listed(alloc, reader, depth)
 }
 
 /// What stands at the keys of the services, or counts where nothing does: no arguments and no environment, an empty
@@ -199,22 +208,22 @@ impl ServiceParts {
                 Ok(ServiceParts { stdin, ..self })
             }
             ServiceKey::Wall => {
-                let wall = next_shaped(alloc, reader, depth)?;
+                let wall = wall(alloc, reader, depth)?;
                 Ok(ServiceParts { wall, ..self })
             }
             ServiceKey::WallResolution => {
-                let wall_resolution = next_shaped(alloc, reader, depth)?;
+                let wall_resolution = wall(alloc, reader, depth)?;
                 Ok(ServiceParts {
                     wall_resolution,
                     ..self
                 })
             }
             ServiceKey::Monotonic => {
-                let monotonic = next_shaped(alloc, reader, depth)?;
+                let monotonic = next_u64(reader, depth)?;
                 Ok(ServiceParts { monotonic, ..self })
             }
             ServiceKey::MonotonicResolution => {
-                let monotonic_resolution = next_shaped(alloc, reader, depth)?;
+                let monotonic_resolution = next_u64(reader, depth)?;
                 Ok(ServiceParts {
                     monotonic_resolution,
                     ..self

@@ -16,7 +16,7 @@ pub fn hex(alloc: Global, reader: &mut Reader<'_>, depth: usize) -> Reading<Opti
     ensures { IsRead (λ found. (option_map (λ v. v.items) found, reader.new)) result
         (parse_map shapes.hex_of (next_value depth reader.old)) }
 {
-    match next_text(alloc, reader, depth)? {
+    match next_text(reader, depth)? {
         Some(text) => Ok(hex_of_text(alloc, text)?),
         None => Ok(None),
     }
@@ -27,7 +27,7 @@ pub fn text(alloc: Global, reader: &mut Reader<'_>, depth: usize) -> Reading<Opt
     ensures { IsRead (λ found. (option_map string_bytes found, reader.new)) result
         (parse_map find.as_str (next_value depth reader.old)) }
 {
-    match next_text(alloc, reader, depth)? {
+    match next_text(reader, depth)? {
         Some(text) => Ok(Some(String::from_str(alloc, text)?)),
         None => Ok(None),
     }

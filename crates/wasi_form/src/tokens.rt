@@ -1,88 +1,78 @@
-//! Values of JSON, read token by token.
+//! Values of JSON that are passed token by token, and numbers: no value of JSON is built.
 ghost use Rattle.std.specs.Prelude.{◌≡◌, ◌∷◌, ◌<◌, ◌==◌, IsTrue, IfSome, Some, length, slice_index, option_map, true, false};
+ghost use Rattle.json.specs.Json.{parse_map};
 ghost use Rattle.json.specs.Reads.{token_of};
 ghost use Rattle.serde_json.specs.Data.{unsigned, no_members};
 ghost use Rattle.serde_json.specs.Read.{number_of, number_from, float_of};
-ghost use Rattle.serde_json.specs.View.{view, number_view, items_view, members_view};
+ghost use Rattle.serde_json.specs.View.{number_view};
 ghost use Rattle.wasi_form.specs.IsRead.{IsRead};
-ghost use Rattle.wasi_form.specs.Tokens.{next_value, next_items, next_members};
+ghost use Rattle.wasi_form.specs.Tokens.{next_value, next_items, next_members, nothing};
 
 use crate::shapes::{Reading, Unread};
 use fast_float::Numeral;
 use json::{Reader, Token};
-use serde_json::{Map, Number, Value};
-use std::alloc::Global;
+use serde_json::Number;
 
-/// The next value of a text. Lists and objects nest at most `depth` deep. `Shape` where no value of JSON stands there.
+/// Passes the next value of a text, of which nothing is kept. Lists and objects nest at most `depth` deep. `Shape` where
+/// no value of JSON stands there.
 #[cycle(values)]
-pub fn value(alloc: Global, reader: &mut Reader<'_>, depth: usize) -> Reading<Value>
-    ensures { IsRead (λ v. (view v, reader.new)) result (next_value depth reader.old) }
+pub fn pass(reader: &mut Reader<'_>, depth: usize) -> Reading<()>
+    ensures { IsRead (λ kept. (kept, reader.new)) result (parse_map nothing (next_value depth reader.old)) }
 {
     match reader.next() {
-        Some(token) => value_after(alloc, token, reader, depth),
+        Some(token) => pass_after(token, reader, depth),
         None => Err(Unread::Shape),
     }
 }
 
-/// The value that begins with a token that was read.
+/// Passes the value that begins with a token that was read.
 #[cycle(values)]
-pub fn value_after(
-    alloc: Global,
-    token: Token<'_>,
-    reader: &mut Reader<'_>,
-    depth: usize,
-) -> Reading<Value>
-    ensures { IsRead (λ v. (view v, reader.new)) result (next_value depth (token_of token.entry ∷ reader.old)) }
+pub fn pass_after(token: Token<'_>, reader: &mut Reader<'_>, depth: usize) -> Reading<()>
+    ensures { IsRead (λ kept. (kept, reader.new)) result
+        (parse_map nothing (next_value depth (token_of token.entry ∷ reader.old))) }
 {
     match token {
-        Token::Null => Ok(Value::Null),
-        Token::Bool(set) => Ok(Value::Bool(set)),
+        Token::Null | Token::Bool(_) | Token::String(_) => Ok(()),
         Token::Number(text) => match number(text) {
-            Some(number) => Ok(Value::Number(number)),
+            Some(_) => Ok(()),
             None => Err(Unread::Shape),
         },
-        Token::String(text) => Ok(Value::String(String::from_str(alloc, text)?)),
         Token::BeginArray => {
             if depth == 0 {
                 return Err(Unread::Shape);
             }
-            Ok(Value::Array(items(alloc, reader, depth - 1)?))
+            pass_items(reader, depth - 1)
         }
         Token::BeginObject => {
             if depth == 0 {
                 return Err(Unread::Shape);
             }
-            Ok(Value::Object(members(alloc, reader, depth - 1)?))
+            pass_members(reader, depth - 1)
         }
         Token::EndObject | Token::EndArray | Token::Key(_) | Token::Bad => Err(Unread::Shape),
     }
 }
 
-// The items that are left of a list.
+// Passes the items that are left of a list.
 #[cycle(values)]
-fn items(alloc: Global, reader: &mut Reader<'_>, depth: usize) -> Reading<Vec<Value>>
-    ensures { IsRead (λ v. (items_view v.items, reader.new)) result (next_items depth reader.old) }
+fn pass_items(reader: &mut Reader<'_>, depth: usize) -> Reading<()>
+    ensures { IsRead (λ kept. (kept, reader.new)) result (parse_map nothing (next_items depth reader.old)) }
 {
-    let mut found = Vec::new(alloc);
     'items: while !reader.take_end_array() {
-        let item = value(alloc, reader, depth)?;
-        found.push(item)?;
+        pass(reader, depth)?;
     }
-    Ok(found)
+    Ok(())
 }
 
-// The members that are left of an object, the last one of equal keys.
+// Passes the members that are left of an object.
 #[cycle(values)]
-fn members(alloc: Global, reader: &mut Reader<'_>, depth: usize) -> Reading<Map<String, Value>>
-    ensures { IsRead (λ m. (members_view m.entries, reader.new)) result (next_members depth no_members reader.old) }
+fn pass_members(reader: &mut Reader<'_>, depth: usize) -> Reading<()>
+    ensures { IsRead (λ kept. (kept, reader.new)) result (parse_map nothing (next_members depth no_members reader.old)) }
 {
-    let mut found = Map::new(alloc);
-    'members: while let Some(key) = reader.next_key()? {
-        let key = String::from_str(alloc, key)?;
-        let member = value(alloc, reader, depth)?;
-        drop(found.insert(key, member)?);
+    'members: while let Some(_) = reader.next_key()? {
+        pass(reader, depth)?;
     }
-    Ok(found)
+    Ok(())
 }
 
 /// The number that a text of JSON writes, `None` where it is too large for a float.

@@ -1,7 +1,7 @@
 //! Which bytes are scripts.
 ghost use Rattle.std.specs.Prelude.{◌≡◌, ℕ, List, Result, option_map, IfOk, IsTrue};
 ghost use Rattle.serde_json.specs.Read.{read as read_text};
-ghost use Rattle.wasi_faults.specs.Faults.{are_rising};
+ghost use Rattle.wasi_faults.specs.Faults.{numbers_rise};
 ghost use Rattle.wasi_guest.specs.Services.{handed, AreWithin};
 ghost use Rattle.wasi_form.specs.IsRead.{IsRead};
 ghost use Rattle.wasi_form.specs.Plan.{Plan, drafted};
@@ -80,7 +80,7 @@ impl From<AllocError> for ScriptError {
 pub fn read_script(alloc: Global, bytes: &[u8]) -> Result<Script, ScriptError>
     ensures verdict { Reads result (IsVerdict bytes.now) }
     ensures services { IfOk result (λ script. AreWithin (handed script.services)) }
-    ensures rising { IfOk result (λ script. IsTrue (are_rising script.faults.items)) }
+    ensures rising { IfOk result (λ script. IsTrue (numbers_rise script.faults.items)) }
 {
     let draft = read_draft(alloc, bytes)?;
     let script = tested(alloc, draft)?;

@@ -13,7 +13,7 @@ use Rattle.wasi_host.specs.ValidTree.{Reached, root, held}
 use Rattle.wasi_host.specs.Agree.{IsMade}
 use Rattle.wasi_host.specs.HostCall.{HostCall, OpenAt, StatAt, ReadLinkAt, MakeDirAt, SymlinkAt, LinkAt, RenameAt, UnlinkAt, RemoveDirAt, TimesAt, Access, Stat, SetTimes, Pread, Pwrite, Append, SetSize, Sync, Advise, Flags, ListDir, Dup, Close}
 use Rattle.wasi_host.specs.declared.system_time.SystemTime.{SystemTime}
-use Rattle.wasi_host.specs.Step.{step, open_step, opened_step, unlink_step, remove_step, rename_step, moved_step, link_step, added_step, times_step, times_set, times_set_if, dropped_step, node_made, file_cut, name_dropped, is_cut, with_name, without_name, with_times, with_nodes, new_file, new_directory, new_link, with_content, content_changed, other_bytes, with_size, with_piece, size_set, append_step, starts_of, name_added, name_lost, name_taken, name_given, name_moved, one_name_more, one_name_less, made_gone, write_step}
+use Rattle.wasi_host.specs.Step.{step, open_step, opened_step, unlink_step, remove_step, rename_step, moved_step, link_step, added_step, times_step, times_set, times_set_if, dropped_step, node_made, file_cut, name_dropped, is_cut, with_name, without_name, with_times, with_nodes, new_file, new_directory, new_link, with_content, content_changed, other_bytes, with_size, with_piece, starts_of, name_added, name_lost, name_taken, name_given, name_moved, one_name_more, one_name_less, made_gone, write_step}
 
 -- the node that a name of a directory holds
 abbrev pub named_in : Node → List ℕ → Option ℕ

@@ -32,6 +32,14 @@ pub record Fated {A : Type 0} (old new : Fates) (result : Result A HostError) : 
   pub failed : has_failed result ≡ is_failing (old 0)
   pub later : (n : ℕ) → new n ≡ old (n + 1)
 
+-- what others do to the tree before the calls to come but `dup` and `close`, before the next one at 0
+abbrev pub Others : Type 0
+Others = ℕ → Tree → Tree
+
+-- what is to come once the next call is over
+abbrev pub Follow : Others → Others → Type 0
+Follow old new = (n : ℕ) (t : Tree) → new n t ≡ old (n + 1) t
+
 -- what the last call left, with the tree as others have changed it since
 abbrev pub changed_to : Tree → World → World
 changed_to tree left = record left { tree = tree }

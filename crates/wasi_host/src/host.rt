@@ -8,7 +8,7 @@ ghost use Rattle.wasi_paths.specs.Text.{is_entry_name};
 ghost use Rattle.wasi_host.specs.HostCall.{OpenAt, StatAt, ReadLinkAt, MakeDirAt, SymlinkAt, LinkAt, RenameAt, UnlinkAt, RemoveDirAt, TimesAt, Access, Stat, SetTimes, Pread, Pwrite, Append, SetSize, Sync, Advise, Flags, ListDir, Dup, Close};
 ghost use Rattle.wasi_host.specs.Answer.{entry_of};
 ghost use Rattle.wasi_host.specs.Meaning.{World, AllHeld, HasCause, Rose, LiveGot, Told, Logged, LoggedGot, one_looked, both_looked, hosted, answered};
-ghost use Rattle.wasi_host.specs.Fates.{Fated, Fates, Finds};
+ghost use Rattle.wasi_host.specs.Fates.{Fated, Fates, Finds, Follow, Others};
 ghost use Rattle.wasi_host.specs.Numbers.{longest_link};
 ghost use Rattle.wasi_host.specs.Tree.{Tree};
 ghost use Rattle.wasi_host.specs.declared.lookup.Lookup.{Lookup};
@@ -62,7 +62,11 @@ pub trait Host {
     /// Whether the host tells what its calls find and leave, be it that others change its tree between them.
     ghost tells_found: { Bool };
 
-    /// The tree that the next call but `dup` and `close` finds.
+    /// What others do to the tree before the calls to come but `dup` and `close`, before the next one at 0. Where it is
+    /// told, each such call goes on by one, whatever it answers, and `dup` and `close` by none.
+    ghost others: { Self → Others };
+
+    /// The tree that the next call but `dup` and `close` finds: what was left, once others have done what they do before it.
     ghost found: { Self → Tree };
 
     /// The tree as the last call left it, what each live handle stands for, and the touched nodes. Where it is told, a
@@ -87,6 +91,7 @@ pub trait Host {
             (OpenAt ((world self.old).held start).node (name_bytes name.entry) options.now)
             (world self.new).held result }
         ensures fails { IsTrue tells_fails → Fated (fails self.old) (fails self.new) result }
+        ensures others { IsTrue tells_found → Follow (others self.old) (others self.new) }
         ensures found { IsTrue tells_found → Finds (live self.old) (live self.new) (left self.old) (found self.old) (left self.new)
             (OpenAt ((left self.old).held start).node (name_bytes name.entry) options.now)
             (left self.new).held result };
@@ -103,6 +108,7 @@ pub trait Host {
             (StatAt ((world self.old).held start).node (name_bytes name.entry))
             (λ metadata. metadata) result }
         ensures fails { IsTrue tells_fails → Fated (fails self.old) (fails self.new) result }
+        ensures others { IsTrue tells_found → Follow (others self.old) (others self.new) }
         ensures found { IsTrue tells_found → Finds (live self.old) (live self.new) (left self.old) (found self.old) (left self.new)
             (StatAt ((left self.old).held start).node (name_bytes name.entry))
             (λ metadata. metadata) result };
@@ -125,6 +131,7 @@ pub trait Host {
             (ReadLinkAt ((world self.old).held start).node (name_bytes name.entry))
             (λ text. string_bytes text) result }
         ensures fails { IsTrue tells_fails → Fated (fails self.old) (fails self.new) result }
+        ensures others { IsTrue tells_found → Follow (others self.old) (others self.new) }
         ensures found { IsTrue tells_found → Finds (live self.old) (live self.new) (left self.old) (found self.old) (left self.new)
             (ReadLinkAt ((left self.old).held start).node (name_bytes name.entry))
             (λ text. string_bytes text) result };
@@ -141,6 +148,7 @@ pub trait Host {
             (MakeDirAt ((world self.old).held start).node (name_bytes name.entry))
             (λ unit. unit) result }
         ensures fails { IsTrue tells_fails → Fated (fails self.old) (fails self.new) result }
+        ensures others { IsTrue tells_found → Follow (others self.old) (others self.new) }
         ensures found { IsTrue tells_found → Finds (live self.old) (live self.new) (left self.old) (found self.old) (left self.new)
             (MakeDirAt ((left self.old).held start).node (name_bytes name.entry))
             (λ unit. unit) result };
@@ -157,6 +165,7 @@ pub trait Host {
             (SymlinkAt target.now ((world self.old).held start).node (name_bytes name.entry))
             (λ unit. unit) result }
         ensures fails { IsTrue tells_fails → Fated (fails self.old) (fails self.new) result }
+        ensures others { IsTrue tells_found → Follow (others self.old) (others self.new) }
         ensures found { IsTrue tells_found → Finds (live self.old) (live self.new) (left self.old) (found self.old) (left self.new)
             (SymlinkAt target.now ((left self.old).held start).node (name_bytes name.entry))
             (λ unit. unit) result };
@@ -181,6 +190,7 @@ pub trait Host {
             ((world self.old).held new).node (name_bytes new_name.entry))
             (λ unit. unit) result }
         ensures fails { IsTrue tells_fails → Fated (fails self.old) (fails self.new) result }
+        ensures others { IsTrue tells_found → Follow (others self.old) (others self.new) }
         ensures found { IsTrue tells_found → Finds (live self.old) (live self.new) (left self.old) (found self.old) (left self.new)
             (LinkAt ((left self.old).held old).node (name_bytes old_name.entry)
             ((left self.old).held new).node (name_bytes new_name.entry))
@@ -210,6 +220,7 @@ pub trait Host {
             ((world self.old).held new).node (name_bytes new_name.entry) requires_dir)
             (λ unit. unit) result }
         ensures fails { IsTrue tells_fails → Fated (fails self.old) (fails self.new) result }
+        ensures others { IsTrue tells_found → Follow (others self.old) (others self.new) }
         ensures found { IsTrue tells_found → Finds (live self.old) (live self.new) (left self.old) (found self.old) (left self.new)
             (RenameAt ((left self.old).held old).node (name_bytes old_name.entry)
             ((left self.old).held new).node (name_bytes new_name.entry) requires_dir)
@@ -227,6 +238,7 @@ pub trait Host {
             (UnlinkAt ((world self.old).held start).node (name_bytes name.entry))
             (λ unit. unit) result }
         ensures fails { IsTrue tells_fails → Fated (fails self.old) (fails self.new) result }
+        ensures others { IsTrue tells_found → Follow (others self.old) (others self.new) }
         ensures found { IsTrue tells_found → Finds (live self.old) (live self.new) (left self.old) (found self.old) (left self.new)
             (UnlinkAt ((left self.old).held start).node (name_bytes name.entry))
             (λ unit. unit) result };
@@ -244,6 +256,7 @@ pub trait Host {
             (RemoveDirAt ((world self.old).held start).node (name_bytes name.entry))
             (λ unit. unit) result }
         ensures fails { IsTrue tells_fails → Fated (fails self.old) (fails self.new) result }
+        ensures others { IsTrue tells_found → Follow (others self.old) (others self.new) }
         ensures found { IsTrue tells_found → Finds (live self.old) (live self.new) (left self.old) (found self.old) (left self.new)
             (RemoveDirAt ((left self.old).held start).node (name_bytes name.entry))
             (λ unit. unit) result };
@@ -266,6 +279,7 @@ pub trait Host {
             (TimesAt ((world self.old).held start).node (name_bytes name.entry) atime mtime)
             (λ unit. unit) result }
         ensures fails { IsTrue tells_fails → Fated (fails self.old) (fails self.new) result }
+        ensures others { IsTrue tells_found → Follow (others self.old) (others self.new) }
         ensures found { IsTrue tells_found → Finds (live self.old) (live self.new) (left self.old) (found self.old) (left self.new)
             (TimesAt ((left self.old).held start).node (name_bytes name.entry) atime mtime)
             (λ unit. unit) result };
@@ -284,6 +298,7 @@ pub trait Host {
             (ListDir ((world self.old).held directory))
             (λ entries. map entry_of entries.items) result }
         ensures fails { IsTrue tells_fails → Fated (fails self.old) (fails self.new) result }
+        ensures others { IsTrue tells_found → Follow (others self.old) (others self.new) }
         ensures found { IsTrue tells_found → Finds (live self.old) (live self.new) (left self.old) (found self.old) (left self.new)
             (ListDir ((left self.old).held directory))
             (λ entries. map entry_of entries.items) result };
@@ -297,6 +312,7 @@ pub trait Host {
         ensures told { IsTrue told → Told (live self.old) (live self.new) (world self.old) (world self.new)
             (Dup ((world self.old).held handle)) (world self.new).held result }
         ensures fails { IsTrue tells_fails → (n : ℕ) → fails self.new n ≡ fails self.old n }
+        ensures others { IsTrue tells_found → (n : ℕ) (t : Tree) → others self.new n t ≡ others self.old n t }
         ensures found { IsTrue tells_found → found self.new ≡ found self.old }
         ensures left { IsTrue tells_found → Told (live self.old) (live self.new) (left self.old) (left self.new)
             (Dup ((left self.old).held handle)) (left self.new).held result };
@@ -311,6 +327,7 @@ pub trait Host {
             (Access ((world self.old).held directory).node)
             (λ unit. unit) (hosted result) }
         ensures fails { IsTrue tells_fails → Fated (fails self.old) (fails self.new) (hosted result) }
+        ensures others { IsTrue tells_found → Follow (others self.old) (others self.new) }
         ensures found { IsTrue tells_found → Finds (live self.old) (live self.new) (left self.old) (found self.old) (left self.new)
             (Access ((left self.old).held directory).node)
             (λ unit. unit) (hosted result) };
@@ -326,6 +343,7 @@ pub trait Host {
             (Stat ((world self.old).held handle).node)
             (λ metadata. metadata) (hosted result) }
         ensures fails { IsTrue tells_fails → Fated (fails self.old) (fails self.new) (hosted result) }
+        ensures others { IsTrue tells_found → Follow (others self.old) (others self.new) }
         ensures found { IsTrue tells_found → Finds (live self.old) (live self.new) (left self.old) (found self.old) (left self.new)
             (Stat ((left self.old).held handle).node)
             (λ metadata. metadata) (hosted result) };
@@ -345,6 +363,7 @@ pub trait Host {
             (SetTimes ((world self.old).held handle).node atime mtime)
             (λ unit. unit) (hosted result) }
         ensures fails { IsTrue tells_fails → Fated (fails self.old) (fails self.new) (hosted result) }
+        ensures others { IsTrue tells_found → Follow (others self.old) (others self.new) }
         ensures found { IsTrue tells_found → Finds (live self.old) (live self.new) (left self.old) (found self.old) (left self.new)
             (SetTimes ((left self.old).held handle).node atime mtime)
             (λ unit. unit) (hosted result) };
@@ -365,6 +384,7 @@ pub trait Host {
             (Pread ((world self.old).held file) offset (length buf.old))
             (λ n. take n buf.new) (hosted result) }
         ensures fails { IsTrue tells_fails → Fated (fails self.old) (fails self.new) (hosted result) }
+        ensures others { IsTrue tells_found → Follow (others self.old) (others self.new) }
         ensures found { IsTrue tells_found → Finds (live self.old) (live self.new) (left self.old) (found self.old) (left self.new)
             (Pread ((left self.old).held file) offset (length buf.old))
             (λ n. take n buf.new) (hosted result) };
@@ -385,6 +405,7 @@ pub trait Host {
             (Pwrite ((world self.old).held file) offset piece.now)
             (λ n. n) result }
         ensures fails { IsTrue tells_fails → Fated (fails self.old) (fails self.new) result }
+        ensures others { IsTrue tells_found → Follow (others self.old) (others self.new) }
         ensures found { IsTrue tells_found → Finds (live self.old) (live self.new) (left self.old) (found self.old) (left self.new)
             (Pwrite ((left self.old).held file) offset piece.now)
             (λ n. n) result };
@@ -404,6 +425,7 @@ pub trait Host {
             (Append ((world self.old).held file) piece.now)
             (λ n. n) result }
         ensures fails { IsTrue tells_fails → Fated (fails self.old) (fails self.new) result }
+        ensures others { IsTrue tells_found → Follow (others self.old) (others self.new) }
         ensures found { IsTrue tells_found → Finds (live self.old) (live self.new) (left self.old) (found self.old) (left self.new)
             (Append ((left self.old).held file) piece.now)
             (λ n. n) result };
@@ -419,6 +441,7 @@ pub trait Host {
             (SetSize ((world self.old).held file) size)
             (λ unit. unit) result }
         ensures fails { IsTrue tells_fails → Fated (fails self.old) (fails self.new) result }
+        ensures others { IsTrue tells_found → Follow (others self.old) (others self.new) }
         ensures found { IsTrue tells_found → Finds (live self.old) (live self.new) (left self.old) (found self.old) (left self.new)
             (SetSize ((left self.old).held file) size)
             (λ unit. unit) result };
@@ -434,6 +457,7 @@ pub trait Host {
             (Sync ((world self.old).held handle).node)
             (λ unit. unit) (hosted result) }
         ensures fails { IsTrue tells_fails → Fated (fails self.old) (fails self.new) (hosted result) }
+        ensures others { IsTrue tells_found → Follow (others self.old) (others self.new) }
         ensures found { IsTrue tells_found → Finds (live self.old) (live self.new) (left self.old) (found self.old) (left self.new)
             (Sync ((left self.old).held handle).node)
             (λ unit. unit) (hosted result) };
@@ -455,6 +479,7 @@ pub trait Host {
             (Advise ((world self.old).held file).node offset len advice)
             (λ unit. unit) (hosted result) }
         ensures fails { IsTrue tells_fails → Fated (fails self.old) (fails self.new) (hosted result) }
+        ensures others { IsTrue tells_found → Follow (others self.old) (others self.new) }
         ensures found { IsTrue tells_found → Finds (live self.old) (live self.new) (left self.old) (found self.old) (left self.new)
             (Advise ((left self.old).held file).node offset len advice)
             (λ unit. unit) (hosted result) };
@@ -470,6 +495,7 @@ pub trait Host {
             (Flags ((world self.old).held handle).node)
             (λ flags. flags) (hosted result) }
         ensures fails { IsTrue tells_fails → Fated (fails self.old) (fails self.new) (hosted result) }
+        ensures others { IsTrue tells_found → Follow (others self.old) (others self.new) }
         ensures found { IsTrue tells_found → Finds (live self.old) (live self.new) (left self.old) (found self.old) (left self.new)
             (Flags ((left self.old).held handle).node)
             (λ flags. flags) (hosted result) };
@@ -483,16 +509,20 @@ pub trait Host {
         ensures told { IsTrue told → Told (live self.old) (live self.new) (world self.old) (world self.new)
             Close (λ unit. unit) answered }
         ensures fails { IsTrue tells_fails → (n : ℕ) → fails self.new n ≡ fails self.old n }
+        ensures others { IsTrue tells_found → (n : ℕ) (t : Tree) → others self.new n t ≡ others self.old n t }
         ensures found { IsTrue tells_found → found self.new ≡ found self.old }
         ensures left { IsTrue tells_found → Told (live self.old) (live self.new) (left self.old) (left self.new)
             Close (λ unit. unit) answered };
 
     /// What holds of every host at any time, told or not: its count of faults is a number of 64 bits, and where it
     /// tells its world, each live handle's node is a node of the tree, and a file where the handle was opened for
-    /// writing; the next call finds that world, as the last one left it. It does nothing: its clauses are laws, for a
-    /// caller that needs one of them.
+    /// writing, nobody else changes the tree, and the next call finds that world, as the last one left it. Where it tells
+    /// what its calls find, the next one finds what was left with what others do before it. It does nothing: its clauses
+    /// are laws, for a caller that needs one of them.
     fn laws(&self)
         ensures faults { faults self.now ≤ 2 ^ 64 - 1 }
         ensures held { IsTrue told → AllHeld (live self.now) (world self.now) }
-        ensures found { IsTrue told → IsTrue tells_found × (found self.now ≡ (world self.now).tree) × (left self.now ≡ world self.now) };
+        ensures found { IsTrue told → IsTrue tells_found × (found self.now ≡ (world self.now).tree) × (left self.now ≡ world self.now) }
+        ensures others { IsTrue tells_found → found self.now ≡ others self.now 0 (left self.now).tree }
+        ensures alone { IsTrue told → (n : ℕ) (t : Tree) → others self.now n t ≡ t };
 }

@@ -29,7 +29,7 @@ use Rattle.wasi_p1.specs.Guest.{GuestSlot, directory}
 use Rattle.wasi_p1.specs.Row.{Row}
 use Rattle.wasi_guest.specs.Records.{Found, read_on, bytes_in, text_from, text_in}
 use Rattle.wasi_guest.specs.declared.guest_error.GuestError.TheVariants as guests
-use Rattle.wasi_p1.specs.Parts.{range, from_guest, fault_of}
+use Rattle.wasi_p1.specs.Parts.{range, from_guest, guest_fault}
 use Rattle.wasi_p1.specs.declared.error.P1Error.TheVariants.{Errno, Trap}
 use Rattle.wasi_p1.proofs.Near.{AreBytes}
 
@@ -104,7 +104,7 @@ text_utf8 memory path len = by (bytes_in memory path len)
   where
     by : (found : Found (List ℕ)) {text : List ℕ} → from_guest (read_on found text_from) ≡ Ok text → IsUtf8 text
     by (Ok bytes) is = text_is bytes is
-    by (Err e) is = let wrong : from_guest (let found : Found (List ℕ) = Err e in found) ≡ Err (fault_of e) = refl in absurd (cc)
+    by (Err e) is = let wrong : from_guest (let found : Found (List ℕ) = Err e in found) ≡ Err (guest_fault e) = refl in absurd (cc)
 
 -- ---- what is handed in
 

@@ -27,7 +27,7 @@ use Rattle.wasi_p1.specs.Numbering.{live_count}
 use Rattle.wasi_p1.specs.NewTimes.{time_of, new_time, times_asked}
 use Rattle.wasi_p1.specs.RawFlags.{or_inval, open_how, follow_asked}
 use Rattle.wasi_p1.specs.Row.{Row}
-use Rattle.wasi_p1.specs.Parts.{live_in, directory_in, start_in, source_in, sink_in, open_node_in, range, may_write, room_for, permit, fault_of, from_guest}
+use Rattle.wasi_p1.specs.Parts.{live_in, directory_in, start_in, source_in, sink_in, open_node_in, range, may_write, room_for, permit, guest_fault, from_guest}
 use Rattle.wasi_p1.specs.declared.error.P1Error.{P1Error}
 use Rattle.wasi_guest.specs.Enums.{clockid_of, is_signal}
 use Rattle.wasi_guest.specs.declared.enums.Clockid.{Clockid}
@@ -72,7 +72,7 @@ pub range_never : (memory : List ℕ) (at n : ℕ) → Never (range memory at n)
 range_never memory at n = when (in_memory memory at n) _ _ tt
 
 -- nor is one the failure of a host, where something isn't read from memory
-pub fault_never : (e : GuestError) → is_failure (fault_of e) ≡ false
+pub fault_never : (e : GuestError) → is_failure (guest_fault e) ≡ false
 fault_never guests.PtrOverflow = refl
 fault_never e = refl
 

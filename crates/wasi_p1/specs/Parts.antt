@@ -33,18 +33,18 @@ abbrev pub range : List ℕ → ℕ → ℕ → Row (List ℕ)
 range memory at n = if in_memory memory at n then Ok (slice_range memory at (at + n)) else Err (Trap Pointer)
 
 -- why something isn't read from memory, as an error of the call: a trap of its address, or an error number
-abbrev pub fault_of : GuestError → P1Error
-fault_of guests.PtrOverflow = Trap Pointer
-fault_of guests.PtrOutOfBounds = Trap Pointer
-fault_of guests.PtrNotAligned = Trap Pointer
-fault_of guests.InvalidUtf8 = Errno errnos.Ilseq
-fault_of guests.InvalidFlagValue = Errno errnos.Inval
-fault_of guests.InvalidEnumValue = Errno errnos.Inval
+abbrev pub guest_fault : GuestError → P1Error
+guest_fault guests.PtrOverflow = Trap Pointer
+guest_fault guests.PtrOutOfBounds = Trap Pointer
+guest_fault guests.PtrNotAligned = Trap Pointer
+guest_fault guests.InvalidUtf8 = Errno errnos.Ilseq
+guest_fault guests.InvalidFlagValue = Errno errnos.Inval
+guest_fault guests.InvalidEnumValue = Errno errnos.Inval
 
 -- what is read from memory
 abbrev pub from_guest : {A : Type 0} → Found A → Row A
 from_guest (Ok x) = Ok x
-from_guest (Err e) = Err (fault_of e)
+from_guest (Err e) = Err (guest_fault e)
 
 -- what a live number stands for
 abbrev pub live_in : Option GuestSlot → Row GuestSlot

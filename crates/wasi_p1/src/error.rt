@@ -1,7 +1,7 @@
 //! Why a call isn't answered Ok, and why no context is made.
 ghost use Rattle.std.specs.Prelude.{◌≡◌};
 ghost use Rattle.wasi_p1.specs.Errnos.{errno_of, error_of};
-ghost use Rattle.wasi_p1.specs.Parts.{fault_of};
+ghost use Rattle.wasi_p1.specs.Parts.{guest_fault};
 ghost use Rattle.wasi_p1.specs.declared.error.CtxError.TheVariants as causes;
 ghost use Rattle.wasi_p1.specs.declared.error.P1Error.TheVariants as errors;
 
@@ -65,7 +65,7 @@ impl From<AllocError> for P1Error {
 }
 
 impl From<GuestError> for P1Error {
-    ghost from_gives = { λ error given. given ≡ fault_of error };
+    ghost from_gives = { λ error given. given ≡ guest_fault error };
 
     fn from(error: GuestError) -> Self {
         match error {

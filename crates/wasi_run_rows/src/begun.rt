@@ -1,6 +1,6 @@
 //! A script that has begun.
 ghost use Rattle.std.specs.Prelude.{◌≡◌, true, IsTrue};
-ghost use Rattle.wasi_faults.specs.Faults.{are_rising};
+ghost use Rattle.wasi_faults.specs.Faults.{numbers_rise};
 ghost use Rattle.wasi_form.specs.Plan.{plan};
 ghost use Rattle.wasi_form.specs.Within.{is_within_limits};
 
@@ -44,7 +44,7 @@ impl Ended {
 
 fn begin(alloc: Global, script: Script) -> Result<Begun, AllocError>
     requires within { is_within_limits (plan script) ≡ true }
-    requires rising { IsTrue (are_rising script.faults.items) }
+    requires rising { IsTrue (numbers_rise script.faults.items) }
 {
     let memory = first_memory(alloc, script.size, script.pieces.as_slice())?;
     let context = first_context(

@@ -1,6 +1,6 @@
 //! The report by the calls that the program stands on.
 ghost use Rattle.std.specs.Prelude.{◌≡◌, true, IsTrue};
-ghost use Rattle.wasi_faults.specs.Faults.{are_rising};
+ghost use Rattle.wasi_faults.specs.Faults.{numbers_rise};
 ghost use Rattle.wasi_form.specs.Plan.{plan};
 ghost use Rattle.wasi_form.specs.Within.{is_within_limits};
 
@@ -13,7 +13,7 @@ use wasi_script::{first_context, first_memory, shown};
 // The report of a script's calls, made over a tree in memory whose calls fail as it says.
 fn report_of(alloc: Global, script: Script) -> Result<Vec<u8>, AllocError>
     requires within { is_within_limits (plan script) ≡ true }
-    requires rising { IsTrue (are_rising script.faults.items) }
+    requires rising { IsTrue (numbers_rise script.faults.items) }
 {
     let mut memory = first_memory(alloc, script.size, script.pieces.as_slice())?;
     let mut context = first_context(

@@ -9,6 +9,9 @@
 //! memory was wanted it makes the calls again that weren't answered, and holds what comes of it against a run in which
 //! nothing was refused. It ends with status 3 where memory was wanted elsewhere.
 //!
+//! Called with the word `made`, by the same tool, it reads nothing, and makes the script of `gen 100`, of which nothing is
+//! run: so the requests for memory of that alone can be counted. It ends with status 3 where memory was wanted.
+//!
 //! Empty lines and those that begin with `#` are nothing.
 #![tactic(auto)]
 
@@ -25,24 +28,50 @@ use std::process::ExitCode;
 use std::{env, io, str};
 use tally::Tally;
 use wasi_ends::{StdinSource, read_all};
+use wasi_gen::gen_script;
 
 const WANTED_ELSEWHERE: u8 = 3;
 
-// Whether the one word behind the program's name is `refused`.
-fn is_refused(rt: &HostRuntime) -> io::Result<bool> {
+// The number of the script that is made.
+const MADE: u64 = 100;
+
+/// What the program is called for.
+#[derive(Clone, Copy, PartialEq, Eq)]
+enum Way {
+    Faults,
+    Refused,
+    Made,
+}
+
+// What the first word behind the program's name asks for.
+fn way_asked(rt: &HostRuntime) -> io::Result<Way> {
     let mut words = env::args(rt)?;
     let _program = words.next();
-    Ok(words.next().is_some_and(|word| word.as_str() == "refused"))
+    let Some(word) = words.next() else {
+        return Ok(Way::Faults);
+    };
+    Ok(match word.as_str() {
+        "refused" => Way::Refused,
+        "made" => Way::Made,
+        _ => Way::Faults,
+    })
+}
+
+// Makes the script of a number.
+fn make(rt: &HostRuntime) -> io::Result<ExitCode> {
+    let script = gen_script(rt.alloc(), MADE)?;
+    println!(rt; "{} calls", script.calls.len())?;
+    Ok(ExitCode::SUCCESS)
 }
 
 // Tries each line that is a script.
-fn try_all(rt: &HostRuntime, text: &str, is_refused: bool) -> io::Result<Tally> {
+fn try_all(rt: &HostRuntime, text: &str, way: Way) -> io::Result<Tally> {
     let mut tally = Tally::new();
     for line in text.lines() {
         if line.is_empty() || line.starts_with('#') {
             continue;
         }
-        tally = if is_refused {
+        tally = if way == Way::Refused {
             try_refused(rt, tally, line)?
         } else {
             try_faults(rt, tally, line)?
@@ -52,7 +81,10 @@ fn try_all(rt: &HostRuntime, text: &str, is_refused: bool) -> io::Result<Tally> 
 }
 
 fn run(rt: &HostRuntime) -> io::Result<ExitCode> {
-    let is_refused = is_refused(rt)?;
+    let way = way_asked(rt)?;
+    if way == Way::Made {
+        return make(rt);
+    }
     let mut source = StdinSource::new(rt.stdin());
     let Ok(bytes) = read_all(rt.alloc(), &mut source) else {
         eprintln!(rt; "wasi_run_rows: standard input couldn't be read")?;
@@ -62,7 +94,7 @@ fn run(rt: &HostRuntime) -> io::Result<ExitCode> {
         eprintln!(rt; "wasi_run_rows: standard input isn't UTF-8")?;
         return Ok(ExitCode::FAILURE);
     };
-    try_all(rt, text, is_refused)?.end(rt)
+    try_all(rt, text, way)?.end(rt)
 }
 
 fn main(rt: HostRuntime) -> ExitCode {

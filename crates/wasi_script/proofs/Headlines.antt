@@ -16,6 +16,7 @@ use Rattle.wasi_faults.specs.Faults.{Calls, Failing, counted}
 use Rattle.wasi_faults.specs.declared.fault.Fault.{Fault}
 use Rattle.wasi_faults.proofs.Rising.{counts_few}
 use Rattle.wasi_tree.specs.MemState.{MemState}
+use Rattle.wasi_script.specs.HasRun.{HasRun}
 use Rattle.wasi_script.specs.Headline.{report_after, Reports, fueled_calls}
 use Rattle.wasi_p1.specs.Reach.{Confined}
 use Rattle.wasi_report.specs.Report.{report_text}
@@ -75,40 +76,43 @@ pub begun_at : {context : View (Failing MemState)} {memory : List ℕ} (plan : P
 begun_at {memory} plan is memory-is = is.state memory ∙ (rw memory-is refl)
 
 -- a run of a plan's calls from its start, over a host that fails at most as often as the plan lists faults
-pub record RanPlan (plan : Plan) (last : State) (answers : List Answer) (touched : Nodes) : Type 0 where
-  pub before : ℕ
-  pub now : ℕ
-  pub few : (k : ℕ) → Allows before now k → k ≤ length plan.faults
-  pub first : State
-  pub begins : first ≡ start plan
-  pub ran : DidRun before now first (fueled_calls plan) answers last touched
-  pub allowed : Allows before now (ios answers)
-  pub confined : Confined first last touched
+pub has_run : {plan : Plan} {first last : State} {answers : List Answer} {touched : Nodes} (before now : ℕ)
+    → ((k : ℕ) → Allows before now k → k ≤ length plan.faults) → first ≡ start plan
+    → DidRun before now first (fueled_calls plan) answers last touched → Allows before now (ios answers)
+    → Confined first last touched → HasRun plan last answers touched
+has_run {plan} {first} {last} {answers} {touched} before now few begins ran allowed confined =
+    let from_start : DidRun before now (start plan) (fueled_calls plan) answers last touched =
+    subst (λ s. DidRun before now s (fueled_calls plan) answers last touched) begins ran in
+    record {
+      turns = from_start.turns;
+      run = run_more (fueled_calls plan) from_start.turns from_start.faults (length plan.faults) (start plan) last
+          (few from_start.faults from_start.allowed) from_start.run;
+      answers_are = from_start.answers_are;
+      few = few (ios answers) allowed;
+      ends = from_start.ends_touched;
+      confined = subst (λ s. Confined s last touched) begins confined;
+    }
 
 -- the report of what a run came to, with its nodes listed rising
 pub reports : {plan : Plan} {last : State} {answers : List Answer} {touched : Nodes} (listed : List ℕ)
-    (result : Result (Vec ℕ Global) AllocError) → RanPlan plan last answers touched → from_list listed ≡ touched
+    (result : Result (Vec ℕ Global) AllocError) → HasRun plan last answers touched → from_list listed ≡ touched
     → IsStrictlySortedBy nat_cmp listed
     → OnOk result (IsOrdered (record (report_after plan.show [] last listed) { answers = answers }))
     → IfOk result (λ text. text.items ≡ report_text (record (report_after plan.show [] last listed) { answers = answers }))
     → IfOk result (λ text. Reports plan text.items)
 reports {plan} {last} {answers} {touched} listed (Err error) run nodes-are rising ordered text-is = tt
 reports {plan} {last} {answers} {touched} listed (Ok text) run nodes-are rising ordered text-is =
-    let from_start : DidRun run.before run.now (start plan) (fueled_calls plan) answers last touched =
-    subst (λ s. DidRun run.before run.now s (fueled_calls plan) answers last touched) run.begins run.ran in
-    let near : Confined (start plan) last touched = subst (λ s. Confined s last touched) run.begins run.confined in
-    let told_is = ap (λ all. record (report_after plan.show [] last listed) { answers = all }) from_start.answers_are in
+    let told_is = ap (λ all. record (report_after plan.show [] last listed) { answers = all }) run.answers_are in
     record {
-      turns = from_start.turns;
+      turns = run.turns;
       last = last;
       touched = listed;
-      run = run_more (fueled_calls plan) from_start.turns from_start.faults (length plan.faults) (start plan) last
-          (run.few from_start.faults from_start.allowed) from_start.run;
-      few = subst (λ all. ios all ≤ length plan.faults) from_start.answers_are (run.few (ios answers) run.allowed);
+      run = run.run;
+      few = subst (λ all. ios all ≤ length plan.faults) run.answers_are run.few;
       rising = rising;
       ends = All-weaker (λ n. contains touched n ≡ true) (Contains listed) (λ n has. in_listed listed n (rw nodes-are has))
-          (named from_start.turns) from_start.ends_touched;
-      in_reach = λ n has. near.touched_in n (subst (λ t. contains t n ≡ true) nodes-are (in_list listed n has));
+          (named run.turns) run.ends;
+      in_reach = λ n has. run.confined.touched_in n (subst (λ t. contains t n ≡ true) nodes-are (in_list listed n has));
       ordered = subst IsOrdered told_is ordered;
       text_is = text-is ∙ ap report_text told_is;
     }

@@ -2,3 +2,5 @@ mod Starts
 mod Headlines
 mod OwnTrees
 mod Tops
+mod Numerals
+mod Summaries

@@ -1,5 +1,5 @@
 -- A script that gives its guest read-only directories alone is reported with its own tree.
-use Rattle.std.proofs.Common.{ℕ, suc, zero, ◌+◌, ◌≡◌, List, [], ◌∷◌, length, map, slice_get, refl, ap, ◌∙◌, Some, Bool}
+use Rattle.std.proofs.Common.{ℕ, suc, zero, ◌+◌, ◌≡◌, List, [], ◌∷◌, length, map, slice_get, refl, ap, ◌∙◌, Some}
 use Rattle.std.specs.Prelude.{All}
 use Rattle.std.proofs.lemmas.List.Elements.{All-head, All-tail}
 use Rattle.wasi_fs.specs.declared.perms.FsPerms.{FsPerms}
@@ -10,11 +10,12 @@ use Rattle.wasi_tree.specs.Given.{Given, GivenContent, file, directory, link, gi
 use Rattle.wasi_p1.specs.Guest.{perms_in}
 use Rattle.wasi_p1.specs.ReadOnly.{IsReadOnlyGuest}
 use Rattle.wasi_p1.proofs.Permitting.{run_leaves}
-use Rattle.wasi_script.specs.Due.{Due, the_usage, the_refusal, the_report, OfDue, Writes, KeepsTree}
+use Rattle.wasi_script.specs.Due.{Due, the_usage, the_refusal, the_report, the_line, OfDue, Writes, KeepsTree}
 use Rattle.wasi_script.specs.Headline.{Reports, GivesReadOnly, TellsOwnTree, fueled_calls, own_nodes, node_in_order, report_after}
 use Rattle.wasi_script.specs.Start.{start, given_guest_slots}
 use Rattle.wasi_script.specs.declared.status.Status.{Status}
 use Rattle.wasi_script.specs.declared.status.Status.TheVariants as statuses
+use Rattle.wasi_script.specs.declared.words.Task.{Task}
 
 -- ---- the guest at the start
 
@@ -71,10 +72,12 @@ tells_own plan reports only = record {
 took_own : (status : Status) (d : Due) (taken now : List ℕ) → Writes status d taken now → KeepsTree status d taken now
 took_own statuses.Done the_usage taken now wrote = tt
 took_own statuses.Done (the_refusal refusal) taken now wrote = tt
+took_own statuses.Done (the_line n) taken now wrote = tt
 took_own statuses.Done (the_report plan) taken now wrote =
     λ only. (wrote.text, tells_own plan wrote.is_text only, wrote.took)
 took_own statuses.WriteFault the_usage taken now wrote = tt
 took_own statuses.WriteFault (the_refusal refusal) taken now wrote = tt
+took_own statuses.WriteFault (the_line n) taken now wrote = tt
 took_own statuses.WriteFault (the_report plan) taken now wrote =
     λ only. (wrote.text, tells_own plan wrote.is_text only, wrote.front)
 took_own statuses.Usage d taken now wrote = tt
@@ -83,13 +86,13 @@ took_own statuses.ReadFault d taken now wrote = tt
 took_own statuses.NoMemory d taken now wrote = tt
 
 -- so that what was written tells it
-pub keeps_tree : (status : Status) (runs : Bool) (left taken now : List ℕ)
-    → OfDue status runs left (λ due. Writes status due taken now)
-    → OfDue status runs left (λ due. KeepsTree status due taken now)
-keeps_tree statuses.Done runs left taken now (d, owed, wrote) = (d, owed, took_own statuses.Done d taken now wrote)
-keeps_tree statuses.Usage runs left taken now (d, owed, wrote) = (d, owed, tt)
-keeps_tree (statuses.Refused refusal) runs left taken now (d, owed, wrote) = (d, owed, tt)
-keeps_tree statuses.WriteFault runs left taken now (d, owed, wrote) =
+pub keeps_tree : (status : Status) (task : Task) (left taken now : List ℕ)
+    → OfDue status task left (λ due. Writes status due taken now)
+    → OfDue status task left (λ due. KeepsTree status due taken now)
+keeps_tree statuses.Done task left taken now (d, owed, wrote) = (d, owed, took_own statuses.Done d taken now wrote)
+keeps_tree statuses.Usage task left taken now (d, owed, wrote) = (d, owed, tt)
+keeps_tree (statuses.Refused refusal) task left taken now (d, owed, wrote) = (d, owed, tt)
+keeps_tree statuses.WriteFault task left taken now (d, owed, wrote) =
     (d, owed, took_own statuses.WriteFault d taken now wrote)
-keeps_tree statuses.ReadFault runs left taken now wrote = λ d. tt
-keeps_tree statuses.NoMemory runs left taken now wrote = λ d. tt
+keeps_tree statuses.ReadFault task left taken now wrote = λ d. tt
+keeps_tree statuses.NoMemory task left taken now wrote = λ d. tt

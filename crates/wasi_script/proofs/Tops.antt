@@ -1,6 +1,6 @@
 -- What the program has written, by its status.
-use Rattle.std.proofs.Common.{ℕ, ◌+◌, ◌≤◌, ◌≡◌, Bool, true, false, List, [], length, take}
-use Rattle.std.proofs.Common.{refl, sym, ◌∙◌, subst, arith, Result, Ok, Err}
+use Rattle.std.proofs.Common.{ℕ, ◌+◌, ◌≤◌, ◌≡◌, List, [], length, take}
+use Rattle.std.proofs.Common.{◌⊎◌, inl, inr, refl, sym, ◌∙◌, subst, arith, Result, Err}
 use Rattle.std.proofs.lemmas.List.{drop_all, length-take, take-append-drop}
 use Rattle.wasi_ends.specs.Ends.{ReadAll, ReadFront}
 use Rattle.wasi_form.specs.Plan.{Plan}
@@ -12,10 +12,12 @@ use Rattle.wasi_form.specs.declared.verdict.ScriptError.{ScriptError}
 use Rattle.wasi_form.specs.declared.verdict.ScriptError.TheVariants as scripts
 use Rattle.wasi_form.proofs.Accepted.{too_many, refused_before}
 use Rattle.wasi_script.specs.Exit.{unfinished_status, script_status}
-use Rattle.wasi_script.specs.Due.{Due, the_usage, the_refusal, the_report, IsOwed, OfDue, left_unread, LeavesBytes, KeepsSink, NotRead}
+use Rattle.wasi_script.specs.Due.{Due, the_usage, the_refusal, the_report, the_line, EndsGenerated, IsOwed, OfDue, left_unread, LeavesBytes, KeepsSink, NotRead}
 use Rattle.wasi_script.specs.Due.{IsText, IsDue, Writes, Written, whole, in_part, status_of}
 use Rattle.wasi_script.specs.declared.status.Status.{Status}
 use Rattle.wasi_script.specs.declared.status.Status.TheVariants as statuses
+use Rattle.wasi_script.specs.declared.words.Task.{Task}
+use Rattle.wasi_script.specs.declared.words.Task.TheVariants as tasks
 
 -- ---- reading
 
@@ -70,6 +72,12 @@ pub no_read_fault : {told rose Anything : Type 0} {taken now text : List ℕ} {s
 no_read_fault (whole took) is = absurd (cc)
 no_read_fault (in_part failed took) is = absurd (cc)
 
+-- nor is it the usage line's
+pub no_usage : {told rose Anything : Type 0} {taken now text : List ℕ} {status : Status}
+    → Written told rose taken now text statuses.Done status → status ≡ statuses.Usage → Anything
+no_usage (whole took) is = absurd (cc)
+no_usage (in_part failed took) is = absurd (cc)
+
 -- nor does the sink have to be as it was before it
 pub may_take : {told rose : Type 0} {taken now text : List ℕ} {status : Status}
     → Written told rose taken now text statuses.Done status → KeepsSink status taken now
@@ -85,6 +93,8 @@ writes {text} (the_refusal refusal) tells is (whole took) = record { text = text
 writes {text} (the_refusal refusal) tells is (in_part failed took) = record { text = text; is_text = is; front = took tells }
 writes {text} (the_report plan) tells is (whole took) = record { text = text; is_text = is; took = took tells }
 writes {text} (the_report plan) tells is (in_part failed took) = record { text = text; is_text = is; front = took tells }
+writes {text} (the_line n) tells is (whole took) = record { text = text; is_text = is; took = took tells }
+writes {text} (the_line n) tells is (in_part failed took) = record { text = text; is_text = is; front = took tells }
 
 is_due : {told rose : Type 0} {taken now text : List ℕ} {status : Status} (d : Due)
     → Written told rose taken now text (status_of d) status → IsDue status d
@@ -94,36 +104,79 @@ is_due (the_refusal refusal) (whole took) = refl
 is_due (the_refusal refusal) (in_part failed took) = tt
 is_due (the_report plan) (whole took) = refl
 is_due (the_report plan) (in_part failed took) = tt
+is_due (the_line n) (whole took) = refl
+is_due (the_line n) (in_part failed took) = tt
 
 -- what holds of what was due when it was written
-of_due : {told rose : Type 0} {taken now text : List ℕ} {status : Status} (runs : Bool)
-    (left : List ℕ) (Holds : Due → Type 0) (d : Due) → IsOwed runs left d → Written told rose taken now text (status_of d) status
-    → Holds d → OfDue status runs left Holds
-of_due runs left Holds the_usage owed (whole took) holds = (the_usage, owed, holds)
-of_due runs left Holds the_usage owed (in_part failed took) holds = (the_usage, owed, holds)
-of_due runs left Holds (the_refusal refusal) owed (whole took) holds = (the_refusal refusal, owed, holds)
-of_due runs left Holds (the_refusal refusal) owed (in_part failed took) holds = (the_refusal refusal, owed, holds)
-of_due runs left Holds (the_report plan) owed (whole took) holds = (the_report plan, owed, holds)
-of_due runs left Holds (the_report plan) owed (in_part failed took) holds = (the_report plan, owed, holds)
+of_due : {told rose : Type 0} {taken now text : List ℕ} {status : Status} (task : Task)
+    (left : List ℕ) (Holds : Due → Type 0) (d : Due) → IsOwed task left d → Written told rose taken now text (status_of d) status
+    → Holds d → OfDue status task left Holds
+of_due task left Holds the_usage owed (whole took) holds = (the_usage, owed, holds)
+of_due task left Holds the_usage owed (in_part failed took) holds = (the_usage, owed, holds)
+of_due task left Holds (the_refusal refusal) owed (whole took) holds = (the_refusal refusal, owed, holds)
+of_due task left Holds (the_refusal refusal) owed (in_part failed took) holds = (the_refusal refusal, owed, holds)
+of_due task left Holds (the_report plan) owed (whole took) holds = (the_report plan, owed, holds)
+of_due task left Holds (the_report plan) owed (in_part failed took) holds = (the_report plan, owed, holds)
+of_due task left Holds (the_line n) owed (whole took) holds = (the_line n, owed, holds)
+of_due task left Holds (the_line n) owed (in_part failed took) holds = (the_line n, owed, holds)
 
-pub is_due_by : {told rose : Type 0} {taken now text : List ℕ} {status : Status} (runs : Bool) (left : List ℕ) (d : Due)
-    → IsOwed runs left d → Written told rose taken now text (status_of d) status → OfDue status runs left (IsDue status)
-is_due_by {status} runs left d owed was = of_due runs left (IsDue status) d owed was (is_due d was)
+pub is_due_by : {told rose : Type 0} {taken now text : List ℕ} {status : Status} (task : Task) (left : List ℕ) (d : Due)
+    → IsOwed task left d → Written told rose taken now text (status_of d) status → OfDue status task left (IsDue status)
+is_due_by {status} task left d owed was = of_due task left (IsDue status) d owed was (is_due d was)
 
-pub writes_due : {told rose : Type 0} {taken now text : List ℕ} {status : Status} (runs : Bool) (left : List ℕ) (d : Due)
-    → IsOwed runs left d → told → IsText d text → Written told rose taken now text (status_of d) status
-    → OfDue status runs left (λ due. Writes status due taken now)
-writes_due {taken} {now} {status} runs left d owed tells is was =
-    of_due runs left (λ due. Writes status due taken now) d owed was (writes d tells is was)
+pub writes_due : {told rose : Type 0} {taken now text : List ℕ} {status : Status} (task : Task) (left : List ℕ) (d : Due)
+    → IsOwed task left d → told → IsText d text → Written told rose taken now text (status_of d) status
+    → OfDue status task left (λ due. Writes status due taken now)
+writes_due {taken} {now} {status} task left d owed tells is was =
+    of_due task left (λ due. Writes status due taken now) d owed was (writes d tells is was)
 
--- what is due by the words and the verdict
-pub owes_usage : {runs : Bool} (left : List ℕ) → runs ≡ false → IsOwed runs left the_usage
-owes_usage left other = rw other tt
+-- ---- a script that was made
 
-pub owes_line : {runs : Bool} {left : List ℕ} (refusal : Refusal) → runs ≡ true → IsVerdict left (Err refusal)
-    → IsOwed runs left (the_refusal refusal)
-owes_line refusal is verdict = rw is verdict
+-- its line was written, or a front of it, or memory was wanted
+pub ends_made : {told rose : Type 0} {taken now text : List ℕ} {status : Status}
+    → Written told rose taken now text statuses.Done status → EndsGenerated status
+ends_made (whole took) = tt
+ends_made (in_part failed took) = tt
 
-pub owes_report : {runs : Bool} {left : List ℕ} (plan : Plan) → runs ≡ true → IsVerdict left (Ok plan)
-    → IsOwed runs left (the_report plan)
-owes_report plan is verdict = rw is verdict
+-- what was written under its status, or that nothing was, is due
+pub line_due : (status : Status) (n : ℕ) (left taken now : List ℕ) → EndsGenerated status
+    → Writes status (the_line n) taken now → OfDue status (tasks.Generate n) left (λ due. Writes status due taken now)
+line_due statuses.Done n left taken now ends wrote = (the_line n, refl, wrote)
+line_due statuses.WriteFault n left taken now ends wrote = (the_line n, refl, wrote)
+line_due statuses.NoMemory n left taken now ends wrote = λ d. wrote
+line_due statuses.Usage n left taken now ends wrote = absurd ends
+line_due (statuses.Refused refusal) n left taken now ends wrote = absurd ends
+line_due statuses.ReadFault n left taken now ends wrote = absurd ends
+
+-- and so is its status
+pub made_due : (status : Status) (n : ℕ) (left : List ℕ) → EndsGenerated status
+    → OfDue status (tasks.Generate n) left (IsDue status)
+made_due statuses.Done n left ends = (the_line n, refl, refl)
+made_due statuses.WriteFault n left ends = (the_line n, refl, tt)
+made_due statuses.NoMemory n left ends = λ d. tt
+made_due statuses.Usage n left ends = absurd ends
+made_due (statuses.Refused refusal) n left ends = absurd ends
+made_due statuses.ReadFault n left ends = absurd ends
+
+-- it doesn't end so
+pub other_end : {Anything : Type 0} (status : Status) → EndsGenerated status
+    → (status ≡ statuses.ReadFault) ⊎ (status ≡ statuses.Usage) → Anything
+other_end statuses.Done ends (inl is) = absurd (cc)
+other_end statuses.Done ends (inr is) = absurd (cc)
+other_end statuses.WriteFault ends (inl is) = absurd (cc)
+other_end statuses.WriteFault ends (inr is) = absurd (cc)
+other_end statuses.NoMemory ends (inl is) = absurd (cc)
+other_end statuses.NoMemory ends (inr is) = absurd (cc)
+other_end statuses.Usage ends is = absurd ends
+other_end (statuses.Refused refusal) ends is = absurd ends
+other_end statuses.ReadFault ends is = absurd ends
+
+-- what it ended with may be taken
+pub made_keeps : (status : Status) (n : ℕ) (taken now : List ℕ) → EndsGenerated status
+    → Writes status (the_line n) taken now → KeepsSink status taken now
+made_keeps statuses.Done n taken now ends wrote = tt
+made_keeps statuses.WriteFault n taken now ends wrote = tt
+made_keeps statuses.NoMemory n taken now ends wrote = wrote
+made_keeps statuses.Usage n taken now ends wrote = absurd ends
+made_keeps (statuses.Refused refusal) n taken now ends wrote = absurd ends
+made_keeps statuses.ReadFault n taken now ends wrote = absurd ends

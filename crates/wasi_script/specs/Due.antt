@@ -1,8 +1,10 @@
 -- What the program has to write, and what stands after it, by its status.
-use Rattle.std.specs.Prelude.{◌≡◌, ℕ, ◌+◌, ◌++◌, Bool, true, false, List, [], ◌∷◌, drop, codes, Result, Ok, Err, ⊤}
-use Rattle.std.specs.Str.{bytes_eq}
+use Rattle.std.specs.Prelude.{◌≡◌, ℕ, ◌+◌, ◌++◌, List, [], ◌∷◌, drop, codes, Result, Ok, Err, ⊤}
 use Rattle.wasi_ends.specs.Ends.{ReadFront, TookFront}
 use Rattle.wasi_script.specs.Headline.{Reports, GivesReadOnly, TellsOwnTree}
+use Rattle.wasi_script.specs.Summary.{Summarizes}
+use Rattle.wasi_script.specs.declared.words.Task.{Task}
+use Rattle.wasi_script.specs.declared.words.Task.TheVariants as tasks
 use Rattle.wasi_form.specs.Plan.{Plan, plan}
 use Rattle.wasi_form.specs.Verdict.{most_script, IsVerdict}
 use Rattle.wasi_form.specs.declared.verdict.Refusal.{Refusal}
@@ -14,12 +16,6 @@ use Rattle.wasi_script.specs.declared.status.Status.TheVariants as statuses
 -- what reading leaves: nothing, or of bytes that are too many those behind the first one past the limit
 unfoldable pub left_unread : List ℕ → List ℕ
 left_unread left = drop (most_script + 1) left
-
--- the one word `run`
-abbrev pub is_run : List (List ℕ) → Bool
-is_run [] = false
-is_run (word ∷ []) = bytes_eq word (codes "run")
-is_run (word ∷ more ∷ words) = false
 
 abbrev pub usage_line : List ℕ
 usage_line = codes "usage: wasirun run | wasirun gen N" ++ 10 ∷ []
@@ -36,28 +32,37 @@ pub data Due : Type 0 where
   the_usage : Due
   the_refusal : Refusal → Due
   the_report : Plan → Due
+  the_line : ℕ → Due
 
--- This is due, by whether the words are `run`, and by the bytes that the source has left: the usage line, or what the
--- verdict on the bytes says.
-abbrev pub IsOwed : Bool → List ℕ → Due → Type 0
-IsOwed true left the_usage = ⊥
-IsOwed true left (the_refusal refusal) = IsVerdict left (Err refusal)
-IsOwed true left (the_report plan) = IsVerdict left (Ok plan)
-IsOwed false left the_usage = ⊤
-IsOwed false left (the_refusal refusal) = ⊥
-IsOwed false left (the_report plan) = ⊥
+-- This is due, by what the words ask for, and by the bytes that the source has left: the usage line; the line of a script
+-- that is made; or what the verdict on the bytes says.
+abbrev pub IsOwed : Task → List ℕ → Due → Type 0
+IsOwed tasks.Run left the_usage = ⊥
+IsOwed tasks.Run left (the_refusal refusal) = IsVerdict left (Err refusal)
+IsOwed tasks.Run left (the_report plan) = IsVerdict left (Ok plan)
+IsOwed tasks.Run left (the_line n) = ⊥
+IsOwed (tasks.Generate m) left the_usage = ⊥
+IsOwed (tasks.Generate m) left (the_refusal refusal) = ⊥
+IsOwed (tasks.Generate m) left (the_report plan) = ⊥
+IsOwed (tasks.Generate m) left (the_line n) = n ≡ m
+IsOwed tasks.Usage left the_usage = ⊤
+IsOwed tasks.Usage left (the_refusal refusal) = ⊥
+IsOwed tasks.Usage left (the_report plan) = ⊥
+IsOwed tasks.Usage left (the_line n) = ⊥
 
 -- the text is what is due
 abbrev pub IsText : Due → List ℕ → Type 0
 IsText the_usage text = text ≡ usage_line
 IsText (the_refusal refusal) text = text ≡ refusal_line refusal
 IsText (the_report plan) text = Reports plan text
+IsText (the_line n) text = Summarizes n text
 
 -- the status of what was written whole
 abbrev pub status_of : Due → Status
 status_of the_usage = statuses.Usage
 status_of (the_refusal refusal) = statuses.Refused refusal
 status_of (the_report plan) = statuses.Done
+status_of (the_line n) = statuses.Done
 
 -- a status that isn't one of a fault or of want of memory is the one that is due
 abbrev pub IsDue : Status → Due → Type 0
@@ -70,13 +75,13 @@ IsDue statuses.NoMemory d = ⊤
 
 -- This holds of what is due. After a fault of reading, or want of memory, the verdict may not have been found, and it
 -- holds whatever is due.
-abbrev pub OfDue : Status → Bool → List ℕ → (Due → Type 0) → Type 0
-OfDue statuses.Done runs left Holds = (d : Due) × IsOwed runs left d × Holds d
-OfDue statuses.Usage runs left Holds = (d : Due) × IsOwed runs left d × Holds d
-OfDue (statuses.Refused refusal) runs left Holds = (d : Due) × IsOwed runs left d × Holds d
-OfDue statuses.WriteFault runs left Holds = (d : Due) × IsOwed runs left d × Holds d
-OfDue statuses.ReadFault runs left Holds = (d : Due) → Holds d
-OfDue statuses.NoMemory runs left Holds = (d : Due) → Holds d
+abbrev pub OfDue : Status → Task → List ℕ → (Due → Type 0) → Type 0
+OfDue statuses.Done task left Holds = (d : Due) × IsOwed task left d × Holds d
+OfDue statuses.Usage task left Holds = (d : Due) × IsOwed task left d × Holds d
+OfDue (statuses.Refused refusal) task left Holds = (d : Due) × IsOwed task left d × Holds d
+OfDue statuses.WriteFault task left Holds = (d : Due) × IsOwed task left d × Holds d
+OfDue statuses.ReadFault task left Holds = (d : Due) → Holds d
+OfDue statuses.NoMemory task left Holds = (d : Due) → Holds d
 
 -- the sink took the text that is due, and no other byte
 pub record Wrote (d : Due) (taken now : List ℕ) : Type 0 where
@@ -104,6 +109,7 @@ Writes statuses.WriteFault d taken now = WroteFront d taken now
 abbrev pub TookOwnTree : Due → (List ℕ → Type 0) → Type 0
 TookOwnTree the_usage Took = ⊤
 TookOwnTree (the_refusal refusal) Took = ⊤
+TookOwnTree (the_line n) Took = ⊤
 TookOwnTree (the_report plan) Took = GivesReadOnly plan → (text : List ℕ) × TellsOwnTree plan text × Took text
 
 -- the same by the status: of a text that was taken whole, or a front of it
@@ -147,6 +153,15 @@ EndsReading statuses.NoMemory = ⊤
 EndsReading statuses.Done = ⊥
 EndsReading statuses.Usage = ⊥
 EndsReading statuses.WriteFault = ⊥
+
+-- the statuses with which the program ends that runs a script of its own making
+abbrev pub EndsGenerated : Status → Type 0
+EndsGenerated statuses.Done = ⊤
+EndsGenerated statuses.WriteFault = ⊤
+EndsGenerated statuses.NoMemory = ⊤
+EndsGenerated statuses.Usage = ⊥
+EndsGenerated (statuses.Refused refusal) = ⊥
+EndsGenerated statuses.ReadFault = ⊥
 
 -- reading that gave no script: a refusal was due; a fault and want of memory are free
 abbrev pub NotRead : Status → List ℕ → List ℕ → Type 0

@@ -1,4 +1,7 @@
 pub mod Exit
+pub mod Words
 pub mod Start
 pub mod Headline
+pub mod HasRun
+pub mod Summary
 pub mod Due

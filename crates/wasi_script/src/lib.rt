@@ -2,12 +2,14 @@
 //! written. The program `wasirun` stands on it.
 #![tactic(auto)]
 
+mod ran;
 mod start;
 mod status;
+mod summary;
 mod top;
 mod words;
 
 pub use start::{first_context, first_memory, shown};
 pub use status::Status;
 pub use top::run_script;
-pub use words::words_after_name;
+pub use words::{Task, task_of, words_after_name};

@@ -3,7 +3,7 @@ ghost use Rattle.std.specs.Prelude.{◌≡◌, ◌≤◌, ◌+◌, true, length,
 ghost use Rattle.std.specs.List.{list_all};
 ghost use Rattle.wasi_host.specs.Tree.{node_at, is_directory};
 ghost use Rattle.wasi_tree.specs.Given.{tree_of};
-ghost use Rattle.wasi_faults.specs.Faults.{are_rising};
+ghost use Rattle.wasi_faults.specs.Faults.{numbers_rise};
 ghost use Rattle.wasi_guest.specs.Services.{handed};
 ghost use Rattle.wasi_form.specs.Plan.{planned_piece, planned_preopen};
 ghost use Rattle.wasi_form.specs.Within.{are_preopens_directories, is_piece_within, is_shown_within};
@@ -58,7 +58,7 @@ pub fn first_context(
 ) -> Result<WasiP1Ctx<FailAt<MemTree>>, AllocError>
     requires directories { are_preopens_directories nodes.nodes (map planned_preopen preopens.now) ≡ true }
     requires table { 3 + length preopens.now ≤ table }
-    requires rising { IsTrue (are_rising faults.items) }
+    requires rising { IsTrue (numbers_rise faults.items) }
     ensures begun { IfOk result (λ c. IsBegun world_behind c (tree_of nodes.nodes nodes.limits)
         (map planned_preopen preopens.now) (handed services) table) }
     ensures faults { IfOk result (λ c. c.host.calls ≡ record { faults = faults.items; calls = 0 }) }

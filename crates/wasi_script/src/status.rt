@@ -8,9 +8,9 @@ use wasi_form::{Refusal, ScriptError};
 /// How the program ended.
 #[derive(Clone, Copy, Debug, PartialEq, Eq)]
 pub enum Status {
-    /// The report was taken whole.
+    /// The report was taken whole, or the line of a script that was made.
     Done,
-    /// The words aren't `run`, and the line that says so was taken.
+    /// The words are neither `run` nor `gen N`, and the line that says so was taken.
     Usage,
     /// The bytes aren't a script that can be run, and the line that says why was taken.
     Refused(Refusal),
@@ -23,7 +23,7 @@ pub enum Status {
 }
 
 impl Status {
-    /// The exit status of the process: 0 for a report, and a number of its own for each other end. They are the
+    /// The exit status of the process: 0 for a report or a line, and a number of its own for each other end. They are the
     /// program's own; 1 is left to a process that is stopped.
     pub fn exit_code(self) -> u8
         ensures code { result ≡ exit_code self }

@@ -1,14 +1,13 @@
 -- What a call of a tree that others change finds and leaves.
-use Rattle.std.proofs.Common.{◌≡◌, ◌∙◌, ◌+◌, ◌-◌, ◌^◌, ◌≤◌, ℕ, List, cond, nat_lt, sym, ap, inl, arith, Result}
+use Rattle.std.proofs.Common.{◌≡◌, ◌∙◌, ◌+◌, ◌-◌, ◌^◌, ◌<◌, ◌≤◌, ℕ, List, cond, nat_lt, sym, ap, inl, arith, Result}
 use Rattle.std.proofs.lemmas.Bool.{lt-ltb, le-ltb}
 use Rattle.wasi_host.specs.Answer.{HostAnswer}
-use Rattle.wasi_host.specs.Fates.{Finds, changed_to}
+use Rattle.wasi_host.specs.Fates.{Finds, Follow, changed_to}
 use Rattle.wasi_host.specs.HostCall.{HostCall}
 use Rattle.wasi_host.specs.Meaning.{Handles, Told, World}
 use Rattle.wasi_host.specs.Tree.{Tree}
 use Rattle.wasi_host.specs.declared.errors.HostError.{HostError}
-use Rattle.wasi_tree.specs.MemState.{MemState}
-use Rattle.wasi_shared.specs.Changes.{Outside, all_made, found_next, due_before}
+use Rattle.wasi_shared.specs.Changes.{all_made, due_before, made_by_others}
 use Rattle.wasi_shared.specs.declared.change.Change.{Change}
 
 -- it finds the tree with the changes before it
@@ -17,27 +16,38 @@ pub finds_changed : {A : Type 0} {old new : Handles} {left after : World} {found
     → Told old new (changed_to found left) after call shown r → Finds old new left found after call shown r
 finds_changed r told = inl told
 
--- what the next call finds hangs on the tree in memory, and not on its handles
-pub found_same : (m m' : MemState) (changes : List Change) (calls : ℕ) → m'.tree ≡ m.tree
-    → found_next (record { inner = m'; changes = changes; calls = calls })
-    ≡ found_next (record { inner = m; changes = changes; calls = calls })
-unfolding found_next
-found_same m m' changes calls same =
-    ap (λ (t : Tree). cond (nat_lt calls (2 ^ 64 - 1)) (all_made t (due_before (calls + 1) changes)) t) same
+-- the call of a number finds the changes before it made
+pub found_numbered : (calls number : ℕ) (changes : List Change) (t : Tree) → number ≡ calls + 1 → number ≤ 2 ^ 64 - 1
+    → made_by_others calls changes 0 t ≡ all_made t (due_before number changes)
+unfolding made_by_others
+found_numbered calls number changes t is fits =
+    let at : calls + 0 + 1 ≡ number = omega (arith, is) in
+    ap (λ b. cond b (all_made t (due_before (calls + 0 + 1) changes)) t)
+    (lt-ltb (calls + 0) (2 ^ 64 - 1) (omega (arith, is, fits)))
+    ∙ ap (λ n. all_made t (due_before n changes)) at
 
-pub found_numbered : (s : Outside) (number : ℕ) → number ≡ s.calls + 1 → number ≤ 2 ^ 64 - 1
-    → found_next s ≡ all_made s.inner.tree (due_before number s.changes)
-unfolding found_next
-found_numbered s number is fits =
-    ap (λ b. cond b (all_made s.inner.tree (due_before (s.calls + 1) s.changes)) s.inner.tree)
-    (lt-ltb s.calls (2 ^ 64 - 1) (omega (arith, is, fits)))
-    ∙ ap (λ n. all_made s.inner.tree (due_before n s.changes)) (sym is)
+-- and the changes behind it are to come
+pub follow_numbered : (calls number : ℕ) (changes changes' : List Change) → number ≡ calls + 1
+    → ((n : ℕ) → number < n → due_before n changes' ≡ due_before n changes)
+    → Follow (made_by_others calls changes) (made_by_others number changes')
+unfolding made_by_others
+follow_numbered calls number changes changes' is later n t =
+    let at : number + n ≡ calls + (n + 1) = omega (arith, is) in
+    ap (λ m. cond (nat_lt m (2 ^ 64 - 1)) (all_made t (due_before (m + 1) changes')) t) at
+    ∙ ap (λ due. cond (nat_lt (calls + (n + 1)) (2 ^ 64 - 1)) (all_made t due) t)
+    (later (calls + (n + 1) + 1) (omega (arith, is)))
 
--- a call that has no number finds what was left
-pub found_unnumbered : (s : Outside) → 2 ^ 64 - 1 ≤ s.calls → found_next s ≡ s.inner.tree
-unfolding found_next
-found_unnumbered s late =
-    ap (λ b. cond b (all_made s.inner.tree (due_before (s.calls + 1) s.changes)) s.inner.tree)
-    (le-ltb s.calls (2 ^ 64 - 1) late)
+-- no change is made before a call that has no number, nor before those behind it
+pub unchanged_late : (calls : ℕ) (changes : List Change) (n : ℕ) (t : Tree) → 2 ^ 64 - 1 ≤ calls
+    → made_by_others calls changes n t ≡ t
+unfolding made_by_others
+unchanged_late calls changes n t late =
+    ap (λ b. cond b (all_made t (due_before (calls + n + 1) changes)) t)
+    (le-ltb (calls + n) (2 ^ 64 - 1) (omega (arith, late)))
+
+pub follow_unnumbered : (calls : ℕ) (changes : List Change) → 2 ^ 64 - 1 ≤ calls
+    → Follow (made_by_others calls changes) (made_by_others calls changes)
+follow_unnumbered calls changes late n t =
+    unchanged_late calls changes n t late ∙ sym (unchanged_late calls changes (n + 1) t late)
 
 pub ruleset shared_rules = (finds_changed)

@@ -3,6 +3,7 @@ use Rattle.std.specs.Prelude.{ℕ, ◌+◌, ◌-◌, ◌^◌, nat_eq, nat_lt, if
 use Rattle.std.specs.Coded.{Coded, code_by, coded×, coded_ℕ, coded_list}
 use Rattle.std.specs.List.{filter}
 use Rattle.std.specs.List.Sorted.{IsNonDecreasingBy}
+use Rattle.wasi_host.specs.Fates.{Others}
 use Rattle.wasi_host.specs.Tree.{Tree}
 use Rattle.wasi_tree.specs.Changed.{changed}
 use Rattle.wasi_tree.specs.MemState.{MemState, state_code}
@@ -30,10 +31,15 @@ outside_code =
     code_by (MemState × (List Change × ℕ)) (coded× state_code (coded× (coded_list change.the_row.coded) coded_ℕ))
     (λ s. (s.inner, (s.changes, s.calls))) (λ p. record { inner = p.0; changes = p.1.0; calls = p.1.1 }) (λ _. refl)
 
--- the tree that the next call finds; a call after that of number 2^64 - 1 has no number
-unfoldable pub found_next : Outside → Tree
-found_next s =
-    if nat_lt s.calls (2 ^ 64 - 1) then all_made s.inner.tree (due_before (s.calls + 1) s.changes) else s.inner.tree
+-- what others do to the tree before the calls to come, before the next one at 0, where so many calls came; a call after
+-- that of number 2^64 - 1 has no number
+unfoldable pub made_by_others : ℕ → List Change → Others
+made_by_others calls changes n t =
+    if nat_lt (calls + n) (2 ^ 64 - 1) then all_made t (due_before (calls + n + 1) changes) else t
+
+-- the tree that the next call finds
+abbrev pub found_next : Outside → Tree
+found_next s = made_by_others s.calls s.changes 0 s.inner.tree
 
 -- in the order of the calls before which they are made
 abbrev pub AreRising : List Change → Type 0

@@ -1,9 +1,10 @@
 //! A tree that others change.
 ghost use Rattle.std.specs.Prelude.{◌≡◌, ℕ, ◌+◌, ◌-◌, ◌^◌, ◌<◌, ◌≤◌, min, true, false, All};
+ghost use Rattle.wasi_host.specs.Fates.{Follow};
 ghost use Rattle.wasi_host.specs.declared.fate.Fate.TheVariants.{Passes};
 ghost use Rattle.wasi_tree.specs.MemState.{live_of, world_of};
 ghost use Rattle.wasi_shared.specs.declared.change.Change.{Change};
-ghost use Rattle.wasi_shared.specs.Changes.{AreRising, all_made, found_next, due_before};
+ghost use Rattle.wasi_shared.specs.Changes.{AreRising, all_made, found_next, due_before, made_by_others};
 
 use crate::change::Change;
 use crate::order::{next_due, put_in_order};
@@ -72,7 +73,8 @@ impl Shared {
     fn begin(&mut self)
         ensures inner { self.new.inner ≡ record self.old.inner { tree = found_next self.old } }
         ensures calls { self.new.calls ≡ min (self.old.calls + 1) (2 ^ 64 - 1) }
-        ensures later { (n : ℕ) → self.old.calls + 1 < n → due_before n self.new.changes ≡ due_before n self.old.changes }
+        ensures others { Follow (made_by_others self.old.calls self.old.changes)
+            (made_by_others self.new.calls self.new.changes) }
     {
         let Some(number) = self.calls.checked_add(1) else {
             return;
@@ -124,6 +126,8 @@ impl Host for Shared {
     ghost fails = { λ _ _. Passes };
 
     ghost tells_found = { true };
+
+    ghost others = { λ s. made_by_others s.calls s.changes };
 
     ghost found = { found_next };
 

@@ -176,6 +176,8 @@ impl Host for MemTree {
 
     ghost tells_found = { true };
 
+    ghost others = { λ _ _ t. t };
+
     ghost found = { λ m. m.tree };
 
     ghost left = { world_of };

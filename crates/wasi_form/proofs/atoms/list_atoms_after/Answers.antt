@@ -5,9 +5,9 @@ use Rattle.json.specs.Reads.{token_of}
 use Rattle.serde_json.specs.Data.{array}
 use Rattle.serde_json.specs.Find.{as_array}
 use Rattle.wasi_form.specs.Atoms.{flat_items}
-use Rattle.wasi_form.specs.Tokens.{next_value, next_items}
+use Rattle.wasi_form.specs.Tokens.{next_value, next_items, nothing}
 use Rattle.wasi_form.proofs.Firsts.{other_is_no_list}
-use Rattle.wasi_form.proofs.Grammar.{next_array, next_deep_array, twice, none_made, remade}
+use Rattle.wasi_form.proofs.Grammar.{next_array, next_deep_array, made_of, twice, none_made, remade}
 use Rattle.wasi_form.proofs.Unreads.{passed_on, unread_part}
 use Rattle.wasi_form.proofs.atoms.list_atoms_after.Goals as goal
 
@@ -30,6 +30,7 @@ returns-in_ok-atoms_left-in-BeginArray c =
     ∙ twice array (λ d. option_map flat_items (as_array d)) (λ ds. Some (flat_items ds)) (next_items (c.args.depth - 1) c.args.reader.now) (λ ds. refl)
     ∙ remade flat_items (λ ds. Some (flat_items ds)) (λ all. Some all) _ _ _ (λ ds. refl) c.in_ok-atoms_left-in-BeginArray.ensures
 
-pub returns-in_ok-value_after-in_default : goal.returns-in_ok-value_after-in_default
-returns-in_ok-value_after-in_default c =
-    other_is_no_list (option_map flat_items) c.args.depth c.args.token c.args.reader.now _ _ c.in_default.not-BeginArray c.in_ok-value_after-in_default.ensures
+pub returns-in_ok-pass_after-in_default : goal.returns-in_ok-pass_after-in_default
+returns-in_ok-pass_after-in_default c =
+    let passed = made_of nothing _ _ _ c.in_ok-pass_after-in_default.ensures in
+    other_is_no_list (option_map flat_items) c.args.depth c.args.token c.args.reader.now _ _ c.in_default.not-BeginArray passed.1

@@ -1,51 +1,21 @@
-use Rattle.std.proofs.Common.{refl, ap, arith, length, ◌∙◌}
-use Rattle.std.proofs.lemmas.List.{length-map}
-use Rattle.wasi_faults.specs.Faults.{counted}
-use Rattle.wasi_guest.proofs.Ranges.{written_back}
-use Rattle.wasi_form.specs.Plan.{plan, planned_preopen}
+use Rattle.wasi_form.specs.Plan.{plan}
 use Rattle.wasi_form.proofs.Accepted.{limits_kept}
-use Rattle.wasi_script.proofs.Starts.{confined_at_start}
-use Rattle.wasi_script.proofs.Headlines.{begun_at, few_listed, RanPlan, reports}
+use Rattle.wasi_script.proofs.Headlines.{reports}
 use Rattle.wasi_script.proofs.top.report_of.Goals as goal
-
-pub first_memory-requires : goal.first_memory-requires
-first_memory-requires c = rw c.as_slice.ensures.value (limits_kept (plan c.args.script) c.requires.within).pieces
-
-pub first_context-requires : goal.first_context-requires
-first_context-requires c =
-    let parts = limits_kept (plan c.args.script) c.requires.within in
-    record {
-      directories = rw c.as_slice-2.ensures.value parts.preopens;
-      rising = c.requires.rising;
-      table = rw c.as_slice-2.ensures.value (omega (arith, parts.table, length-map c.args.script.preopens.items planned_preopen));
-    }
 
 pub shown-requires : goal.shown-requires
 shown-requires c =
+    let ran = c.in_ok-ran.ensures in
     let parts = limits_kept (plan c.args.script) c.requires.within in
-    let size = c.run_calls-ran.ensures.size ∙ ap length c.bytes_mut-bytes.ensures.value in
-    rw (c.as_slice-3.ensures.value, c.bytes.ensures.bytes, written_back _ _ size, size, c.in_ok-memory.ensures.size) parts.show
+    rw (c.as_slice.ensures.value, c.bytes.ensures.bytes, ran.show, ran.size) parts.show
 
 pub returns : goal.returns
 returns c =
-    let value = c.bytes_mut-bytes.ensures.value in
-    let size = c.run_calls-ran.ensures.size ∙ ap length value in
-    let written = rw c.as_slice.ensures.value at c.in_ok-memory.ensures.written in
-    let begun = rw c.as_slice-2.ensures.value at c.in_ok-context.ensures.begun in
-    let run : RanPlan (plan c.args.script) _ _ _ = record {
-      before = counted 0 c.in_ok-context.context.host.calls;
-      now = counted 0 c.run_calls-ran.new.context.host.calls;
-      few = few_listed _ c.run_calls-ran.new.context.host.calls c.in_ok-context.ensures.faults;
-      first = _;
-      begins = begun_at (plan c.args.script) begun written;
-      ran = rw value at (c.in-Ok.ensures.run refl);
-      allowed = c.in-Ok.ensures.ios;
-      confined = rw value at (c.in-Ok.ensures.confined refl _ (confined_at_start _ begun.untouched));
-    } in
-    let shown-is = rw (c.as_slice-3.ensures.value, c.bytes.ensures.bytes, written_back _ _ size) at c.in_ok-shown.ensures.shown in
+    let ran = c.in_ok-ran.ensures in
+    let shown-is = rw (c.as_slice.ensures.value, c.bytes.ensures.bytes, ran.show) at c.in_ok-shown.ensures.shown in
     let ended = c.into_parts-ended.ensures in
     let outputs = c.into_outputs-outputs.ensures in
     let listed = rw (c.inner.ensures.inner, c.host.ensures.host) at c.in_ok-touched.ensures.nodes in
-    reports _ _ run listed c.in_ok-touched.ensures.rising
+    reports _ _ ran.run listed c.in_ok-touched.ensures.rising
     (rw (shown-is, outputs.stderr, outputs.stdout, c.inner-2.ensures.inner, ended.host, ended.holdings) at c.report.ensures.ordered)
     (rw (shown-is, outputs.stderr, outputs.stdout, c.inner-2.ensures.inner, ended.host, ended.holdings) at c.report.ensures.text)

@@ -1,6 +1,6 @@
-use Rattle.std.proofs.Common.{◌≡◌, ◌∙◌, true, ℕ, ap, inl, inr, arith}
+use Rattle.std.proofs.Common.{◌∙◌, ap, inl, inr, arith}
 use Rattle.std.proofs.lemmas.Bool.Decides.{nat_tests}
-use Rattle.std.specs.FinSet.{contains, members, remove}
+use Rattle.std.specs.FinSet.{members, remove}
 use Rattle.wasi_host.proofs.Chain.{remove-insert}
 use Rattle.wasi_faults.proofs.Fating.{told_closed}
 use Rattle.wasi_faults.proofs.fail_at.FailAtHost.open_at.Goals as goal

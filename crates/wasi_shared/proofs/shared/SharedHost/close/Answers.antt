@@ -1,6 +1,8 @@
-use Rattle.wasi_shared.proofs.Finding.{found_same}
+use Rattle.std.proofs.Common.{ap}
+use Rattle.wasi_shared.specs.Changes.{made_by_others}
 use Rattle.wasi_shared.proofs.shared.SharedHost.close.Goals as goal
 
 pub returns-clause-found : goal.returns-clause-found
 returns-clause-found c = λ tells.
-    rw (← c.self.view_is) (found_same _ _ c.self.inside.changes.items c.self.inside.calls (c.close.ensures.found tells))
+    rw (← c.self.view_is)
+    (ap (made_by_others c.self.inside.calls c.self.inside.changes.items 0) (c.close.ensures.found tells))

@@ -1,0 +1,4 @@
+mod Numbers
+mod Texts
+mod GenFit
+mod GenWithin

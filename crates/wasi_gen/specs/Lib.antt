@@ -1,0 +1,2 @@
+pub mod GenNodes
+pub mod GenScript
