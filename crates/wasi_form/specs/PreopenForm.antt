@@ -11,12 +11,12 @@ use Rattle.wasi_form.specs.Shapes.{u64_of, all_keys}
 use Rattle.wasi_form.specs.Plan.{PlannedPreopen}
 
 -- `"ro"` or `"rw"`
-abbrev pub perms_in : List ℕ → Option FsPerms
-perms_in text =
+abbrev pub perms_written : List ℕ → Option FsPerms
+perms_written text =
     if bytes_eq text (codes "ro") then Some ReadOnly else (if bytes_eq text (codes "rw") then Some ReadWrite else None)
 
 abbrev pub perms_named : Data → Option FsPerms
-perms_named d = find.as_str d >>= perms_in
+perms_named d = find.as_str d >>= perms_written
 
 -- whether all keys are those of a directory that is given, and what stands at them: `None` where it is missing or of
 -- another shape

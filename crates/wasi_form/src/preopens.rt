@@ -19,8 +19,8 @@ use json::Reader;
 use std::alloc::Global;
 use wasi_fs::FsPerms;
 
-fn perms_in(text: &str) -> Option<FsPerms>
-    ensures { result ≡ specs.perms_in text.now }
+fn perms_written(text: &str) -> Option<FsPerms>
+    ensures { result ≡ specs.perms_written text.now }
 {
     if text == "ro" {
         Some(FsPerms::ReadOnly)
@@ -37,7 +37,7 @@ fn perms(reader: &mut Reader<'_>, depth: usize) -> Reading<Option<FsPerms>>
         (parse_map specs.perms_named (next_value depth reader.old)) }
 {
     match next_text(reader, depth)? {
-        Some(text) => Ok(perms_in(text)),
+        Some(text) => Ok(perms_written(text)),
         None => Ok(None),
     }
 }

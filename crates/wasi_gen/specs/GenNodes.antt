@@ -28,14 +28,14 @@ abbrev pub digits : ℕ → List ℕ
 digits i = decimal i
 
 -- node 1+2n+i is a link to `../dj/f`, j being (i+1) mod n
-abbrev pub link_text : ℕ → ℕ → List ℕ
-link_text n i = codes "../" ++ directory_name ((i + 1) % n) ++ codes "/f"
+abbrev pub target_of : ℕ → ℕ → List ℕ
+target_of n i = codes "../" ++ directory_name ((i + 1) % n) ++ codes "/f"
 
 -- the i-th node of a kind
 abbrev pub content_of : ℕ → Kind → ℕ → GivenContent
 content_of n kinds.Directory i = directory (directory_entries n i)
 content_of n kinds.File i = file (digits i)
-content_of n kinds.Link i = link (link_text n i)
+content_of n kinds.Link i = link (target_of n i)
 
 -- all nodes of a kind, with the bits and times of new ones
 abbrev pub nodes_of_kind : ℕ → Kind → List Given

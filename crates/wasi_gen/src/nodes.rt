@@ -66,10 +66,10 @@ fn digits(alloc: Global, i: u64) -> Result<Vec<u8>, AllocError>
 }
 
 // A link's text, by which it leads to the file of the next directory, and from the last to the first one's.
-fn link_text(alloc: Global, n: u64, i: u64) -> Result<String, AllocError>
+fn target_of(alloc: Global, n: u64, i: u64) -> Result<String, AllocError>
     requires n { n < 10000 }
     requires i { i < n }
-    ensures { IfOk result (λ text. string_bytes text ≡ specs.link_text n i) }
+    ensures { IfOk result (λ text. string_bytes text ≡ specs.target_of n i) }
 {
     let j = (i + 1) % n;
     format!(in alloc; "../d{j}/f")
@@ -83,7 +83,7 @@ fn content(alloc: Global, n: u64, kind: Kind, i: u64) -> Result<NewContent, Allo
     match kind {
         Kind::Directory => Ok(NewContent::Dir(directory_entries(alloc, n, i)?)),
         Kind::File => Ok(NewContent::File(digits(alloc, i)?)),
-        Kind::Link => Ok(NewContent::Link(link_text(alloc, n, i)?)),
+        Kind::Link => Ok(NewContent::Link(target_of(alloc, n, i)?)),
     }
 }
 

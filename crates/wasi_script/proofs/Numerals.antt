@@ -7,7 +7,7 @@ use Rattle.std.specs.List.{list_all}
 use Rattle.std.specs.Str.Parse.{ParsesUnsigned}
 use Rattle.std.proofs.lemmas.Bool.{and_parts, leb-true}
 use Rattle.std.proofs.lemmas.Str.Parse.{IsNumeralModel, numerals_by_fold, parse_gives, digits_value_short}
-use Rattle.wasi_script.specs.Words.{begins_a_number, is_number, number_after, number_of}
+use Rattle.wasi_script.specs.Words.{begins_a_number, is_number, number_after, number_written}
 
 own : IsNumeralModel (λ ds. list_all is_ascii_digit ds ≡ true) (number_after 0)
 own = numerals_by_fold _ (search rules) number_after (search rules)
@@ -47,21 +47,21 @@ numbers_are word is =
 
 -- a word that writes a number is read as it
 pub read : {E : Type 0} (word : List ℕ) (r : Result ℕ E) → is_number word ≡ true → ParsesUnsigned 64 10 word r
-    → result_ok r ≡ number_of word
-unfolding number_of
+    → result_ok r ≡ number_written word
+unfolding number_written
 read word r is parses =
     let number = numbers_are word is in
     let whole = parse_gives own 64 word r parses number.digits number.some (omega (arith, number.most)) in
     rw (whole, is) refl
 
 -- and no other word
-pub not_read : (word : List ℕ) → is_number word ≡ false → None ≡ number_of word
-unfolding number_of
+pub not_read : (word : List ℕ) → is_number word ≡ false → None ≡ number_written word
+unfolding number_written
 not_read word is = rw is refl
 
 -- the number that is read is from 1 to 9,999
-pub within : (word : List ℕ) → is_number word ≡ true → IfSome (number_of word) (λ n. (1 ≤ n) × (n < 10000))
-unfolding number_of
+pub within : (word : List ℕ) → is_number word ≡ true → IfSome (number_written word) (λ n. (1 ≤ n) × (n < 10000))
+unfolding number_written
 within word is =
     let number = numbers_are word is in
     rw is (number.least, number.most)

@@ -15,24 +15,24 @@ use Rattle.wasi_form.specs.Plan.{Plan}
 use Rattle.wasi_gen.specs.GenScript.{gen_script}
 use Rattle.wasi_script.specs.HasRun.{IsRanOf}
 use Rattle.wasi_script.specs.Start.{world_behind}
-use Rattle.wasi_script.specs.Summary.{bytes_of, bytes_read, summary_line, Summarizes}
+use Rattle.wasi_script.specs.Summary.{bytes_in_answer, bytes_answered, summary_line, Summarizes}
 use Rattle.wasi_script.specs.declared.ran.Ran.{Ran}
 
 -- the bytes that the first calls have read
 abbrev pub read_so_far : List Call → List Answer → ℕ → ℕ
-read_so_far calls answers i = sum_by (λ p. bytes_of p.0 p.1) (take i (zip calls answers))
+read_so_far calls answers i = sum_by (λ p. bytes_in_answer p.0 p.1) (take i (zip calls answers))
 
 pub more_read : (calls : List Call) (answers : List Answer) (i : ℕ) (call : Call) (answer : Answer) (sum count : ℕ)
-    → i < length calls → i < length answers → count ≡ bytes_of (get_or calls i call) (get_or answers i answer)
+    → i < length calls → i < length answers → count ≡ bytes_in_answer (get_or calls i call) (get_or answers i answer)
     → sum ≡ read_so_far calls answers i → sum + count ≡ read_so_far calls answers (i + 1)
 more_read calls answers i call answer sum count low high count-is sum-is =
     let long = length-zip calls answers in
-    let more = sum_by_more (λ p. bytes_of p.0 p.1) (zip calls answers) i (call, answer) (omega (arith, long)) in
+    let more = sum_by_more (λ p. bytes_in_answer p.0 p.1) (zip calls answers) i (call, answer) (omega (arith, long)) in
     let item = get_or-zip calls answers i (call, answer) low high in
     rw (sum-is, count-is, more, item) refl
 
 pub all_read : (calls : List Call) (answers : List Answer) (i : ℕ) → i ≡ min (length calls) (length answers)
-    → read_so_far calls answers i ≡ bytes_read calls answers
+    → read_so_far calls answers i ≡ bytes_answered calls answers
 all_read calls answers i is =
     let long : length (zip calls answers) ≤ i = omega (arith, length-zip calls answers) in
     rw (take_all i (zip calls answers) long) refl
@@ -40,7 +40,7 @@ all_read calls answers i is =
 -- what a line says of the run of the script of a number
 pub summarizes : {plan : Plan} {ran : Ran} (n calls ok bytes nodes : ℕ) (result : Result (String Global) AllocError)
     → plan ≡ gen_script n → IsRanOf plan ran → calls ≡ length ran.calls.items
-    → ok ≡ count_by is_success ran.answers.answers → bytes ≡ bytes_read ran.calls.items ran.answers.answers
+    → ok ≡ count_by is_success ran.answers.answers → bytes ≡ bytes_answered ran.calls.items ran.answers.answers
     → nodes ≡ length (world_behind ran.context.host).tree.nodes
     → IfOk result (λ line. string_bytes line ≡ summary_line n calls ok bytes nodes)
     → IfOk result (λ line. Summarizes n (string_bytes line))

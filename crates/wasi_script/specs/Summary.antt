@@ -26,12 +26,12 @@ is_read (calls.FdRead fd iovs iovs_len) = true
 is_read call = false
 
 -- how many bytes a call that was answered so has read, if it is `fd_read`
-abbrev pub bytes_of : Call → Answer → ℕ
-bytes_of call answer = if is_read call then number_answered answer else 0
+abbrev pub bytes_in_answer : Call → Answer → ℕ
+bytes_in_answer call answer = if is_read call then number_answered answer else 0
 
 -- the sum of the numbers that `fd_read` was answered, of calls and the answers of the first of them
-abbrev pub bytes_read : List Call → List Answer → ℕ
-bytes_read calls answers = sum_by (λ p. bytes_of p.0 p.1) (zip calls answers)
+abbrev pub bytes_answered : List Call → List Answer → ℕ
+bytes_answered calls answers = sum_by (λ p. bytes_in_answer p.0 p.1) (zip calls answers)
 
 -- `gen N: C calls, K ok, B bytes, M nodes`, and a newline
 abbrev pub summary_line : ℕ → ℕ → ℕ → ℕ → ℕ → List ℕ
@@ -45,4 +45,4 @@ pub record Summarizes (n : ℕ) (text : List ℕ) : Type 0 where
   pub last : State
   pub run : Run 0 (start (gen_script n)) (fueled_calls (gen_script n)) turns last
   pub text_is : text ≡ summary_line n (length (gen_script n).calls) (count_by is_success (answers_of turns))
-      (bytes_read (gen_script n).calls (answers_of turns)) (length last.tree.nodes)
+      (bytes_answered (gen_script n).calls (answers_of turns)) (length last.tree.nodes)

@@ -21,8 +21,8 @@ number_after n [] = n
 number_after n (c ∷ cs) = number_after (10 * n + (c - 48)) cs
 
 -- the number that a word writes, if it is one
-unfoldable pub number_of : List ℕ → Option ℕ
-number_of word = if is_number word then Some (number_after 0 word) else None
+unfoldable pub number_written : List ℕ → Option ℕ
+number_written word = if is_number word then Some (number_after 0 word) else None
 
 -- the word `run` alone
 abbrev pub one_word : List ℕ → Task
@@ -34,7 +34,7 @@ generate (Some n) = Generate n
 
 -- the word `gen` and a number
 abbrev pub two_words : List ℕ → List ℕ → Task
-two_words word number = if bytes_eq word (codes "gen") then generate (number_of number) else Usage
+two_words word number = if bytes_eq word (codes "gen") then generate (number_written number) else Usage
 
 -- what these words ask for; all but those two forms ask for the usage line
 abbrev pub task_of : List (List ℕ) → Task

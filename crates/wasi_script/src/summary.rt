@@ -39,8 +39,8 @@ fn number_answered(answer: Answer) -> u64
 }
 
 // How many bytes a call that was answered so has read, if it is `fd_read`.
-fn bytes_of(call: Call, answer: Answer) -> u64
-    ensures { result ≡ specs.bytes_of call answer }
+fn bytes_in_answer(call: Call, answer: Answer) -> u64
+    ensures { result ≡ specs.bytes_in_answer call answer }
 {
     if is_read(call) {
         number_answered(answer)
@@ -50,13 +50,13 @@ fn bytes_of(call: Call, answer: Answer) -> u64
 }
 
 // The sum of the numbers that `fd_read` was answered, of calls and the answers of the first of them.
-fn bytes_read(calls: &[Call], answers: &[Answer]) -> u128
-    ensures { result ≡ specs.bytes_read calls.now answers.now }
+fn bytes_answered(calls: &[Call], answers: &[Answer]) -> u128
+    ensures { result ≡ specs.bytes_answered calls.now answers.now }
 {
     let answered = calls.len().min(answers.len());
     let mut sum = 0;
     for i in 0..answered {
-        sum += bytes_of(calls[i], answers[i]) as u128;
+        sum += bytes_in_answer(calls[i], answers[i]) as u128;
     }
     sum
 }
@@ -85,7 +85,7 @@ pub fn summary_of(alloc: Global, n: u64) -> Result<String, AllocError>
     let calls = ran.calls.as_slice();
     let answers = ran.answers.as_slice();
     let ok = successes(answers);
-    let bytes = bytes_read(calls, answers);
+    let bytes = bytes_answered(calls, answers);
     let nodes = ran.context.host().inner().count();
     line_of(alloc, n, calls.len(), ok, bytes, nodes)
 }

@@ -61,8 +61,8 @@ fn is_number(word: &[u8]) -> bool
 }
 
 // The number that a word writes, if it is one from 1 to 9,999 in decimal without a leading zero.
-fn number_of(word: &str) -> Option<u64>
-    ensures number { result ≡ specs.number_of word.now }
+fn number_written(word: &str) -> Option<u64>
+    ensures number { result ≡ specs.number_written word.now }
     ensures within { IfSome result (λ n. (1 ≤ n) × (n < 10000)) }
 {
     if !is_number(word.as_bytes()) {
@@ -89,7 +89,7 @@ fn two_words(word: &str, number: &str) -> Task
     if word != "gen" {
         return Task::Usage;
     }
-    match number_of(number) {
+    match number_written(number) {
         Some(n) => Task::Generate(n),
         None => Task::Usage,
     }

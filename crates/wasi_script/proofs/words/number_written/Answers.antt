@@ -1,6 +1,6 @@
 use Rattle.std.proofs.Common.{◌∙◌, sym}
 use Rattle.wasi_script.proofs.Numerals.{read, not_read, within}
-use Rattle.wasi_script.proofs.words.number_of.Goals as goal
+use Rattle.wasi_script.proofs.words.number_written.Goals as goal
 
 pub returns-then-not-is_number-clause-number : goal.returns-then-not-is_number-clause-number
 returns-then-not-is_number-clause-number c =

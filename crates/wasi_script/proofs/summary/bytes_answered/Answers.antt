@@ -1,12 +1,12 @@
 use Rattle.std.proofs.Common.{arith, ◌∙◌}
 use Rattle.wasi_script.proofs.Summaries.{all_read, more_read}
-use Rattle.wasi_script.proofs.summary.bytes_read.Goals as goal
+use Rattle.wasi_script.proofs.summary.bytes_answered.Goals as goal
 
 pub loop-i-preserved : goal.loop-i-preserved
 loop-i-preserved c = record {
-  summed = more_read c.args.calls.now c.args.answers.now c.loop-i.i _ _ c.loop-i.sum _ (omega arith) (omega arith) c.bytes_of.ensures
+  summed = more_read c.args.calls.now c.args.answers.now c.loop-i.i _ _ c.loop-i.sum _ (omega arith) (omega arith) c.bytes_in_answer.ensures
       c.loop-i.invariant.summed;
-  little = omega (arith, c.loop-i.invariant.little, c.bytes_of.type_inv);
+  little = omega (arith, c.loop-i.invariant.little, c.bytes_in_answer.type_inv);
 }
 
 pub returns : goal.returns

@@ -1,6 +1,6 @@
 use Rattle.std.proofs.Common.{◌≡◌, ◌≤◌, ◌*◌, ◌^◌}
 use Rattle.wasi_script.proofs.Summaries.{read_so_far}
-use Rattle.wasi_script.proofs.summary.bytes_read.Given as goal
+use Rattle.wasi_script.proofs.summary.bytes_answered.Given as goal
 
 abbrev pub invariant-loop-i : goal.invariant-loop-i
 invariant-loop-i l = record {

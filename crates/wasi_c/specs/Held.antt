@@ -1,0 +1,21 @@
+-- What a handle owns: the block of its sandbox, and nothing where it has none.
+use Rattle.std.specs.Prelude.{Option, Some, None}
+use Rattle.std.specs.Coded.{coded_option}
+use base.Fml.{Fml, ftrue}
+use base.Stored.{Coded}
+use denote.RawPtr.{Ptr}
+use Rattle.std.specs.Box.Ownership.{box_owns}
+use Rattle.std.specs.Global.{Global}
+use Rattle.std.specs.contracts.impls.GlobalAllocator.TheImpl.{ghosts}
+use Rattle.wasi_embed.specs.contracts.sandbox.Sandbox.{the_row}
+
+-- what a handle is worth
+abbrev pub Held : Type 0
+Held = Option the_row.Denot
+
+abbrev pub held_coded : Coded Held
+held_coded = coded_option the_row.coded
+
+abbrev pub owned_by : Global → Ptr → Held → Fml
+owned_by alloc p None = ftrue
+owned_by alloc p (Some x) = box_owns (ghosts.dealloc_token alloc) the_row p x

@@ -1,0 +1,69 @@
+//! What C keeps of a sandbox: one pointer.
+ghost use Rattle.std.specs.Prelude.{◌≡◌, Some, None, IsSome};
+ghost use Rattle.wasi_c.specs.Held.{Held, held_coded, owned_by};
+
+use crate::parts::Parts;
+use std::alloc::Global;
+use std::marker::Model;
+use std::mem;
+use wasi_embed::Sandbox;
+
+/// A sandbox on the heap, or nothing, which C writes as all zeros.
+#[repr(C)]
+#[derive(Drop)]
+pub struct SandboxHandle {
+    at: *mut u8,
+    alloc: Global,
+    pub ghost value: { Held } by { held_coded },
+}
+
+impl Model for SandboxHandle {
+    ghost also_owns = { λ s. owned_by s.alloc s.at s.value };
+}
+
+impl SandboxHandle {
+    fn of_parts(parts: Parts<Sandbox, Global>) -> SandboxHandle
+        ensures { result.value ≡ Some parts.value }
+    {
+        let Parts { ptr, alloc } = parts;
+        SandboxHandle {
+            at: ptr as *mut u8,
+            alloc,
+        }
+    }
+
+    fn into_parts(self) -> Parts<Sandbox, Global>
+        requires { IsSome self.value }
+        ensures { self.value ≡ Some result.value }
+    {
+        let SandboxHandle { at, alloc } = self;
+        Parts {
+            ptr: at as *mut Sandbox,
+            alloc,
+        }
+    }
+
+    fn into_box(self) -> Box<Sandbox, Global>
+        requires { IsSome self.value }
+        ensures { self.value ≡ Some result.value }
+    {
+        self.into_parts().into_box()
+    }
+
+    /// Takes the sandbox, which `put` gives back, and leaves an empty handle.
+    pub(crate) fn take(&mut self, empty: SandboxHandle) -> Box<Sandbox, Global>
+        requires held { IsSome self.old.value }
+        requires empty { empty.value ≡ None }
+        ensures taken { self.old.value ≡ Some result.value }
+        ensures empty { self.new.value ≡ None }
+    {
+        mem::replace(self, empty).into_box()
+    }
+
+    /// Puts a sandbox in place of what there was.
+    pub(crate) fn put(&mut self, sandbox: Box<Sandbox, Global>)
+        ensures { self.new.value ≡ Some sandbox.value }
+    {
+        *self = SandboxHandle::of_parts(Parts::of(sandbox));
+    }
+}

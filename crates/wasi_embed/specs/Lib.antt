@@ -1,0 +1,3 @@
+pub mod Starting
+pub mod Calling
+pub mod Telling

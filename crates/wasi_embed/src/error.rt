@@ -1,0 +1,42 @@
+//! Why no sandbox is begun.
+ghost use Rattle.std.specs.Prelude.{◌≡◌};
+ghost use Rattle.wasi_embed.specs.Starting.{start_error};
+ghost use Rattle.wasi_embed.specs.declared.error.StartError.TheVariants as errors;
+
+use std::alloc::AllocError;
+use thiserror::Error;
+use wasi_form::{Refusal, ScriptError};
+
+/// Why no sandbox is begun.
+#[derive(Debug, Drop, Error)]
+pub enum StartError {
+    /// The text isn't a script.
+    #[error("script refused")]
+    Refused(Refusal),
+    /// The script has calls, a memory or ranges of it to be shown. A sandbox's guest makes its own calls, and its engine
+    /// has its memory.
+    #[error("the script has calls or a memory")]
+    Guest,
+    /// Memory was wanted.
+    #[error("out of memory")]
+    Memory,
+}
+
+impl From<AllocError> for StartError {
+    ghost from_gives = { λ _ error. error ≡ errors.Memory };
+
+    fn from(_: AllocError) -> Self {
+        StartError::Memory
+    }
+}
+
+impl From<ScriptError> for StartError {
+    ghost from_gives = { λ error given. given ≡ start_error error };
+
+    fn from(error: ScriptError) -> Self {
+        match error {
+            ScriptError::Refused(refusal) => StartError::Refused(refusal),
+            ScriptError::Memory => StartError::Memory,
+        }
+    }
+}

@@ -1,0 +1,680 @@
+/// The calls of `wasi_snapshot_preview1` over a tree of files in memory, for an engine of WebAssembly. Plain C99.
+///
+/// A sandbox is begun by the text of a script (docs/SCRIPT.md) that has no calls and no memory. Each call of a guest
+/// is then one function, with the parameters of preview1's C interface behind three of the engine's: the sandbox,
+/// and the guest's memory as a pointer and a length, which is lent for the call and never copied. Results are
+/// written into it at the addresses that the guest gave. What is proved of this, and what the caller owes, stands in
+/// docs/EMBEDDING.md.
+#ifndef WASI_EMBED_H
+#define WASI_EMBED_H
+
+#include <stddef.h>
+#include <stdint.h>
+
+#ifdef __cplusplus
+extern "C" {
+#endif
+
+/// One sandbox. All zeros, as `{0}`, is the empty one. Never copy it: pass its address on.
+typedef struct {
+    void *at;
+} wasi_sandbox;
+
+/// What each function answers: 0; or preview1's error number, from 1 to 76; or one of these.
+enum {
+    /// The guest gave an address outside its memory, or one that isn't aligned. All stands as before the call, but that
+    /// more nodes may be told as touched.
+    WASI_TRAP_POINTER = 256,
+    /// There would be more descriptors than the script's table has room for. All stands as before, as said above.
+    WASI_TRAP_TABLE = 257,
+    /// The guest ended with a status of 126 or more.
+    WASI_TRAP_EXIT = 258,
+    /// The guest ended, with the status that it gave `proc_exit`.
+    WASI_EXIT = 259,
+    /// Memory was wanted. All stands as before, as said above.
+    WASI_NO_MEMORY = 260,
+    /// The sandbox is empty.
+    WASI_EMPTY = 261,
+    /// The report is longer than the room for it.
+    WASI_SHORT = 262,
+    /// The sandbox isn't empty.
+    WASI_FULL = 263,
+    /// The script has more than 16,777,216 bytes.
+    WASI_REFUSED_LONG = 270,
+    /// The script isn't JSON.
+    WASI_REFUSED_JSON = 271,
+    /// The script is JSON, and isn't of a script's shape.
+    WASI_REFUSED_SHAPE = 272,
+    /// The script's nodes are no tree.
+    WASI_REFUSED_TREE = 273,
+    /// The script passes a limit.
+    WASI_REFUSED_LIMIT = 274,
+    /// The script has calls, a memory, or ranges of it to be shown.
+    WASI_REFUSED_GUEST = 275
+};
+
+/// The empty sandbox, which the library puts in the place of the one that it works on.
+static inline wasi_sandbox wasi_nothing(void) {
+    wasi_sandbox nothing = {0};
+    return nothing;
+}
+
+/// Whether an answer is one after which the guest must not go on: a trap, or its own end.
+static inline int wasi_ends_guest(uint32_t code) {
+    return code >= WASI_TRAP_POINTER;
+}
+
+uint32_t wasi_c_start(wasi_sandbox *sandbox, const uint8_t *script, size_t script_len);
+
+/// Begins a sandbox by the text of a script, in place of an empty one. 0; WASI_FULL; WASI_NO_MEMORY; or why the
+/// script is refused. Where it isn't 0 the sandbox stays.
+static inline uint32_t wasi_start(wasi_sandbox *sandbox, const uint8_t *script, size_t script_len) {
+    if (sandbox->at) {
+        return WASI_FULL;
+    }
+    return wasi_c_start(sandbox, script, script_len);
+}
+
+uint64_t wasi_c_answered(wasi_sandbox *sandbox, wasi_sandbox empty);
+
+/// How many calls were answered so far, refusals and traps among them; 0 of an empty sandbox.
+static inline uint64_t wasi_answered(wasi_sandbox *sandbox) {
+    return sandbox->at ? wasi_c_answered(sandbox, wasi_nothing()) : 0;
+}
+
+uint32_t wasi_c_report(wasi_sandbox *sandbox, wasi_sandbox empty, uint8_t *text, size_t room, size_t *len);
+
+/// The report of the sandbox as it stands (docs/SCRIPT.md), with no answers and no memory: 0, the text in front of
+/// the room, and its length; or WASI_SHORT, and the length alone; or WASI_NO_MEMORY or WASI_EMPTY, and neither. Any
+/// room of 0 bytes tells the length first; its pointer isn't null.
+static inline uint32_t wasi_report(wasi_sandbox *sandbox, uint8_t *text, size_t room, size_t *len) {
+    if (!sandbox->at) {
+        return WASI_EMPTY;
+    }
+    return wasi_c_report(sandbox, wasi_nothing(), text, room, len);
+}
+
+void wasi_c_end(wasi_sandbox *sandbox, wasi_sandbox empty);
+
+/// Ends a sandbox, and leaves it empty. An empty one stays.
+static inline void wasi_end(wasi_sandbox *sandbox) {
+    if (sandbox->at) {
+        wasi_c_end(sandbox, wasi_nothing());
+    }
+}
+
+uint32_t wasi_c_args_get(wasi_sandbox *sandbox, wasi_sandbox empty, uint8_t *memory, size_t memory_len,
+        uint32_t argv, uint32_t argv_buf);
+
+/// Writes a pointer to each argument of the guest, and their texts, each with a 0 behind it.
+static inline uint32_t wasi_args_get(wasi_sandbox *sandbox, uint8_t *memory, size_t memory_len, uint32_t argv,
+        uint32_t argv_buf) {
+    if (!sandbox->at) {
+        return WASI_EMPTY;
+    }
+    return wasi_c_args_get(sandbox, wasi_nothing(), memory, memory_len, argv, argv_buf);
+}
+
+uint32_t wasi_c_args_sizes_get(wasi_sandbox *sandbox, wasi_sandbox empty, uint8_t *memory, size_t memory_len,
+        uint32_t argc_at, uint32_t argv_buf_size_at);
+
+/// How many arguments there are, and how many bytes their texts have.
+static inline uint32_t wasi_args_sizes_get(wasi_sandbox *sandbox, uint8_t *memory, size_t memory_len,
+        uint32_t argc_at, uint32_t argv_buf_size_at) {
+    if (!sandbox->at) {
+        return WASI_EMPTY;
+    }
+    return wasi_c_args_sizes_get(sandbox, wasi_nothing(), memory, memory_len, argc_at, argv_buf_size_at);
+}
+
+uint32_t wasi_c_environ_get(wasi_sandbox *sandbox, wasi_sandbox empty, uint8_t *memory, size_t memory_len,
+        uint32_t environ, uint32_t environ_buf);
+
+/// Writes a pointer to each variable of the environment, and their texts, each with a 0 behind it.
+static inline uint32_t wasi_environ_get(wasi_sandbox *sandbox, uint8_t *memory, size_t memory_len,
+        uint32_t environ, uint32_t environ_buf) {
+    if (!sandbox->at) {
+        return WASI_EMPTY;
+    }
+    return wasi_c_environ_get(sandbox, wasi_nothing(), memory, memory_len, environ, environ_buf);
+}
+
+uint32_t wasi_c_environ_sizes_get(wasi_sandbox *sandbox, wasi_sandbox empty, uint8_t *memory,
+        size_t memory_len, uint32_t environ_count_at, uint32_t environ_buf_size_at);
+
+/// How many variables the environment has, and how many bytes their texts have.
+static inline uint32_t wasi_environ_sizes_get(wasi_sandbox *sandbox, uint8_t *memory, size_t memory_len,
+        uint32_t environ_count_at, uint32_t environ_buf_size_at) {
+    if (!sandbox->at) {
+        return WASI_EMPTY;
+    }
+    return wasi_c_environ_sizes_get(sandbox, wasi_nothing(), memory, memory_len, environ_count_at,
+        environ_buf_size_at);
+}
+
+uint32_t wasi_c_clock_res_get(wasi_sandbox *sandbox, wasi_sandbox empty, uint8_t *memory, size_t memory_len,
+        uint32_t id, uint32_t resolution_at);
+
+/// The resolution of a clock, in nanoseconds.
+static inline uint32_t wasi_clock_res_get(wasi_sandbox *sandbox, uint8_t *memory, size_t memory_len,
+        uint32_t id, uint32_t resolution_at) {
+    if (!sandbox->at) {
+        return WASI_EMPTY;
+    }
+    return wasi_c_clock_res_get(sandbox, wasi_nothing(), memory, memory_len, id, resolution_at);
+}
+
+uint32_t wasi_c_clock_time_get(wasi_sandbox *sandbox, wasi_sandbox empty, uint8_t *memory, size_t memory_len,
+        uint32_t id, uint64_t precision, uint32_t time_at);
+
+/// What a clock stands at, in nanoseconds.
+static inline uint32_t wasi_clock_time_get(wasi_sandbox *sandbox, uint8_t *memory, size_t memory_len,
+        uint32_t id, uint64_t precision, uint32_t time_at) {
+    if (!sandbox->at) {
+        return WASI_EMPTY;
+    }
+    return wasi_c_clock_time_get(sandbox, wasi_nothing(), memory, memory_len, id, precision, time_at);
+}
+
+uint32_t wasi_c_fd_advise(wasi_sandbox *sandbox, wasi_sandbox empty, uint8_t *memory, size_t memory_len,
+        uint32_t fd, uint64_t offset, uint64_t len, uint32_t advice);
+
+/// Says how a file will be used.
+static inline uint32_t wasi_fd_advise(wasi_sandbox *sandbox, uint8_t *memory, size_t memory_len, uint32_t fd,
+        uint64_t offset, uint64_t len, uint32_t advice) {
+    if (!sandbox->at) {
+        return WASI_EMPTY;
+    }
+    return wasi_c_fd_advise(sandbox, wasi_nothing(), memory, memory_len, fd, offset, len, advice);
+}
+
+uint32_t wasi_c_fd_allocate(wasi_sandbox *sandbox, wasi_sandbox empty, uint8_t *memory, size_t memory_len,
+        uint32_t fd, uint64_t offset, uint64_t len);
+
+/// Is refused: no room is made for a file beforehand.
+static inline uint32_t wasi_fd_allocate(wasi_sandbox *sandbox, uint8_t *memory, size_t memory_len,
+        uint32_t fd, uint64_t offset, uint64_t len) {
+    if (!sandbox->at) {
+        return WASI_EMPTY;
+    }
+    return wasi_c_fd_allocate(sandbox, wasi_nothing(), memory, memory_len, fd, offset, len);
+}
+
+uint32_t wasi_c_fd_close(wasi_sandbox *sandbox, wasi_sandbox empty, uint8_t *memory, size_t memory_len,
+        uint32_t fd);
+
+/// Closes a descriptor.
+static inline uint32_t wasi_fd_close(wasi_sandbox *sandbox, uint8_t *memory, size_t memory_len, uint32_t fd) {
+    if (!sandbox->at) {
+        return WASI_EMPTY;
+    }
+    return wasi_c_fd_close(sandbox, wasi_nothing(), memory, memory_len, fd);
+}
+
+uint32_t wasi_c_fd_datasync(wasi_sandbox *sandbox, wasi_sandbox empty, uint8_t *memory, size_t memory_len,
+        uint32_t fd);
+
+/// Brings the bytes of a file to its store.
+static inline uint32_t wasi_fd_datasync(wasi_sandbox *sandbox, uint8_t *memory, size_t memory_len,
+        uint32_t fd) {
+    if (!sandbox->at) {
+        return WASI_EMPTY;
+    }
+    return wasi_c_fd_datasync(sandbox, wasi_nothing(), memory, memory_len, fd);
+}
+
+uint32_t wasi_c_fd_sync(wasi_sandbox *sandbox, wasi_sandbox empty, uint8_t *memory, size_t memory_len,
+        uint32_t fd);
+
+/// Brings the bytes of a file and what is told of it to its store.
+static inline uint32_t wasi_fd_sync(wasi_sandbox *sandbox, uint8_t *memory, size_t memory_len, uint32_t fd) {
+    if (!sandbox->at) {
+        return WASI_EMPTY;
+    }
+    return wasi_c_fd_sync(sandbox, wasi_nothing(), memory, memory_len, fd);
+}
+
+uint32_t wasi_c_fd_fdstat_get(wasi_sandbox *sandbox, wasi_sandbox empty, uint8_t *memory, size_t memory_len,
+        uint32_t fd, uint32_t stat_at);
+
+/// What is told of a descriptor: 24 bytes, aligned to 8.
+static inline uint32_t wasi_fd_fdstat_get(wasi_sandbox *sandbox, uint8_t *memory, size_t memory_len,
+        uint32_t fd, uint32_t stat_at) {
+    if (!sandbox->at) {
+        return WASI_EMPTY;
+    }
+    return wasi_c_fd_fdstat_get(sandbox, wasi_nothing(), memory, memory_len, fd, stat_at);
+}
+
+uint32_t wasi_c_fd_fdstat_set_flags(wasi_sandbox *sandbox, wasi_sandbox empty, uint8_t *memory,
+        size_t memory_len, uint32_t fd, uint32_t flags);
+
+/// Sets how a file's descriptor is used.
+static inline uint32_t wasi_fd_fdstat_set_flags(wasi_sandbox *sandbox, uint8_t *memory, size_t memory_len,
+        uint32_t fd, uint32_t flags) {
+    if (!sandbox->at) {
+        return WASI_EMPTY;
+    }
+    return wasi_c_fd_fdstat_set_flags(sandbox, wasi_nothing(), memory, memory_len, fd, flags);
+}
+
+uint32_t wasi_c_fd_fdstat_set_rights(wasi_sandbox *sandbox, wasi_sandbox empty, uint8_t *memory,
+        size_t memory_len, uint32_t fd, uint64_t base, uint64_t inheriting);
+
+/// Is refused: rights can't be set.
+static inline uint32_t wasi_fd_fdstat_set_rights(wasi_sandbox *sandbox, uint8_t *memory, size_t memory_len,
+        uint32_t fd, uint64_t base, uint64_t inheriting) {
+    if (!sandbox->at) {
+        return WASI_EMPTY;
+    }
+    return wasi_c_fd_fdstat_set_rights(sandbox, wasi_nothing(), memory, memory_len, fd, base, inheriting);
+}
+
+uint32_t wasi_c_fd_filestat_get(wasi_sandbox *sandbox, wasi_sandbox empty, uint8_t *memory, size_t memory_len,
+        uint32_t fd, uint32_t stat_at);
+
+/// What is told of the node of a descriptor: 64 bytes, aligned to 8.
+static inline uint32_t wasi_fd_filestat_get(wasi_sandbox *sandbox, uint8_t *memory, size_t memory_len,
+        uint32_t fd, uint32_t stat_at) {
+    if (!sandbox->at) {
+        return WASI_EMPTY;
+    }
+    return wasi_c_fd_filestat_get(sandbox, wasi_nothing(), memory, memory_len, fd, stat_at);
+}
+
+uint32_t wasi_c_fd_filestat_set_size(wasi_sandbox *sandbox, wasi_sandbox empty, uint8_t *memory,
+        size_t memory_len, uint32_t fd, uint64_t size);
+
+/// Sets the size of a file.
+static inline uint32_t wasi_fd_filestat_set_size(wasi_sandbox *sandbox, uint8_t *memory, size_t memory_len,
+        uint32_t fd, uint64_t size) {
+    if (!sandbox->at) {
+        return WASI_EMPTY;
+    }
+    return wasi_c_fd_filestat_set_size(sandbox, wasi_nothing(), memory, memory_len, fd, size);
+}
+
+uint32_t wasi_c_fd_filestat_set_times(wasi_sandbox *sandbox, wasi_sandbox empty, uint8_t *memory,
+        size_t memory_len, uint32_t fd, uint64_t atim, uint64_t mtim, uint32_t fst_flags);
+
+/// Sets the times of a descriptor's node.
+static inline uint32_t wasi_fd_filestat_set_times(wasi_sandbox *sandbox, uint8_t *memory, size_t memory_len,
+        uint32_t fd, uint64_t atim, uint64_t mtim, uint32_t fst_flags) {
+    if (!sandbox->at) {
+        return WASI_EMPTY;
+    }
+    return wasi_c_fd_filestat_set_times(sandbox, wasi_nothing(), memory, memory_len, fd, atim, mtim,
+        fst_flags);
+}
+
+uint32_t wasi_c_fd_pread(wasi_sandbox *sandbox, wasi_sandbox empty, uint8_t *memory, size_t memory_len,
+        uint32_t fd, uint32_t iovs, uint32_t iovs_len, uint64_t offset, uint32_t nread_at);
+
+/// Reads from a place of a file into the first buffer that has bytes.
+static inline uint32_t wasi_fd_pread(wasi_sandbox *sandbox, uint8_t *memory, size_t memory_len, uint32_t fd,
+        uint32_t iovs, uint32_t iovs_len, uint64_t offset, uint32_t nread_at) {
+    if (!sandbox->at) {
+        return WASI_EMPTY;
+    }
+    return wasi_c_fd_pread(sandbox, wasi_nothing(), memory, memory_len, fd, iovs, iovs_len, offset, nread_at);
+}
+
+uint32_t wasi_c_fd_prestat_get(wasi_sandbox *sandbox, wasi_sandbox empty, uint8_t *memory, size_t memory_len,
+        uint32_t fd, uint32_t prestat_at);
+
+/// What is told of a directory that the guest was given: 8 bytes, aligned to 4.
+static inline uint32_t wasi_fd_prestat_get(wasi_sandbox *sandbox, uint8_t *memory, size_t memory_len,
+        uint32_t fd, uint32_t prestat_at) {
+    if (!sandbox->at) {
+        return WASI_EMPTY;
+    }
+    return wasi_c_fd_prestat_get(sandbox, wasi_nothing(), memory, memory_len, fd, prestat_at);
+}
+
+uint32_t wasi_c_fd_prestat_dir_name(wasi_sandbox *sandbox, wasi_sandbox empty, uint8_t *memory,
+        size_t memory_len, uint32_t fd, uint32_t path, uint32_t path_len);
+
+/// Writes the name of a directory that the guest was given.
+static inline uint32_t wasi_fd_prestat_dir_name(wasi_sandbox *sandbox, uint8_t *memory, size_t memory_len,
+        uint32_t fd, uint32_t path, uint32_t path_len) {
+    if (!sandbox->at) {
+        return WASI_EMPTY;
+    }
+    return wasi_c_fd_prestat_dir_name(sandbox, wasi_nothing(), memory, memory_len, fd, path, path_len);
+}
+
+uint32_t wasi_c_fd_pwrite(wasi_sandbox *sandbox, wasi_sandbox empty, uint8_t *memory, size_t memory_len,
+        uint32_t fd, uint32_t iovs, uint32_t iovs_len, uint64_t offset, uint32_t nwritten_at);
+
+/// Writes the first buffer that has bytes to a place of a file.
+static inline uint32_t wasi_fd_pwrite(wasi_sandbox *sandbox, uint8_t *memory, size_t memory_len, uint32_t fd,
+        uint32_t iovs, uint32_t iovs_len, uint64_t offset, uint32_t nwritten_at) {
+    if (!sandbox->at) {
+        return WASI_EMPTY;
+    }
+    return wasi_c_fd_pwrite(sandbox, wasi_nothing(), memory, memory_len, fd, iovs, iovs_len, offset,
+        nwritten_at);
+}
+
+uint32_t wasi_c_fd_read(wasi_sandbox *sandbox, wasi_sandbox empty, uint8_t *memory, size_t memory_len,
+        uint32_t fd, uint32_t iovs, uint32_t iovs_len, uint32_t nread_at);
+
+/// Reads from a file or the standard input into the first buffer that has bytes.
+static inline uint32_t wasi_fd_read(wasi_sandbox *sandbox, uint8_t *memory, size_t memory_len, uint32_t fd,
+        uint32_t iovs, uint32_t iovs_len, uint32_t nread_at) {
+    if (!sandbox->at) {
+        return WASI_EMPTY;
+    }
+    return wasi_c_fd_read(sandbox, wasi_nothing(), memory, memory_len, fd, iovs, iovs_len, nread_at);
+}
+
+uint32_t wasi_c_fd_readdir(wasi_sandbox *sandbox, wasi_sandbox empty, uint8_t *memory, size_t memory_len,
+        uint32_t fd, uint32_t buf, uint32_t buf_len, uint64_t cookie, uint32_t used_at);
+
+/// Writes records of a directory's names, after as many as the cookie says.
+static inline uint32_t wasi_fd_readdir(wasi_sandbox *sandbox, uint8_t *memory, size_t memory_len, uint32_t fd,
+        uint32_t buf, uint32_t buf_len, uint64_t cookie, uint32_t used_at) {
+    if (!sandbox->at) {
+        return WASI_EMPTY;
+    }
+    return wasi_c_fd_readdir(sandbox, wasi_nothing(), memory, memory_len, fd, buf, buf_len, cookie, used_at);
+}
+
+uint32_t wasi_c_fd_renumber(wasi_sandbox *sandbox, wasi_sandbox empty, uint8_t *memory, size_t memory_len,
+        uint32_t from, uint32_t to);
+
+/// Gives a descriptor another's number, which is closed before.
+static inline uint32_t wasi_fd_renumber(wasi_sandbox *sandbox, uint8_t *memory, size_t memory_len,
+        uint32_t from, uint32_t to) {
+    if (!sandbox->at) {
+        return WASI_EMPTY;
+    }
+    return wasi_c_fd_renumber(sandbox, wasi_nothing(), memory, memory_len, from, to);
+}
+
+uint32_t wasi_c_fd_seek(wasi_sandbox *sandbox, wasi_sandbox empty, uint8_t *memory, size_t memory_len,
+        uint32_t fd, int64_t offset, uint32_t whence, uint32_t position_at);
+
+/// Sets where the next read or write of a file begins.
+static inline uint32_t wasi_fd_seek(wasi_sandbox *sandbox, uint8_t *memory, size_t memory_len, uint32_t fd,
+        int64_t offset, uint32_t whence, uint32_t position_at) {
+    if (!sandbox->at) {
+        return WASI_EMPTY;
+    }
+    return wasi_c_fd_seek(sandbox, wasi_nothing(), memory, memory_len, fd, offset, whence, position_at);
+}
+
+uint32_t wasi_c_fd_tell(wasi_sandbox *sandbox, wasi_sandbox empty, uint8_t *memory, size_t memory_len,
+        uint32_t fd, uint32_t position_at);
+
+/// Where the next read or write of a file begins.
+static inline uint32_t wasi_fd_tell(wasi_sandbox *sandbox, uint8_t *memory, size_t memory_len, uint32_t fd,
+        uint32_t position_at) {
+    if (!sandbox->at) {
+        return WASI_EMPTY;
+    }
+    return wasi_c_fd_tell(sandbox, wasi_nothing(), memory, memory_len, fd, position_at);
+}
+
+uint32_t wasi_c_fd_write(wasi_sandbox *sandbox, wasi_sandbox empty, uint8_t *memory, size_t memory_len,
+        uint32_t fd, uint32_t iovs, uint32_t iovs_len, uint32_t nwritten_at);
+
+/// Writes the first buffer that has bytes to a file or an output.
+static inline uint32_t wasi_fd_write(wasi_sandbox *sandbox, uint8_t *memory, size_t memory_len, uint32_t fd,
+        uint32_t iovs, uint32_t iovs_len, uint32_t nwritten_at) {
+    if (!sandbox->at) {
+        return WASI_EMPTY;
+    }
+    return wasi_c_fd_write(sandbox, wasi_nothing(), memory, memory_len, fd, iovs, iovs_len, nwritten_at);
+}
+
+uint32_t wasi_c_path_create_directory(wasi_sandbox *sandbox, wasi_sandbox empty, uint8_t *memory,
+        size_t memory_len, uint32_t fd, uint32_t path, uint32_t path_len);
+
+/// Makes a directory.
+static inline uint32_t wasi_path_create_directory(wasi_sandbox *sandbox, uint8_t *memory, size_t memory_len,
+        uint32_t fd, uint32_t path, uint32_t path_len) {
+    if (!sandbox->at) {
+        return WASI_EMPTY;
+    }
+    return wasi_c_path_create_directory(sandbox, wasi_nothing(), memory, memory_len, fd, path, path_len);
+}
+
+uint32_t wasi_c_path_filestat_get(wasi_sandbox *sandbox, wasi_sandbox empty, uint8_t *memory,
+        size_t memory_len, uint32_t fd, uint32_t flags, uint32_t path, uint32_t path_len, uint32_t stat_at);
+
+/// What is told of the node of a path: 64 bytes, aligned to 8.
+static inline uint32_t wasi_path_filestat_get(wasi_sandbox *sandbox, uint8_t *memory, size_t memory_len,
+        uint32_t fd, uint32_t flags, uint32_t path, uint32_t path_len, uint32_t stat_at) {
+    if (!sandbox->at) {
+        return WASI_EMPTY;
+    }
+    return wasi_c_path_filestat_get(sandbox, wasi_nothing(), memory, memory_len, fd, flags, path, path_len,
+        stat_at);
+}
+
+uint32_t wasi_c_path_filestat_set_times(wasi_sandbox *sandbox, wasi_sandbox empty, uint8_t *memory,
+        size_t memory_len, uint32_t fd, uint32_t flags, uint32_t path, uint32_t path_len, uint64_t atim,
+        uint64_t mtim, uint32_t fst_flags);
+
+/// Sets the times of a path's node.
+static inline uint32_t wasi_path_filestat_set_times(wasi_sandbox *sandbox, uint8_t *memory, size_t memory_len,
+        uint32_t fd, uint32_t flags, uint32_t path, uint32_t path_len, uint64_t atim, uint64_t mtim,
+        uint32_t fst_flags) {
+    if (!sandbox->at) {
+        return WASI_EMPTY;
+    }
+    return wasi_c_path_filestat_set_times(sandbox, wasi_nothing(), memory, memory_len, fd, flags, path,
+        path_len, atim, mtim, fst_flags);
+}
+
+uint32_t wasi_c_path_link(wasi_sandbox *sandbox, wasi_sandbox empty, uint8_t *memory, size_t memory_len,
+        uint32_t old_fd, uint32_t old_flags, uint32_t old_path, uint32_t old_path_len, uint32_t new_fd,
+        uint32_t new_path, uint32_t new_path_len);
+
+/// Gives a file another name.
+static inline uint32_t wasi_path_link(wasi_sandbox *sandbox, uint8_t *memory, size_t memory_len,
+        uint32_t old_fd, uint32_t old_flags, uint32_t old_path, uint32_t old_path_len, uint32_t new_fd,
+        uint32_t new_path, uint32_t new_path_len) {
+    if (!sandbox->at) {
+        return WASI_EMPTY;
+    }
+    return wasi_c_path_link(sandbox, wasi_nothing(), memory, memory_len, old_fd, old_flags, old_path,
+        old_path_len, new_fd, new_path, new_path_len);
+}
+
+uint32_t wasi_c_path_open(wasi_sandbox *sandbox, wasi_sandbox empty, uint8_t *memory, size_t memory_len,
+        uint32_t fd, uint32_t dirflags, uint32_t path, uint32_t path_len, uint32_t oflags, uint64_t base,
+        uint64_t inheriting, uint32_t fdflags, uint32_t opened_fd_at);
+
+/// Opens a path under a new descriptor.
+static inline uint32_t wasi_path_open(wasi_sandbox *sandbox, uint8_t *memory, size_t memory_len, uint32_t fd,
+        uint32_t dirflags, uint32_t path, uint32_t path_len, uint32_t oflags, uint64_t base,
+        uint64_t inheriting, uint32_t fdflags, uint32_t opened_fd_at) {
+    if (!sandbox->at) {
+        return WASI_EMPTY;
+    }
+    return wasi_c_path_open(sandbox, wasi_nothing(), memory, memory_len, fd, dirflags, path, path_len, oflags,
+        base, inheriting, fdflags, opened_fd_at);
+}
+
+uint32_t wasi_c_path_readlink(wasi_sandbox *sandbox, wasi_sandbox empty, uint8_t *memory, size_t memory_len,
+        uint32_t fd, uint32_t path, uint32_t path_len, uint32_t buf, uint32_t buf_len, uint32_t used_at);
+
+/// Writes the text of a link.
+static inline uint32_t wasi_path_readlink(wasi_sandbox *sandbox, uint8_t *memory, size_t memory_len,
+        uint32_t fd, uint32_t path, uint32_t path_len, uint32_t buf, uint32_t buf_len, uint32_t used_at) {
+    if (!sandbox->at) {
+        return WASI_EMPTY;
+    }
+    return wasi_c_path_readlink(sandbox, wasi_nothing(), memory, memory_len, fd, path, path_len, buf, buf_len,
+        used_at);
+}
+
+uint32_t wasi_c_path_remove_directory(wasi_sandbox *sandbox, wasi_sandbox empty, uint8_t *memory,
+        size_t memory_len, uint32_t fd, uint32_t path, uint32_t path_len);
+
+/// Removes an empty directory.
+static inline uint32_t wasi_path_remove_directory(wasi_sandbox *sandbox, uint8_t *memory, size_t memory_len,
+        uint32_t fd, uint32_t path, uint32_t path_len) {
+    if (!sandbox->at) {
+        return WASI_EMPTY;
+    }
+    return wasi_c_path_remove_directory(sandbox, wasi_nothing(), memory, memory_len, fd, path, path_len);
+}
+
+uint32_t wasi_c_path_rename(wasi_sandbox *sandbox, wasi_sandbox empty, uint8_t *memory, size_t memory_len,
+        uint32_t old_fd, uint32_t old_path, uint32_t old_path_len, uint32_t new_fd, uint32_t new_path,
+        uint32_t new_path_len);
+
+/// Moves a name.
+static inline uint32_t wasi_path_rename(wasi_sandbox *sandbox, uint8_t *memory, size_t memory_len,
+        uint32_t old_fd, uint32_t old_path, uint32_t old_path_len, uint32_t new_fd, uint32_t new_path,
+        uint32_t new_path_len) {
+    if (!sandbox->at) {
+        return WASI_EMPTY;
+    }
+    return wasi_c_path_rename(sandbox, wasi_nothing(), memory, memory_len, old_fd, old_path, old_path_len,
+        new_fd, new_path, new_path_len);
+}
+
+uint32_t wasi_c_path_symlink(wasi_sandbox *sandbox, wasi_sandbox empty, uint8_t *memory, size_t memory_len,
+        uint32_t old_path, uint32_t old_path_len, uint32_t fd, uint32_t new_path, uint32_t new_path_len);
+
+/// Makes a link with the old path as its text.
+static inline uint32_t wasi_path_symlink(wasi_sandbox *sandbox, uint8_t *memory, size_t memory_len,
+        uint32_t old_path, uint32_t old_path_len, uint32_t fd, uint32_t new_path, uint32_t new_path_len) {
+    if (!sandbox->at) {
+        return WASI_EMPTY;
+    }
+    return wasi_c_path_symlink(sandbox, wasi_nothing(), memory, memory_len, old_path, old_path_len, fd,
+        new_path, new_path_len);
+}
+
+uint32_t wasi_c_path_unlink_file(wasi_sandbox *sandbox, wasi_sandbox empty, uint8_t *memory,
+        size_t memory_len, uint32_t fd, uint32_t path, uint32_t path_len);
+
+/// Removes a name of a file or a link.
+static inline uint32_t wasi_path_unlink_file(wasi_sandbox *sandbox, uint8_t *memory, size_t memory_len,
+        uint32_t fd, uint32_t path, uint32_t path_len) {
+    if (!sandbox->at) {
+        return WASI_EMPTY;
+    }
+    return wasi_c_path_unlink_file(sandbox, wasi_nothing(), memory, memory_len, fd, path, path_len);
+}
+
+uint32_t wasi_c_poll_oneoff(wasi_sandbox *sandbox, wasi_sandbox empty, uint8_t *memory, size_t memory_len,
+        uint32_t subscriptions, uint32_t events, uint32_t count, uint32_t nevents_at);
+
+/// Waits for one of the subscriptions, and writes the events of those that are ready.
+static inline uint32_t wasi_poll_oneoff(wasi_sandbox *sandbox, uint8_t *memory, size_t memory_len,
+        uint32_t subscriptions, uint32_t events, uint32_t count, uint32_t nevents_at) {
+    if (!sandbox->at) {
+        return WASI_EMPTY;
+    }
+    return wasi_c_poll_oneoff(sandbox, wasi_nothing(), memory, memory_len, subscriptions, events, count,
+        nevents_at);
+}
+
+uint32_t wasi_c_proc_exit(wasi_sandbox *sandbox, wasi_sandbox empty, uint8_t *memory, size_t memory_len,
+        uint32_t status);
+
+/// Ends the guest: the code is WASI_EXIT, or WASI_TRAP_EXIT for a status of 126 or more.
+static inline uint32_t wasi_proc_exit(wasi_sandbox *sandbox, uint8_t *memory, size_t memory_len,
+        uint32_t status) {
+    if (!sandbox->at) {
+        return WASI_EMPTY;
+    }
+    return wasi_c_proc_exit(sandbox, wasi_nothing(), memory, memory_len, status);
+}
+
+uint32_t wasi_c_proc_raise(wasi_sandbox *sandbox, wasi_sandbox empty, uint8_t *memory, size_t memory_len,
+        uint32_t signal);
+
+/// Is refused: no signal is raised.
+static inline uint32_t wasi_proc_raise(wasi_sandbox *sandbox, uint8_t *memory, size_t memory_len,
+        uint32_t signal) {
+    if (!sandbox->at) {
+        return WASI_EMPTY;
+    }
+    return wasi_c_proc_raise(sandbox, wasi_nothing(), memory, memory_len, signal);
+}
+
+uint32_t wasi_c_random_get(wasi_sandbox *sandbox, wasi_sandbox empty, uint8_t *memory, size_t memory_len,
+        uint32_t buf, uint32_t buf_len);
+
+/// Writes random bytes.
+static inline uint32_t wasi_random_get(wasi_sandbox *sandbox, uint8_t *memory, size_t memory_len,
+        uint32_t buf, uint32_t buf_len) {
+    if (!sandbox->at) {
+        return WASI_EMPTY;
+    }
+    return wasi_c_random_get(sandbox, wasi_nothing(), memory, memory_len, buf, buf_len);
+}
+
+uint32_t wasi_c_sched_yield(wasi_sandbox *sandbox, wasi_sandbox empty, uint8_t *memory, size_t memory_len);
+
+/// Does nothing.
+static inline uint32_t wasi_sched_yield(wasi_sandbox *sandbox, uint8_t *memory, size_t memory_len) {
+    if (!sandbox->at) {
+        return WASI_EMPTY;
+    }
+    return wasi_c_sched_yield(sandbox, wasi_nothing(), memory, memory_len);
+}
+
+uint32_t wasi_c_sock_accept(wasi_sandbox *sandbox, wasi_sandbox empty, uint8_t *memory, size_t memory_len,
+        uint32_t fd, uint32_t flags, uint32_t new_fd_at);
+
+/// Is refused: there are no sockets.
+static inline uint32_t wasi_sock_accept(wasi_sandbox *sandbox, uint8_t *memory, size_t memory_len,
+        uint32_t fd, uint32_t flags, uint32_t new_fd_at) {
+    if (!sandbox->at) {
+        return WASI_EMPTY;
+    }
+    return wasi_c_sock_accept(sandbox, wasi_nothing(), memory, memory_len, fd, flags, new_fd_at);
+}
+
+uint32_t wasi_c_sock_recv(wasi_sandbox *sandbox, wasi_sandbox empty, uint8_t *memory, size_t memory_len,
+        uint32_t fd, uint32_t iovs, uint32_t iovs_len, uint32_t ri_flags, uint32_t nread_at,
+        uint32_t ro_flags_at);
+
+/// Is refused: there are no sockets.
+static inline uint32_t wasi_sock_recv(wasi_sandbox *sandbox, uint8_t *memory, size_t memory_len, uint32_t fd,
+        uint32_t iovs, uint32_t iovs_len, uint32_t ri_flags, uint32_t nread_at, uint32_t ro_flags_at) {
+    if (!sandbox->at) {
+        return WASI_EMPTY;
+    }
+    return wasi_c_sock_recv(sandbox, wasi_nothing(), memory, memory_len, fd, iovs, iovs_len, ri_flags,
+        nread_at, ro_flags_at);
+}
+
+uint32_t wasi_c_sock_send(wasi_sandbox *sandbox, wasi_sandbox empty, uint8_t *memory, size_t memory_len,
+        uint32_t fd, uint32_t iovs, uint32_t iovs_len, uint32_t si_flags, uint32_t nsent_at);
+
+/// Is refused: there are no sockets.
+static inline uint32_t wasi_sock_send(wasi_sandbox *sandbox, uint8_t *memory, size_t memory_len, uint32_t fd,
+        uint32_t iovs, uint32_t iovs_len, uint32_t si_flags, uint32_t nsent_at) {
+    if (!sandbox->at) {
+        return WASI_EMPTY;
+    }
+    return wasi_c_sock_send(sandbox, wasi_nothing(), memory, memory_len, fd, iovs, iovs_len, si_flags,
+        nsent_at);
+}
+
+uint32_t wasi_c_sock_shutdown(wasi_sandbox *sandbox, wasi_sandbox empty, uint8_t *memory, size_t memory_len,
+        uint32_t fd, uint32_t how);
+
+/// Is refused: there are no sockets.
+static inline uint32_t wasi_sock_shutdown(wasi_sandbox *sandbox, uint8_t *memory, size_t memory_len,
+        uint32_t fd, uint32_t how) {
+    if (!sandbox->at) {
+        return WASI_EMPTY;
+    }
+    return wasi_c_sock_shutdown(sandbox, wasi_nothing(), memory, memory_len, fd, how);
+}
+
+#ifdef __cplusplus
+}
+#endif
+
+#endif
