@@ -1,4 +1,9 @@
-// A guest that wasm2c turned into C, over a sandbox.
+// A guest that wasm2c turned into C, as a program over a sandbox: it is begun by a script, and its report is written.
+//
+//     wasm2c --module-name guest GUEST.wasm -o guest.c
+//     main SCRIPT REPORT
+//
+// The status is the guest's; 134 where it was stopped by a trap, and 1 where it couldn't be run.
 #include <stdio.h>
 #include <stdlib.h>
 
@@ -6,54 +11,86 @@
 #include "wasm-rt-impl.h"
 #include "wasm2c.h"
 
-static char *read_all(const char *path, size_t *len) {
+#define STOPPED 134
+
+static int fail(const char *what, const char *path) {
+    fprintf(stderr, "main: %s %s\n", what, path);
+    return 1;
+}
+
+// The bytes of a file; where there are none, null.
+static uint8_t *read_all(const char *path, size_t *length) {
     FILE *file = fopen(path, "rb");
-    char *text = malloc(1 << 20);
-    if (!file || !text) {
-        perror(path);
-        exit(1);
+    if (!file || fseek(file, 0, SEEK_END) != 0) {
+        return NULL;
     }
-    *len = fread(text, 1, 1 << 20, file);
+    long size = ftell(file);
+    rewind(file);
+    uint8_t *bytes = size > 0 ? malloc((size_t)size) : NULL;
+    *length = bytes ? fread(bytes, 1, (size_t)size, file) : 0;
     fclose(file);
-    return text;
+    return bytes;
+}
+
+static int write_report(wasi_sandbox *sandbox, const char *path) {
+    size_t room = 0;
+    uint8_t none;
+    uint32_t code = wasi_report(sandbox, &none, 0, &room);
+    uint8_t *report = code == WASI_SHORT ? malloc(room) : NULL;
+    FILE *file = fopen(path, "wb");
+    int written = report && file && wasi_report(sandbox, report, room, &room) == 0 &&
+                  fwrite(report, 1, room, file) == room;
+    if (file) {
+        written = fclose(file) == 0 && written;
+    }
+    free(report);
+    return written ? 0 : fail("can't write", path);
+}
+
+// Runs the guest to its end, and gives its status.
+static int run(struct Z_wasi_snapshot_preview1_instance_t *wasi, Z_guest_instance_t *guest) {
+    wasm_rt_trap_t trap = wasm_rt_impl_try();
+    if (trap == WASM_RT_TRAP_NONE) {
+        wasi->memory = Z_guestZ_memory(guest);
+        Z_guest_instantiate(guest, wasi);
+        Z_guestZ__start(guest);
+        return 0;
+    }
+    if (wasi->ended == WASI_EXIT) {
+        return (int)wasi->status;
+    }
+    if (wasi->ended) {
+        fprintf(stderr, "main: the guest was stopped: code %u\n", wasi->ended);
+    } else {
+        fprintf(stderr, "main: the guest was stopped: %s\n", wasm_rt_strerror(trap));
+    }
+    return STOPPED;
 }
 
 int main(int count, char **words) {
-    size_t len;
-    char *script = read_all(count > 1 ? words[1] : "script.json", &len);
-    struct Z_wasi_snapshot_preview1_instance_t wasi = {{0}, 0, 0};
-    uint32_t code = wasi_start(&wasi.sandbox, (const uint8_t *)script, len);
+    if (count != 3) {
+        return fail("usage:", "main SCRIPT REPORT");
+    }
+    size_t length;
+    uint8_t *script = read_all(words[1], &length);
+    if (!script) {
+        return fail("can't read", words[1]);
+    }
+    struct Z_wasi_snapshot_preview1_instance_t wasi = {0};
+    uint32_t code = wasi_start(&wasi.sandbox, script, length);
+    free(script);
     if (code != 0) {
-        fprintf(stderr, "the script is refused: %u\n", code);
+        fprintf(stderr, "main: the script is refused: code %u\n", code);
         return 1;
     }
 
     wasm_rt_init();
     Z_guest_init_module();
-    Z_guest_instance_t guest;
-    Z_guest_instantiate(&guest, &wasi);
-    wasi.memory = Z_guestZ_memory(&guest);
-    printf("run %u\n", Z_guestZ_run(&guest));
-    printf("read back: %.12s", wasi.memory->data + 300);
-    printf("bad %u\n", Z_guestZ_bad(&guest));
-    if (wasm_rt_impl_try() == 0) {
-        printf("stray %u\n", Z_guestZ_stray(&guest));
-    } else {
-        printf("stray ended with %u\n", wasi.ended);
-    }
-    printf("answered %llu\n", (unsigned long long)wasi_answered(&wasi.sandbox));
-
-    size_t room;
-    uint8_t none;
-    wasi_report(&wasi.sandbox, &none, 0, &room);
-    uint8_t *report = malloc(room);
-    if (report && wasi_report(&wasi.sandbox, report, room, &room) == 0) {
-        fwrite(report, 1, room, stdout);
-    }
-    free(report);
+    Z_guest_instance_t guest = {0};
+    int status = run(&wasi, &guest);
+    int failed = write_report(&wasi.sandbox, words[2]);
     wasi_end(&wasi.sandbox);
     Z_guest_free(&guest);
     wasm_rt_free();
-    free(script);
-    return 0;
+    return failed ? failed : status;
 }

@@ -77,7 +77,8 @@ static inline uint32_t wasi_start(wasi_sandbox *sandbox, const uint8_t *script, 
 
 uint64_t wasi_c_answered(wasi_sandbox *sandbox, wasi_sandbox empty);
 
-/// How many calls were answered so far, refusals and traps among them; 0 of an empty sandbox.
+/// How many calls were answered so far, refusals and traps among them, but for calls that weren't made since a result
+/// had no place in the memory; 0 of an empty sandbox.
 static inline uint64_t wasi_answered(wasi_sandbox *sandbox) {
     return sandbox->at ? wasi_c_answered(sandbox, wasi_nothing()) : 0;
 }

@@ -9,8 +9,10 @@
 struct Z_wasi_snapshot_preview1_instance_t {
     wasi_sandbox sandbox;
     wasm_rt_memory_t *memory;
-    /// How the guest ended: a code from WASI_TRAP_POINTER on.
+    /// How the guest ended: 0 while it runs, else a code from WASI_TRAP_POINTER on.
     uint32_t ended;
+    /// What the guest gave `proc_exit`.
+    uint32_t status;
 };
 
 static u32 wasi_answered_guest(struct Z_wasi_snapshot_preview1_instance_t *guest, uint32_t code) {
@@ -22,6 +24,7 @@ static u32 wasi_answered_guest(struct Z_wasi_snapshot_preview1_instance_t *guest
 }
 
 void Z_wasi_snapshot_preview1Z_proc_exit(struct Z_wasi_snapshot_preview1_instance_t *guest, u32 status) {
+    guest->status = status;
     wasi_answered_guest(guest, wasi_proc_exit(&guest->sandbox, guest->memory->data, guest->memory->size,
         status));
 }

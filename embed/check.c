@@ -1,0 +1,180 @@
+// Tests of wasi.h from C: empty sandboxes, refused scripts, reports, two sandboxes, and each call with stray numbers on
+// memories of many lengths, none of which may touch a byte beyond its memory. embed/check builds and runs it.
+#include <stdio.h>
+#include <stdlib.h>
+#include <string.h>
+
+#include "calls.h"
+
+#define SCRIPT "{\"nodes\": [{\"dir\": {\"f\": 1}}, {\"file\": \"746f70\"}], " \
+               "\"preopens\": [{\"node\": 0, \"name\": \"/\", \"perms\": \"rw\"}], \"calls\": [], \"random\": \"5a\"}"
+#define NOENT 44
+#define BADF 8
+#define PAGE 65536
+#define ROUNDS 20000
+
+static int failures;
+
+static void need(int is_so, const char *what) {
+    if (!is_so) {
+        fprintf(stderr, "check: %s\n", what);
+        failures += 1;
+    }
+}
+
+static uint32_t start(wasi_sandbox *sandbox, const char *script) {
+    return wasi_start(sandbox, (const uint8_t *)script, strlen(script));
+}
+
+static void of_the_empty_one(void) {
+    wasi_sandbox sandbox = {0};
+    uint64_t words[MOST_ARGUMENTS] = {0};
+    uint8_t memory[64] = {0};
+    size_t length;
+    for (size_t place = 0; place < CALL_COUNT; place += 1) {
+        need(calls[place].answer(&sandbox, memory, sizeof memory, words) == WASI_EMPTY, calls[place].name);
+    }
+    need(wasi_answered(&sandbox) == 0, "answered of the empty one");
+    need(wasi_report(&sandbox, memory, sizeof memory, &length) == WASI_EMPTY, "report of the empty one");
+    wasi_end(&sandbox);
+    need(sandbox.at == NULL, "the empty one stays");
+}
+
+static void of_starts(void) {
+    const struct {
+        const char *script;
+        uint32_t code;
+    } refused[] = {
+        {"{", WASI_REFUSED_JSON},
+        {"{}", WASI_REFUSED_SHAPE},
+        {"{\"nodes\": [{\"file\": \"\"}], \"preopens\": [], \"calls\": []}", WASI_REFUSED_TREE},
+        {"{\"nodes\": [{\"dir\": {}}], \"calls\": [], "
+         "\"preopens\": [{\"node\": 1, \"name\": \"\", \"perms\": \"ro\"}]}",
+         WASI_REFUSED_LIMIT},
+        {"{\"nodes\": [{\"dir\": {}}], \"preopens\": [], \"calls\": [[\"sched_yield\"]]}", WASI_REFUSED_GUEST},
+    };
+    wasi_sandbox sandbox = {0};
+    for (size_t place = 0; place < sizeof refused / sizeof refused[0]; place += 1) {
+        need(start(&sandbox, refused[place].script) == refused[place].code, refused[place].script);
+        need(sandbox.at == NULL, "a refused script leaves the sandbox empty");
+    }
+    need(start(&sandbox, SCRIPT) == 0, "a start");
+    need(start(&sandbox, SCRIPT) == WASI_FULL, "a start of a full one");
+    wasi_end(&sandbox);
+    need(sandbox.at == NULL && start(&sandbox, SCRIPT) == 0, "a start after an end");
+    wasi_end(&sandbox);
+}
+
+static void of_reports(void) {
+    wasi_sandbox sandbox = {0};
+    size_t length = 0, told = 0;
+    uint8_t none;
+    start(&sandbox, SCRIPT);
+    need(wasi_report(&sandbox, &none, 0, &length) == WASI_SHORT && length > 0, "the length alone");
+    uint8_t *text = malloc(length + 1);
+    text[length - 1] = '?';
+    need(wasi_report(&sandbox, text, length - 1, &told) == WASI_SHORT && told == length, "a byte too little");
+    need(text[length - 1] == '?', "nothing beyond the room");
+    text[length] = '?';
+    need(wasi_report(&sandbox, text, length + 1, &told) == 0 && told == length, "room enough");
+    need(text[0] == '{' && text[length] == '?', "the text in front");
+    free(text);
+    wasi_end(&sandbox);
+}
+
+static uint32_t open_path(wasi_sandbox *sandbox, uint8_t *memory, const char *path, uint32_t flags) {
+    memcpy(memory + 64, path, strlen(path));
+    return wasi_path_open(sandbox, memory, PAGE, 3, 0, 64, (uint32_t)strlen(path), flags, 2, 0, 0, 16);
+}
+
+static void of_results(void) {
+    wasi_sandbox sandbox = {0};
+    uint8_t *memory = calloc(1, PAGE);
+    start(&sandbox, SCRIPT);
+    need(wasi_fd_close(&sandbox, memory, PAGE, 77) == BADF, "an error number");
+    need(open_path(&sandbox, memory, "f", 0) == 0 && memory[16] == 4, "a descriptor");
+    need(wasi_fd_tell(&sandbox, memory, PAGE, 4, 12) == WASI_TRAP_POINTER, "an address that isn't aligned");
+    need(wasi_fd_tell(&sandbox, memory, PAGE, 4, PAGE) == WASI_TRAP_POINTER, "an address behind the memory");
+    need(wasi_fd_tell(&sandbox, memory, PAGE, 4, PAGE - 8) == 0, "the last address");
+    need(wasi_fd_tell(&sandbox, memory, 8, 4, 8) == WASI_TRAP_POINTER, "a shorter memory");
+    need(wasi_fd_seek(&sandbox, memory, PAGE, 4, -1, 2, 24) == 0 && memory[24] == 2, "an offset below 0");
+    need(wasi_proc_exit(&sandbox, memory, PAGE, 125) == WASI_EXIT, "an exit");
+    need(wasi_answered(&sandbox) == 5, "how many were answered: three had no place for their result, and weren't made");
+    wasi_end(&sandbox);
+    start(&sandbox, SCRIPT);
+    need(wasi_proc_exit(&sandbox, memory, PAGE, 126) == WASI_TRAP_EXIT, "a status that traps");
+    wasi_end(&sandbox);
+    free(memory);
+}
+
+static void of_two(void) {
+    wasi_sandbox first = {0}, second = {0};
+    uint8_t *memory = calloc(1, PAGE);
+    start(&first, SCRIPT);
+    start(&second, SCRIPT);
+    need(open_path(&first, memory, "new", 1) == 0, "a file in the first");
+    need(open_path(&second, memory, "new", 0) == NOENT, "none in the second");
+    need(wasi_fd_close(&second, memory, PAGE, 4) == BADF, "no descriptor in the second");
+    wasi_end(&first);
+    need(open_path(&second, memory, "f", 0) == 0, "the second goes on");
+    wasi_end(&second);
+    free(memory);
+}
+
+static uint32_t state = 1;
+
+static uint32_t dice(void) {
+    state = state * 1664525u + 1013904223u;
+    return state >> 8;
+}
+
+// A number as a stray guest may hand it over: small, near the memory's end, or any.
+static uint64_t stray(size_t length) {
+    switch (dice() % 5) {
+        case 0: return dice() % 8;
+        case 1: return dice() % 64 * 8;
+        case 2: return length - dice() % 16;
+        case 3: return 0xffffffffu - dice() % 16;
+        default: return (uint64_t)dice() << 40 | dice();
+    }
+}
+
+// The memory is a block of its own length, so that valgrind sees what is read or written beyond it.
+static void of_stray_calls(void) {
+    wasi_sandbox sandbox = {0};
+    uint32_t codes = 0;
+    start(&sandbox, SCRIPT);
+    for (uint32_t round = 0; round < ROUNDS; round += 1) {
+        size_t length = dice() % 3 == 0 ? dice() % 16 : dice() % 4096;
+        uint8_t *memory = malloc(length + (length == 0));
+        for (size_t place = 0; place < length; place += 1) {
+            memory[place] = dice() % 2 ? (uint8_t)dice() : 0;
+        }
+        uint64_t words[MOST_ARGUMENTS];
+        for (size_t place = 0; place < MOST_ARGUMENTS; place += 1) {
+            words[place] = stray(length);
+        }
+        const struct call *call = &calls[dice() % CALL_COUNT];
+        uint32_t code = call->answer(&sandbox, memory, length, words);
+        need(code <= 76 || (code >= WASI_TRAP_POINTER && code <= WASI_NO_MEMORY), call->name);
+        codes += code == WASI_TRAP_POINTER;
+        free(memory);
+        if (wasi_ends_guest(code)) {
+            wasi_end(&sandbox);
+            start(&sandbox, SCRIPT);
+        }
+    }
+    need(codes > ROUNDS / 50, "some of the stray calls trap");
+    wasi_end(&sandbox);
+}
+
+int main(void) {
+    of_the_empty_one();
+    of_starts();
+    of_reports();
+    of_results();
+    of_two();
+    of_stray_calls();
+    printf("check: %d failures\n", failures);
+    return failures != 0;
+}

@@ -1,0 +1,305 @@
+// The sandboxes of wasi.h for Node, by N-API. sandbox.js makes a class of them, and alone uses what is exported here.
+//
+// A sandbox stays as long as JavaScript holds it, or one of its imports. All calls of it come by the one thread of
+// their environment, and none of them calls JavaScript before it has answered, so there is one at a time.
+#include <node_api.h>
+#include <stdbool.h>
+#include <stdlib.h>
+#include <string.h>
+
+#include "calls.h"
+
+#define MOST_REPORTED ((size_t)1 << 16)  // bytes of a report for which room is made before its length is asked for
+
+struct held;
+
+// An import of a guest: a call, and the sandbox that it is made on.
+struct import {
+    struct held *held;
+    const struct call *call;
+};
+
+struct held {
+    wasi_sandbox sandbox;
+    size_t holders;   // values of JavaScript by which the sandbox is reached
+    uint32_t ended;   // the code by which the guest ended, or 0
+    uint32_t status;  // what the guest gave proc_exit
+    napi_ref stop;    // the function that makes an exception of a code and a status
+    napi_ref memory;  // the guest's memory, or none yet
+    napi_ref buffer;  // its bytes as they were last lent: they are detached once the memory grows
+    uint8_t *bytes;
+    size_t length;
+    struct import imports[CALL_COUNT];
+};
+
+static uint8_t no_bytes;  // where a length is 0 a pointer isn't null
+
+static napi_value fail(napi_env env, const char *words) {
+    bool pending = false;
+    napi_is_exception_pending(env, &pending);
+    if (!pending) {
+        napi_throw_error(env, NULL, words);
+    }
+    return NULL;
+}
+
+static void drop_reference(napi_env env, napi_ref *reference) {
+    if (*reference) {
+        napi_delete_reference(env, *reference);
+        *reference = NULL;
+    }
+}
+
+static void release(napi_env env, void *data, void *hint) {
+    struct held *held = data;
+    (void)hint;
+    held->holders -= 1;
+    if (held->holders == 0) {
+        wasi_end(&held->sandbox);
+        drop_reference(env, &held->stop);
+        drop_reference(env, &held->memory);
+        drop_reference(env, &held->buffer);
+        free(held);
+    }
+}
+
+// Takes the memory's bytes where they were never taken, or aren't what they were.
+static bool take_bytes(napi_env env, struct held *held) {
+    napi_value memory, buffer;
+    bool detached = true;
+    if (held->buffer) {
+        napi_get_reference_value(env, held->buffer, &buffer);
+        napi_is_detached_arraybuffer(env, buffer, &detached);
+    }
+    if (!detached) {
+        return true;
+    }
+    if (!held->memory) {
+        fail(env, "no memory is lent: give the sandbox the guest's by `lend`, `start` or `initialize`");
+        return false;
+    }
+    void *bytes;
+    bool is_buffer = false;
+    if (napi_get_reference_value(env, held->memory, &memory) != napi_ok ||
+        napi_get_named_property(env, memory, "buffer", &buffer) != napi_ok ||
+        napi_is_arraybuffer(env, buffer, &is_buffer) != napi_ok || !is_buffer ||
+        napi_get_arraybuffer_info(env, buffer, &bytes, &held->length) != napi_ok) {
+        fail(env, "the memory has no bytes of its own that can be lent");
+        return false;
+    }
+    held->bytes = held->length > 0 ? bytes : &no_bytes;
+    drop_reference(env, &held->buffer);
+    return napi_create_reference(env, buffer, 1, &held->buffer) == napi_ok;
+}
+
+// One argument as WebAssembly hands it to JavaScript: a Number where it has 32 bits, and a BigInt where it has 64.
+static bool take_argument(napi_env env, napi_value given, char kind, uint64_t *word) {
+    if (kind == 'i') {
+        int32_t number;
+        napi_status status = napi_get_value_int32(env, given, &number);
+        *word = (uint32_t)number;
+        return status == napi_ok;
+    }
+    bool lossless;
+    return napi_get_value_bigint_uint64(env, given, word, &lossless) == napi_ok;
+}
+
+static bool take_arguments(napi_env env, const struct call *call, napi_value *given, uint64_t *words) {
+    for (size_t place = 0; call->kinds[place] != 0; place += 1) {
+        if (!take_argument(env, given[place], call->kinds[place], &words[place])) {
+            napi_throw_type_error(env, NULL, "a call of preview1 takes Numbers, and BigInts where it has 64 bits");
+            return false;
+        }
+    }
+    return true;
+}
+
+// Throws what says how the guest ended.
+static napi_value throw_stop(napi_env env, struct held *held) {
+    napi_value stop, undefined, words[2], error;
+    if (napi_get_reference_value(env, held->stop, &stop) != napi_ok || napi_get_undefined(env, &undefined) != napi_ok ||
+        napi_create_uint32(env, held->ended, &words[0]) != napi_ok ||
+        napi_create_uint32(env, held->status, &words[1]) != napi_ok ||
+        napi_call_function(env, undefined, stop, 2, words, &error) != napi_ok || napi_throw(env, error) != napi_ok) {
+        return fail(env, "the guest is stopped");
+    }
+    return NULL;
+}
+
+// A guest's call. One that was stopped may have caught that: it is told so again, and nothing is called.
+static napi_value on_call(napi_env env, napi_callback_info info) {
+    napi_value given[MOST_ARGUMENTS], answer;
+    uint64_t words[MOST_ARGUMENTS];
+    size_t count = MOST_ARGUMENTS;
+    void *data;
+    napi_get_cb_info(env, info, &count, given, NULL, &data);
+    struct import *import = data;
+    struct held *held = import->held;
+    if (held->ended) {
+        return throw_stop(env, held);
+    }
+    if (!take_bytes(env, held) || !take_arguments(env, import->call, given, words)) {
+        return NULL;
+    }
+    uint32_t code = import->call->answer(&held->sandbox, held->bytes, held->length, words);
+    if (wasi_ends_guest(code)) {
+        held->ended = code;
+        held->status = code == WASI_EXIT ? (uint32_t)words[0] : 0;
+        return throw_stop(env, held);
+    }
+    return napi_create_uint32(env, code, &answer) == napi_ok ? answer : NULL;
+}
+
+// begin(SCRIPT, STOP): a sandbox, or the code by which the script, which is a Uint8Array, is refused.
+static napi_value on_begin(napi_env env, napi_callback_info info) {
+    napi_value given[2], made;
+    size_t count = 2, length;
+    void *script;
+    struct held *held = calloc(1, sizeof *held);
+    if (!held) {
+        return fail(env, "there isn't enough memory");
+    }
+    if (napi_get_cb_info(env, info, &count, given, NULL, NULL) != napi_ok ||
+        napi_get_typedarray_info(env, given[0], NULL, &length, &script, NULL, NULL) != napi_ok ||
+        napi_create_reference(env, given[1], 1, &held->stop) != napi_ok) {
+        free(held);
+        return fail(env, "a sandbox is begun by the bytes of a script");
+    }
+    uint32_t code = wasi_start(&held->sandbox, length > 0 ? script : &no_bytes, length);
+    held->holders = 1;
+    if (code != 0) {
+        release(env, held, NULL);
+        return napi_create_uint32(env, code, &made) == napi_ok ? made : NULL;
+    }
+    if (napi_create_external(env, held, release, NULL, &made) != napi_ok) {
+        release(env, held, NULL);
+        return fail(env, "there isn't enough memory");
+    }
+    return made;
+}
+
+// The sandbox that a function was given first, and the value behind it if there is one.
+static struct held *take_held(napi_env env, napi_callback_info info, napi_value *behind) {
+    napi_value given[2];
+    size_t count = 2;
+    void *held = NULL;
+    if (napi_get_cb_info(env, info, &count, given, NULL, NULL) != napi_ok ||
+        napi_get_value_external(env, given[0], &held) != napi_ok) {
+        fail(env, "this is no sandbox");
+        return NULL;
+    }
+    if (behind) {
+        *behind = given[1];
+    }
+    return held;
+}
+
+static bool add_import(napi_env env, struct held *held, size_t place, napi_value imports) {
+    struct import *import = &held->imports[place];
+    napi_value function;
+    *import = (struct import){held, &calls[place]};
+    if (napi_create_function(env, import->call->name, NAPI_AUTO_LENGTH, on_call, import, &function) != napi_ok ||
+        napi_add_finalizer(env, function, held, release, NULL, NULL) != napi_ok) {
+        return false;
+    }
+    held->holders += 1;
+    return napi_set_named_property(env, imports, import->call->name, function) == napi_ok;
+}
+
+// imports(SANDBOX): the functions of preview1 by their names.
+static napi_value on_imports(napi_env env, napi_callback_info info) {
+    struct held *held = take_held(env, info, NULL);
+    napi_value imports;
+    if (!held || napi_create_object(env, &imports) != napi_ok) {
+        return NULL;
+    }
+    for (size_t place = 0; place < CALL_COUNT; place += 1) {
+        if (!add_import(env, held, place, imports)) {
+            return fail(env, "there isn't enough memory");
+        }
+    }
+    return imports;
+}
+
+// lend(SANDBOX, MEMORY): the calls from now on are made on this memory.
+static napi_value on_lend(napi_env env, napi_callback_info info) {
+    napi_value memory;
+    struct held *held = take_held(env, info, &memory);
+    if (!held) {
+        return NULL;
+    }
+    drop_reference(env, &held->memory);
+    drop_reference(env, &held->buffer);
+    if (napi_create_reference(env, memory, 1, &held->memory) != napi_ok) {
+        return fail(env, "a guest's memory is a WebAssembly.Memory");
+    }
+    take_bytes(env, held);
+    return NULL;
+}
+
+// answered(SANDBOX): how many calls were answered; undefined of one that was ended.
+static napi_value on_answered(napi_env env, napi_callback_info info) {
+    struct held *held = take_held(env, info, NULL);
+    napi_value answered;
+    if (!held || !held->sandbox.at) {
+        return NULL;
+    }
+    return napi_create_double(env, (double)wasi_answered(&held->sandbox), &answered) == napi_ok ? answered : NULL;
+}
+
+// Asks for the report with some room, and with as much as it needs where that was too little.
+static uint32_t take_report(struct held *held, uint8_t **text, size_t *length) {
+    uint32_t code = WASI_SHORT;
+    *text = NULL;
+    *length = MOST_REPORTED;
+    while (code == WASI_SHORT) {
+        size_t room = *length;
+        free(*text);
+        *text = malloc(room);
+        if (!*text) {
+            return WASI_NO_MEMORY;
+        }
+        code = wasi_report(&held->sandbox, *text, room, length);
+    }
+    return code;
+}
+
+// report(SANDBOX): the text of the report as a Buffer, or the code by which there is none.
+static napi_value on_report(napi_env env, napi_callback_info info) {
+    struct held *held = take_held(env, info, NULL);
+    napi_value told = NULL;
+    uint8_t *text;
+    size_t length;
+    if (!held) {
+        return NULL;
+    }
+    uint32_t code = take_report(held, &text, &length);
+    napi_status status = code == 0 ? napi_create_buffer_copy(env, length, text, NULL, &told)
+                                   : napi_create_uint32(env, code, &told);
+    free(text);
+    return status == napi_ok ? told : fail(env, "there isn't enough memory");
+}
+
+// end(SANDBOX): its tree and all else are given back. An ended one stays.
+static napi_value on_end(napi_env env, napi_callback_info info) {
+    struct held *held = take_held(env, info, NULL);
+    if (held) {
+        wasi_end(&held->sandbox);
+    }
+    return NULL;
+}
+
+static bool export_function(napi_env env, napi_value exports, const char *name, napi_callback callback) {
+    napi_value function;
+    return napi_create_function(env, name, NAPI_AUTO_LENGTH, callback, NULL, &function) == napi_ok &&
+           napi_set_named_property(env, exports, name, function) == napi_ok;
+}
+
+NAPI_MODULE_INIT() {
+    bool made = export_function(env, exports, "begin", on_begin) &&
+                export_function(env, exports, "imports", on_imports) &&
+                export_function(env, exports, "lend", on_lend) &&
+                export_function(env, exports, "answered", on_answered) &&
+                export_function(env, exports, "report", on_report) && export_function(env, exports, "end", on_end);
+    return made ? exports : fail(env, "there isn't enough memory");
+}

@@ -1,0 +1,83 @@
+//! `cargo test --offline`
+
+use wasi_embed::{Refused, Sandbox, Stop};
+
+const SCRIPT: &str = r#"{"nodes": [{"dir": {"f": 1}}, {"file": "746f70"}],
+    "preopens": [{"node": 0, "name": "/", "perms": "rw"}], "calls": [], "table": 5, "random": "5a"}"#;
+const BADF: u32 = 8;
+const NOENT: u32 = 44;
+
+fn open(sandbox: &mut Sandbox, memory: &mut [u8], path: &[u8], flags: u32) -> Result<u32, Stop> {
+    memory[64..64 + path.len()].copy_from_slice(path);
+    sandbox.path_open(memory, 3, 0, 64, path.len() as u32, flags, 2, 0, 0, 16)
+}
+
+#[test]
+fn scripts_are_refused() {
+    for (script, refused) in [
+        ("", Refused::Json),
+        ("{}", Refused::Shape),
+        (
+            r#"{"nodes": [{"file": ""}], "preopens": [], "calls": []}"#,
+            Refused::Tree,
+        ),
+        (
+            r#"{"nodes": [{"dir": {}}], "preopens": [], "calls": [["sched_yield"]]}"#,
+            Refused::Guest,
+        ),
+    ] {
+        assert_eq!(Sandbox::start(script).err(), Some(refused));
+    }
+}
+
+#[test]
+fn calls_answer_and_traps_stop() {
+    let mut sandbox = Sandbox::start(SCRIPT).unwrap();
+    let mut memory = vec![0; 65536];
+    assert_eq!(sandbox.fd_close(&mut memory, 77), Ok(BADF));
+    assert_eq!(open(&mut sandbox, &mut memory, b"g", 0), Ok(NOENT));
+    assert_eq!(open(&mut sandbox, &mut memory, b"f", 0), Ok(0));
+    assert_eq!(memory[16], 4);
+    assert_eq!(open(&mut sandbox, &mut memory, b"f", 0), Err(Stop::Table));
+    assert_eq!(sandbox.fd_close(&mut memory, 77), Err(Stop::Table));
+    assert_eq!(sandbox.stop(), Some(Stop::Table));
+    assert_eq!(sandbox.answered(), 4);
+}
+
+#[test]
+fn memories_of_each_length() {
+    let mut sandbox = Sandbox::start(SCRIPT).unwrap();
+    assert_eq!(sandbox.random_get(&mut [], 0, 0), Ok(0));
+    let mut memory = [0; 3];
+    assert_eq!(sandbox.random_get(&mut memory, 1, 2), Ok(0));
+    assert_eq!(memory, [0, 0x5a, 0x5a]);
+    assert_eq!(sandbox.random_get(&mut memory, 1, 3), Err(Stop::Pointer));
+    assert_eq!(memory, [0, 0x5a, 0x5a]);
+}
+
+#[test]
+fn two_sandboxes() {
+    let (mut first, mut second) = (Sandbox::start(SCRIPT).unwrap(), Sandbox::start(SCRIPT).unwrap());
+    let mut memory = vec![0; 65536];
+    assert_eq!(open(&mut first, &mut memory, b"new", 1), Ok(0));
+    assert_eq!(open(&mut second, &mut memory, b"new", 0), Ok(NOENT));
+    drop(first);
+    assert_eq!(open(&mut second, &mut memory, b"f", 0), Ok(0));
+    assert!(second.report().unwrap().contains("\"touched\":[0,1]"));
+}
+
+#[test]
+fn ends_and_reports() {
+    let mut sandbox = Sandbox::start(SCRIPT).unwrap();
+    assert_eq!(sandbox.proc_exit(&mut [], 3), Err(Stop::Ended));
+    assert_eq!(sandbox.sched_yield(&mut []), Err(Stop::Ended));
+    assert!(sandbox.report().unwrap().starts_with('{'));
+    assert_eq!(Sandbox::start(SCRIPT).unwrap().proc_exit(&mut [], 126), Err(Stop::Exit));
+}
+
+#[test]
+fn reports_longer_than_the_first_room() {
+    let file = "ab".repeat(200_000);
+    let script = format!(r#"{{"nodes": [{{"dir": {{"f": 1}}}}, {{"file": "{file}"}}], "preopens": [], "calls": []}}"#);
+    assert!(Sandbox::start(&script).unwrap().report().unwrap().contains(&file));
+}
