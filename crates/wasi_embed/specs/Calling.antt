@@ -4,7 +4,7 @@ use Rattle.wasi_faults.specs.Faults.{Failing, counted}
 use Rattle.wasi_guest.specs.declared.answer.TrapKind.TheVariants.{Pointer}
 use Rattle.wasi_guest.specs.declared.answer.Value.{Value}
 use Rattle.wasi_guest.specs.declared.call.Call.{Call}
-use Rattle.wasi_host.specs.Meaning.{Handles, Rose}
+use Rattle.wasi_host.specs.Meaning.{FaultCount, Handles, Rose, never_fails}
 use Rattle.wasi_host.specs.declared.lookup.Lookup.{Lookup}
 use Rattle.wasi_p1.specs.CallTurn.{Causes, FollowsRow, IsAnswered, IsValidCall, Looks, OthersStay}
 use Rattle.wasi_p1.specs.ErrorNumbers.{MayCome}
@@ -26,8 +26,8 @@ use Rattle.wasi_embed.specs.declared.sandbox.Sandbox.{Sandbox}
 abbrev pub SandboxHost : Type 0
 SandboxHost = Failing MemState
 
-abbrev pub faults : SandboxHost → ℕ
-faults host = counted 0 host.calls
+abbrev pub faults : SandboxHost → FaultCount
+faults host = counted never_fails host.calls
 
 abbrev pub live : SandboxHost → Handles
 live host = live_of host.inner.handles

@@ -1,6 +1,6 @@
 //! Ends in memory, which fail at listed calls.
 ghost use Rattle.std.specs.Prelude.{◌≡◌, ◌+◌, ◌-◌, ◌≤◌, ◌<◌, ◌++◌, [], IsTrue, true, length, take, drop, min, IfOk, OnErr, is_err};
-ghost use Rattle.wasi_host.specs.Meaning.{Rose};
+ghost use Rattle.wasi_host.specs.Meaning.{Risen};
 ghost use Rattle.wasi_ends.specs.Ends.{Gave, Schedule, BytesLeft, BytesTaken, is_listed, is_refused, after_call};
 
 use crate::ends::{Failed, Sink, Source};
@@ -100,7 +100,7 @@ impl Source for BytesSource {
         ensures rest { IfOk result (λ n. drop n buf.new ≡ drop n buf.old) }
         ensures kept { OnErr result (buf.new ≡ buf.old) }
         ensures count { self.old.schedule.faults ≤ self.new.schedule.faults }
-        ensures cause { OnErr result (Rose self.old.schedule.faults self.new.schedule.faults) }
+        ensures cause { OnErr result (Risen self.old.schedule.faults self.new.schedule.faults) }
         ensures fails { is_err result ≡ is_listed self.old.schedule }
         ensures schedule { self.new.schedule ≡ after_call self.old.schedule (is_err result) }
         ensures most { IfOk result (λ n. n ≡ min (length buf.old) (length self.old.left)) }
@@ -171,8 +171,8 @@ impl Sink for BytesSink {
         ensures bytes { IsTrue true → IfOk result (λ n. self.new.taken ≡ self.old.taken ++ take n piece.now) }
         ensures none { IsTrue true → OnErr result (self.new.taken ≡ self.old.taken) }
         ensures count { self.old.schedule.faults ≤ self.new.schedule.faults }
-        ensures cause { OnErr result (Rose self.old.schedule.faults self.new.schedule.faults) }
-        ensures stuck { IfOk result (λ n. n ≡ 0 → 0 < length piece.now → Rose self.old.schedule.faults self.new.schedule.faults) }
+        ensures cause { OnErr result (Risen self.old.schedule.faults self.new.schedule.faults) }
+        ensures stuck { IfOk result (λ n. n ≡ 0 → 0 < length piece.now → Risen self.old.schedule.faults self.new.schedule.faults) }
         ensures fails { is_err result ≡ is_refused self.old piece.now }
         ensures schedule { self.new.schedule ≡ after_call self.old.schedule (is_err result) }
         ensures most { IfOk result (λ n. n ≡ min (length piece.now) self.old.room) }

@@ -1,6 +1,6 @@
 //! Where bytes come from, and where they go.
 ghost use Rattle.std.specs.Prelude.{◌≡◌, ◌≤◌, ◌<◌, ◌++◌, List, ℕ, Bool, IsTrue, length, take, drop, IfOk, OnErr};
-ghost use Rattle.wasi_host.specs.Meaning.{Rose};
+ghost use Rattle.wasi_host.specs.Meaning.{Risen};
 ghost use Rattle.wasi_ends.specs.Ends.{Gave};
 
 /// A read or a write failed.
@@ -28,7 +28,7 @@ pub trait Source {
         ensures rest { IfOk result (λ n. drop n buf.new ≡ drop n buf.old) }
         ensures kept { OnErr result (buf.new ≡ buf.old) }
         ensures count { faults self.old ≤ faults self.new }
-        ensures cause { OnErr result (Rose (faults self.old) (faults self.new)) };
+        ensures cause { OnErr result (Risen (faults self.old) (faults self.new)) };
 }
 
 /// Where bytes go.
@@ -48,6 +48,6 @@ pub trait Sink {
         ensures bytes { IsTrue told → IfOk result (λ n. taken self.new ≡ taken self.old ++ take n piece.now) }
         ensures none { IsTrue told → OnErr result (taken self.new ≡ taken self.old) }
         ensures count { faults self.old ≤ faults self.new }
-        ensures cause { OnErr result (Rose (faults self.old) (faults self.new)) }
-        ensures stuck { IfOk result (λ n. n ≡ 0 → 0 < length piece.now → Rose (faults self.old) (faults self.new)) };
+        ensures cause { OnErr result (Risen (faults self.old) (faults self.new)) }
+        ensures stuck { IfOk result (λ n. n ≡ 0 → 0 < length piece.now → Risen (faults self.old) (faults self.new)) };
 }

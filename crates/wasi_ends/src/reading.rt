@@ -1,7 +1,7 @@
 //! Reading to the end, up to a limit.
 ghost use Rattle.std.specs.Prelude.{◌≤◌, ◌<◌, IsTrue, length, IsErrOf};
 ghost use Rattle.std.specs.Result.{result_map_both};
-ghost use Rattle.wasi_host.specs.Meaning.{Rose};
+ghost use Rattle.wasi_host.specs.Meaning.{Risen};
 ghost use Rattle.wasi_ends.specs.Ends.{ReadAll};
 
 use crate::ends::Source;
@@ -28,7 +28,7 @@ pub enum Unfinished {
 pub fn read_all<S: Source>(alloc: Global, source: &mut S) -> Result<Vec<u8>, Unfinished>
     ensures bytes { IsTrue S.told → ReadAll (result_map_both (λ v. v.items) (λ e. e) result) (S.left source.old) (S.left source.new) }
     ensures count { S.faults source.old ≤ S.faults source.new }
-    ensures cause { IsErrOf result Unfinished.Fault → Rose (S.faults source.old) (S.faults source.new) }
+    ensures cause { IsErrOf result Unfinished.Fault → Risen (S.faults source.old) (S.faults source.new) }
 {
     let Ok(mut chunk) = vec![in alloc; 0u8; CHUNK] else {
         return Err(Unfinished::Memory);
@@ -45,7 +45,7 @@ fn read_by<S: Source>(
     requires { 0 < length chunk.old }
     ensures bytes { IsTrue S.told → ReadAll (result_map_both (λ v. v.items) (λ e. e) result) (S.left source.old) (S.left source.new) }
     ensures count { S.faults source.old ≤ S.faults source.new }
-    ensures cause { IsErrOf result Unfinished.Fault → Rose (S.faults source.old) (S.faults source.new) }
+    ensures cause { IsErrOf result Unfinished.Fault → Risen (S.faults source.old) (S.faults source.new) }
 {
     let mut all = Vec::new(alloc);
     while all.len() <= MOST {

@@ -1,7 +1,7 @@
 //! Readers and writers of the system as ends: the program's standard input and output.
 ghost use Rattle.std.specs.Prelude.{◌≡◌, ◌≤◌, ◌<◌, false, [], length, drop, IfOk, OnErr};
 ghost use Rattle.std.specs.Io.KnownBytes.{ReadConsumes, WriteAppends};
-ghost use Rattle.wasi_host.specs.Meaning.{Rose};
+ghost use Rattle.wasi_host.specs.Meaning.{Risen};
 ghost use Rattle.wasi_ends.specs.Ends.{KnownLeft, KnownTaken};
 
 use crate::ends::{Failed, Sink, Source};
@@ -55,7 +55,7 @@ impl<R: Read> Source for ReaderSource<R> {
         ensures rest { IfOk result (λ n. drop n buf.new ≡ drop n buf.old) }
         ensures kept { OnErr result (buf.new ≡ buf.old) }
         ensures count { self.old.faults ≤ self.new.faults }
-        ensures cause { OnErr result (Rose self.old.faults self.new.faults) }
+        ensures cause { OnErr result (Risen self.old.faults self.new.faults) }
         ensures gives { ReadConsumes self.old.left self.new.left result buf.new }
     {
         // What the system leaves in a buffer after a failure isn't known.
@@ -109,8 +109,8 @@ impl<W: Write> Sink for WriterSink<W> {
     fn write(&mut self, piece: &[u8]) -> Result<usize, Failed>
         ensures fits { IfOk result (λ n. n ≤ length piece.now) }
         ensures count { self.old.faults ≤ self.new.faults }
-        ensures cause { OnErr result (Rose self.old.faults self.new.faults) }
-        ensures stuck { IfOk result (λ n. n ≡ 0 → 0 < length piece.now → Rose self.old.faults self.new.faults) }
+        ensures cause { OnErr result (Risen self.old.faults self.new.faults) }
+        ensures stuck { IfOk result (λ n. n ≡ 0 → 0 < length piece.now → Risen self.old.faults self.new.faults) }
         ensures takes { WriteAppends self.old.taken self.new.taken result piece.now }
     {
         match self.writer.write(piece) {

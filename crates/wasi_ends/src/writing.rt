@@ -1,7 +1,7 @@
 //! Writing all of a text.
 ghost use Rattle.std.specs.Prelude.{◌≡◌, ◌≤◌, ◌++◌, IsTrue};
 ghost use Rattle.std.specs.Bool.{OnTrue, OnFalse};
-ghost use Rattle.wasi_host.specs.Meaning.{Rose};
+ghost use Rattle.wasi_host.specs.Meaning.{Risen};
 ghost use Rattle.wasi_ends.specs.Ends.{TookFront};
 
 use crate::ends::Sink;
@@ -12,7 +12,7 @@ pub fn write_all<K: Sink>(sink: &mut K, text: &[u8]) -> bool
     ensures all { IsTrue K.told → OnTrue result (K.taken sink.new ≡ K.taken sink.old ++ text.now) }
     ensures front { IsTrue K.told → OnFalse result (TookFront (K.taken sink.old) (K.taken sink.new) text.now) }
     ensures count { K.faults sink.old ≤ K.faults sink.new }
-    ensures cause { OnFalse result (Rose (K.faults sink.old) (K.faults sink.new)) }
+    ensures cause { OnFalse result (Risen (K.faults sink.old) (K.faults sink.new)) }
 {
     let mut done = 0;
     while done < text.len() {

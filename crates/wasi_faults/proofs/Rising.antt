@@ -5,7 +5,7 @@ use Rattle.std.specs.Prelude.{is_some}
 use Rattle.std.proofs.lemmas.Bool.{and_parts, cases_eq, cases_lt, lt-ltb}
 use Rattle.std.proofs.lemmas.Bool.Decides.{nat_tests}
 use Rattle.std.proofs.lemmas.List.Sums.{count_by-le-length, sum_by-cons}
-use Rattle.wasi_faults.specs.Faults.{Calls, CountsFew, CountsMet, none_came, one_came, fault_numbered, met, next_fault, of_number, rise_from, standing_at, stands_at, met_after, fate_by}
+use Rattle.wasi_faults.specs.Faults.{Calls, CountsFew, none_came, one_came, fault_numbered, met, next_fault, of_number, rise_from, standing_at, met_after, fate_by}
 use Rattle.wasi_faults.specs.declared.fault.Fault.{Fault}
 use Rattle.wasi_host.specs.declared.fate.Fate.TheVariants.{FailsBefore, FailsAfter}
 
@@ -168,20 +168,14 @@ pub met_within : (s : Calls) → met s ≤ length s.faults
 unfolding met
 met_within s = count_by-le-length (λ (fault : Fault). nat_le fault.number s.calls) s.faults
 
--- the count rises by no more than as many as are listed, and isn't at its end
-pub counts_few : (before now : Calls) → CountsFew before now
-unfolding stands_at
-counts_few before now = record { few = omega arith; goes_on = omega arith }
-
 -- none of those whose numbers rise from 1 or more on came before the first call
 none_met : (s : Calls) → rise_from 0 s.faults ≡ true → met (none_came s) ≡ 0
 unfolding met passed
 none_met s rise = none_passed 0 0 s.faults rise (omega arith)
 
--- the count stands higher by those that came
-pub counts_met : (s : Calls) → rise_from 0 s.faults ≡ true → length s.faults ≤ 2 ^ 63 → CountsMet s
-unfolding stands_at
-counts_met s rise fits = record {
-  count = omega (arith, none_met s rise, met_within s, fits);
-  most = met_within s;
+-- the count is of those that came
+pub counts_few : (s : Calls) → CountsFew s
+counts_few s = record {
+  few = omega (arith, met_within s);
+  none = λ rise. omega (arith, none_met s rise);
 }

@@ -1,6 +1,7 @@
 -- Which calls of a host fail, by a list of their numbers.
-use Rattle.std.specs.Prelude.{◌≡◌, IsTrue, ℕ, zero, suc, ◌+◌, ◌-◌, ◌^◌, ◌<◌, ◌≤◌, Bool, true, ◌&&◌, if◌then◌else◌, nat_eq, nat_le, nat_lt, count_by, min, slice_get, length, List, [], ◌∷◌, Option, Some, None}
+use Rattle.std.specs.Prelude.{◌≡◌, IsTrue, ℕ, zero, suc, ◌+◌, ◌-◌, ◌^◌, ◌≤◌, Bool, true, ◌&&◌, if◌then◌else◌, nat_eq, nat_le, nat_lt, count_by, min, slice_get, length, List, [], ◌∷◌, Option, Some, None}
 use Rattle.wasi_host.specs.Fates.{Fates, Others}
+use Rattle.wasi_host.specs.Meaning.{FaultCount, never_fails}
 use Rattle.wasi_host.specs.declared.fate.Fate.{Fate}
 use Rattle.wasi_host.specs.declared.fate.Fate.TheVariants.{Passes, FailsBefore, FailsAfter}
 use Rattle.wasi_faults.specs.declared.fault.Fault.{Fault}
@@ -61,15 +62,9 @@ met_after n Passes = n
 met_after n FailsBefore = n + 1
 met_after n FailsAfter = n + 1
 
--- How high a count stands for these calls: at 2^63 where all that fail came, and before that lower by those to come. Only
--- how far a count rises means anything; begun so, it rises by no more than as many as are listed, whatever becomes of the
--- list, and over an inner host whose count stands lower than 2^63 it doesn't come to its end.
-unfoldable pub stands_at : Calls → ℕ
-stands_at s = 2 ^ 63 - (length s.faults - met s)
-
--- the count of a host whose inner one stands so high
-abbrev pub counted : ℕ → Calls → ℕ
-counted inner s = min (inner + stands_at s) (2 ^ 64 - 1)
+-- the count of a host over one of this count: the listed calls that came have failed too, and all that are listed may
+abbrev pub counted : FaultCount → Calls → FaultCount
+counted inner s = record { count = min (inner.count + met s) (2 ^ 64 - 1); most = inner.most + length s.faults }
 
 -- a host over an inner one
 pub record Failing (H : Type 0) : Type 0 where
@@ -100,23 +95,14 @@ abbrev pub others_of : Others → Calls → Others
 others_of inner s zero = inner 0
 others_of inner s (suc n) = others_of (passed_on (next_fate s) inner) (one_came s) n
 
--- over an inner host that counts nothing: the count rises by no more than as many as are listed, and isn't at its end
-pub record CountsFew (before now : Calls) : Type 0 where
-  pub few : counted 0 now ≤ counted 0 before + length before.faults
-  pub goes_on : counted 0 now < 2 ^ 64 - 1
-
-abbrev pub FaultsAreFew : Type 0
-FaultsAreFew = (before now : Calls) → CountsFew before now
-
 -- the same calls, where none came yet
 abbrev pub none_came : Calls → Calls
 none_came s = record s { calls = 0 }
 
--- over an inner host that counts nothing: the count stands higher than at the start by those of the calls that fail which
--- came, and they are no more than are listed
-pub record CountsMet (s : Calls) : Type 0 where
-  pub count : counted 0 s ≡ counted 0 (none_came s) + met s
-  pub most : met s ≤ length s.faults
+-- over a host that never fails by itself: it has failed no more often than calls are listed, and not before the first call
+pub record CountsFew (s : Calls) : Type 0 where
+  pub few : (counted never_fails s).count ≤ length s.faults
+  pub none : IsTrue (numbers_rise s.faults) → (counted never_fails (none_came s)).count ≡ 0
 
-abbrev pub FaultsAreMet : Type 0
-FaultsAreMet = (s : Calls) → IsTrue (numbers_rise s.faults) → length s.faults ≤ 2 ^ 63 → CountsMet s
+abbrev pub FaultsAreFew : Type 0
+FaultsAreFew = (s : Calls) → CountsFew s

@@ -1,9 +1,8 @@
 //! Laws of faults.
-ghost use Rattle.wasi_faults.specs.Faults.{FaultsAreFew, FaultsAreMet};
+ghost use Rattle.wasi_faults.specs.Faults.{FaultsAreFew};
 
-/// A host that fails at listed calls, over one that doesn't fail by itself, fails no more often than calls are listed, and
-/// its count isn't at its end. The count stands higher than at the start by the listed calls that came.
+/// A host that fails at listed calls, over one that never fails by itself, as `MemTree` is: its count is no more than as
+/// many as are listed, and nothing before the first call.
 pub fn faults_are_few()
     ensures few { FaultsAreFew }
-    ensures met { FaultsAreMet }
 {}

@@ -1,6 +1,6 @@
 //! Which calls fail, and how many came.
 ghost use Rattle.std.specs.Prelude.{◌≡◌, IsTrue};
-ghost use Rattle.wasi_faults.specs.Faults.{one_came, numbers_rise, met_after, next_fate, standing_at, stands_at, fate_by};
+ghost use Rattle.wasi_faults.specs.Faults.{one_came, numbers_rise, met_after, next_fate, standing_at, met, fate_by};
 
 use crate::fault::Fault;
 use std::marker::Model;
@@ -43,7 +43,7 @@ impl Schedule {
     pub fn next(&mut self) -> Fate
         ensures fate { result ≡ next_fate self.old }
         ensures after { self.new ≡ one_came self.old }
-        ensures count { stands_at self.new ≡ met_after (stands_at self.old) result }
+        ensures count { met self.new ≡ met_after (met self.old) result }
     {
         let fault = listed_at(&self.faults, self.place, self.calls);
         self.calls = self.calls.saturating_add(1);

@@ -80,6 +80,7 @@ impl<'a> Atom<'a> {
 }
 
 /// The next value of a text.
+#[inline(always)]
 pub fn next_atom<'a>(reader: &mut Reader<'a>, depth: usize) -> Reading<Atom<'a>>
     ensures { IsRead (λ atom. (atom_data atom, reader.new)) result (parse_map flat (next_value depth reader.old)) }
 {
@@ -89,6 +90,7 @@ pub fn next_atom<'a>(reader: &mut Reader<'a>, depth: usize) -> Reading<Atom<'a>>
     }
 }
 
+#[inline(always)]
 fn atom_after<'a>(token: Token<'a>, reader: &mut Reader<'a>, depth: usize) -> Reading<Atom<'a>>
     ensures { IsRead (λ atom. (atom_data atom, reader.new)) result
         (parse_map flat (next_value depth (token_of token.entry ∷ reader.old))) }

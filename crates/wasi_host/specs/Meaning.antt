@@ -25,13 +25,27 @@ pub record World : Type 0 where
   pub held : ℕ → Held
   pub touched : Nodes
 
--- the count is larger than before, or stands at its end
-abbrev pub Rose : ℕ → ℕ → Type 0
-Rose before now = min (before + 1) (2 ^ 64 - 1) ≤ now
+-- how often a host has failed by itself, and how often it fails at most
+pub record FaultCount : Type 0 where
+  pub count : ℕ
+  pub most : ℕ
 
--- the count never falls, and `Io` comes only where it rose
-pub record HasCause {A : Type 0} (before now : ℕ) (result : Result A HostError) : Type 0 where
-  pub later : before ≤ now
+-- a host that never fails by itself
+abbrev pub never_fails : FaultCount
+never_fails = record { count = 0; most = 0 }
+
+-- a count is larger than before, or stands at its end
+abbrev pub Risen : ℕ → ℕ → Type 0
+Risen before now = min (before + 1) (2 ^ 64 - 1) ≤ now
+
+-- the host has failed once more
+abbrev pub Rose : FaultCount → FaultCount → Type 0
+Rose before now = Risen before.count now.count
+
+-- the count never falls, what it is at most stays, and `Io` comes only where it rose
+pub record HasCause {A : Type 0} (before now : FaultCount) (result : Result A HostError) : Type 0 where
+  pub later : before.count ≤ now.count
+  pub most : now.most ≡ before.most
   pub io : result ≡ Err (Code Io) → Rose before now
 
 -- a call that answers a new handle: it wasn't live, and is live from then on; a refused call leaves what is live

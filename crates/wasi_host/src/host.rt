@@ -7,7 +7,7 @@ ghost use Rattle.wasi_paths.specs.Name.{name_bytes};
 ghost use Rattle.wasi_paths.specs.Text.{is_entry_name};
 ghost use Rattle.wasi_host.specs.HostCall.{OpenAt, StatAt, ReadLinkAt, MakeDirAt, SymlinkAt, LinkAt, RenameAt, UnlinkAt, RemoveDirAt, TimesAt, Access, Stat, SetTimes, Pread, Pwrite, Append, SetSize, Sync, Advise, Flags, ListDir, Dup, Close};
 ghost use Rattle.wasi_host.specs.Answer.{entry_of};
-ghost use Rattle.wasi_host.specs.Meaning.{World, AllHeld, HasCause, Rose, LiveGot, Told, Logged, LoggedGot, one_looked, both_looked, hosted, answered};
+ghost use Rattle.wasi_host.specs.Meaning.{World, AllHeld, FaultCount, HasCause, Rose, LiveGot, Told, Logged, LoggedGot, one_looked, both_looked, hosted, answered};
 ghost use Rattle.wasi_host.specs.Fates.{Fated, Fates, Finds, Follow, Others};
 ghost use Rattle.wasi_host.specs.Numbers.{longest_link};
 ghost use Rattle.wasi_host.specs.Tree.{Tree};
@@ -35,8 +35,9 @@ use wasi_paths::Name;
 /// says so: Invalid of a NUL in the name, NameTooLong of more than 255 bytes, Access where the directory may not be
 /// searched. The rows and their order are this project's own, in the manner of Linux, and claim nothing of a kernel.
 pub trait Host {
-    /// How often the host has failed by itself. It never falls, and stands still at 2^64 - 1.
-    ghost faults: { Self → ℕ };
+    /// How often the host has failed by itself, which never falls and stands still at 2^64 - 1, and how often it fails at
+    /// most, which no call changes.
+    ghost faults: { Self → FaultCount };
 
     /// The live handles.
     ghost live: { Self → FinSet nat_cmp };
@@ -520,7 +521,8 @@ pub trait Host {
     /// what its calls find, the next one finds what was left with what others do before it. It does nothing: its clauses
     /// are laws, for a caller that needs one of them.
     fn laws(&self)
-        ensures faults { faults self.now ≤ 2 ^ 64 - 1 }
+        ensures faults { (faults self.now).count ≤ 2 ^ 64 - 1 }
+        ensures most { (faults self.now).count ≤ (faults self.now).most }
         ensures held { IsTrue told → AllHeld (live self.now) (world self.now) }
         ensures found { IsTrue told → IsTrue tells_found × (found self.now ≡ (world self.now).tree) × (left self.now ≡ world self.now) }
         ensures others { IsTrue tells_found → found self.now ≡ others self.now 0 (left self.now).tree }

@@ -1,22 +1,25 @@
 -- What is done to a block, against all entries.
-use Rattle.std.proofs.Common.{◌≡◌, ℕ, zero, suc, ◌+◌, ◌<◌, ◌≤◌, true, false, List, [], ◌∷◌, ◌++◌, map, length, drop, take, get_or, set, refl, sym, ap, ◌∙◌, subst, arith, Option, None, Some, add-one}
-use Rattle.std.specs.Prelude.{All, is_some, not}
-use Rattle.std.specs.Ordering.{eq_by_cmp}
+use Rattle.std.proofs.Common.{◌≡◌, ℕ, zero, suc, ◌+◌, ◌<◌, ◌≤◌, true, false, List, [], ◌∷◌, ◌++◌, map, length, drop, take, get_or, set, refl, sym, ap, ◌∙◌, subst, arith, Option, None, Some, add-one, append_assoc}
+use Rattle.std.specs.Prelude.{All, is_some, not, if◌then◌else◌}
+use Rattle.std.specs.Ordering.{eq_by_cmp, is_eq, is_gt, is_lt}
+use Rattle.std.specs.declared.cmp.Ordering.{Ordering}
+use Rattle.std.specs.declared.cmp.Ordering.TheVariants.{Less, Equal, Greater}
 use Rattle.std.proofs.lemmas.List.Elements.{All-set, All-append, All-cons, All-take, All-drop}
-use Rattle.std.proofs.lemmas.List.{length-map, map-append}
-use Rattle.std.specs.List.{insert, remove}
+use Rattle.std.proofs.lemmas.List.{length-map, map-append, take-append-drop}
+use Rattle.std.proofs.Math.ListN.{drop_of_length-le}
+use Rattle.std.specs.List.{flat_map, insert, remove}
 use Rattle.std.specs.declared.vec.Vec.{Vec}
 use Rattle.std.specs.FinMap.{find, put, is_sorted}
 use Rattle.std.specs.FinMap.Entries.{where_key, is_sorted-put, is_sorted-where_key}
 use Rattle.wasi_names.specs.declared.name_row.NameRow.{NameRow}
-use Rattle.wasi_names.specs.Fronts.{list_at, with_list}
-use Rattle.wasi_names.specs.Places.{place_in, list_place, first_at, revalued}
+use Rattle.wasi_names.specs.Fronts.{front_len, list_at, with_list}
+use Rattle.wasi_names.specs.Places.{place_in, starts_by, list_place, first_at, revalued}
 use Rattle.wasi_names.specs.Blocks.{block_entries, all_entries, IsBlock, AreBlocks}
 use Rattle.wasi_names.specs.NameRows.{Key, NameEntry, key_cmp, row_entry}
-use Rattle.wasi_names.proofs.EntryLemmas.{told, true_of, rises, Rises, find_place, put_new, put_same, without_place, without_none}
+use Rattle.wasi_names.proofs.EntryLemmas.{told, true_of, rises, Rises, find_place, find_tied, put_new, put_same, without_place, without_none}
 use Rattle.wasi_names.proofs.ListLemmas.{no_lists, list_at-get, lists_around, lists-set, lists-split, lists-remove, list_rises, find_lists, put_lists, without_lists}
 use Rattle.wasi_names.proofs.KeyLemmas.{key_total}
-use Rattle.wasi_names.proofs.RowLemmas.{started}
+use Rattle.wasi_names.proofs.RowLemmas.{last_started, started}
 
 map_take : {X Z : Type 0} (g : X → Z) (n : ℕ) (xs : List X) → map g (take n xs) ≡ take n (map g xs)
 map_take g zero xs = refl
@@ -104,6 +107,39 @@ longer (suc n) (x ∷ xs) h = let t = longer n xs h in omega arith
 pub found_within : (key : Key) (es : List NameEntry) (at : ℕ) → is_some (first_at key_cmp key (drop at es)) ≡ true → at < length es
 found_within key es at h = longer at es (first_some key (drop at es) h)
 
+-- a row that has a key, wherever it stands, has what is found of it
+pub find_there : {Y : Type 0} (key : Key) (bs : List (Vec NameRow Y)) (k at n : ℕ) → AreBlocks bs → k < length bs
+    → first_at key_cmp key (drop at (list_at block_entries bs k)) ≡ Some n → find key_cmp key (all_entries bs) ≡ Some n
+find_there key bs k at n h lt has = by (drop at here) (take-append-drop at here) has
+  where
+    here : List NameEntry
+    here = list_at block_entries bs k
+
+    before : List NameEntry
+    before = flat_map block_entries (take k bs)
+
+    after : List NameEntry
+    after = flat_map block_entries (drop (suc k) bs)
+
+    tied : (q : Ordering) (v : ℕ) → (if is_eq q then Some v else None) ≡ Some n → (q ≡ Equal) × (v ≡ n)
+    tied Equal v is = (refl, cc)
+    tied Less v is = absurd (cc)
+    tied Greater v is = absurd (cc)
+
+    by : (left : List NameEntry) → take at here ++ left ≡ here → first_at key_cmp key left ≡ Some n
+        → find key_cmp key (all_entries bs) ≡ Some n
+    by [] split is = absurd (cc)
+    by (e ∷ left) split is =
+        let (same, node) = tied (key_cmp key e.0) e.1 is in
+        let all : all_entries bs ≡ (before ++ take at here) ++ e ∷ (left ++ after) =
+        lists_around block_entries bs k lt ∙ ap (λ es. before ++ (es ++ after)) (sym split)
+        ∙ ap (λ es. before ++ es) (append_assoc (take at here) (e ∷ left) after)
+        ∙ sym (append_assoc before (take at here) (e ∷ (left ++ after))) in
+        ap (find key_cmp key) all
+        ∙ find_tied key_cmp key_total key (before ++ take at here) e (left ++ after)
+        (subst (Rises key_cmp) all (rises key_cmp _ h.rises)) same
+        ∙ ap Some node
+
 module _ {Y : Type 0} (key : Key) (bs : List (Vec NameRow Y)) (h : AreBlocks bs) (k : ℕ)
     (is : k ≡ list_place key_cmp block_entries key bs) (lt : k < length bs)
     (at : ℕ) (here : at ≡ place_in key_cmp key (list_at block_entries bs k)) where
@@ -166,6 +202,27 @@ module _ {Y : Type 0} (key : Key) (bs : List (Vec NameRow Y)) (h : AreBlocks bs)
       ∙ ap (with_list block_entries bs k) (sym (without_none key_cmp key_total key _ sorted_at
       (ap (λ n. first_at key_cmp key (drop n (list_at block_entries bs k))) (sym here) ∙ w)))
       ∙ sym without_here
+
+-- rows that are all before a key start by it
+starts_before : (key : Key) (es : List NameEntry) → place_in key_cmp key es ≡ length es → starts_by key_cmp key es ≡ true
+unfolding front_len
+starts_before key [] all = refl
+starts_before key (e ∷ es) all = by (key_cmp key e.0) all
+  where
+    by : (q : Ordering) → (if is_gt q then suc (front_len (λ e. is_gt (key_cmp key e.0)) es) else 0) ≡ suc (length es)
+        → not (is_lt q) ≡ true
+    by Greater all = refl
+    by Equal all = refl
+    by Less all = absurd (omega arith)
+
+-- behind all rows nothing is found
+pub behind_all : {Y : Type 0} (key : Key) (bs : List (Vec NameRow Y)) (k : ℕ) → AreBlocks bs → k + 1 ≡ length bs
+    → place_in key_cmp key (list_at block_entries bs k) ≡ length (list_at block_entries bs k)
+    → find key_cmp key (all_entries bs) ≡ None
+behind_all key bs k h last all =
+    let here : List NameEntry = list_at block_entries bs k in
+    find_here key bs h k (last_started key bs k h last (starts_before key here all)) (omega arith) (length here) (sym all)
+    ∙ ap (first_at key_cmp key) (drop_of_length-le here (omega arith))
 
 pub put_kept : {Y : Type 0} (key : Key) (v : ℕ) (bs cs : List (Vec NameRow Y)) → AreBlocks bs → All IsBlock cs
     → all_entries cs ≡ put key_cmp key v (all_entries bs) → AreBlocks cs

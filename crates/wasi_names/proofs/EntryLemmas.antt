@@ -3,7 +3,7 @@ use Rattle.std.proofs.Common.{◌≡◌, Bool, true, false, cond, List, [], ◌�
 use Rattle.std.specs.Prelude.{not, ◌&&◌}
 use Rattle.std.proofs.lemmas.Bool.{true≢false}
 use Rattle.std.specs.Cmp.{IsTotalOrder}
-use Rattle.std.specs.Ordering.{is_lt, is_gt, is_eq, eq_by_cmp}
+use Rattle.std.specs.Ordering.{is_lt, is_gt, is_eq, eq_by_cmp, ordering_reverse}
 use Rattle.std.specs.declared.cmp.Ordering.{Ordering}
 use Rattle.std.specs.declared.cmp.Ordering.TheVariants.{Less, Equal, Greater}
 use Rattle.std.specs.List.{insert, remove}
@@ -200,6 +200,16 @@ module _ {K V : Type 0} (R : K → K → Ordering) where
           | Equal ↦ λ is. rw (is, is) refl
           | Greater ↦ λ is. rw is (find_place k es h.1)
         ] refl
+
+    -- what a key has is what an entry of that key has, wherever it stands
+    pub find_tied : (k : K) (xs : List (K × V)) (e : K × V) (ys : List (K × V)) → Rises (xs ++ e ∷ ys) → R k e.0 ≡ Equal
+        → find R k (xs ++ e ∷ ys) ≡ Some e.1
+    find_tied k [] e ys h is = rw is refl
+    find_tied k (x ∷ xs) e ys h is =
+        let below : R x.0 e.0 ≡ Less = (less_right x.0 xs (e ∷ ys) h.0).0 in
+        let above : R k x.0 ≡ Greater =
+        o.congr k e.0 x.0 is ∙ o.antisymm e.0 x.0 ∙ ap ordering_reverse below in
+        rw above (find_tied k xs e ys h.1 is)
 
     -- a removal at the place of a key that is there
     pub without_place : (k : K) (w : V) (es : List (K × V)) → Rises es

@@ -1,4 +1,4 @@
-use Rattle.std.proofs.Common.{◌≡◌, ℕ, zero, suc, ◌<◌, ◌≤◌, Bool, true, false, cond, List, [], ◌∷◌, length, get_or, refl, sym, ap, ◌∙◌, arith}
+use Rattle.std.proofs.Common.{◌≡◌, ℕ, zero, suc, ◌+◌, ◌<◌, ◌≤◌, Bool, true, false, cond, List, [], ◌∷◌, length, get_or, refl, sym, ap, ◌∙◌, arith}
 use Rattle.std.proofs.lemmas.Bool.{true≢false}
 use Rattle.std.specs.List.Sorted.{IsPartitionedBy, IsPartitionPoint}
 use Rattle.wasi_names.specs.Fronts.{front_len}
@@ -32,6 +32,15 @@ module _ {X : Type 0} (p : X → Bool) where
   partitioned (x ∷ xs) h (suc i) zero d le lt t = absurd (omega arith)
   partitioned (x ∷ xs) h (suc i) (suc j) d le lt t = partitioned xs h.1 i j d (omega arith) (omega arith) t
 
+  -- one that stands before one that passes, whatever is meant outside the list
+  passing : (xs : List X) → IsClosed xs → (i j : ℕ) (d e : X) → i ≤ j → j < length xs → p (get_or xs j e) ≡ true
+      → p (get_or xs i d) ≡ true
+  passing [] closed i j d e le lt t = absurd (omega arith)
+  passing (x ∷ xs) closed zero zero d e le lt t = t
+  passing (x ∷ xs) closed zero (suc j) d e le lt t = passes_first x xs closed.0 j e (omega arith) t
+  passing (x ∷ xs) closed (suc i) zero d e le lt t = absurd (omega arith)
+  passing (x ∷ xs) closed (suc i) (suc j) d e le lt t = passing xs closed.1 i j d e (omega arith) (omega arith) t
+
   -- the point between those that pass and those that fail is how many are at the front that pass
   pub front_is : (xs : List X) (i : ℕ) → i ≤ length xs
       → IsPartitionPoint (λ y. p y ≡ true) (λ y. p y ≡ false) xs i → i ≡ front_len p xs
@@ -45,6 +54,14 @@ module _ {X : Type 0} (p : X → Bool) where
         λ k d lo hi. h.0 (suc k) d (omega arith) (omega arith),
         λ k d lo hi. h.1 (suc k) d (omega arith) (omega arith),
       )))
+
+  -- where the last one passes, all do
+  pub front_all : (xs : List X) (k : ℕ) (d : X) → k + 1 ≡ length xs → IsClosed xs → p (get_or xs k d) ≡ true
+      → front_len p xs ≡ length xs
+  front_all xs k d last closed passes = sym (front_is xs (length xs) (omega arith) (
+    λ i e lo hi. passing xs closed i k e d (omega arith) (omega arith) passes,
+    λ i e lo hi. absurd (omega arith),
+  ))
 
   pub front_within : (xs : List X) → front_len p xs ≤ length xs
   unfolding front_len

@@ -1,5 +1,5 @@
 -- Rows and blocks against their entries.
-use Rattle.std.proofs.Common.{◌≡◌, ℕ, zero, suc, ◌<◌, ◌≤◌, Bool, cond, List, [], ◌∷◌, map, length, drop, get_or, set, refl, sym, ap, ◌∙◌, subst, arith, None}
+use Rattle.std.proofs.Common.{◌≡◌, ℕ, zero, suc, pred, ◌+◌, ◌<◌, ◌≤◌, Bool, true, cond, List, [], ◌∷◌, map, length, drop, get_or, set, refl, sym, ap, ◌∙◌, subst, arith, None}
 use Rattle.std.specs.Prelude.{All, IsTrue}
 use Rattle.std.proofs.lemmas.List.Elements.{All-head, All-tail}
 use Rattle.std.specs.declared.vec.Vec.{Vec}
@@ -7,11 +7,11 @@ use Rattle.std.specs.FinMap.{find}
 use Rattle.std.specs.Ordering.{is_gt}
 use Rattle.std.specs.FinMap.{is_sorted}
 use Rattle.wasi_names.specs.declared.name_row.NameRow.{NameRow}
-use Rattle.wasi_names.specs.Fronts.{front_len}
+use Rattle.wasi_names.specs.Fronts.{front_len, list_at}
 use Rattle.wasi_names.specs.Places.{place_in, starts_by, list_place, first_at, revalued}
 use Rattle.wasi_names.specs.Blocks.{block_entries, all_entries, IsBlock, AreBlocks}
 use Rattle.wasi_names.specs.NameRows.{Key, NameEntry, key_cmp, row_key, row_entry}
-use Rattle.wasi_names.proofs.FrontLemmas.{AllFail, IsClosed}
+use Rattle.wasi_names.proofs.FrontLemmas.{AllFail, IsClosed, front_all}
 use Rattle.wasi_names.proofs.EntryLemmas.{Rises, rises, sorted_of, closed_places, find_place}
 use Rattle.wasi_names.proofs.ListLemmas.{Started, AllStarted, closed_lists, list_at-get, list_rises, no_lists}
 use Rattle.wasi_names.proofs.KeyLemmas.{key_total}
@@ -73,6 +73,22 @@ module _ {Y : Type 0} where
   pub closed_blocks : (key : Key) (bs : List (Vec NameRow Y)) → AreBlocks bs
       → IsClosed (λ (b : Vec NameRow Y). starts_by key_cmp key (block_entries b)) bs
   closed_blocks key bs h = closed_lists key_cmp block_entries key_total key bs (started bs h.each) (rises key_cmp _ h.rises)
+
+  -- the rows of a block rise
+  pub list_sorted : (bs : List (Vec NameRow Y)) (k : ℕ) → AreBlocks bs → k < length bs
+      → IsTrue (is_sorted key_cmp (list_at block_entries bs k))
+  list_sorted bs k h lt =
+      sorted_of key_cmp _ (list_rises key_cmp block_entries key_total (0, []) bs k lt (rises key_cmp _ h.rises))
+
+  -- where the last block starts by a key, that is the key's
+  pub last_started : (key : Key) (bs : List (Vec NameRow Y)) (k : ℕ) → AreBlocks bs → k + 1 ≡ length bs
+      → starts_by key_cmp key (list_at block_entries bs k) ≡ true → k ≡ list_place key_cmp block_entries key bs
+  last_started key [] k h last starts = absurd (omega arith)
+  last_started key (b ∷ bs) k h last starts =
+      let all = front_all (λ (b : Vec NameRow Y). starts_by key_cmp key (block_entries b)) (b ∷ bs) k b last
+      (closed_blocks key (b ∷ bs) h)
+      (subst (λ es. starts_by key_cmp key es ≡ true) (list_at-get block_entries (b ∷ bs) k b (omega arith)) starts) in
+      sym (ap pred all ∙ omega (arith, last))
 
   pub find_none : (key : Key) (bs : List (Vec NameRow Y)) → length bs ≤ list_place key_cmp block_entries key bs
       → find key_cmp key (all_entries bs) ≡ None

@@ -1,5 +1,5 @@
 //! Rows in blocks: each block has room for as many rows as a block may have, so one row moves less than a block's rows.
-ghost use Rattle.std.specs.Prelude.{◌≡◌, ℕ, ◌+◌, ◌<◌, ◌≤◌, [], ◌∷◌, ◌++◌, slice_index_or, suc, is_some, Some, None, MatchOption, true, false, map, length, take, drop, not, All, IsTrue, if◌then◌else◌};
+ghost use Rattle.std.specs.Prelude.{◌≡◌, ℕ, ◌+◌, ◌<◌, ◌≤◌, [], ◌∷◌, ◌++◌, slice_index_or, suc, is_some, Some, None, IfSome, MatchOption, true, false, map, length, take, drop, not, All, IsTrue, if◌then◌else◌};
 ghost use Rattle.std.specs.List.{insert, remove};
 ghost use Rattle.std.specs.Vec.{vec_len, vec_capacity};
 ghost use Rattle.std.specs.Ordering.{eq_by_cmp};
@@ -14,6 +14,7 @@ ghost use Rattle.std.specs.String.{string_bytes};
 ghost use Rattle.wasi_names.specs.Blocks.{block_entries, all_entries, with_row, has_block, IsBlock, AreBlocks, HasSpace};
 
 use crate::name_row::NameRow;
+use crate::near::Near;
 use crate::shift::{insert_into, insert_row, insert_through};
 use std::mem;
 
@@ -89,16 +90,51 @@ fn place_among(blocks: &[Vec<NameRow>], directory: u64, name: &str) -> usize
     count.saturating_sub(1)
 }
 
-/// The node of a name in a directory.
-pub fn find(blocks: &Vec<Vec<NameRow>>, directory: u64, name: &str) -> Option<u64>
+/// The place behind a place: the next one of its block, or else the next block's first.
+fn behind(blocks: &Vec<Vec<NameRow>>, near: Near) -> Near {
+    let row = near.row.saturating_add(1);
+    match blocks.get(near.block) {
+        Some(rows) if row < rows.len() => Near {
+            block: near.block,
+            row,
+        },
+        _ => Near {
+            block: near.block.saturating_add(1),
+            row: 0,
+        },
+    }
+}
+
+/// The node of the row at a place, if there is one, and it has this name in this directory.
+fn node_at(blocks: &Vec<Vec<NameRow>>, at: Near, directory: u64, name: &str) -> Option<u64>
+    requires { AreBlocks blocks.now.items }
+    ensures { IfSome result (λ n. find key_cmp (directory, name.now) (all_entries blocks.now.items) ≡ Some n) }
+{
+    if at.block >= blocks.len() {
+        return None;
+    }
+    if at.row > rows_at(blocks, at.block).len() {
+        return None;
+    }
+    found_at(blocks, at.block, at.row, directory, name)
+}
+
+/// The node of a name in a directory. It is looked for behind the place where one was found last, before all else.
+pub fn find(blocks: &Vec<Vec<NameRow>>, near: &mut Near, directory: u64, name: &str) -> Option<u64>
     requires { AreBlocks blocks.now.items }
     ensures { result ≡ find key_cmp (directory, name.now) (all_entries blocks.now.items) }
 {
+    let next = behind(blocks, *near);
+    if let Some(node) = node_at(blocks, next, directory, name) {
+        *near = next;
+        return Some(node);
+    }
     let k = block_place(blocks, directory, name);
     if k >= blocks.len() {
         return None;
     }
     let at = place_at(blocks, k, directory, name);
+    *near = Near { block: k, row: at };
     found_at(blocks, k, at, directory, name)
 }
 
@@ -118,6 +154,52 @@ fn place_at(blocks: &Vec<Vec<NameRow>>, k: usize, directory: u64, name: &str) ->
     ensures bound { result ≤ length (list_at block_entries blocks.now.items k) }
 {
     place(rows_at(blocks, k), directory, name)
+}
+
+/// Whether a name in a directory comes behind some rows: the last one is before it, or there is none.
+fn ends_before(rows: &[NameRow], directory: u64, name: &str) -> bool
+    requires { IsTrue (is_sorted key_cmp (map row_entry rows.now)) }
+    ensures { result ≡ true → place_in key_cmp (directory, name.now) (map row_entry rows.now) ≡ length rows.now }
+{
+    let count = rows.len();
+    count == 0 || rows[count - 1].is_before(directory, name)
+}
+
+/// The block in which a name in a directory would stand, as `block_place` has it. The last block is tried first, since
+/// names often come in their order.
+fn rising_block(blocks: &Vec<Vec<NameRow>>, directory: u64, name: &str) -> usize
+    requires { AreBlocks blocks.now.items }
+    ensures place { result ≡ list_place key_cmp block_entries (directory, name.now) blocks.now.items }
+{
+    let count = blocks.len();
+    if count > 0 && starts_by(rows_at(blocks, count - 1), directory, name) {
+        return count - 1;
+    }
+    block_place(blocks, directory, name)
+}
+
+/// How many rows of a block are before a name in a directory, as `place_at` has it. The place behind them all is tried
+/// first.
+fn rising_place(blocks: &Vec<Vec<NameRow>>, k: usize, directory: u64, name: &str) -> usize
+    requires kept { AreBlocks blocks.now.items }
+    requires within { k < length blocks.now.items }
+    ensures place { result ≡ place_in key_cmp (directory, name.now) (list_at block_entries blocks.now.items k) }
+    ensures bound { result ≤ length (list_at block_entries blocks.now.items k) }
+{
+    let rows = rows_at(blocks, k);
+    if ends_before(rows, directory, name) {
+        return rows.len();
+    }
+    place(rows, directory, name)
+}
+
+/// Whether a name in a directory comes behind all rows, so that none has it.
+pub fn is_behind(blocks: &Vec<Vec<NameRow>>, directory: u64, name: &str) -> bool
+    requires { AreBlocks blocks.now.items }
+    ensures { result ≡ true → find key_cmp (directory, name.now) (all_entries blocks.now.items) ≡ None }
+{
+    let count = blocks.len();
+    count == 0 || ends_before(rows_at(blocks, count - 1), directory, name)
 }
 
 /// The node of the row at a place of a block, if it has this name in this directory.
@@ -272,12 +354,12 @@ pub fn put(
     ensures put { all_entries blocks.new.items ≡ put key_cmp (row_key row) row.node (all_entries blocks.old.items) }
 {
     let name = row.name.as_str();
-    let k = block_place(blocks, row.directory, name);
+    let k = rising_block(blocks, row.directory, name);
     if k >= blocks.len() {
         start(blocks, taken(spare), row);
         return;
     }
-    let at = place_at(blocks, k, row.directory, name);
+    let at = rising_place(blocks, k, row.directory, name);
     let found = found_at(blocks, k, at, row.directory, name);
     if found.is_some() {
         set_at(blocks, k, at, row.node);

@@ -3,10 +3,12 @@
 
 mod blocks;
 mod name_row;
+mod near;
 mod rows;
 mod run;
 mod shift;
 
 pub use name_row::NameRow;
+pub use near::Near;
 pub use rows::{Rows, directories_are_apart, names_are_apart};
 pub use run::Run;

@@ -6,6 +6,7 @@ ghost use Rattle.wasi_names.specs.NameRows.{AllNames, Key, names_at, run_of};
 
 use crate::blocks::{self, BLOCK};
 use crate::name_row::NameRow;
+use crate::near::Near;
 use crate::run::Run;
 use std::alloc::{AllocError, Global};
 use std::marker::Model;
@@ -42,11 +43,22 @@ impl Rows {
         }
     }
 
-    /// The node of a name in a directory.
-    pub fn find(&self, directory: u64, name: &str) -> Option<u64>
+    /// The node of a name in a directory. It is looked for behind the place where one was found last, before all else.
+    pub fn find(&self, near: &mut Near, directory: u64, name: &str) -> Option<u64>
         ensures { result ≡ maps.get self.now.names (directory, name.now) }
     {
-        blocks::find(&self.blocks, directory, name)
+        blocks::find(&self.blocks, near, directory, name)
+    }
+
+    /// Whether a directory has a name. Of one that comes behind all others this is told at once.
+    pub fn has(&self, directory: u64, name: &str) -> bool
+        ensures { result ≡ is_some (maps.get self.now.names (directory, name.now)) }
+    {
+        if blocks::is_behind(&self.blocks, directory, name) {
+            return false;
+        }
+        let mut near = Near::first();
+        blocks::find(&self.blocks, &mut near, directory, name).is_some()
     }
 
     /// Makes room for one more name.

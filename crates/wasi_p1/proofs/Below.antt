@@ -3,7 +3,7 @@ use Rattle.std.proofs.Common.{◌≡◌, inl, inr, true, ℕ, List, Option, Some
 use Rattle.std.specs.Prelude.{Bool, IsTrue}
 use Rattle.wasi_fs.specs.Calls.{Refuses}
 use Rattle.std.specs.FinSet.{contains}
-use Rattle.wasi_host.specs.Meaning.{World, Handles, HasCause, Rose}
+use Rattle.wasi_host.specs.Meaning.{World, Handles, HasCause, Rose, FaultCount}
 use Rattle.wasi_host.specs.declared.errors.ErrorCode.{ErrorCode}
 use Rattle.wasi_host.specs.declared.errors.HostError.{HostError}
 use Rattle.wasi_host.specs.declared.errors.HostError.TheVariants.{Code}
@@ -58,7 +58,7 @@ same_view {old = old} {new = new} host kept =
       holdings = kept.holdings i;
     }
 
-module _ {H : Type 0} {told : Bool} {world : H → World} {faults : H → ℕ} {lookups : H → List Lookup}
+module _ {H : Type 0} {told : Bool} {world : H → World} {faults : H → FaultCount} {lookups : H → List Lookup}
     {old new : View H} {before after : List ℕ} {call : Call} where
   -- nothing was asked
   not_permitted : (e : P1Error) (code : ErrorCode)
@@ -209,7 +209,7 @@ module _ {H : Type 0} {told : Bool} {world : H → World} {faults : H → ℕ} {
           })
 
 -- what is done by a path, where nothing else changed
-module _ {H : Type 0} {told : Bool} {world : H → World} {faults : H → ℕ} {lookups : H → List Lookup}
+module _ {H : Type 0} {told : Bool} {world : H → World} {faults : H → FaultCount} {lookups : H → List Lookup}
     {old : View H} {host : H} {left : ℕ} {memory : List ℕ} {call : Call} {live : Handles} {own : Option ErrorCode}
     (p : PathRequest) {shown : Unit {0} → PathReply p}
     (at : done_if own (Path p) (guest_of world old memory) left ≡ front (guest_of world old memory) call old.fuel)

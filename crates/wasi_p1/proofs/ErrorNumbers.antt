@@ -2,7 +2,7 @@
 use Rattle.std.proofs.Common.{ℕ, ◌≡◌, ◌⊎◌, inl, inr, List, refl, sym, subst, Option, Some, Result, Ok, Err}
 use Rattle.std.specs.Prelude.{All, IfSome}
 use Rattle.std.proofs.lemmas.List.Elements.{All-map}
-use Rattle.wasi_host.specs.Meaning.{World}
+use Rattle.wasi_host.specs.Meaning.{FaultCount, World}
 use Rattle.wasi_host.specs.Tree.{Nodes, Tree}
 use Rattle.wasi_host.specs.declared.errors.ErrorCode.{ErrorCode}
 use Rattle.wasi_guest.specs.declared.answer.Answer.{Answer}
@@ -83,7 +83,7 @@ pub run_errnos : (calls : List FueledCall) (turns : List Turned) (k : ℕ) (old 
 run_errnos calls turns k old new run =
     All-map MayCome (λ (t : Turned). t.answer) turns (each_turn (λ t. MayCome t.answer) turned_comes calls turns k old new run)
 
-pub did_errnos : {before now : ℕ} {old new : State} {calls : List FueledCall} {answers : List Answer} {touched : Nodes}
+pub did_errnos : {before now : FaultCount} {old new : State} {calls : List FueledCall} {answers : List Answer} {touched : Nodes}
     → DidRun before now old calls answers new touched → All MayCome answers
 did_errnos {old = old} {new = new} {calls = calls} did =
     subst (All MayCome) (sym did.answers_are) (run_errnos calls did.turns did.faults old new did.run)

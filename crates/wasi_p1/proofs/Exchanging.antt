@@ -116,7 +116,7 @@ module _ (table : Entries) (items : List Item) {i j : ℕ} (are : AreLive (slots
         );
   }
 
-  swapped_slots : slots_of table (swap items i j) ≡ swap (slots_of table items) i j
+  pub swapped_slots : slots_of table (swap items i j) ≡ swap (slots_of table items) i j
   unfolding slots_of
   swapped_slots =
       ap (map (slot_in table)) (sym (swap_is items i j Closed given.one given.other))
@@ -142,6 +142,12 @@ module _ (table : Entries) (items : List Item) {i j : ℕ} (are : AreLive (slots
   -- the first can be closed then, which leaves the other under its number
   pub swapped_within : i < length (slots_of table (swap items i j))
   swapped_within = rw (swapped_slots, length-swap) are.two.one
+
+  -- what stands under its number is the other
+  pub swapped_first : get_or (slots_of table (swap items i j)) i slots.Closed
+      ≡ get_or (slots_of table items) j slots.Closed
+  swapped_first = ap (λ xs. get_or xs i slots.Closed) swapped_slots
+      ∙ (swapped_from_swap (slots_of table items) _ i j slots.Closed are.two.one are.two.other refl).0
 
   pub swapped_live : passes_at is_closed_slot (slots_of table (swap items i j)) i ≡ false
   swapped_live =

@@ -1,7 +1,7 @@
 -- What the calls of a run answer rests on what is in reach.
 use Rattle.std.proofs.Common.{ℕ, ◌≡◌, inl, inr, List, sym, subst, arith}
 use Rattle.std.specs.Prelude.{Contains}
-use Rattle.wasi_host.specs.Meaning.{Rose}
+use Rattle.wasi_host.specs.Meaning.{FaultCount, Rose}
 use Rattle.wasi_host.specs.Tree.{Nodes}
 use Rattle.wasi_host.specs.ValidTree.{root, held}
 use Rattle.wasi_guest.specs.declared.answer.Answer.{Answer}
@@ -52,11 +52,11 @@ runs_same old new calls turns run other agrees =
     }
 
 -- no turn is faulted where the count didn't rise
-none_faulted : (before now k : ℕ) → Allows before now k → (Rose before now → ⊥) → k ≡ 0
+none_faulted : (before now : FaultCount) (k : ℕ) → Allows before now k → (Rose before now → ⊥) → k ≡ 0
 none_faulted before now k (inl within) never = grind arith
 none_faulted before now k (inr ended) never = absurd (never (omega arith))
 
-pub did_same : {before now : ℕ} {old new : State} {calls : List FueledCall} {answers : List Answer} {touched : Nodes}
+pub did_same : {before now : FaultCount} {old new : State} {calls : List FueledCall} {answers : List Answer} {touched : Nodes}
     → DidRun before now old calls answers new touched → (Rose before now → ⊥) → SeesOnlyReach old calls answers new
 did_same {before} {now} {old} {new} {calls} did never =
     let none = none_faulted before now did.faults did.allowed never in

@@ -4,7 +4,7 @@ use Rattle.std.specs.Prelude.{Bool, IsTrue, Contains}
 use Rattle.std.specs.FinSet.{contains}
 use Rattle.wasi_guest.specs.declared.answer.Value.{Value}
 use Rattle.wasi_guest.specs.declared.call.Call.{Call}
-use Rattle.wasi_host.specs.Meaning.{World, Handles}
+use Rattle.wasi_host.specs.Meaning.{World, Handles, FaultCount}
 use Rattle.wasi_host.specs.declared.lookup.Lookup.{Lookup}
 use Rattle.wasi_p1.specs.CallParts.{Follows, IsReplied, Knows}
 use Rattle.wasi_p1.specs.CallTurn.{FollowsRow, Kept}
@@ -26,7 +26,7 @@ use Rattle.wasi_p1.proofs.Taking.{refused_at, makes_err, put_answered, put_ok, g
 abbrev known_end : {A : Type 0} → ℕ → (A → Value × Guest) → Row A → Row (Program (Value × Guest)) × ℕ
 known_end fuel shown m = onward m fuel (λ x. answer (shown x))
 
-module _ {H : Type 0} {told : Bool} {world : H → World} {faults : H → ℕ} {lookups : H → List Lookup}
+module _ {H : Type 0} {told : Bool} {world : H → World} {faults : H → FaultCount} {lookups : H → List Lookup}
     {old new : View H} {before after : List ℕ} {call : Call} {A B : Type 0} {r : Request} {base : Option B}
     (part : B → Row A) (next : Reply r → Row A) (shown : Guest → A → Value × Guest)
     (at : known_or_asked base part r next (shown (guest_of world old before)) new.fuel

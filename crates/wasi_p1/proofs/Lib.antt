@@ -1,4 +1,5 @@
 mod Near
+mod PlainLook
 mod Putting
 mod Numbers
 mod ClosedHeap
@@ -42,10 +43,16 @@ mod Counting
 mod Owning
 mod Staying
 mod CallTracing
+mod Viewing
+mod WallTimes
+mod NamedFlags
+mod OpeningThrough
 mod GuestSlots
 mod Renumbering
 mod OpeningInto
 mod Stating
+mod LookingTwice
+mod ViewedStats
 mod SlotRules
 mod Utf8
 mod Runs

@@ -21,7 +21,7 @@ use Rattle.wasi_resolve.specs.Meanings.{lists_at}
 use Rattle.wasi_resolve.specs.Resolved.{Resolved}
 use Rattle.wasi_resolve.specs.WalkSteps.{OnlyLooks}
 use Rattle.wasi_resolve.proofs.Calls.{call_ok, call_err, looks_none, looks_of, means_then, resolved_err, resolved_then, same_live, found_ok}
-use Rattle.wasi_p1.specs.EntriesSeen.{entry_seen, entries_seen, reads_from, numbered_behind, IsShort}
+use Rattle.wasi_p1.specs.EntriesSeen.{entry_seen, entries_seen, reads_from, numbered_behind, IsListed}
 use Rattle.wasi_p1.specs.Listing.{Entry, dots, numbered_at, all_numbered_at, listing_at, HasShortNames}
 use Rattle.wasi_p1.specs.declared.listing_parts.Entry.{Entry as Stored}
 
@@ -68,17 +68,25 @@ entry_is_short name is = ltb-false 255 (length name) (not_long (is_plain name) (
     not_long true true c is = absurd (cc)
     not_long false b c is = absurd (cc)
 
--- the names that a host gives are short
-pub all_short : (xs : List DirEntry) → All (λ (e : Listed). IsTrue (is_entry_name e.0)) (map entry_of xs) → All IsShort xs
-all_short [] all = All-nil _
-all_short (x ∷ xs) all =
-    All-cons IsShort x xs (entry_is_short (string_bytes x.name) (All-head (λ (e : Listed). IsTrue (is_entry_name e.0)) (entry_of x) (map entry_of xs) all))
-    (all_short xs (All-tail (λ (e : Listed). IsTrue (is_entry_name e.0)) (entry_of x) (map entry_of xs) all))
+-- and it is plain
+pub entry_is_plain : (name : List ℕ) → IsTrue (is_entry_name name) → IsTrue (is_plain name)
+entry_is_plain name is = plain (is_plain name) (has_nul name) (is_long name) is
+  where
+    plain : (a b c : Bool) → (a && not b && not c) ≡ true → a ≡ true
+    plain true b c is = refl
+    plain false b c is = absurd (cc)
+
+-- the names that a host gives are such
+pub all_listed : (xs : List DirEntry) → All (λ (e : Listed). IsTrue (is_entry_name e.0)) (map entry_of xs) → All IsListed xs
+all_listed [] all = All-nil _
+all_listed (x ∷ xs) all =
+    All-cons IsListed x xs (All-head (λ (e : Listed). IsTrue (is_entry_name e.0)) (entry_of x) (map entry_of xs) all)
+    (all_listed xs (All-tail (λ (e : Listed). IsTrue (is_entry_name e.0)) (entry_of x) (map entry_of xs) all))
 
 -- one of some names
-pub short_at : (xs : List DirEntry) (x : DirEntry) (rest : List DirEntry) → All IsShort (xs ++ x ∷ rest) → IsShort x
-short_at [] x rest all = All-head IsShort x rest all
-short_at (y ∷ xs) x rest all = short_at xs x rest (All-tail IsShort y (xs ++ x ∷ rest) all)
+pub listed_at : (xs : List DirEntry) (x : DirEntry) (rest : List DirEntry) → All IsListed (xs ++ x ∷ rest) → IsListed x
+listed_at [] x rest all = All-head IsListed x rest all
+listed_at (y ∷ xs) x rest all = listed_at xs x rest (All-tail IsListed y (xs ++ x ∷ rest) all)
 
 -- one name more
 pub short_more : (xs : List Stored) (x : Stored) → HasShortNames (entries_seen xs) → length (string_bytes x.name) ≤ 255

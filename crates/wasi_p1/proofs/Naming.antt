@@ -14,6 +14,7 @@ use Rattle.wasi_fs.specs.declared.descriptor.File.{File as OpenedFile}
 use Rattle.wasi_streams.specs.declared.table.Resource.{Resource}
 use Rattle.wasi_streams.specs.declared.entry.Entry.TheVariants as entries
 use Rattle.wasi_p1.specs.Descriptors.{AreKept}
+use Rattle.wasi_p1.specs.LiveEntries.{AreLiveDescriptors, entry_of_slot, entry_under}
 use Rattle.wasi_p1.specs.Numbering.{passes_at, live_count}
 use Rattle.wasi_p1.specs.Slots.{is_closed_slot}
 use Rattle.wasi_p1.proofs.Numbers.{passes_within, passes_at-get_or, live_and_closed}
@@ -61,12 +62,32 @@ pub slots_get : (table : Entries) (items : List Item) (i : ℕ)
 unfolding slots_of
 slots_get table items i = slice_get-map (slot_in table) items i
 
-slots-at : (table : Entries) (items : List Item) (i : ℕ)
+pub slots-at : (table : Entries) (items : List Item) (i : ℕ)
     → get_or (slots_of table items) i slots.Closed ≡ slot_in table (get_or items i Closed)
 unfolding slots_of
 slots-at table [] i = refl
 slots-at table (item ∷ items) zero = refl
 slots-at table (item ∷ items) (suc i) = slots-at table items i
+
+-- ---- the live entries are the live descriptors
+
+entry_of_item : (table : Entries) (item : Item) → IsOfKind table item
+    → entry_under table (resource_in item) ≡ entry_of_slot (slot_in table item)
+entry_of_item table Closed kind = refl
+entry_of_item table (Stream s r) kind = kind
+entry_of_item table (Directory r preopen) (dir, kind) =
+    kind ∙ sym (ap (λ o. entry_of_slot (directory_of_entry o preopen)) kind)
+entry_of_item table (File r position modes) (f, kind) =
+    kind ∙ sym (ap (λ o. entry_of_slot (file_of_entry o position modes)) kind)
+
+pub are_live : {table : Entries} {items : List Item} → AreNamed table items
+    → AreLiveDescriptors table (slots_of table items)
+are_live {table} {items} named = record {
+  resource = λ fd. resource_in (get_or items fd Closed);
+  each = λ fd. entry_of_item table (get_or items fd Closed) (named.kinds fd) ∙ ap entry_of_slot (sym (slots-at table items fd));
+  apart = named.apart;
+  all = named.all;
+}
 
 -- ---- one item in the place of another, while the table changes at their resources alone
 

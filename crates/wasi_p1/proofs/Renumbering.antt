@@ -1,6 +1,8 @@
 -- A descriptor that takes another's number.
 use Rattle.std.proofs.Common.{ℕ, zero, suc, ◌+◌, ◌<◌, ◌==◌, ◌≡◌, ◌≢◌, inl, inr, Bool, true, false, cond, List, [], ◌∷◌, map, length, get_or, slice_get, slice_set, Option, Some, None, refl, ap, sym, ◌∙◌, subst, arith}
 use Rattle.std.specs.Prelude.{Contains}
+use Rattle.std.specs.List.{swap}
+use Rattle.std.proofs.lemmas.List.Edits.{swap_is}
 use Rattle.std.proofs.Math.ListN.{get_or-map}
 use Rattle.std.proofs.lemmas.List.{map-set, set-set, set-get_or}
 use Rattle.std.proofs.lemmas.Option.{slice_get-get_or, get_or_from_slice_get, slice_get_within}
@@ -19,7 +21,7 @@ use Rattle.wasi_p1.specs.declared.context.Slot.TheVariants as slots
 use Rattle.wasi_p1.proofs.CallTracing.{traced_less}
 use Rattle.wasi_p1.proofs.Changing.{PermsAt, in_set, set_perms, slice_named}
 use Rattle.wasi_p1.proofs.ClosedHeap.{same_number, other_number}
-use Rattle.wasi_p1.proofs.Counting.{handle_at, uses-set}
+use Rattle.wasi_p1.proofs.Counting.{handle_at, handle_put, uses-set}
 use Rattle.wasi_p1.proofs.Exchanging.{AreTwo}
 use Rattle.wasi_p1.proofs.GuestSlots.{released_stays}
 use Rattle.wasi_p1.proofs.Near.{StaysNear}
@@ -83,6 +85,28 @@ uses-renumbered {from = from} {to = to} table q two is =
     let moved = uses-moved (handles table) from to q two.apart here (handle_at table to is) in
     let now = ap (λ os. uses os q) (handles-renumbered table from to) in
     omega (arith, moved, now)
+
+-- two that take each other's number have their handles
+uses-swapped : (table : List Slot) (i j q : ℕ) → AreTwo table i j → uses (handles (swap table i j)) q ≡ uses (handles table) q
+uses-swapped table i j q two =
+    let own = get_or table i slots.Closed in
+    let theirs = get_or table j slots.Closed in
+    let here = handle_at table i (slice_get-get_or table i slots.Closed two.one) in
+    let there = handle_at table j (slice_get-get_or table j slots.Closed two.other) in
+    let first = uses-set (handles table) i (handle_in theirs) (handle_in own) q here in
+    let still = set_other (handles table) i j (handle_in theirs) (λ same. two.apart (sym same)) ∙ there in
+    let second = uses-set (slice_set (handles table) i (handle_in theirs)) j (handle_in own) (handle_in theirs) q still in
+    let put = ap (λ os. uses os q) (handle_put (slice_set table i theirs) j own
+    ∙ ap (λ os. slice_set os j (handle_in own)) (handle_put table i theirs)) in
+    let swapped = ap (λ xs. uses (handles xs) q) (swap_is table i j slots.Closed two.one two.other) in
+    omega (arith, first, second, put, swapped)
+
+pub owned_swapped : {live : Handles} {table : List Slot} {i j : ℕ} → AreTwo table i j → Owned live (handles table)
+    → Owned live (handles (swap table i j))
+owned_swapped {table = table} {i = i} {j = j} two owned = record {
+  once = λ q. let same = uses-swapped table i j q two in
+      let once = owned.once q in omega (arith, same, once);
+}
 
 pub owns_renumbered : {live live' : Handles} {dropped : Slot} {from to : ℕ} (table : List Slot) → AreTwo table from to
     → slice_get table to ≡ Some dropped → live' ≡ without live (handle_in dropped) → Owned live (handles table)

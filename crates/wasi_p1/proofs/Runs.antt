@@ -5,7 +5,7 @@ use Rattle.std.specs.FinSet.{contains}
 use Rattle.std.proofs.lemmas.List.{map-append, take-append-drop, take_more}
 use Rattle.std.proofs.lemmas.List.Elements.{All-nil, All-append, All-weaker}
 use Rattle.wasi_host.specs.Tree.{Nodes}
-use Rattle.wasi_host.specs.Meaning.{World, Rose}
+use Rattle.wasi_host.specs.Meaning.{World, Rose, FaultCount}
 use Rattle.wasi_p1.specs.Guest.{State, Guest}
 use Rattle.wasi_p1.specs.Rows.{turn, may_want}
 use Rattle.wasi_p1.specs.Turn.{IsTurn, ReachesHost, named_by}
@@ -35,10 +35,10 @@ ios_push : (xs : List Answer) (a : Answer) → ios (xs ++ a ∷ []) ≡ ios xs +
 ios_push [] a = omega arith
 ios_push (x ∷ xs) a = let rest = ios_push xs a in omega (arith, rest)
 
-module _ (before : ℕ) {now after : ℕ} (k : ℕ) where
+module _ (before now after : FaultCount) (k : ℕ) where
   -- ---- how many faults are allowed
 
-  later : now ≤ after → Allows before now k → Allows before after k
+  later : now.count ≤ after.count → Allows before now k → Allows before after k
   later le (inl h) = inl (omega arith)
   later le (inr h) = inr (omega arith)
 
@@ -46,7 +46,7 @@ module _ (before : ℕ) {now after : ℕ} (k : ℕ) where
   later_rose rose (inl h) = grind arith
   later_rose rose (inr h) = inr (omega arith)
 
-  later_as : (j : ℕ) → j ≡ k → now ≤ after → Allows before now k → Allows before after j
+  later_as : (j : ℕ) → j ≡ k → now.count ≤ after.count → Allows before now k → Allows before after j
   later_as j same le allows = subst (Allows before after) (sym same) (later le allows)
 
   -- the answer of a call is `io` only where the count rose
@@ -71,11 +71,11 @@ module _ (before : ℕ) {now after : ℕ} (k : ℕ) where
           subst (Allows before after) one (later_rose (causes.io (ap (λ x. Err (Errno x)) (io_is e at))) allows)
       by false at = later_as (k + io_in a) (omega (arith, same, ap one_if at)) causes.later allows
 
-pub io_counted : (before : ℕ) (xs : List Answer) {now after : ℕ} {result : Result Value P1Error} {a : Answer}
+pub io_counted : (before : FaultCount) (xs : List Answer) {now after : FaultCount} {result : Result Value P1Error} {a : Answer}
     → answer_of result ≡ Some a
     → Causes now after result → Allows before now (ios xs) → Allows before after (ios (xs ++ a ∷ []))
 io_counted before xs {now} {after} {result} {a} is causes allows =
-    subst (Allows before after) (sym (ios_push xs a)) (io_more before (ios xs) result is causes allows)
+    subst (Allows before after) (sym (ios_push xs a)) (io_more before now after (ios xs) result is causes allows)
 
 -- ---- a turn that was taken is one of a run: by its row, or faulted
 
@@ -101,28 +101,28 @@ turn_of call (Err e) is (inr (inr faults)) =
     inr (record { came = faults.came; io = answer_same (sym io ∙ is); state = faults.state }, faults.count)
 
 -- what such a turn takes of the faults that are allowed
-pub record Takes (before after faults : ℕ) (t : Turned) : Type 0 where
+pub record Takes (before after : FaultCount) (faults : ℕ) (t : Turned) : Type 0 where
   pub spent : ℕ
   pub allowed : Allows before after (faults + spent)
   pub spends : (j : ℕ) → Spends (spent + j) j t
 
-takes_of : {before now after faults : ℕ} {t : Turned} → now ≤ after → Allows before now faults
+takes_of : (before now after : FaultCount) {faults : ℕ} {t : Turned} → now.count ≤ after.count → Allows before now faults
     → TurnOf (Rose now after) t
     → Takes before after faults t
-takes_of {before} {now} {after} {faults} le allowed (inl played) = record {
+takes_of before now after {faults} le allowed (inl played) = record {
   spent = 0;
-  allowed = later_as before faults (faults + 0) (omega arith) le allowed;
+  allowed = later_as before now after faults (faults + 0) (omega arith) le allowed;
   spends = λ j. inl (played, omega arith);
 }
-takes_of {before} {now} {after} {faults} le allowed (inr (faulted, rose)) = record {
+takes_of before now after {faults} le allowed (inr (faulted, rose)) = record {
   spent = 1;
-  allowed = later_rose before faults rose allowed;
+  allowed = later_rose before now after faults rose allowed;
   spends = λ j. inr (faulted, omega arith);
 }
 
 -- ---- what runs on from here runs on from the start
 
-pub record SoFar (before now : ℕ) (old : State) (calls : List FueledCall) (answered : List Answer) (new : State)
+pub record SoFar (before now : FaultCount) (old : State) (calls : List FueledCall) (answered : List Answer) (new : State)
     (touched : Nodes) : Type 0 where
   pub turns : List Turned
   pub faults : ℕ
@@ -132,7 +132,7 @@ pub record SoFar (before now : ℕ) (old : State) (calls : List FueledCall) (ans
   pub answers_are : answered ≡ answers_of turns
   pub ends_touched : All (λ n. contains touched n ≡ true) (named turns)
 
-pub nothing_yet : {before : ℕ} {old : State} {touched : Nodes} → SoFar before before old [] [] old touched
+pub nothing_yet : {before : FaultCount} {old : State} {touched : Nodes} → SoFar before before old [] [] old touched
 nothing_yet = record {
   turns = [];
   faults = 0;
@@ -160,7 +160,7 @@ success_same (Err (Exit status)) {a} is = let same : a ≡ answers.Exit status =
 success_same (Err Memory) is = absurd (cc)
 
 -- one call more
-module _ {before now after : ℕ} {start : State} {w v : World} {g g' : Guest} {calls : List FueledCall}
+module _ {before now after : FaultCount} {start : State} {w v : World} {g g' : Guest} {calls : List FueledCall}
     {answered : List Answer} {call : FueledCall}
     {r : Result Value P1Error} {answer : Answer} (is : answer_of r ≡ Some answer) (cause : Causes now after r)
     (takes : Turns (Rose now after) w v g g' call r)
@@ -187,7 +187,7 @@ module _ {before now after : ℕ} {start : State} {w v : World} {g g' : Guest} {
       ap (λ l. l ++ answer ∷ []) so.answers_are ∙ sym (map-append (λ (x : Turned). x.answer) so.turns (t ∷ []))
 
   taken : Takes before after so.faults t
-  taken = takes_of cause.later so.allowed (turn_of call r is takes.turn)
+  taken = takes_of before now after cause.later so.allowed (turn_of call r is takes.turn)
 
   pub turned_on : ends answer ≡ false
       → SoFar before after start (calls ++ call ∷ []) (answered ++ answer ∷ []) (in_world v g') v.touched
@@ -218,7 +218,7 @@ module _ {before now after : ℕ} {start : State} {w v : World} {g g' : Guest} {
       }
 
 -- the calls end with no answer that ends the run
-pub all_done : {before now : ℕ} {old new : State} {calls : List FueledCall} {answered : List Answer} {touched : Nodes}
+pub all_done : {before now : FaultCount} {old new : State} {calls : List FueledCall} {answered : List Answer} {touched : Nodes}
     → SoFar before now old calls answered new touched → DidRun before now old calls answered new touched
 all_done {old = old} {new = new} {calls = calls} so =
     let run : Run (so.faults + 0) old calls so.turns new = rw (append-nil, append-nil) at (so.on 0 [] [] new refl) in
@@ -256,13 +256,13 @@ wanted_same {r = Err Memory} is takes = elim takes.turn [
 ]
 
 -- a call for which it was wanted adds nothing
-pub stood : {before now after : ℕ} {start : State} {w v : World} {g g' : Guest} {calls : List FueledCall} {n : ℕ}
+pub stood : {before now after : FaultCount} {start : State} {w v : World} {g g' : Guest} {calls : List FueledCall} {n : ℕ}
     {answered : List Answer}
     {call : FueledCall} {r : Result Value P1Error} → answer_of r ≡ None → Causes now after r
     → Turns (Rose now after) w v g g' call r
     → length answered ≡ n → GoOn answered → SoFar before now start (take n calls) answered (in_world w g) w.touched
     → StoodAt before after start calls n (in_world v g') v.touched
-stood {before = before} {start = start} {w = w} {v = v} {g' = g'} {calls = calls} {n = n} {answered = answered} is cause takes sized goes so =
+stood {before = before} {now = now} {after = after} {start = start} {w = w} {v = v} {g' = g'} {calls = calls} {n = n} {answered = answered} is cause takes sized goes so =
     let run : Run (so.faults + 0) start (take n calls) so.turns (in_world v g') =
     rw (append-nil, append-nil) at (so.on 0 [] [] (in_world v g') (wanted_same is takes)) in
     record {
@@ -272,7 +272,7 @@ stood {before = before} {start = start} {w = w} {v = v} {g' = g'} {calls = calls
       run = record {
         turns = so.turns;
         faults = so.faults + 0;
-        allowed = rw add-zero (later before so.faults cause.later so.allowed);
+        allowed = rw add-zero (later before now after so.faults cause.later so.allowed);
         run = run;
         answers_are = so.answers_are;
         complete = run_completes _ _ _ _ _ run;
@@ -283,7 +283,7 @@ stood {before = before} {start = start} {w = w} {v = v} {g' = g'} {calls = calls
     }
 
 -- memory for the answers was wanted
-pub stood_first : {before : ℕ} {start : State} {calls : List FueledCall} {touched : Nodes}
+pub stood_first : {before : FaultCount} {start : State} {calls : List FueledCall} {touched : Nodes}
     → StoodAt before before start calls 0 start touched
 stood_first = record { answers = []; count = refl; go_on = tt; run = all_done nothing_yet }
 

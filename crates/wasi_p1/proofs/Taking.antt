@@ -4,7 +4,7 @@ use Rattle.std.specs.Prelude.{IsTrue, IsErrAnd, Contains}
 use Rattle.std.proofs.lemmas.Result.{err_from_is_err_and}
 use Rattle.wasi_host.specs.Steps.{◌>>=◌}
 use Rattle.std.specs.FinSet.{contains}
-use Rattle.wasi_host.specs.Meaning.{World, Handles, Rose}
+use Rattle.wasi_host.specs.Meaning.{World, Handles, Rose, FaultCount}
 use Rattle.wasi_host.specs.declared.held.Held.{Held}
 use Rattle.wasi_host.specs.declared.lookup.Lookup.{Lookup}
 use Rattle.wasi_p1.specs.Slots.{View}
@@ -50,7 +50,7 @@ left_same : {p q : Row (Program (Value × Guest)) × ℕ} → p ≡ q → p.1 �
 left_same at = ap (λ (p : Row (Program (Value × Guest)) × ℕ). p.1) at
 
 -- a refusal before the host, which took this much of the fuel
-pub refused_at : {H : Type 0} {told : Bool} {world : H → World} {faults : H → ℕ} {lookups : H → List Lookup}
+pub refused_at : {H : Type 0} {told : Bool} {world : H → World} {faults : H → FaultCount} {lookups : H → List Lookup}
     {inside view : View H} {memory : List ℕ} {call : Call} {e : P1Error} {left : ℕ}
     → inside ≡ view → (Err e, left) ≡ front (guest_of world inside memory) call inside.fuel
     → FollowsRow told world faults lookups view (record inside { fuel = left }) memory memory call (Err e)
@@ -81,7 +81,7 @@ refused_at {H} {told} {world} {faults} {lookups} {inside} {view} {memory} {call}
     never = wants_none e (subst (IsNear g call) (sym is) (row_near g (with_fuel inside.fuel call)))
 
 -- one before any fuel was taken
-pub refused : {H : Type 0} {told : Bool} {world : H → World} {faults : H → ℕ} {lookups : H → List Lookup}
+pub refused : {H : Type 0} {told : Bool} {world : H → World} {faults : H → FaultCount} {lookups : H → List Lookup}
     {inside view : View H} {memory : List ℕ} {call : Call} {e : P1Error}
     → inside ≡ view → (Err e, inside.fuel) ≡ front (guest_of world inside memory) call inside.fuel
     → FollowsRow told world faults lookups view view memory memory call (Err e)
@@ -97,14 +97,14 @@ pub unchanged : {H : Type 0} {view : View H} {memory : List ℕ} {host : H} {fue
 unchanged = record { slots = refl; table_max = refl; holdings = refl; memory = refl }
 
 -- a refusal by its error, as the exit of a `?` gives it
-pub on_err : {H : Type 0} {told : Bool} {world : H → World} {faults : H → ℕ} {lookups : H → List Lookup}
+pub on_err : {H : Type 0} {told : Bool} {world : H → World} {faults : H → FaultCount} {lookups : H → List Lookup}
     {old new : View H} {before after : List ℕ} {call : Call} {e : P1Error} {result : Result Value P1Error}
     → IsErrAnd result (λ f. f ≡ e) → FollowsRow told world faults lookups old new before after call (Err e)
     → FollowsRow told world faults lookups old new before after call result
 on_err {result = result} is follows = let error = err_from_is_err_and result is in rw (error.1, error.2) follows
 
 -- memory was wanted in the place of an error number, before anything was asked
-pub wanted : {H : Type 0} {told : Bool} {world : H → World} {faults : H → ℕ} {lookups : H → List Lookup}
+pub wanted : {H : Type 0} {told : Bool} {world : H → World} {faults : H → FaultCount} {lookups : H → List Lookup}
     {view : View H} {memory : List ℕ} {call : Call} {number : ErrorNumber} {left : ℕ} → IsTrue (may_want call)
     → (Err (Errno number), left) ≡ front (guest_of world view memory) call view.fuel
     → FollowsRow told world faults lookups view (record view { fuel = left }) memory memory call (Err Memory)
@@ -124,7 +124,7 @@ wanted {H} {told} {world} {faults} {lookups} {view} {memory} {call} {number} {le
     new = record view { fuel = left }
 
 -- memory was wanted where no refusal is left, before anything was asked
-pub wanted_late : {H : Type 0} {told : Bool} {world : H → World} {faults : H → ℕ} {lookups : H → List Lookup}
+pub wanted_late : {H : Type 0} {told : Bool} {world : H → World} {faults : H → FaultCount} {lookups : H → List Lookup}
     {view : View H} {memory : List ℕ} {call : Call} {left : ℕ} (program : Program (Value × Guest)) → IsTrue (may_want call)
     → (Ok program, left) ≡ front (guest_of world view memory) call view.fuel
     → FollowsRow told world faults lookups view (record view { fuel = left }) memory memory call (Err Memory)
@@ -163,24 +163,24 @@ same_guest : {H : Type 0} {old new : View H} {before after : List ℕ} (world : 
 same_guest world kept slots = rw (slots, kept.table_max, kept.holdings, kept.memory) refl
 
 -- the row without the tree, and the turn over a host that tells
-abbrev AtHost : {H : Type 0} → (H → World) → (H → ℕ) → (H → List Lookup) → View H → View H → List ℕ → List ℕ
+abbrev AtHost : {H : Type 0} → (H → World) → (H → FaultCount) → (H → List Lookup) → View H → View H → List ℕ → List ℕ
     → Result Value P1Error → Row (Program (Value × Guest)) → Type 0
 AtHost world faults lookups old new before after result m =
     AtFront (Same old new before after) (Quiet faults lookups old new) (guest_then world old new after) result m
 
-abbrev Turn : {H : Type 0} → (H → World) → (H → ℕ) → View H → View H → List ℕ → List ℕ → Call → Result Value P1Error
+abbrev Turn : {H : Type 0} → (H → World) → (H → FaultCount) → View H → View H → List ℕ → List ℕ → Call → Result Value P1Error
     → Type 0
 Turn world faults old new before after call result =
     TakesTurn world (Rose (faults old.host) (faults new.host)) old new before after (with_fuel old.fuel call) result
 
 -- what came of a request
-abbrev pub Did : {H A : Type 0} → (H → World) → (H → ℕ) → View H → View H → (r : Request) → (Reply r → Row A) → Row A
+abbrev pub Did : {H A : Type 0} → (H → World) → (H → FaultCount) → View H → View H → (r : Request) → (Reply r → Row A) → Row A
     → Type 0
 Did world faults old new r next result =
     Does (Rose (faults old.host) (faults new.host)) (world old.host) (world new.host) r next result
 
 -- the same, of one that leaves what these handles stand for
-abbrev pub Made : {H A : Type 0} → (H → World) → (H → ℕ) → View H → View H → Handles → (r : Request) → (Reply r → Row A)
+abbrev pub Made : {H A : Type 0} → (H → World) → (H → FaultCount) → View H → View H → Handles → (r : Request) → (Reply r → Row A)
     → Row A → Type 0
 Made world faults old new live r next result =
     Makes (Rose (faults old.host) (faults new.host)) live (world old.host) (world new.host) r next result
@@ -211,7 +211,7 @@ put_guest {old = old} {new = new} {fd = fd} {f = f} {after = after} y held stand
       },
     )
 
-module _ {H : Type 0} {told : Bool} {world : H → World} {faults : H → ℕ} {lookups : H → List Lookup}
+module _ {H : Type 0} {told : Bool} {world : H → World} {faults : H → FaultCount} {lookups : H → List Lookup}
     {old new : View H} {before after : List ℕ} {call : Call} where
   answer_follows : {x : Value} → length after ≡ length before → SlotsOfCall old.slots new.slots before call
       → new.fuel ≡ fuel_left (guest_of world old before) (with_fuel old.fuel call)
@@ -354,7 +354,7 @@ module _ {H : Type 0} {told : Bool} {world : H → World} {faults : H → ℕ} {
           ))
 
 -- an answer without a request, where nothing changed
-pub answered_at_once : {H : Type 0} {told : Bool} {world : H → World} {faults : H → ℕ} {lookups : H → List Lookup}
+pub answered_at_once : {H : Type 0} {told : Bool} {world : H → World} {faults : H → FaultCount} {lookups : H → List Lookup}
     {inside view : View H} {memory : List ℕ} {call : Call} {x : Value}
     → inside ≡ view
     → (Ok (done (x, guest_of world inside memory)), inside.fuel) ≡ front (guest_of world inside memory) call inside.fuel

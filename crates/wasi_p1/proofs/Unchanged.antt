@@ -1,6 +1,6 @@
 -- Every refusal but `io` leaves all as before.
 use Rattle.std.proofs.Common.{ℕ, Bool, ◌≡◌, inl, inr, List, ap, Result, Ok, Err}
-use Rattle.wasi_host.specs.Meaning.{World}
+use Rattle.wasi_host.specs.Meaning.{World, FaultCount}
 use Rattle.wasi_host.specs.declared.lookup.Lookup.{Lookup}
 use Rattle.wasi_guest.specs.declared.answer.Value.{Value}
 use Rattle.wasi_guest.specs.declared.call.Call.{Call}
@@ -22,7 +22,7 @@ refused_stays took other = elim took.turn [
   | inr (inr failed) ↦ absurd (other failed.io)
 ]
 
-pub leaves_all : {H : Type 0} {told : Bool} {world : H → World} {faults : H → ℕ} {lookups : H → List Lookup}
+pub leaves_all : {H : Type 0} {told : Bool} {world : H → World} {faults : H → FaultCount} {lookups : H → List Lookup}
     {old new : View H} {before after : List ℕ} {call : Call} (result : Result Value P1Error)
     → FollowsRow told world faults lookups old new before after call result
     → LeavesAll told world old new before after result

@@ -2,7 +2,7 @@
 use Rattle.std.specs.Prelude.{ℕ, ◌≡◌, ◌≤◌, ◌⊎◌, Bool, true, IsTrue, List, [], length, slice_get, Contains, Some, Result, Ok, Err, OnErr, is_ok, if◌then◌else◌}
 use Rattle.wasi_host.specs.Agree.{Touches}
 use Rattle.wasi_fs.specs.declared.perms.FsPerms.TheVariants.{ReadOnly}
-use Rattle.wasi_host.specs.Meaning.{World, Handles, Rose}
+use Rattle.wasi_host.specs.Meaning.{World, Handles, Rose, FaultCount}
 use Rattle.wasi_host.specs.declared.lookup.Lookup.{Lookup}
 use Rattle.wasi_p1.specs.Slots.{View}
 use Rattle.wasi_p1.specs.Owners.{handles, unowned, CallTraced, SlotsOfCall}
@@ -18,9 +18,10 @@ use Rattle.wasi_p1.specs.declared.error.P1Error.{P1Error}
 use Rattle.wasi_p1.specs.declared.error.P1Error.TheVariants.{Errno, Memory}
 use Rattle.wasi_guest.specs.declared.answer.Value.{Value}
 
--- the count of faults never falls, and `io` comes only where it rose
-pub record Causes {A : Type 0} (before now : ℕ) (result : Result A P1Error) : Type 0 where
-  pub later : before ≤ now
+-- the count of faults never falls, what it is at most stays, and `io` comes only where it rose
+pub record Causes {A : Type 0} (before now : FaultCount) (result : Result A P1Error) : Type 0 where
+  pub later : before.count ≤ now.count
+  pub most : now.most ≡ before.most
   pub io : result ≡ Err (Errno Io) → Rose before now
 
 -- the live handles that belong to no descriptor stay
@@ -62,7 +63,7 @@ pub record Kept {H : Type 0} (old new : View H) (before after : List ℕ) : Type
   pub memory : after ≡ before
 
 -- the host was asked nothing that it could fail at, and no look-up was made
-pub record Quiet {H : Type 0} (faults : H → ℕ) (lookups : H → List Lookup) (old new : View H) : Type 0 where
+pub record Quiet {H : Type 0} (faults : H → FaultCount) (lookups : H → List Lookup) (old new : View H) : Type 0 where
   pub failed : faults new.host ≡ faults old.host
   pub looked : lookups new.host ≡ lookups old.host
 
@@ -90,7 +91,7 @@ pub record NamesReadOnly (g : Guest) (call : Call) : Type 0 where
 -- under their numbers with their handles, but for those that the call names or closes; and the fuel is what the row
 -- leaves. Over a host that tells its world: the turn, which leaves the tree, whatever it answers, where a descriptor
 -- that the call names is under read-only permissions
-pub record FollowsRow {H : Type 0} (told : Bool) (world : H → World) (faults : H → ℕ) (lookups : H → List Lookup)
+pub record FollowsRow {H : Type 0} (told : Bool) (world : H → World) (faults : H → FaultCount) (lookups : H → List Lookup)
     (old new : View H) (before after : List ℕ) (call : Call) (result : Result Value P1Error) : Type 0 where
   pub size : length after ≡ length before
   pub kept : OnErr result (Kept old new before after)

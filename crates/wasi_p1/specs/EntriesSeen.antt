@@ -1,6 +1,7 @@
 -- What the functions that list a directory give, in the words of the listing.
-use Rattle.std.specs.Prelude.{ℕ, ◌≤◌, List, [], ◌∷◌, ◌++◌, map, length, Result, Ok}
+use Rattle.std.specs.Prelude.{ℕ, List, [], ◌∷◌, ◌++◌, map, Result, Ok, IsTrue}
 use Rattle.std.specs.String.{string_bytes}
+use Rattle.wasi_paths.specs.Text.{is_entry_name}
 use Rattle.wasi_host.specs.Tree.{Tree}
 use Rattle.wasi_host.specs.Answer.{Listed}
 use Rattle.wasi_host.specs.Steps.{◌>>=◌}
@@ -16,9 +17,9 @@ entry_seen e = record { name = string_bytes e.name; node = e.node; kind = e.kind
 abbrev pub entries_seen : List Stored → List Entry
 entries_seen entries = map entry_seen entries
 
--- a name that a directory lists is no longer than one may be
-abbrev pub IsShort : DirEntry → Type 0
-IsShort e = length (string_bytes e.name) ≤ 255
+-- a name that a directory lists is one that it may hold
+abbrev pub IsListed : DirEntry → Type 0
+IsListed e = IsTrue (is_entry_name (string_bytes e.name))
 
 -- what is read from a directory on: the tree stays
 abbrev pub reads_from : {B : Type 0} → Tree → ℕ → Result B ErrorCode → Meant B

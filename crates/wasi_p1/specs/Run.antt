@@ -2,6 +2,7 @@
 use Rattle.std.specs.Prelude.{ℕ, suc, ◌+◌, ◌-◌, ◌^◌, ◌≤◌, ◌≡◌, ◌⊎◌, Bool, true, false, List, [], ◌∷◌, length, take, map, slice_get, Result, Ok, Err, Option, Some, None, option_map, MatchBool, All, IsTrue, if◌then◌else◌}
 use Rattle.std.specs.List.{flat_map}
 use Rattle.std.specs.FinSet.{contains}
+use Rattle.wasi_host.specs.Meaning.{FaultCount}
 use Rattle.wasi_host.specs.Tree.{Nodes}
 use Rattle.wasi_p1.specs.CallTurn.{IsValidCall}
 use Rattle.wasi_p1.specs.Guest.{State}
@@ -86,8 +87,8 @@ AnswersEach (call ∷ calls) [] = ⊥
 AnswersEach (call ∷ calls) (a ∷ answers) = MatchBool (ends a) (answers ≡ []) (AnswersEach calls answers)
 
 -- so many faults are allowed by what the count rose by; a count at its end allows any number
-abbrev pub Allows : ℕ → ℕ → ℕ → Type 0
-Allows before now k = (before + k ≤ now) ⊎ (2 ^ 64 - 1 ≤ now)
+abbrev pub Allows : FaultCount → FaultCount → ℕ → Type 0
+Allows before now k = (before.count + k ≤ now.count) ⊎ (2 ^ 64 - 1 ≤ now.count)
 
 -- how many answers are `io`
 abbrev pub is_io_errno : ErrorNumber → Bool
@@ -123,7 +124,7 @@ IsComplete t = IsValidCall t.before t.call → IsTrue (is_success t.answer) ⊎ 
 
 -- a run of these calls with these answers, from a count of faults to another, in which each valid call is answered Ok
 -- unless the host failed in it, and that touched each node at which a path ended
-pub record DidRun (before now : ℕ) (old : State) (calls : List FueledCall) (answers : List Answer) (new : State)
+pub record DidRun (before now : FaultCount) (old : State) (calls : List FueledCall) (answers : List Answer) (new : State)
     (touched : Nodes) : Type 0 where
   pub turns : List Turned
   pub faults : ℕ
@@ -134,7 +135,7 @@ pub record DidRun (before now : ℕ) (old : State) (calls : List FueledCall) (an
   pub ends_touched : All (λ n. contains touched n ≡ true) (named turns)
 
 -- want of memory: all stands as after the first n calls, none of which was answered so that it ends the run
-pub record StoodAt (before now : ℕ) (old : State) (calls : List FueledCall) (n : ℕ) (new : State)
+pub record StoodAt (before now : FaultCount) (old : State) (calls : List FueledCall) (n : ℕ) (new : State)
     (touched : Nodes) : Type 0 where
   pub answers : List Answer
   pub count : length answers ≡ n

@@ -1,6 +1,6 @@
 -- Laws of turns and runs.
 use Rattle.std.specs.Prelude.{◌≡◌, ℕ, List, All, IsTrue, Result}
-use Rattle.wasi_host.specs.Meaning.{World, Rose}
+use Rattle.wasi_host.specs.Meaning.{World, Rose, FaultCount}
 use Rattle.wasi_guest.specs.declared.call.Call.{Call}
 use Rattle.wasi_host.specs.declared.host.Host.{Ghosts}
 use Rattle.wasi_p1.specs.CallTurn.{IsAnswered, IsValidCall, TakesTurn}
@@ -45,7 +45,7 @@ OtherErrorsNeverCome =
 abbrev pub TurnsAreConfined : {H : Type 0} → (H → World) → Type 0
 TurnsAreConfined {H} world =
     (start : State) (old new : View H) (before after : List ℕ) (call : FueledCall) (result : Result Value P1Error)
-    (faults faults' : ℕ)
+    (faults faults' : FaultCount)
     → TakesTurn world (Rose faults faults') old new before after call result
     → Confined start (state_of world old before) (world old.host).touched
     → Confined start (state_of world new after) (world new.host).touched

@@ -6,6 +6,7 @@ ghost use Rattle.wasi_host.specs.HostCall.{Pread, Pwrite};
 ghost use Rattle.wasi_host.specs.Meaning.{HasCause, Rose};
 ghost use Rattle.wasi_host.specs.Lineage.{Traced, Only, Nothing};
 ghost use Rattle.wasi_p1.specs.CallTurn.{Causes};
+ghost use Rattle.wasi_p1.specs.Held.{HoldsHandles};
 ghost use Rattle.wasi_p1.specs.Items.{file_under};
 ghost use Rattle.wasi_p1.specs.Owners.{handle_in, handles, without, HasHandle, Owned, Owns, SlotsTraced, SlotsStay};
 ghost use Rattle.wasi_p1.specs.Guest.{guest_slot, guest_slots};
@@ -13,26 +14,35 @@ ghost use Rattle.wasi_resolve.specs.PathRequest.{meant_by};
 ghost use Rattle.wasi_resolve.specs.Resolved.{Resolved};
 ghost use Rattle.wasi_p1.specs.Request.{Path, Direct};
 ghost use Rattle.wasi_fs.specs.Calls.{opens, looks, meant_as, handle_of};
-ghost use Rattle.wasi_fs.specs.OpenHow.{how_of, may_open, mode_of};
+ghost use Rattle.wasi_fs.specs.OpenHow.{may_open, mode_of};
+ghost use Rattle.wasi_p2.specs.Opens.{how_named};
 ghost use Rattle.wasi_p1.specs.Filestats.{stat_both, IsStated};
 ghost use Rattle.wasi_p1.specs.Front.{charge, charged_text, charged_buffer};
 ghost use Rattle.wasi_p1.specs.Parts.{range, live_in, directory_in, start_in, source_in, sink_in, open_node_in, may_write, room_for, opened_among, text_to};
 ghost use Rattle.wasi_p1.specs.Numbering.{passes_at, live_count, renumbered};
-ghost use Rattle.wasi_p1.specs.Slots.{is_closed_slot, slot_of};
+ghost use Rattle.wasi_p1.specs.Slots.{is_closed_slot};
 ghost use Rattle.wasi_guest.specs.Range.{IsInMemory};
 ghost use Rattle.wasi_p1.specs.CallParts.{open_directory_of, source_of, sink_of, OfSource, OfSink, open_node_of, Refused, ReadsInto, WritesPiece, OpensInto, filled_at, with_after, Rests, Stays, IsLive, IsReplied, WantsNoMemory, is_failure};
 ghost use Rattle.wasi_p1.specs.Row.{give};
+ghost use Rattle.wasi_p1.specs.Viewed.{descriptor_under, Lowered};
+ghost use Rattle.wasi_p1.specs.ViewedStats.{viewed};
+ghost use Rattle.wasi_p2.specs.FlagNames.{path_flags_named};
+ghost use Rattle.wasi_p2.specs.FsErrors.{FsCause};
+ghost use Rattle.wasi_p2.specs.Views.{Performs};
 
-use crate::context::{DirectorySlot, FileModes, FileSlot, Slot, Stream};
+use crate::context::{DirectorySlot, FileSlot, Slot, Stream};
 use crate::descriptors::Descriptors;
 use crate::error::P1Error;
-use crate::filestats::StatBoth;
+use crate::filestats::ViewedStat;
 use crate::holdings::Output;
 use crate::open_with::OpenWith;
+use crate::view_parts::places::{metadata_hash_at, stat_at};
 use std::alloc::Global;
-use wasi_fs::{Descriptor, Dir, FsPerms, PathFlags};
+use wasi_fs::{Descriptor, Dir, FsPerms};
 use wasi_guest::{Errno, Iovec, TrapKind, first_buffer, slice_at, text_in, write_bytes};
-use wasi_host::{Handle, Host, HostError};
+use wasi_host::{Handle, Host};
+use wasi_p2::types::PathFlags;
+use wasi_p2::{FsResult, WasiFilesystemCtx};
 
 /// The bytes of a range of memory, or the trap.
 pub fn bytes_at(memory: &[u8], ptr: u32, n: u32) -> Result<&[u8], P1Error>
@@ -92,6 +102,7 @@ pub fn directory_at<H: Host>(host: &H, descriptors: &Descriptors, fd: u32) -> Re
     requires owned { Owned (H.live host.now) (handles descriptors.now.slots) }
     ensures live { IfOk result (λ dir. contains (H.live host.now) dir.dir ≡ true) }
     ensures is { IfOk result (λ dir. HasHandle descriptors.now.slots fd dir.dir) }
+    ensures stands { IfOk result (λ dir. descriptor_under (slice_get descriptors.now.slots fd) ≡ Some (Descriptor.Dir dir)) }
     ensures row { result_map_both (open_directory_of (H.world host.now).held) (λ e. e) result
         ≡ directory_in (slice_get (guest_slots (H.world host.now).held descriptors.now.slots) fd) }
 {
@@ -112,6 +123,7 @@ pub fn start_at<H: Host>(host: &H, descriptors: &Descriptors, fd: u32) -> Result
     requires owned { Owned (H.live host.now) (handles descriptors.now.slots) }
     ensures live { IfOk result (λ dir. contains (H.live host.now) dir.dir ≡ true) }
     ensures is { IfOk result (λ dir. HasHandle descriptors.now.slots fd dir.dir) }
+    ensures stands { IfOk result (λ dir. descriptor_under (slice_get descriptors.now.slots fd) ≡ Some (Descriptor.Dir dir)) }
     ensures row { result_map_both (open_directory_of (H.world host.now).held) (λ e. e) result
         ≡ start_in (slice_get (guest_slots (H.world host.now).held descriptors.now.slots) fd) }
 {
@@ -136,6 +148,7 @@ pub fn descriptor_at<H: Host>(
     requires owned { Owned (H.live host.now) (handles descriptors.now.slots) }
     ensures live { IfOk result (λ descriptor. contains (H.live host.now) (handle_of descriptor) ≡ true) }
     ensures is { IfOk result (λ descriptor. HasHandle descriptors.now.slots fd (handle_of descriptor)) }
+    ensures stands { IfOk result (λ descriptor. descriptor_under (slice_get descriptors.now.slots fd) ≡ Some descriptor) }
     ensures row { result_map_both (open_node_of (H.world host.now).held) (λ e. e) result
         ≡ open_node_in (slice_get (guest_slots (H.world host.now).held descriptors.now.slots) fd) }
 {
@@ -246,20 +259,6 @@ pub fn room_at<H: Host>(host: &H, descriptors: &Descriptors, more: u32) -> Resul
     Ok(())
 }
 
-/// The descriptor of what was opened, a file's at its start and with these modes.
-fn slot_of(modes: FileModes, descriptor: Descriptor) -> Slot
-    ensures { result ≡ slot_of modes descriptor }
-{
-    match descriptor {
-        Descriptor::Dir(dir) => Slot::Directory(DirectorySlot { dir, preopen: None }),
-        Descriptor::File(file) => Slot::File(FileSlot {
-            file,
-            position: 0,
-            modes,
-        }),
-    }
-}
-
 /// Reads a file's bytes from a position on into the front of a buffer in memory, and gives how many.
 #[tactic(auto, using(wasi_host::proofs::Chain::live_rules))]
 pub fn read_into<H: Host>(
@@ -333,57 +332,51 @@ pub fn put_back(descriptors: &mut Descriptors, fd: u32, slot: FileSlot)
 /// is taken before the host is called.
 #[tactic(auto, using(crate::proofs::Staying::all_stay))]
 pub fn open_into<H: Host>(
-    alloc: Global,
-    host: &mut H,
+    fs: &mut WasiFilesystemCtx<H>,
     descriptors: &mut Descriptors,
+    fd: u32,
     dir: Dir,
     text: &str,
     with: OpenWith,
 ) -> Result<u64, P1Error>
-    requires live { contains (H.live host.old) dir.dir ≡ true }
-    requires owned { Owned (H.live host.old) (handles descriptors.old.slots) }
+    requires holds { HoldsHandles (H.live fs.old.host) (handles descriptors.old.slots) fs.old.preopens.items }
+    requires stands { descriptor_under (slice_get descriptors.old.slots fd) ≡ Some (Descriptor.Dir dir) }
     requires fits { live_count is_closed_slot descriptors.old.slots + 1 ≤ descriptors.old.max }
-    ensures cause { Causes (H.faults host.old) (H.faults host.new) result }
+    ensures ctx { fs.new ≡ record fs.old { host = fs.new.host } }
+    ensures cause { Causes (H.faults fs.old.host) (H.faults fs.new.host) result }
 
     // The descriptors after it: a new one where it is answered, and else those that there were.
     ensures max { descriptors.new.max ≡ descriptors.old.max }
     ensures used { SlotsStay Nothing Nothing descriptors.old.slots descriptors.new.slots }
     ensures kept { OnErr result (descriptors.new.slots ≡ descriptors.old.slots) }
-    ensures owns { Owns (H.live host.old) (H.live host.new)
+    ensures owns { Owns (H.live fs.old.host) (H.live fs.new.host)
         (handles descriptors.old.slots) (handles descriptors.new.slots) }
     ensures lineage { SlotsTraced (Only dir.dir) descriptors.old.slots descriptors.new.slots
-        (H.lookups host.old) (H.lookups host.new) }
+        (H.lookups fs.old.host) (H.lookups fs.new.host) }
 
     // The row, over every host and over one that tells its world.
-    ensures permit { Refused (may_open (how_of with.path_flags with.open_flags with.flags) dir.perms)
-        (with_after result (guest_slots (H.world host.old).held descriptors.new.slots)) host.old host.new }
-    ensures front { may_open (how_of with.path_flags with.open_flags with.flags) dir.perms ≡ None → IsReplied
-        (Path (opens ((H.world host.old).held dir.dir).node text.now
-        (how_of with.path_flags with.open_flags with.flags)))
-        (opened_among (guest_slots (H.world host.old).held descriptors.old.slots) dir.perms
-        (mode_of (how_of with.path_flags with.open_flags with.flags)) with.modes)
-        (with_after result (guest_slots (H.world host.old).held descriptors.new.slots)) }
+    ensures permit { Refused (may_open (how_named with.path_flags with.open_flags with.flags) dir.perms)
+        (with_after result (guest_slots (H.world fs.old.host).held descriptors.new.slots)) fs.old.host fs.new.host }
+    ensures front { may_open (how_named with.path_flags with.open_flags with.flags) dir.perms ≡ None → IsReplied
+        (Path (opens ((H.world fs.old.host).held dir.dir).node text.now
+        (how_named with.path_flags with.open_flags with.flags)))
+        (opened_among (guest_slots (H.world fs.old.host).held descriptors.old.slots) dir.perms
+        (mode_of (how_named with.path_flags with.open_flags with.flags)) with.modes)
+        (with_after result (guest_slots (H.world fs.old.host).held descriptors.new.slots)) }
     ensures stays { IsTrue H.told → OnErr result
-        (guest_slots (H.world host.new).held descriptors.new.slots
-        ≡ guest_slots (H.world host.old).held descriptors.old.slots) }
-    ensures told { IsTrue H.told → may_open (how_of with.path_flags with.open_flags with.flags) dir.perms ≡ None
-        → OpensInto (Rose (H.faults host.old) (H.faults host.new))
-        (H.world host.old) (H.world host.new)
-        (open_directory_of (H.world host.old).held dir) text.now
-        (how_of with.path_flags with.open_flags with.flags) with.modes
-        (guest_slots (H.world host.old).held descriptors.old.slots)
-        (guest_slots (H.world host.new).held descriptors.new.slots) result }
+        (guest_slots (H.world fs.new.host).held descriptors.new.slots
+        ≡ guest_slots (H.world fs.old.host).held descriptors.old.slots) }
+    ensures told { IsTrue H.told → may_open (how_named with.path_flags with.open_flags with.flags) dir.perms ≡ None
+        → OpensInto (Rose (H.faults fs.old.host) (H.faults fs.new.host))
+        (H.world fs.old.host) (H.world fs.new.host)
+        (open_directory_of (H.world fs.old.host).held dir) text.now
+        (how_named with.path_flags with.open_flags with.flags) with.modes
+        (guest_slots (H.world fs.old.host).held descriptors.old.slots)
+        (guest_slots (H.world fs.new.host).held descriptors.new.slots) result }
 {
     descriptors.reserve()?;
-    let descriptor = dir.open_at(
-        alloc,
-        host,
-        with.path_flags,
-        text,
-        with.open_flags,
-        with.flags,
-    )?;
-    Ok(descriptors.put(slot_of(with.modes, descriptor)))
+    let number = descriptors.open(fs, fd, &dir, text, with)?;
+    Ok(number)
 }
 
 /// Puts bytes into the front of a buffer in memory, as many as it takes, and gives how many.
@@ -404,66 +397,58 @@ pub fn write_front(memory: &mut [u8], buf: u32, buf_len: u32, bytes: &[u8]) -> R
 
 /// What is told of the node that a path names: the two answers of its directory, which make one record.
 pub fn stat_both<H: Host>(
-    alloc: Global,
-    host: &mut H,
-    dir: Dir,
+    fs: &mut WasiFilesystemCtx<H>,
+    descriptors: &mut Descriptors,
+    fd: u32,
+    dir: &Dir,
     flags: PathFlags,
     text: &str,
-) -> Result<StatBoth, HostError>
-    requires live { contains (H.live host.old) dir.dir ≡ true }
-    ensures cause { HasCause (H.faults host.old) (H.faults host.new) result }
-    ensures live { H.live host.new ≡ H.live host.old }
-    ensures lineage { Traced (Only dir.dir) Nothing Nothing (H.lookups host.old) (H.lookups host.new) }
-    ensures some { IfOk result IsStated }
-    ensures told { IsTrue H.told → Resolved (H.live host.old) (H.world host.old) (H.world host.new)
-        (meant_as stat_both (meant_by (H.world host.old).tree
-        (looks ((H.world host.old).held dir.dir).node text.now flags)))
-        (λ both. both) result }
+) -> FsResult<ViewedStat>
+    requires holds { HoldsHandles (H.live fs.old.host) (handles descriptors.old.slots) fs.old.preopens.items }
+    requires stands { descriptor_under (slice_get descriptors.old.slots fd) ≡ Some (Descriptor.Dir dir.now) }
+    ensures ctx { fs.new ≡ record fs.old { host = fs.new.host } }
+    ensures same { descriptors.new ≡ descriptors.old }
+    ensures cause { FsCause (H.faults fs.old.host) (H.faults fs.new.host) result }
+    ensures live { H.live fs.new.host ≡ H.live fs.old.host }
+    ensures lineage { Traced (Only dir.now.dir) Nothing Nothing (H.lookups fs.old.host) (H.lookups fs.new.host) }
+    ensures did { Lowered viewed (λ answer. IfOk answer IsStated × Performs H.Host fs.old.host fs.new.host None
+        (meant_as stat_both (meant_by (H.world fs.old.host).tree
+        (looks ((H.world fs.old.host).held dir.now.dir).node text.now (path_flags_named flags))))
+        (λ both. both) answer) result }
 {
-    let stat = dir.stat_at(alloc, host, flags, text)?;
-    let hash = dir.metadata_hash_at(alloc, host, flags, text)?;
-    Ok(StatBoth { stat, hash })
-}
-
-/// Closes a descriptor's handle, if it has one.
-pub fn release<H: Host>(host: &mut H, slot: Slot)
-    requires live { IsLive (H.live host.old) slot }
-    ensures faults { H.faults host.new ≡ H.faults host.old }
-    ensures logged { H.lookups host.new ≡ H.lookups host.old }
-    ensures live { H.live host.new ≡ without (H.live host.old) (handle_in slot) }
-    ensures told { IsTrue H.told → Rests (H.live host.old) (H.live host.new) (H.world host.old) (H.world host.new) }
-{
-    match slot {
-        Slot::Directory(DirectorySlot { dir, .. }) => host.close(dir.dir),
-        Slot::File(FileSlot { file, .. }) => host.close(file.file),
-        Slot::Stream(_) => {}
-        Slot::Closed => {}
-    }
+    let stat = stat_at(fs, descriptors, fd, dir, flags, text)?;
+    let hash = metadata_hash_at(fs, descriptors, fd, dir, flags, text)?;
+    Ok(ViewedStat { stat, hash })
 }
 
 /// Closes a number, and its handle. It can't fail, and takes no memory.
-pub fn close_slot<H: Host>(host: &mut H, descriptors: &mut Descriptors, fd: u32, slot: Slot)
+pub fn close_slot<H: Host>(
+    fs: &mut WasiFilesystemCtx<H>,
+    descriptors: &mut Descriptors,
+    fd: u32,
+    slot: Slot,
+)
     requires is { slice_get descriptors.old.slots fd ≡ Some slot }
     requires in_use { is_closed_slot slot ≡ false }
-    requires owned { Owned (H.live host.old) (handles descriptors.old.slots) }
-    ensures faults { H.faults host.new ≡ H.faults host.old }
-    ensures logged { H.lookups host.new ≡ H.lookups host.old }
+    requires holds { HoldsHandles (H.live fs.old.host) (handles descriptors.old.slots) fs.old.preopens.items }
+    ensures ctx { fs.new ≡ record fs.old { host = fs.new.host } }
+    ensures faults { H.faults fs.new.host ≡ H.faults fs.old.host }
+    ensures logged { H.lookups fs.new.host ≡ H.lookups fs.old.host }
     ensures slots { descriptors.new.slots ≡ slice_set descriptors.old.slots fd Slot.Closed }
     ensures max { descriptors.new.max ≡ descriptors.old.max }
-    ensures owns { Owns (H.live host.old) (H.live host.new)
+    ensures owns { Owns (H.live fs.old.host) (H.live fs.new.host)
         (handles descriptors.old.slots) (handles descriptors.new.slots) }
     ensures lineage { SlotsTraced Nothing descriptors.old.slots descriptors.new.slots
-        (H.lookups host.old) (H.lookups host.new) }
-    ensures stays { IsTrue H.told → Stays (H.world host.old) (H.world host.new) descriptors.new.slots }
+        (H.lookups fs.old.host) (H.lookups fs.new.host) }
+    ensures stays { IsTrue H.told → Stays (H.world fs.old.host) (H.world fs.new.host) descriptors.new.slots }
 {
-    descriptors.close(fd);
-    release(host, slot);
+    descriptors.close(fs, fd);
 }
 
 /// Gives a descriptor the number of another, whose handle is closed. Equal numbers stay. It can't fail, and takes no
 /// memory.
 pub fn renumber_slot<H: Host>(
-    host: &mut H,
+    fs: &mut WasiFilesystemCtx<H>,
     descriptors: &mut Descriptors,
     from: u32,
     to: u32,
@@ -473,20 +458,20 @@ pub fn renumber_slot<H: Host>(
     requires from_in_use { passes_at is_closed_slot descriptors.old.slots from ≡ false }
     requires is { slice_get descriptors.old.slots to ≡ Some dropped }
     requires in_use { is_closed_slot dropped ≡ false }
-    requires owned { Owned (H.live host.old) (handles descriptors.old.slots) }
-    ensures faults { H.faults host.new ≡ H.faults host.old }
-    ensures logged { H.lookups host.new ≡ H.lookups host.old }
+    requires holds { HoldsHandles (H.live fs.old.host) (handles descriptors.old.slots) fs.old.preopens.items }
+    ensures ctx { fs.new ≡ record fs.old { host = fs.new.host } }
+    ensures faults { H.faults fs.new.host ≡ H.faults fs.old.host }
+    ensures logged { H.lookups fs.new.host ≡ H.lookups fs.old.host }
     ensures slots { descriptors.new.slots ≡ renumbered Slot.Closed descriptors.old.slots from to }
     ensures max { descriptors.new.max ≡ descriptors.old.max }
-    ensures owns { Owns (H.live host.old) (H.live host.new)
+    ensures owns { Owns (H.live fs.old.host) (H.live fs.new.host)
         (handles descriptors.old.slots) (handles descriptors.new.slots) }
     ensures lineage { SlotsTraced Nothing descriptors.old.slots descriptors.new.slots
-        (H.lookups host.old) (H.lookups host.new) }
-    ensures stays { IsTrue H.told → Stays (H.world host.old) (H.world host.new) descriptors.new.slots }
+        (H.lookups fs.old.host) (H.lookups fs.new.host) }
+    ensures stays { IsTrue H.told → Stays (H.world fs.old.host) (H.world fs.new.host) descriptors.new.slots }
 {
     if from == to {
         return;
     }
-    descriptors.renumber(from, to);
-    release(host, dropped);
+    descriptors.renumber(fs, from, to);
 }

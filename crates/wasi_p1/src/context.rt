@@ -11,7 +11,9 @@ use std::alloc::Global;
 use std::marker::Model;
 use wasi_fs::{Dir, File, FsPerms, OpenMode};
 use wasi_guest::Services;
-use wasi_host::{Handle, Host};
+use wasi_host::{Handle, Host, SystemTime};
+use wasi_p2::WasiFilesystemCtx;
+use wasi_streams::ResourceTable;
 
 /// The three standard streams: descriptors 0, 1 and 2, as POSIX numbers them.
 #[derive(Clone, Copy, Debug, PartialEq, Eq)]
@@ -73,13 +75,12 @@ impl P1Preopen {
     }
 }
 
-/// The calls of one guest over a host, with its descriptors, what it has beside them, and the allocator that walks take
-/// memory from: the crate's `WasiP1Ctx` of `preview1.rs`. A method has the name and the rule of the
-/// call in `wasi_snapshot_preview1`.
+/// The calls of one guest over preview2's files of a host, with its descriptors, and what it has beside them: the
+/// crate's `WasiP1Ctx` of `preview1.rs`. The directories that the guest is given are descriptors from the first, so the
+/// files have none of their own. A method has the name and the rule of the call in `wasi_snapshot_preview1`.
 #[derive(Drop)]
 pub struct WasiP1Ctx<H: Host> {
-    pub(crate) alloc: Global,
-    pub(crate) host: H,
+    pub(crate) fs: WasiFilesystemCtx<H>,
     pub(crate) descriptors: Descriptors,
     pub(crate) holdings: Holdings,
     pub(crate) fuel: u64,
@@ -87,19 +88,20 @@ pub struct WasiP1Ctx<H: Host> {
 
 impl<H: Host> Model for WasiP1Ctx<H> {
     ghost use Rattle.wasi_p1.specs.Slots.{View};
-    ghost use Rattle.wasi_p1.specs.Owners.{Owned, handles};
+    ghost use Rattle.wasi_p1.specs.Held.{HoldsHandles};
+    ghost use Rattle.wasi_p1.specs.Owners.{handles};
 
     ghost Value = { View H };
 
     ghost view = { λ c. record {
-      host = c.host;
+      host = c.fs.host;
       slots = c.descriptors.slots;
       table_max = c.descriptors.max;
       holdings = c.holdings;
       fuel = c.fuel;
     } };
 
-    ghost invariant = { λ c. Owned (H.live c.host) (handles c.descriptors.slots) };
+    ghost invariant = { λ c. HoldsHandles (H.live c.fs.host) (handles c.descriptors.slots) c.fs.preopens.items };
 }
 
 /// The fuel of a new context.
@@ -121,6 +123,7 @@ pub struct Ended<H: Host> {
 }
 
 impl<H: Host> WasiP1Ctx<H> {
+    ghost use Rattle.wasi_p1.specs.LiveEntries.{AreLiveDescriptors};
     ghost use Rattle.wasi_p1.specs.Numbering.{live_count};
     ghost use Rattle.wasi_p1.specs.Owners.{OwnedApart, handles};
     ghost use Rattle.wasi_p1.specs.Slots.{first_slots, given_name, is_closed_slot};
@@ -166,8 +169,12 @@ impl<H: Host> WasiP1Ctx<H> {
             return Err(CtxRefused { host, error });
         };
         Ok(WasiP1Ctx {
-            alloc,
-            host,
+            fs: WasiFilesystemCtx {
+                alloc,
+                host,
+                preopens: Vec::new(alloc),
+                now: SystemTime::EPOCH,
+            },
             descriptors,
             holdings,
             fuel: FUEL,
@@ -189,6 +196,15 @@ impl<H: Host> WasiP1Ctx<H> {
         let _descriptors = &self.descriptors;
     }
 
+    /// The resource table. Its live entries are the live descriptors: each has one of its own, of what it stands for, and
+    /// there are no others.
+    pub fn table(&self) -> &ResourceTable
+        ensures entries { AreLiveDescriptors result.now.entries self.now.slots }
+        ensures max { result.now.max ≡ self.now.table_max }
+    {
+        self.descriptors.table()
+    }
+
     /// How many entries of the resource table are live: one for each live descriptor, and never more than there may be.
     pub fn live_entries(&self) -> u32
         ensures count { result ≡ live_count is_closed_slot self.now.slots }
@@ -201,7 +217,7 @@ impl<H: Host> WasiP1Ctx<H> {
     pub fn host(&self) -> &H
         ensures host { result.now ≡ self.now.host }
     {
-        &self.host
+        &self.fs.host
     }
 
     /// What the guest wrote to the standard output so far.
@@ -223,8 +239,9 @@ impl<H: Host> WasiP1Ctx<H> {
         ensures host { result.host ≡ self.host }
         ensures holdings { result.holdings ≡ self.holdings }
     {
+        let fs = self.fs;
         Ended {
-            host: self.host,
+            host: fs.host,
             holdings: self.holdings,
         }
     }

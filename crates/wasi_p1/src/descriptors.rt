@@ -1,18 +1,36 @@
 //! The descriptors of a guest by number.
-ghost use Rattle.std.specs.Prelude.{◌≡◌, ◌≢◌, ◌≤◌, ◌<◌, ◌+◌, ◌↔◌, true, false, [], nat_le, length, slice_get, slice_set, Some, Err, IsOk, IfOk, OnOk};
+ghost use Rattle.std.specs.Prelude.{◌≡◌, ◌≢◌, ◌≤◌, ◌<◌, ◌+◌, ◌↔◌, true, false, [], nat_le, length, slice_get, slice_index_or, slice_set, Some, IsTrue, Err, IsOk, IfOk, OnOk};
+ghost use Rattle.std.specs.Prelude.{◌-◌, min};
+ghost use Rattle.std.specs.Vec.{vec_len, vec_capacity};
+ghost use Rattle.std.specs.BinaryHeap.{heap_items, heap_len, heap_capacity};
+ghost use Rattle.wasi_streams.specs.Table.{Entries};
+ghost use Rattle.wasi_p1.specs.CallParts.{Rests};
+ghost use Rattle.wasi_p1.specs.Descriptors.{AreKept};
+ghost use Rattle.wasi_p1.specs.Placed.{Places};
+ghost use Rattle.wasi_p1.specs.Viewed.{descriptor_under, Opens, PutDescriptor};
+ghost use Rattle.wasi_p2.specs.FsErrors.{FsCause};
+ghost use Rattle.wasi_p2.specs.Opens.{how_named};
+ghost use Rattle.wasi_p1.specs.Held.{HoldsHandles};
 ghost use Rattle.wasi_p1.specs.Items.{file_under};
+ghost use Rattle.wasi_p1.specs.LiveEntries.{AreLiveDescriptors};
 ghost use Rattle.wasi_p1.specs.Numbering.{passes_at, free_number, with_new, renumbered, live_count};
+ghost use Rattle.wasi_p1.specs.Owners.{handle_in, handles, without};
 ghost use Rattle.wasi_p1.specs.Slots.{first_slots, is_closed_slot};
 ghost use Rattle.wasi_p1.specs.declared.error.CtxError.TheVariants.{Full};
 
 use crate::context::{DirectorySlot, FileSlot, P1Preopen, Slot, Stream};
 use crate::error::CtxError;
-use crate::items::{
-    Item, admit, forget, item_at, item_under, put_item, reserve_entry, slot_of_item,
-};
+use crate::items::{Item, admit, item_at, item_under, put_item, reserve_entry, slot_of_item};
+use crate::open_with::OpenWith;
+use crate::view_parts::closing::drop_item;
+use crate::view_parts::opening::open_item;
+use crate::view_parts::resource_under;
 use std::alloc::{AllocError, Global};
 use std::collections::BinaryHeap;
 use std::marker::Model;
+use wasi_fs::{Descriptor, Dir};
+use wasi_host::Host;
+use wasi_p2::{FsResult, WasiFilesystemCtx};
 use wasi_streams::ResourceTable;
 
 /// How many standard streams there are.
@@ -23,9 +41,9 @@ const STREAMS: usize = 3;
 /// takes no memory.
 #[derive(Drop)]
 pub struct Descriptors {
-    items: Vec<Item>,
-    closed: BinaryHeap<u32>,
-    table: ResourceTable,
+    pub(crate) items: Vec<Item>,
+    pub(crate) closed: BinaryHeap<u32>,
+    pub(crate) table: ResourceTable,
 }
 
 impl Model for Descriptors {
@@ -44,6 +62,29 @@ impl Model for Descriptors {
     } };
 
     ghost invariant = { λ d. AreKept (heap_items d.closed) (heap_capacity d.closed) d.items.items d.table.entries };
+}
+
+/// Puts what is kept of a new descriptor under the largest closed number, or else under the next unused one, for which
+/// there is room, and gives the number.
+fn place(items: &mut Vec<Item>, closed: &mut BinaryHeap<u32>, item: Item) -> u64
+    requires kept { (table : Entries) × AreKept (heap_items closed.old) (heap_capacity closed.old) items.old.items table }
+    requires room { 0 < heap_len closed.old + (min (vec_capacity items.old) (heap_capacity closed.old) - vec_len items.old) }
+    ensures placed { Places (heap_items closed.old) (heap_capacity closed.old) items.old.items
+        (heap_items closed.new) (heap_capacity closed.new) items.new.items item result }
+    ensures room { heap_len closed.new + (min (vec_capacity items.new) (heap_capacity closed.new) - vec_len items.new) + 1
+        ≡ heap_len closed.old + (min (vec_capacity items.old) (heap_capacity closed.old) - vec_len items.old) }
+{
+    match closed.pop() {
+        Some(number) => {
+            items[number as usize] = item;
+            number as u64
+        }
+        None => {
+            let number = items.len() as u64;
+            items.push_reserved(item);
+            number
+        }
+    }
 }
 
 impl Descriptors {
@@ -114,6 +155,14 @@ impl Descriptors {
         }
     }
 
+    /// The resource table, whose live entries are the live descriptors.
+    pub fn table(&self) -> &ResourceTable
+        ensures entries { AreLiveDescriptors result.now.entries self.now.slots }
+        ensures max { result.now.max ≡ self.now.max }
+    {
+        &self.table
+    }
+
     /// How many descriptors are live: as many as entries of the resource table.
     pub fn live(&self) -> u32
         ensures count { result ≡ live_count is_closed_slot self.now.slots }
@@ -157,17 +206,33 @@ impl Descriptors {
         ensures room { self.new.room + 1 ≡ self.old.room }
     {
         let item = admit(&mut self.table, slot);
-        match self.closed.pop() {
-            Some(number) => {
-                self.items[number as usize] = item;
-                number as u64
-            }
-            None => {
-                let number = self.items.len() as u64;
-                self.items.push_reserved(item);
-                number
-            }
-        }
+        place(&mut self.items, &mut self.closed, item)
+    }
+
+    /// Opens a path below a directory's number, through a view, into a new descriptor for which memory was taken, and
+    /// gives its number. Refusals: those of that call of the directory.
+    pub fn open<H: Host>(
+        &mut self,
+        fs: &mut WasiFilesystemCtx<H>,
+        fd: u32,
+        dir: &Dir,
+        path: &str,
+        with: OpenWith,
+    ) -> FsResult<u64>
+        requires holds { HoldsHandles (H.live fs.old.host) (handles self.old.slots) fs.old.preopens.items }
+        requires stands { descriptor_under (slice_get self.old.slots fd) ≡ Some (Descriptor.Dir dir.now) }
+        requires room { 0 < self.old.room }
+        requires fits { live_count is_closed_slot self.old.slots + 1 ≤ self.old.max }
+        ensures ctx { fs.new ≡ record fs.old { host = fs.new.host } }
+        ensures cause { FsCause (H.faults fs.old.host) (H.faults fs.new.host) result }
+        ensures max { self.new.max ≡ self.old.max }
+        ensures did { Opens H.Host fs.old.host fs.new.host dir.now path.now
+            (how_named with.path_flags with.open_flags with.flags)
+            (PutDescriptor self.old.slots self.new.slots with.modes) (self.new.slots ≡ self.old.slots) result }
+    {
+        let resource = resource_under(&self.items, fd);
+        let item = open_item(fs, &mut self.table, resource, dir, path, with)?;
+        Ok(place(&mut self.items, &mut self.closed, item))
     }
 
     /// Takes the memory for a new descriptor, which there may be, and puts it there.
@@ -193,34 +258,52 @@ impl Descriptors {
         self.items[fd as usize] = put_item(item, slot.position, slot.modes);
     }
 
-    /// A number that is in use becomes closed, and its entry goes. It takes no memory.
-    pub fn close(&mut self, fd: u32)
+    /// A number that is in use becomes closed, and its entry goes, through a view, which closes its handle. It takes no
+    /// memory.
+    pub fn close<H: Host>(&mut self, fs: &mut WasiFilesystemCtx<H>, fd: u32)
         requires within { fd < length self.old.slots }
         requires was_in_use { passes_at is_closed_slot self.old.slots fd ≡ false }
+        requires holds { HoldsHandles (H.live fs.old.host) (handles self.old.slots) fs.old.preopens.items }
+        ensures ctx { fs.new ≡ record fs.old { host = fs.new.host } }
+        ensures faults { H.faults fs.new.host ≡ H.faults fs.old.host }
+        ensures logged { H.lookups fs.new.host ≡ H.lookups fs.old.host }
+        ensures live { H.live fs.new.host
+            ≡ without (H.live fs.old.host) (handle_in (slice_index_or self.old.slots fd Slot.Closed)) }
+        ensures told { IsTrue H.told → Rests (H.live fs.old.host) (H.live fs.new.host) (H.world fs.old.host)
+            (H.world fs.new.host) }
         ensures slots { self.new.slots ≡ slice_set self.old.slots fd Slot.Closed }
         ensures max { self.new.max ≡ self.old.max }
         ensures room { self.old.room < self.new.room }
     {
         let item = item_under(&self.items, fd);
-        forget(&mut self.table, item);
+        drop_item(fs, &mut self.table, item);
         self.items[fd as usize] = Item::Closed;
         let Ok(()) = self.closed.push(fd) else {
             unreachable!()
         };
     }
 
-    /// A descriptor takes the number of another, whose entry goes; its own number becomes closed. It takes no memory.
-    pub fn renumber(&mut self, from: u32, to: u32)
+    /// A descriptor takes the number of another, whose entry goes, through a view, which closes its handle; its own
+    /// number becomes closed. It takes no memory.
+    pub fn renumber<H: Host>(&mut self, fs: &mut WasiFilesystemCtx<H>, from: u32, to: u32)
         requires from_within { from < length self.old.slots }
         requires from_in_use { passes_at is_closed_slot self.old.slots from ≡ false }
         requires to_within { to < length self.old.slots }
         requires to_in_use { passes_at is_closed_slot self.old.slots to ≡ false }
         requires apart { from ≢ to }
+        requires holds { HoldsHandles (H.live fs.old.host) (handles self.old.slots) fs.old.preopens.items }
+        ensures ctx { fs.new ≡ record fs.old { host = fs.new.host } }
+        ensures faults { H.faults fs.new.host ≡ H.faults fs.old.host }
+        ensures logged { H.lookups fs.new.host ≡ H.lookups fs.old.host }
+        ensures live { H.live fs.new.host
+            ≡ without (H.live fs.old.host) (handle_in (slice_index_or self.old.slots to Slot.Closed)) }
+        ensures told { IsTrue H.told → Rests (H.live fs.old.host) (H.live fs.new.host) (H.world fs.old.host)
+            (H.world fs.new.host) }
         ensures slots { self.new.slots ≡ renumbered Slot.Closed self.old.slots from to }
         ensures max { self.new.max ≡ self.old.max }
         ensures room { self.old.room < self.new.room }
     {
         self.items.swap(from as usize, to as usize);
-        self.close(from);
+        self.close(fs, from);
     }
 }

@@ -2,12 +2,15 @@
 ghost use Rattle.std.specs.Prelude.{◌≡◌};
 ghost use Rattle.wasi_p1.specs.Errnos.{errno_of, error_of};
 ghost use Rattle.wasi_p1.specs.Parts.{guest_fault};
+ghost use Rattle.wasi_p1.specs.ViewErrors.{errno_named, table_error_of, view_error_of};
 ghost use Rattle.wasi_p1.specs.declared.error.CtxError.TheVariants as causes;
 ghost use Rattle.wasi_p1.specs.declared.error.P1Error.TheVariants as errors;
 
 use std::alloc::AllocError;
 use wasi_guest::{Errno, GuestError, TrapKind};
 use wasi_host::{ErrorCode, HostError};
+use wasi_p2::{FsError, types};
+use wasi_streams::TableError;
 
 /// Why a call didn't succeed.
 #[derive(Clone, Copy, Debug, PartialEq, Eq)]
@@ -79,6 +82,31 @@ impl From<GuestError> for P1Error {
     }
 }
 
+impl From<TableError> for P1Error {
+    ghost from_gives = { λ refused given. given ≡ table_error_of refused };
+
+    fn from(refused: TableError) -> Self {
+        match refused {
+            TableError::Full => P1Error::Trap(TrapKind::TableFull),
+            TableError::NotPresent => P1Error::Errno(Errno::Badf),
+            TableError::WrongKind => P1Error::Errno(Errno::Badf),
+            TableError::Memory => P1Error::Memory,
+        }
+    }
+}
+
+impl From<FsError> for P1Error {
+    ghost from_gives = { λ refused given. given ≡ view_error_of refused };
+
+    fn from(refused: FsError) -> Self {
+        match refused {
+            FsError::Code(code) => P1Error::Errno(errno_named(code)),
+            FsError::Trap(refused) => P1Error::from(refused),
+            FsError::Memory => P1Error::Memory,
+        }
+    }
+}
+
 /// The error number of the same name.
 pub fn errno_of(code: ErrorCode) -> Errno
     ensures { result ≡ errno_of code }
@@ -109,5 +137,50 @@ pub fn errno_of(code: ErrorCode) -> Errno
         ErrorCode::NotPermitted => Errno::Perm,
         ErrorCode::Pipe => Errno::Pipe,
         ErrorCode::InvalidSeek => Errno::Spipe,
+    }
+}
+
+/// The error number of the same name as a code of preview2, of which preview1 has each.
+fn errno_named(code: types::ErrorCode) -> Errno
+    ensures { result ≡ errno_named code }
+{
+    match code {
+        types::ErrorCode::Access => Errno::Acces,
+        types::ErrorCode::WouldBlock => Errno::Again,
+        types::ErrorCode::Already => Errno::Already,
+        types::ErrorCode::BadDescriptor => Errno::Badf,
+        types::ErrorCode::Busy => Errno::Busy,
+        types::ErrorCode::Deadlock => Errno::Deadlk,
+        types::ErrorCode::Quota => Errno::Dquot,
+        types::ErrorCode::Exist => Errno::Exist,
+        types::ErrorCode::FileTooLarge => Errno::Fbig,
+        types::ErrorCode::IllegalByteSequence => Errno::Ilseq,
+        types::ErrorCode::InProgress => Errno::Inprogress,
+        types::ErrorCode::Interrupted => Errno::Intr,
+        types::ErrorCode::Invalid => Errno::Inval,
+        types::ErrorCode::Io => Errno::Io,
+        types::ErrorCode::IsDirectory => Errno::Isdir,
+        types::ErrorCode::Loop => Errno::Loop,
+        types::ErrorCode::TooManyLinks => Errno::Mlink,
+        types::ErrorCode::MessageSize => Errno::Msgsize,
+        types::ErrorCode::NameTooLong => Errno::Nametoolong,
+        types::ErrorCode::NoDevice => Errno::Nodev,
+        types::ErrorCode::NoEntry => Errno::Noent,
+        types::ErrorCode::NoLock => Errno::Nolck,
+        types::ErrorCode::InsufficientMemory => Errno::Nomem,
+        types::ErrorCode::InsufficientSpace => Errno::Nospc,
+        types::ErrorCode::NotDirectory => Errno::Notdir,
+        types::ErrorCode::NotEmpty => Errno::Notempty,
+        types::ErrorCode::NotRecoverable => Errno::Notrecoverable,
+        types::ErrorCode::Unsupported => Errno::Notsup,
+        types::ErrorCode::NoTty => Errno::Notty,
+        types::ErrorCode::NoSuchDevice => Errno::Nxio,
+        types::ErrorCode::Overflow => Errno::Overflow,
+        types::ErrorCode::NotPermitted => Errno::Perm,
+        types::ErrorCode::Pipe => Errno::Pipe,
+        types::ErrorCode::ReadOnly => Errno::Rofs,
+        types::ErrorCode::InvalidSeek => Errno::Spipe,
+        types::ErrorCode::TextFileBusy => Errno::Txtbsy,
+        types::ErrorCode::CrossDevice => Errno::Xdev,
     }
 }

@@ -1,12 +1,11 @@
 //! The record that tells of a descriptor.
 ghost use Rattle.std.specs.Prelude.{◌≡◌};
 ghost use Rattle.wasi_guest.specs.FiletypeNumber.{filetype_number};
-ghost use Rattle.wasi_p1.specs.Fdstats.{directory_fdstat, file_fdstat, file_rights, modes_bits, preopen_fdstat, stream_fdstat};
+ghost use Rattle.wasi_p1.specs.Fdstats.{directory_fdstat, file_rights, modes_bits, preopen_fdstat, stream_fdstat};
 
 use crate::context::{FileModes, Stream};
-use crate::filestats::filetype_of;
 use bitflags::Flags;
-use wasi_fs::{DescriptorType, OpenMode};
+use wasi_fs::OpenMode;
 use wasi_guest::{Fdstat, Filetype};
 
 /// What is told of a descriptor of this type, without flags.
@@ -74,12 +73,17 @@ fn file_rights(mode: OpenMode) -> u64
 }
 
 /// What is told of a file of this type, that was opened and is used so.
-pub fn file_fdstat(mode: OpenMode, modes: FileModes, kind: DescriptorType) -> Fdstat
-    ensures { result ≡ file_fdstat mode modes kind }
+pub fn file_fdstat(mode: OpenMode, modes: FileModes, filetype: Filetype) -> Fdstat
+    ensures { result ≡ record {
+      filetype = filetype_number filetype;
+      flags = modes_bits modes;
+      base = file_rights mode;
+      inheriting = file_rights mode;
+    } }
 {
     let rights = file_rights(mode);
     Fdstat {
-        filetype: filetype_of(kind).number(),
+        filetype: filetype.number(),
         flags: modes_bits(modes),
         base: rights,
         inheriting: rights,

@@ -14,6 +14,8 @@ ghost use Rattle.wasi_p1.specs.Putting.{appended_in, count_in, put_call, put_in,
 ghost use Rattle.wasi_p1.specs.Request.{Direct, Behind};
 ghost use Rattle.wasi_p1.specs.Row.{give};
 ghost use Rattle.wasi_p1.specs.Services.{with_unit};
+ghost use Rattle.wasi_p1.specs.Viewed.{descriptor_under};
+ghost use Rattle.wasi_p2.specs.Advices.{advice_named};
 ghost use Rattle.wasi_p1.specs.CallParts.{with_after};
 ghost use Rattle.wasi_guest.specs.declared.errno.Errno.TheVariants as errnos;
 ghost use Rattle.wasi_p1.specs.declared.error.P1Error.TheVariants as errors;
@@ -26,8 +28,10 @@ use crate::error::P1Error;
 use crate::holdings::Holdings;
 use crate::raw_numbers::INVALID;
 use bitflags::Flags;
+use wasi_fs::Descriptor;
 use wasi_guest::{Advice, Errno, FdFlags, Whence, write_bytes};
 use wasi_host::{Handle, Host};
+use wasi_p2::types;
 
 /// What a number is named for where a file's is asked for; by it a standard stream is refused.
 #[derive(Clone, Copy, Debug, PartialEq, Eq)]
@@ -74,6 +78,8 @@ pub fn file_at<H: Host>(
     requires owned { Owned (H.live host.now) (handles descriptors.now.slots) }
     ensures live { IfOk result (λ f. contains (H.live host.now) f.file.file ≡ true) }
     ensures is { IfOk result (λ f. slice_get descriptors.now.slots fd ≡ Some (Slot.File f)) }
+    ensures stands { IfOk result (λ f. descriptor_under (slice_get descriptors.now.slots fd)
+        ≡ Some (Descriptor.File f.file)) }
     ensures refusal { IfErr result (λ e. is_failure e ≡ false) }
     ensures row { result_map_both (open_file_of (H.world host.now).held) (λ e. e) result
         ≡ file_in wanted (slice_get (guest_slots (H.world host.now).held descriptors.now.slots) fd) }
@@ -290,16 +296,16 @@ pub fn put_next<H: Host>(
 }
 
 /// The advice of the same name.
-pub fn host_advice(advice: Advice) -> wasi_host::Advice
-    ensures { result ≡ host_advice advice }
+pub fn view_advice(advice: Advice) -> types::Advice
+    ensures { advice_named result ≡ host_advice advice }
 {
     match advice {
-        Advice::Normal => wasi_host::Advice::Normal,
-        Advice::Sequential => wasi_host::Advice::Sequential,
-        Advice::Random => wasi_host::Advice::Random,
-        Advice::WillNeed => wasi_host::Advice::WillNeed,
-        Advice::DontNeed => wasi_host::Advice::DontNeed,
-        Advice::NoReuse => wasi_host::Advice::NoReuse,
+        Advice::Normal => types::Advice::Normal,
+        Advice::Sequential => types::Advice::Sequential,
+        Advice::Random => types::Advice::Random,
+        Advice::WillNeed => types::Advice::WillNeed,
+        Advice::DontNeed => types::Advice::DontNeed,
+        Advice::NoReuse => types::Advice::NoReuse,
     }
 }
 

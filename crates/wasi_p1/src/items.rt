@@ -1,7 +1,7 @@
 //! What is kept of a descriptor beside the resource table.
 ghost use Rattle.std.specs.Prelude.{◌≡◌, ◌<◌, ◌≤◌, ◌+◌, None, IsOk, OnOk, false, length, slice_get, slice_index_or};
 ghost use Rattle.std.specs.FinMap.{get, insert, len};
-ghost use Rattle.wasi_p1.specs.Items.{Admitted, IsOfKind, is_closed_item, put_item, slot_in, stream_entry, without_item};
+ghost use Rattle.wasi_p1.specs.Items.{Admitted, IsOfKind, put_item, slot_in, stream_entry};
 ghost use Rattle.wasi_p1.specs.Slots.{is_closed_slot};
 
 use crate::context::{DirectorySlot, FileModes, FileSlot, Slot, Stream};
@@ -161,26 +161,6 @@ pub fn slot_of_item(table: &ResourceTable, item: Item) -> Slot
             position,
             modes,
         } => file_of(table, resource, position, modes),
-    }
-}
-
-/// Takes a live descriptor's entry out of the table. It takes no memory.
-pub fn forget(table: &mut ResourceTable, item: Item)
-    requires kind { IsOfKind table.old.entries item }
-    requires in_use { is_closed_item item ≡ false }
-    ensures entries { table.new.entries ≡ without_item table.old.entries item }
-    ensures spare { table.new.spare ≡ table.old.spare + 1 }
-    ensures max { table.new.max ≡ table.old.max }
-{
-    match item {
-        Item::Closed => unreachable!(),
-        Item::Stream(_, resource)
-        | Item::Directory { resource, .. }
-        | Item::File { resource, .. } => {
-            let Ok(_) = table.delete(resource) else {
-                unreachable!()
-            };
-        }
     }
 }
 

@@ -20,6 +20,7 @@ mod open_with;
 mod poll_parts;
 mod raw_numbers;
 mod run;
+mod view_parts;
 
 pub use context::{
     CtxRefused, DirectorySlot, Ended, FUEL, FileModes, FileSlot, P1Preopen, Slot, Stream, WasiP1Ctx,

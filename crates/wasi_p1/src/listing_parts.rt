@@ -9,7 +9,7 @@ ghost use Rattle.wasi_host.specs.Meaning.{HasCause};
 ghost use Rattle.wasi_host.specs.declared.file_type.FileType.TheVariants.{Directory};
 ghost use Rattle.wasi_resolve.specs.Resolved.{Resolved};
 ghost use Rattle.wasi_p1.specs.CallParts.{WantsNoMemory, is_failure, with_after};
-ghost use Rattle.wasi_p1.specs.EntriesSeen.{entry_seen, entries_seen, reads_from, numbered_behind, IsShort};
+ghost use Rattle.wasi_p1.specs.EntriesSeen.{entry_seen, entries_seen, reads_from, numbered_behind, IsListed};
 ghost use Rattle.wasi_p1.specs.Listing.{dots, numbered_at, HasShortNames};
 ghost use Rattle.wasi_p1.specs.Pages.{dirent_of, record_of, page};
 ghost use Rattle.wasi_p1.specs.Parts.{text_to};
@@ -18,11 +18,11 @@ ghost use Rattle.wasi_p1.specs.Request.{ListDirectory, meant_of};
 use crate::call_parts::bytes_at;
 use crate::error::P1Error;
 use crate::filestats::filetype_of;
-use bitflags::Flags;
 use std::alloc::{AllocError, Global};
-use wasi_fs::{DescriptorType, Dir, PathFlags};
+use wasi_fs::{DescriptorType, Dir};
 use wasi_guest::{Dirent, write_bytes};
 use wasi_host::{DirEntry, FileType, Host, HostError};
+use wasi_paths::Name;
 
 /// A name in a directory, and the number and the kind of the node that it holds, a link's own.
 #[derive(Debug, Drop)]
@@ -56,16 +56,12 @@ fn dots(alloc: Global, node: u64) -> Result<Vec<Entry>, AllocError>
     Ok(entries)
 }
 
-/// An entry with the number of its node, which the directory tells by the name. A link isn't followed. Refusals: those
-/// of the resolver's `stat`, as Access where the directory has no search bit.
-#[tactic(auto, unfolding(wasi_fs::specs::OpenHow::is_followed))]
-fn numbered<H: Host>(
-    alloc: Global,
-    host: &mut H,
-    dir: &Dir,
-    entry: DirEntry,
-) -> Result<Entry, HostError>
+/// An entry with the number of its node. Its name is plain, so that it is looked at where it stands, as the resolver's
+/// `stat` does; a link isn't followed. Refusals: those of the host's `stat_at`, as Access where the directory has no
+/// search bit.
+fn numbered<H: Host>(host: &mut H, dir: &Dir, entry: DirEntry) -> Result<Entry, HostError>
     requires live { contains (H.live host.old) dir.now.dir ≡ true }
+    requires listed { IsListed entry }
     ensures cause { HasCause (H.faults host.old) (H.faults host.new) result }
     ensures live { H.live host.new ≡ H.live host.old }
     ensures lineage { Traced (Only dir.now.dir) Nothing Nothing (H.lookups host.old) (H.lookups host.new) }
@@ -75,10 +71,13 @@ fn numbered<H: Host>(
         (numbered_at (H.world host.old).tree ((H.world host.old).held dir.now.dir).node (entry_of entry)))
         entry_seen result }
 {
-    let hash = dir.metadata_hash_at(alloc, host, PathFlags::empty(), entry.name.as_str())?;
+    let Some(name) = Name::plain(entry.name.as_str()) else {
+        unreachable!()
+    };
+    let metadata = host.stat_at(dir.dir, name)?;
     Ok(Entry {
         name: entry.name,
-        node: hash.lower,
+        node: metadata.ino(),
         kind: entry.kind,
     })
 }
@@ -93,7 +92,7 @@ fn all_numbered<H: Host>(
     names: Vec<DirEntry>,
 ) -> Result<Vec<Entry>, HostError>
     requires live { contains (H.live host.old) dir.now.dir ≡ true }
-    requires short { All IsShort names.items }
+    requires listed { All IsListed names.items }
     ensures cause { HasCause (H.faults host.old) (H.faults host.new) result }
     ensures live { H.live host.new ≡ H.live host.old }
     ensures lineage { Traced (Only dir.now.dir) Nothing Nothing (H.lookups host.old) (H.lookups host.new) }
@@ -105,7 +104,7 @@ fn all_numbered<H: Host>(
 {
     let mut entries = dots(alloc, node)?;
     for name in names {
-        let entry = numbered(alloc, host, dir, name)?;
+        let entry = numbered(host, dir, name)?;
         entries.push(entry)?;
     }
     Ok(entries)
@@ -175,6 +174,9 @@ fn page_size(entries: &[Entry], from: usize, buf_len: u32) -> u32
 {
     let mut room = buf_len;
     for i in from..entries.len() {
+        if room == 0 {
+            return buf_len;
+        }
         let entry = &entries[i];
         room = room.saturating_sub(24 + entry.name.as_str().len() as u32);
     }
@@ -191,6 +193,9 @@ fn put_records(memory: &mut [u8], at: usize, room: usize, entries: &[Entry], fro
     let mut place = at;
     let mut left = room;
     for i in from..entries.len() {
+        if left == 0 {
+            return;
+        }
         let entry = &entries[i];
         let n = put_record(memory, place, left, i as u64 + 1, entry);
         place += n;

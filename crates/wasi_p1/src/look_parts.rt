@@ -1,95 +1,135 @@
 //! What the calls that look at a descriptor do with a host, a part at a time.
-ghost use Rattle.std.specs.Prelude.{◌≡◌, true, IsTrue, IfOk, IfErr};
-ghost use Rattle.std.specs.FinSet.{contains};
+ghost use Rattle.std.specs.Prelude.{◌≡◌, slice_get, IsTrue, IfOk, IfErr, None, Some};
 ghost use Rattle.wasi_fs.specs.Calls.{handle_of, meant_as, stats, NotMemory};
 ghost use Rattle.wasi_host.specs.HostCall.{Flags, Stat};
-ghost use Rattle.wasi_host.specs.Meaning.{HasCause, Rose};
+ghost use Rattle.wasi_host.specs.Meaning.{Rose};
 ghost use Rattle.wasi_p1.specs.CallParts.{IsReplied, Makes, WantsNoMemory, open_file_of};
 ghost use Rattle.wasi_p1.specs.CallTurn.{Causes};
 ghost use Rattle.wasi_p1.specs.Fdstats.{directory_fdstat, file_told};
 ghost use Rattle.wasi_p1.specs.Filestats.{filestat_in, stat_both, IsStated};
+ghost use Rattle.wasi_p1.specs.Held.{HoldsHandles};
+ghost use Rattle.wasi_p1.specs.Owners.{handles};
 ghost use Rattle.wasi_p1.specs.Request.{Direct};
 ghost use Rattle.wasi_p1.specs.Row.{give};
-ghost use Rattle.wasi_resolve.specs.Resolved.{Resolved};
+ghost use Rattle.wasi_p1.specs.Viewed.{descriptor_under, Lowered};
+ghost use Rattle.wasi_p1.specs.ViewedStats.{viewed};
+ghost use Rattle.wasi_p2.specs.FsErrors.{FsCause};
+ghost use Rattle.wasi_p2.specs.Views.{Performs};
 
 use crate::context::FileSlot;
+use crate::descriptors::Descriptors;
 use crate::error::P1Error;
 use crate::fdstats::{directory_fdstat, file_fdstat};
-use crate::filestats::StatBoth;
+use crate::filestats::{ViewedStat, filetype_named};
+use crate::view_parts::nodes::{get_flags, get_type, metadata_hash, stat};
 use wasi_fs::{Descriptor, Dir};
 use wasi_guest::{Fdstat, Filestat};
-use wasi_host::{Host, HostError};
+use wasi_host::Host;
+use wasi_p2::{FsResult, WasiFilesystemCtx};
 
 /// What is told of a descriptor's node: its two answers, which make one record.
-pub fn looked_at<H: Host>(host: &mut H, descriptor: Descriptor) -> Result<StatBoth, HostError>
-    requires live { contains (H.live host.old) (handle_of descriptor) ≡ true }
-    ensures cause { HasCause (H.faults host.old) (H.faults host.new) result }
-    ensures no_memory { IfErr result NotMemory }
-    ensures live { H.live host.new ≡ H.live host.old }
-    ensures logged { H.lookups host.new ≡ H.lookups host.old }
-    ensures some { IfOk result IsStated }
-    ensures told { IsTrue H.told → Resolved (H.live host.old) (H.world host.old) (H.world host.new)
-        (meant_as stat_both (stats (H.world host.old).tree ((H.world host.old).held (handle_of descriptor)).node))
-        (λ both. both) result }
+pub fn looked_at<H: Host>(
+    fs: &mut WasiFilesystemCtx<H>,
+    descriptors: &mut Descriptors,
+    fd: u32,
+    descriptor: &Descriptor,
+) -> FsResult<ViewedStat>
+    requires holds { HoldsHandles (H.live fs.old.host) (handles descriptors.old.slots) fs.old.preopens.items }
+    requires stands { descriptor_under (slice_get descriptors.old.slots fd) ≡ Some descriptor.now }
+    ensures ctx { fs.new ≡ record fs.old { host = fs.new.host } }
+    ensures same { descriptors.new ≡ descriptors.old }
+    ensures cause { FsCause (H.faults fs.old.host) (H.faults fs.new.host) result }
+    ensures live { H.live fs.new.host ≡ H.live fs.old.host }
+    ensures logged { H.lookups fs.new.host ≡ H.lookups fs.old.host }
+    ensures did { Lowered viewed (λ answer. IfErr answer NotMemory × IfOk answer IsStated
+        × Performs H.Host fs.old.host fs.new.host None (meant_as stat_both
+        (stats (H.world fs.old.host).tree ((H.world fs.old.host).held (handle_of descriptor.now)).node))
+        (λ both. both) answer) result }
 {
-    let stat = descriptor.stat(host)?;
-    let hash = descriptor.metadata_hash(host)?;
-    Ok(StatBoth { stat, hash })
+    let stat = stat(fs, descriptors, fd, descriptor)?;
+    let hash = metadata_hash(fs, descriptors, fd, descriptor)?;
+    Ok(ViewedStat { stat, hash })
 }
 
 /// The record of a descriptor's node. Refusal: Overflow of a time that 64 bits of nanoseconds don't hold.
-pub fn node_filestat<H: Host>(host: &mut H, descriptor: Descriptor) -> Result<Filestat, P1Error>
-    requires live { contains (H.live host.old) (handle_of descriptor) ≡ true }
-    ensures cause { Causes (H.faults host.old) (H.faults host.new) result }
-    ensures live { H.live host.new ≡ H.live host.old }
-    ensures logged { H.lookups host.new ≡ H.lookups host.old }
+pub fn node_filestat<H: Host>(
+    fs: &mut WasiFilesystemCtx<H>,
+    descriptors: &mut Descriptors,
+    fd: u32,
+    descriptor: &Descriptor,
+) -> Result<Filestat, P1Error>
+    requires holds { HoldsHandles (H.live fs.old.host) (handles descriptors.old.slots) fs.old.preopens.items }
+    requires stands { descriptor_under (slice_get descriptors.old.slots fd) ≡ Some descriptor.now }
+    ensures ctx { fs.new ≡ record fs.old { host = fs.new.host } }
+    ensures same { descriptors.new ≡ descriptors.old }
+    ensures cause { Causes (H.faults fs.old.host) (H.faults fs.new.host) result }
+    ensures live { H.live fs.new.host ≡ H.live fs.old.host }
+    ensures logged { H.lookups fs.new.host ≡ H.lookups fs.old.host }
     ensures never_wants { IfErr result WantsNoMemory }
-    ensures front { IsReplied (Direct (Stat ((H.world host.old).held (handle_of descriptor)).node))
+    ensures front { IsReplied (Direct (Stat ((H.world fs.old.host).held (handle_of descriptor.now)).node))
         (λ metadata. filestat_in (stat_both metadata)) result }
-    ensures told { IsTrue H.told → Makes (Rose (H.faults host.old) (H.faults host.new)) (H.live host.old)
-        (H.world host.old) (H.world host.new) (Direct (Stat ((H.world host.old).held (handle_of descriptor)).node))
+    ensures told { IsTrue H.told → Makes (Rose (H.faults fs.old.host) (H.faults fs.new.host)) (H.live fs.old.host)
+        (H.world fs.old.host) (H.world fs.new.host)
+        (Direct (Stat ((H.world fs.old.host).held (handle_of descriptor.now)).node))
         (λ metadata. filestat_in (stat_both metadata)) result }
 {
-    let both = looked_at(host, descriptor)?;
+    let both = looked_at(fs, descriptors, fd, descriptor)?;
     let filestat = both.filestat()?;
     Ok(filestat)
 }
 
 /// What is told of a directory's descriptor that isn't one of those that the guest was given. The host's answer tells
 /// nothing.
-pub fn dir_fdstat<H: Host>(host: &mut H, dir: Dir) -> Result<Fdstat, P1Error>
-    requires live { contains (H.live host.old) dir.dir ≡ true }
-    ensures cause { Causes (H.faults host.old) (H.faults host.new) result }
-    ensures live { H.live host.new ≡ H.live host.old }
-    ensures logged { H.lookups host.new ≡ H.lookups host.old }
+pub fn dir_fdstat<H: Host>(
+    fs: &mut WasiFilesystemCtx<H>,
+    descriptors: &mut Descriptors,
+    fd: u32,
+    dir: Dir,
+) -> Result<Fdstat, P1Error>
+    requires holds { HoldsHandles (H.live fs.old.host) (handles descriptors.old.slots) fs.old.preopens.items }
+    requires stands { descriptor_under (slice_get descriptors.old.slots fd) ≡ Some (Descriptor.Dir dir) }
+    ensures ctx { fs.new ≡ record fs.old { host = fs.new.host } }
+    ensures same { descriptors.new ≡ descriptors.old }
+    ensures cause { Causes (H.faults fs.old.host) (H.faults fs.new.host) result }
+    ensures live { H.live fs.new.host ≡ H.live fs.old.host }
+    ensures logged { H.lookups fs.new.host ≡ H.lookups fs.old.host }
     ensures never_wants { IfErr result WantsNoMemory }
-    ensures front { IsReplied (Direct (Flags ((H.world host.old).held dir.dir).node)) (λ _. give directory_fdstat)
-        result }
-    ensures told { IsTrue H.told → Makes (Rose (H.faults host.old) (H.faults host.new)) (H.live host.old)
-        (H.world host.old) (H.world host.new) (Direct (Flags ((H.world host.old).held dir.dir).node))
+    ensures front { IsReplied (Direct (Flags ((H.world fs.old.host).held dir.dir).node))
+        (λ _. give directory_fdstat) result }
+    ensures told { IsTrue H.told → Makes (Rose (H.faults fs.old.host) (H.faults fs.new.host)) (H.live fs.old.host)
+        (H.world fs.old.host) (H.world fs.new.host) (Direct (Flags ((H.world fs.old.host).held dir.dir).node))
         (λ _. give directory_fdstat) result }
 {
-    Descriptor::Dir(dir).get_flags(host)?;
+    let dir = Descriptor::Dir(dir);
+    get_flags(fs, descriptors, fd, &dir)?;
     Ok(directory_fdstat())
 }
 
 /// What is told of a file's descriptor: its type as the host says it, whose answer on its flags tells nothing.
-pub fn open_file_fdstat<H: Host>(host: &mut H, slot: FileSlot) -> Result<Fdstat, P1Error>
-    requires live { contains (H.live host.old) slot.file.file ≡ true }
-    ensures cause { Causes (H.faults host.old) (H.faults host.new) result }
-    ensures live { H.live host.new ≡ H.live host.old }
-    ensures logged { H.lookups host.new ≡ H.lookups host.old }
+pub fn open_file_fdstat<H: Host>(
+    fs: &mut WasiFilesystemCtx<H>,
+    descriptors: &mut Descriptors,
+    fd: u32,
+    slot: FileSlot,
+) -> Result<Fdstat, P1Error>
+    requires holds { HoldsHandles (H.live fs.old.host) (handles descriptors.old.slots) fs.old.preopens.items }
+    requires stands { descriptor_under (slice_get descriptors.old.slots fd) ≡ Some (Descriptor.File slot.file) }
+    ensures ctx { fs.new ≡ record fs.old { host = fs.new.host } }
+    ensures same { descriptors.new ≡ descriptors.old }
+    ensures cause { Causes (H.faults fs.old.host) (H.faults fs.new.host) result }
+    ensures live { H.live fs.new.host ≡ H.live fs.old.host }
+    ensures logged { H.lookups fs.new.host ≡ H.lookups fs.old.host }
     ensures never_wants { IfErr result WantsNoMemory }
-    ensures front { IsReplied (Direct (Stat ((H.world host.old).held slot.file.file).node))
-        (λ metadata. give (file_told (open_file_of (H.world host.old).held slot) metadata)) result }
-    ensures told { IsTrue H.told → Makes (Rose (H.faults host.old) (H.faults host.new)) (H.live host.old)
-        (H.world host.old) (H.world host.new) (Direct (Stat ((H.world host.old).held slot.file.file).node))
-        (λ metadata. give (file_told (open_file_of (H.world host.old).held slot) metadata)) result }
+    ensures front { IsReplied (Direct (Stat ((H.world fs.old.host).held slot.file.file).node))
+        (λ metadata. give (file_told (open_file_of (H.world fs.old.host).held slot) metadata)) result }
+    ensures told { IsTrue H.told → Makes (Rose (H.faults fs.old.host) (H.faults fs.new.host)) (H.live fs.old.host)
+        (H.world fs.old.host) (H.world fs.new.host) (Direct (Stat ((H.world fs.old.host).held slot.file.file).node))
+        (λ metadata. give (file_told (open_file_of (H.world fs.old.host).held slot) metadata)) result }
 {
     let FileSlot { file, modes, .. } = slot;
     let mode = file.open_mode;
     let file = Descriptor::File(file);
-    file.get_flags(host)?;
-    let kind = file.get_type(host)?;
-    Ok(file_fdstat(mode, modes, kind))
+    get_flags(fs, descriptors, fd, &file)?;
+    let kind = get_type(fs, descriptors, fd, &file)?;
+    Ok(file_fdstat(mode, modes, filetype_named(kind)))
 }

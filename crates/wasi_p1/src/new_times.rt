@@ -1,13 +1,17 @@
 //! The times that a call which sets some is given.
-ghost use Rattle.std.specs.Prelude.{◌≡◌, false, IfErr};
+ghost use Rattle.std.specs.Prelude.{◌≡◌, pos, ◌≤ℤ◌, false, Ok, IfOk, IfErr};
+ghost use Rattle.wasi_host.specs.declared.system_time.SystemTime.{SystemTime};
 ghost use Rattle.wasi_p1.specs.CallParts.{is_failure};
 ghost use Rattle.wasi_p1.specs.NewTimes.{time_after, time_of, new_time, times_asked};
+ghost use Rattle.wasi_p1.specs.SinceEpoch.{AreSinceEpoch, IsSinceEpoch};
+ghost use Rattle.wasi_p2.specs.Moments.{time_at, time_wanted};
 
 use crate::error::P1Error;
 use crate::raw_numbers::INVALID;
 use bitflags::Flags;
 use wasi_guest::{Errno, FstFlags, WallDatetime};
 use wasi_host::{NANOSECONDS, SystemTime};
+use wasi_p2::types::NewTimestamp;
 
 /// The times that are to be set: of the last read, and of the last change. One that isn't given stays.
 #[derive(Clone, Copy, Debug, PartialEq, Eq)]
@@ -23,6 +27,7 @@ impl NewTimes {
     #[tactic(auto, unfolding(crate::specs::NewTimes::times_asked))]
     pub fn of(wall: WallDatetime, atim: u64, mtim: u64, fst_flags: u32) -> Result<NewTimes, P1Error>
         ensures row { result ≡ times_asked wall atim mtim fst_flags }
+        ensures since { IfOk result AreSinceEpoch }
         ensures refusal { IfErr result (λ e. is_failure e ≡ false) }
     {
         let set = FstFlags::from_bits(fst_flags).ok_or(INVALID)?;
@@ -44,7 +49,8 @@ impl NewTimes {
 
 /// The moment so many nanoseconds after the epoch.
 fn time_after(nanoseconds: u64) -> SystemTime
-    ensures { result ≡ time_after nanoseconds }
+    ensures is { result ≡ time_after nanoseconds }
+    ensures since { pos 0 ≤ℤ result.seconds }
 {
     let second = NANOSECONDS as u64;
     SystemTime {
@@ -57,6 +63,7 @@ fn time_after(nanoseconds: u64) -> SystemTime
 /// seconds that an i64 doesn't hold.
 fn time_of(wall: WallDatetime) -> Result<SystemTime, P1Error>
     ensures row { result ≡ time_of wall }
+    ensures since { IfOk result (λ time. pos 0 ≤ℤ time.seconds) }
     ensures refusal { IfErr result (λ e. is_failure e ≡ false) }
 {
     let carried = (wall.nanoseconds / NANOSECONDS) as u64;
@@ -77,6 +84,7 @@ fn new_time(
     now: bool,
 ) -> Result<Option<SystemTime>, P1Error>
     ensures row { result ≡ new_time wall given set now }
+    ensures since { IfOk result IsSinceEpoch }
     ensures refusal { IfErr result (λ e. is_failure e ≡ false) }
 {
     match (set, now) {
@@ -84,5 +92,27 @@ fn new_time(
         (true, false) => Ok(Some(time_after(given))),
         (false, true) => Ok(Some(time_of(wall)?)),
         (false, false) => Ok(None),
+    }
+}
+
+/// A time that isn't before the epoch, as a moment of the wall clock.
+fn wall_of(time: SystemTime) -> WallDatetime
+    requires since { pos 0 ≤ℤ time.seconds }
+    ensures { time_at result ≡ Ok time }
+{
+    WallDatetime {
+        seconds: time.seconds as u64,
+        nanoseconds: time.nanoseconds,
+    }
+}
+
+/// A time as preview2 is given it, whatever its clock stands at.
+pub fn timestamp_of(time: Option<SystemTime>) -> NewTimestamp
+    requires since { IsSinceEpoch time }
+    ensures wanted { (now : SystemTime) → time_wanted now result ≡ Ok time }
+{
+    match time {
+        Some(time) => NewTimestamp::Timestamp(wall_of(time)),
+        None => NewTimestamp::NoChange,
     }
 }

@@ -2,22 +2,22 @@
 ghost use Rattle.std.specs.Prelude.{◌≡◌, false, IfOk, IfErr};
 ghost use Rattle.std.specs.Result.{result_map_both};
 ghost use Rattle.wasi_fs.specs.OpenHow.{is_followed};
-ghost use Rattle.wasi_fs.specs.OpenHow.{how_of};
-ghost use Rattle.wasi_fs.specs.OpenFlags.{open_flag_bits, descriptor_flag_bits, includes};
-ghost use Rattle.wasi_fs.specs.declared.open_flags.TheConstants.OpenFlags as of_open;
-ghost use Rattle.wasi_fs.specs.declared.open_flags.TheConstants.DescriptorFlags as of_descriptor;
+ghost use Rattle.wasi_fs.specs.OpenFlags.{includes};
 ghost use Rattle.wasi_guest.specs.FlagSets.{lookupflag_bits, oflag_bits, fdflag_bits, right_bits};
 ghost use Rattle.wasi_guest.specs.Flags as flag;
 ghost use Rattle.wasi_guest.specs.Flags.{has};
 ghost use Rattle.wasi_p1.specs.RawFlags.{modes_in, open_how, follow_asked};
 ghost use Rattle.wasi_p1.specs.CallParts.{is_failure};
+ghost use Rattle.wasi_p1.specs.ViewFlags.{path_set, open_set, descriptor_set};
+ghost use Rattle.wasi_p2.specs.FlagNames.{path_flags_named};
+ghost use Rattle.wasi_p2.specs.Opens.{how_named};
 
 use crate::context::FileModes;
 use crate::error::P1Error;
 use crate::raw_numbers::INVALID;
 use bitflags::Flags;
-use wasi_fs::{DescriptorFlags, OpenFlags, PathFlags};
 use wasi_guest::{FdFlags, LookupFlags, OFlags, Rights};
+use wasi_p2::types::{DescriptorFlags, OpenFlags, PathFlags};
 
 /// What the flags and rights of `path_open` ask for, as the flags of an open below a directory.
 #[derive(Clone, Copy, Debug, PartialEq, Eq)]
@@ -39,7 +39,7 @@ impl OpenWith {
         inheriting: u64,
         fdflags: u32,
     ) -> Result<OpenWith, P1Error>
-        ensures row { result_map_both (λ with. how_of with.path_flags with.open_flags with.flags) (λ e. e) result
+        ensures row { result_map_both (λ with. how_named with.path_flags with.open_flags with.flags) (λ e. e) result
             ≡ open_how dirflags oflags base inheriting fdflags }
         ensures modes { IfOk result (λ with. with.modes ≡ modes_in fdflags) }
         ensures refusal { IfErr result (λ e. is_failure e ≡ false) }
@@ -61,7 +61,7 @@ impl OpenWith {
 /// How a path is looked up by a raw number. Refusal: Inval where it has a bit that preview1 doesn't know.
 #[tactic(auto, unfolding(crate::specs::RawFlags::follow_asked))]
 pub fn path_flags_of(flags: u32) -> Result<PathFlags, P1Error>
-    ensures row { result_map_both is_followed (λ e. e) result ≡ follow_asked flags }
+    ensures row { result_map_both (λ flags. is_followed (path_flags_named flags)) (λ e. e) result ≡ follow_asked flags }
     ensures refusal { IfErr result (λ e. is_failure e ≡ false) }
 {
     let lookups = LookupFlags::from_bits(flags).ok_or(INVALID)?;
@@ -80,7 +80,8 @@ pub fn file_modes(fdflags: FdFlags) -> FileModes
 
 /// The flag of the same name.
 fn path_flags(lookups: LookupFlags) -> PathFlags
-    ensures follow { is_followed result ≡ has (lookupflag_bits lookups) flag.symlink_follow }
+    ensures bit { includes (path_set result) 1 ≡ has (lookupflag_bits lookups) flag.symlink_follow }
+    ensures follow { is_followed (path_flags_named result) ≡ has (lookupflag_bits lookups) flag.symlink_follow }
 {
     let mut flags = PathFlags::empty();
     flags.set(
@@ -92,12 +93,12 @@ fn path_flags(lookups: LookupFlags) -> PathFlags
 
 /// The flags of the same names.
 fn open_flags(oflags: OFlags) -> OpenFlags
-    ensures create { includes (open_flag_bits result) (open_flag_bits of_open.CREATE) ≡ has (oflag_bits oflags) flag.creat }
-    ensures directory { includes (open_flag_bits result) (open_flag_bits of_open.DIRECTORY)
+    ensures create { includes (open_set result) 1 ≡ has (oflag_bits oflags) flag.creat }
+    ensures directory { includes (open_set result) 2
         ≡ has (oflag_bits oflags) flag.directory }
-    ensures exclusive { includes (open_flag_bits result) (open_flag_bits of_open.EXCLUSIVE)
+    ensures exclusive { includes (open_set result) 4
         ≡ has (oflag_bits oflags) flag.excl }
-    ensures truncate { includes (open_flag_bits result) (open_flag_bits of_open.TRUNCATE)
+    ensures truncate { includes (open_set result) 8
         ≡ has (oflag_bits oflags) flag.trunc }
 {
     let mut flags = OpenFlags::empty();
@@ -110,15 +111,15 @@ fn open_flags(oflags: OFlags) -> OpenFlags
 
 /// The flags that the rights to read and write, and the flags of integrity, ask for.
 fn descriptor_flags(rights: Rights, fdflags: FdFlags) -> DescriptorFlags
-    ensures read { includes (descriptor_flag_bits result) (descriptor_flag_bits of_descriptor.READ)
+    ensures read { includes (descriptor_set result) 1
         ≡ has (right_bits rights) flag.fd_read }
-    ensures write { includes (descriptor_flag_bits result) (descriptor_flag_bits of_descriptor.WRITE)
+    ensures write { includes (descriptor_set result) 2
         ≡ has (right_bits rights) flag.fd_write }
-    ensures sync { includes (descriptor_flag_bits result) (descriptor_flag_bits of_descriptor.FILE_INTEGRITY_SYNC)
+    ensures sync { includes (descriptor_set result) 4
         ≡ has (fdflag_bits fdflags) flag.sync }
-    ensures dsync { includes (descriptor_flag_bits result) (descriptor_flag_bits of_descriptor.DATA_INTEGRITY_SYNC)
+    ensures dsync { includes (descriptor_set result) 8
         ≡ has (fdflag_bits fdflags) flag.dsync }
-    ensures rsync { includes (descriptor_flag_bits result) (descriptor_flag_bits of_descriptor.REQUESTED_WRITE_SYNC)
+    ensures rsync { includes (descriptor_set result) 16
         ≡ has (fdflag_bits fdflags) flag.rsync }
 {
     let mut flags = DescriptorFlags::empty();

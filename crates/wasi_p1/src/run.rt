@@ -290,7 +290,8 @@ pub fn run_calls<H: Host>(
     calls: &Vec<Call>,
 ) -> Result<Answers, RunError>
     ensures size { length memory.new ≡ length memory.old }
-    ensures count { H.faults context.old.host ≤ H.faults context.new.host }
+    ensures count { (H.faults context.old.host).count ≤ (H.faults context.new.host).count }
+    ensures most { (H.faults context.new.host).most ≡ (H.faults context.old.host).most }
     ensures answers { IfOk result (λ a. AnswersEach (map (with_fuel fuel) calls.now.items) a.answers) }
     ensures answered { IfErr result (λ e. answered_in e ≤ length calls.now.items) }
     ensures wanted { IfErr result (λ e. WantedAt context.old context.new memory.old memory.new calls.now.items

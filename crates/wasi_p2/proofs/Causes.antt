@@ -1,6 +1,6 @@
 -- A call is refused `Io` only where the call below it was.
 use Rattle.std.proofs.Common.{◌≡◌, ℕ, Result, Ok, Err, refl, ap}
-use Rattle.wasi_host.specs.Meaning.{HasCause}
+use Rattle.wasi_host.specs.Meaning.{FaultCount, HasCause}
 use Rattle.wasi_host.specs.declared.errors.ErrorCode.{ErrorCode as LowerCode}
 use Rattle.wasi_host.specs.declared.errors.ErrorCode.TheVariants as lower
 use Rattle.wasi_host.specs.declared.errors.HostError.{HostError}
@@ -44,12 +44,13 @@ io_raised (hosts.Code code) is =
     let same : code_named code ≡ Io = cc in ap hosts.Code (io_named code same)
 io_raised hosts.Memory is = absurd (cc)
 
-pub cause_err : {A B : Type 0} {before now : ℕ} (e : HostError) → HasCause {A = A} before now (Err e)
+pub cause_err : {A B : Type 0} {before now : FaultCount} (e : HostError) → HasCause {A = A} before now (Err e)
     → FsCause {A = B} before now (Err (fs_error e))
 cause_err {A} {B} e cause = record {
   later = cause.later;
+  most = cause.most;
   io = λ is. cause.io (let same : fs_error e ≡ Code Io = cc in ap (λ x. let r : Result A HostError = Err x in r) (io_raised e same));
 }
 
-pub cause_ok : {A B : Type 0} {before now : ℕ} {a : A} {b : B} → HasCause before now (Ok a) → FsCause before now (Ok b)
-cause_ok cause = record { later = cause.later; io = λ is. absurd (cc) }
+pub cause_ok : {A B : Type 0} {before now : FaultCount} {a : A} {b : B} → HasCause before now (Ok a) → FsCause before now (Ok b)
+cause_ok cause = record { later = cause.later; most = cause.most; io = λ is. absurd (cc) }

@@ -9,7 +9,7 @@ use Rattle.wasi_host.proofs.Chain.{remove-insert}
 use Rattle.wasi_host.proofs.Tracing.{got_in_more, in_still, traced_given, traced_got_err, traced_kept, traced_none, traced_same, traced_then}
 use Rattle.wasi_host.specs.Lineage.{Traced, Only, OrGot, OrGotIn, Nothing}
 use Rattle.wasi_host.specs.HostCall.{Dup}
-use Rattle.wasi_host.specs.Meaning.{AfterErr, Handles, LiveGot, LoggedGot, MeansErr, Told, World}
+use Rattle.wasi_host.specs.Meaning.{AfterErr, FaultCount, Handles, LiveGot, LoggedGot, MeansErr, Told, World}
 use Rattle.wasi_host.specs.declared.errors.ErrorCode.{ErrorCode as LowerCode}
 use Rattle.wasi_host.specs.declared.errors.ErrorCode.TheVariants as lower
 use Rattle.wasi_host.specs.declared.errors.HostError.{HostError}
@@ -144,8 +144,16 @@ leaves_on first second between = record {
 
 -- ---- causes
 
-rose_on : (m a b c d : ℕ) → a ≤ b → min (b + 1) m ≤ c → d ≡ c → min (a + 1) m ≤ d
-rose_on m a b c d le rose same = omega arith
+-- what a host that went on before has failed since, and then stood still
+failed_on : {A B C : Type 0} {old mid new last : FaultCount} {m : A} {e : FsError} → FsCause {A = A} old mid (Ok m)
+    → FsCause {A = B} mid new (Err e) → last ≡ new → FsCause {A = C} old last (Err e)
+failed_on {B = B} {e = e} one rest same = record {
+  later = rw same (let a = one.later in let b = rest.later in omega arith);
+  most = ap (λ (f : FaultCount). f.most) same ∙ rest.most ∙ one.most;
+  io = λ is.
+      let rose = rest.io (let same : e ≡ Code Io = cc in ap (λ x. let r : Result B FsError = Err x in r) same) in
+      rw same (let a = one.later in omega (arith, rose));
+}
 
 -- ---- why not all
 
@@ -170,7 +178,7 @@ one_more_than told table mid p ps max longer why = elim why [
 pub none_left : {H : Type 0} {host : Ghosts H} {old : H} {table : Table} (ps : List Preopen) → length ps ≡ 0
     → GivesThese host old old table table ps (Ok [])
 none_left {H} {host} {old} {table} [] is = record {
-  cause = record { later = omega arith; io = λ same. absurd (cc) };
+  cause = record { later = omega arith; most = refl; io = λ same. absurd (cc) };
   gives = ((refl, refl), omega arith);
   max = refl;
   looks = traced_none (IsOfThese []) Nothing (IsNewlyLive (host.live old) (host.live old)) _ _ refl
@@ -179,10 +187,11 @@ none_left {H} {host} {old} {table} [] is = record {
 }
 none_left (p ∷ ps) is = absurd (omega arith)
 
-cause_as : {A B : Type 0} {before now : ℕ} {e : FsError} → FsCause {A = A} before now (Err e)
+cause_as : {A B : Type 0} {before now : FaultCount} {e : FsError} → FsCause {A = A} before now (Err e)
     → FsCause {A = B} before now (Err e)
 cause_as {A} {B} {e = e} cause = record {
   later = cause.later;
+  most = cause.most;
   io = λ is. cause.io (let same : e ≡ Code Io = cc in ap (λ x. let r : Result A FsError = Err x in r) same);
 }
 
@@ -204,10 +213,10 @@ first_not {H} {host} {old} {new} {table} {now} {p} {e} ps cause none = record {
 pub rest_not : {H : Type 0} {host : Ghosts H} {old mid new last : H} {table there now end : Table} {p : Preopen}
     {m : PreopenEntry} {e : FsError} (ps : List Preopen)
     → ((q : ℕ) → IsOfThese (p ∷ ps) q → contains (host.live old) q ≡ true)
-    → host.faults old ≤ host.faults mid → GivesOne host old mid table there p m
+    → FsCause {A = PreopenEntry} (host.faults old) (host.faults mid) (Ok m) → GivesOne host old mid table there p m
     → GivesThese host mid new there now ps (Err e) → TakesBack host new last now end m.fd.number
     → GivesThese host old last table end (p ∷ ps) (Err e)
-rest_not {H} {host} {old} {mid} {new} {last} {table} {there} {now} {end} {p} {m} {e} ps lives later one rest back =
+rest_not {H} {host} {old} {mid} {new} {last} {table} {there} {now} {end} {p} {m} {e} ps lives cause one rest back =
     let put : now.entries ≡ insert table.entries m.fd.number (preopen_entry p one.handle) = rest.gives.1 ∙ one.entries in
     let handle_is : entry_handle (get now.entries m.fd.number) ≡ Some one.handle =
     ap (λ (t : Entries). entry_handle (get t m.fd.number)) put
@@ -219,10 +228,7 @@ rest_not {H} {host} {old} {mid} {new} {last} {table} {there} {now} {end} {p} {m}
     let longer : len there.entries ≡ len table.entries + 1 =
     ap len one.entries ∙ one_longer table.entries m.fd.number (preopen_entry p one.handle) one.fresh in
     record {
-      cause = record {
-        later = (let a = rest.cause.later in let b = back.closes.faults in omega arith);
-        io = λ is. rose_on _ _ _ _ _ later (rest.cause.io is) back.closes.faults;
-      };
+      cause = failed_on cause rest.cause back.closes.faults;
       gives = (
         live_is,
         back.entries ∙ ap (λ (t : Entries). remove t m.fd.number) put
@@ -244,9 +250,9 @@ rest_not {H} {host} {old} {mid} {new} {last} {table} {there} {now} {end} {p} {m}
 pub rest_given : {H : Type 0} {host : Ghosts H} {old mid new : H} {table there now : Table} {p : Preopen} {m : PreopenEntry}
     {ms : List PreopenEntry} (ps : List Preopen)
     → ((q : ℕ) → IsOfThese (p ∷ ps) q → contains (host.live old) q ≡ true)
-    → host.faults old ≤ host.faults mid → GivesOne host old mid table there p m
+    → FsCause {A = PreopenEntry} (host.faults old) (host.faults mid) (Ok m) → GivesOne host old mid table there p m
     → GivesThese host mid new there now ps (Ok ms) → GivesThese host old new table now (p ∷ ps) (Ok (m ∷ ms))
-rest_given {H} {host} {old} {mid} {new} {table} {there} {now} {p} {m} {ms} ps lives later one rest =
+rest_given {H} {host} {old} {mid} {new} {table} {there} {now} {p} {m} {ms} ps lives cause one rest =
     let on : (q : ℕ) → contains (host.live mid) q ≡ true → contains (host.live new) q ≡ true =
     grown host.told (host.world new) (host.live mid) there.entries ps ms (host.live new) now.entries rest.gives.0 in
     let p_mid : contains (host.live mid) p.dir.dir ≡ true =
@@ -257,7 +263,11 @@ rest_given {H} {host} {old} {mid} {new} {table} {there} {now} {p} {m} {ms} ps li
     (host.live new) now.entries = subst (λ (s : Handles). GivesEach host.told (host.world new) s there.entries ps ms
     (host.live new) now.entries) one.live rest.gives.0 in
     record {
-      cause = record { later = (let a = rest.cause.later in omega arith); io = λ is. absurd (cc) };
+      cause = record {
+        later = (let a = cause.later in let b = rest.cause.later in omega arith);
+        most = rest.cause.most ∙ cause.most;
+        io = λ is. absurd (cc);
+      };
       gives = (
         (
           one.handle,

@@ -57,7 +57,7 @@ pub no_room_made : {H X M : Type 0} {host : Ghosts H} {ctx : WasiFilesystemCtx H
     → MakesEntry host (files_of ctx table) (files_of ctx now) fd found entry Did (Err e)
 no_room_made {X = X} {M} {host} {ctx} {table} {now} {fd} {found} {x} {entry} {Did} {e} is owned keeps none = record {
   ctx = refl;
-  cause = record { later = omega arith; io = λ same. absurd (elim none [ inl full ↦ (let f = full.0 in cc) | inr memory ↦ (let f = memory.0 in cc) ]) };
+  cause = record { later = omega arith; most = refl; io = λ same. absurd (elim none [ inl full ↦ (let f = full.0 in cc) | inr memory ↦ (let f = memory.0 in cc) ]) };
   adds = (refl, keeps.entries);
   room = (keeps.max, keeps.grows);
   owned = subst (λ (t : Entries). AreOwned (host.live ctx.host) ctx.preopens.items t) (sym keeps.entries) owned;

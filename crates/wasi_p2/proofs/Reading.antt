@@ -1,7 +1,7 @@
 -- The exits of the call that reads a file's bytes.
 use Rattle.std.proofs.Common.{◌≡◌, ℕ, Bool, List, Result, Ok, Err, refl, ap, inr}
 use Rattle.wasi_host.specs.declared.errors.ErrorCode.{ErrorCode as LowerCode}
-use Rattle.wasi_host.specs.Meaning.{HasCause, hosted}
+use Rattle.wasi_host.specs.Meaning.{FaultCount, HasCause, hosted}
 use Rattle.wasi_host.specs.declared.host.Host.{Ghosts}
 use Rattle.wasi_fs.specs.declared.descriptor.File.{File}
 use Rattle.wasi_streams.specs.Input.{ReadReply}
@@ -18,12 +18,13 @@ use Rattle.wasi_p2.specs.declared.read_result.ReadResult.{ReadResult}
 use Rattle.wasi_p2.specs.declared.types.error_code.ErrorCode.TheVariants.{Io}
 use Rattle.wasi_p2.proofs.Causes.{io_named}
 
-cause_read : {before now : ℕ} (reply : ReadReply) (result : Result ReadResult FsError) → HasCause before now (hosted reply)
+cause_read : {before now : FaultCount} (reply : ReadReply) (result : Result ReadResult FsError) → HasCause before now (hosted reply)
     → read_shown result ≡ read_answer reply → FsCause before now result
-cause_read reply (Ok r) cause shown = record { later = cause.later; io = λ is. absurd (cc) }
+cause_read reply (Ok r) cause shown = record { later = cause.later; most = cause.most; io = λ is. absurd (cc) }
 cause_read (Ok bytes) (Err e) cause shown = absurd (cc)
 cause_read (Err code) (Err e) cause shown = record {
   later = cause.later;
+  most = cause.most;
   io = λ is.
       let same : code_named code ≡ Io = cc in
       cause.io (ap (λ (c : LowerCode). let r : ReadReply = Err c in hosted r) (io_named code same));

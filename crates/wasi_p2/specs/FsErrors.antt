@@ -1,6 +1,6 @@
 -- The refusals of the crates below as those of a view's calls.
 use Rattle.std.specs.Prelude.{◌≡◌, ◌≤◌, ℕ, Option, Some, None, Result, Ok, Err}
-use Rattle.wasi_host.specs.Meaning.{Rose}
+use Rattle.wasi_host.specs.Meaning.{Rose, FaultCount}
 use Rattle.wasi_host.specs.declared.errors.HostError.{HostError}
 use Rattle.wasi_host.specs.declared.errors.HostError.TheVariants as hosts
 use Rattle.wasi_streams.specs.declared.errors.TableError.{TableError}
@@ -30,9 +30,10 @@ abbrev pub raised : {A B : Type 0} → (A → B) → Result A HostError → Resu
 raised shown (Ok a) = Ok (shown a)
 raised shown (Err e) = Err (fs_error e)
 
--- the count of faults never falls, and `Io` comes only where it rose
-pub record FsCause {A : Type 0} (before now : ℕ) (result : Result A FsError) : Type 0 where
-  pub later : before ≤ now
+-- the count of faults never falls, what it is at most stays, and `Io` comes only where it rose
+pub record FsCause {A : Type 0} (before now : FaultCount) (result : Result A FsError) : Type 0 where
+  pub later : before.count ≤ now.count
+  pub most : now.most ≡ before.most
   pub io : result ≡ Err (Code Io) → Rose before now
 
 -- the code of a refusal, or the refusal where it has none

@@ -13,6 +13,7 @@ use Rattle.std.proofs.lemmas.Map.Views.{Contains-from_any}
 use Rattle.wasi_host.specs.Tree.{Nodes}
 use Rattle.wasi_tree.specs.Given.{tree_of}
 use Rattle.wasi_faults.specs.Faults.{Calls, Failing, counted}
+use Rattle.wasi_host.specs.Meaning.{FaultCount, never_fails}
 use Rattle.wasi_faults.specs.declared.fault.Fault.{Fault}
 use Rattle.wasi_faults.proofs.Rising.{counts_few}
 use Rattle.wasi_tree.specs.MemState.{MemState}
@@ -58,17 +59,20 @@ run_more (call ∷ calls) (t ∷ turns) j k old new fits (i, before, is, spends,
     by more (inr (faulted, same)) =
         (k - 1, before, is, inr (faulted, omega (arith, same)), later (k - 1) (more (k - 1) (omega (arith, same))) (ends t.answer) rest)
 
--- a count that rose by so much at most, and isn't at its end, allows no more
-allows_few : (before now most k : ℕ) → now ≤ before + most → now < 2 ^ 64 - 1 → Allows before now k → k ≤ most
+-- a count that stands below its end, and at so much at most, allows no more
+allows_few : (before now : FaultCount) (most k : ℕ) → now.count ≤ most → most < 2 ^ 63 → Allows before now k → k ≤ most
 allows_few before now most k little below (inl fits) = omega arith
 allows_few before now most k little below (inr full) = absurd (omega arith)
 
--- so of calls that fail as they are listed, from the first one on
-pub few_listed : {faults : List Fault} (before now : Calls) → before ≡ record { faults = faults; calls = 0 } → (k : ℕ)
-    → Allows (counted 0 before) (counted 0 now) k → k ≤ length faults
-few_listed {faults} before now begins k allows =
-    let few = counts_few before now in
-    subst (λ (s : Calls). k ≤ length s.faults) begins (allows_few (counted 0 before) (counted 0 now) (length before.faults) k few.few few.goes_on allows)
+-- so of calls that fail as they are listed
+pub few_listed : {faults : List Fault} (before now : Calls) → before ≡ record { faults = faults; calls = 0 }
+    → (counted never_fails now).most ≡ (counted never_fails before).most → length faults < 2 ^ 63 → (k : ℕ)
+    → Allows (counted never_fails before) (counted never_fails now) k → k ≤ length faults
+few_listed {faults} before now begins most fits k allows =
+    let listed : length before.faults ≡ length faults = ap (λ (s : Calls). length s.faults) begins in
+    let same : length now.faults ≡ length faults = omega (arith, most, listed) in
+    allows_few (counted never_fails before) (counted never_fails now) (length faults) k
+    (let few = (counts_few now).few in omega (arith, same)) fits allows
 
 pub begun_at : {context : View (Failing MemState)} {memory : List ℕ} (plan : Plan)
     → IsBegun world_behind context (tree_of plan.nodes plan.limits) plan.preopens plan.services plan.table
@@ -76,7 +80,7 @@ pub begun_at : {context : View (Failing MemState)} {memory : List ℕ} (plan : P
 begun_at {memory} plan is memory-is = is.state memory ∙ (rw memory-is refl)
 
 -- a run of a plan's calls from its start, over a host that fails at most as often as the plan lists faults
-pub has_run : {plan : Plan} {first last : State} {answers : List Answer} {touched : Nodes} (before now : ℕ)
+pub has_run : {plan : Plan} {first last : State} {answers : List Answer} {touched : Nodes} (before now : FaultCount)
     → ((k : ℕ) → Allows before now k → k ≤ length plan.faults) → first ≡ start plan
     → DidRun before now first (fueled_calls plan) answers last touched → Allows before now (ios answers)
     → Confined first last touched → HasRun plan last answers touched

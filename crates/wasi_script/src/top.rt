@@ -2,7 +2,7 @@
 ghost use Rattle.std.specs.Prelude.{◌≡◌, ◌≢◌, ◌<◌, ◌≤◌, ◌⊎◌, ℕ, true, map, IsTrue, Err, IfOk, IfErr};
 ghost use Rattle.std.specs.String.{string_bytes};
 ghost use Rattle.wasi_faults.specs.Faults.{numbers_rise};
-ghost use Rattle.wasi_host.specs.Meaning.{Rose};
+ghost use Rattle.wasi_host.specs.Meaning.{Risen};
 ghost use Rattle.wasi_form.specs.Plan.{plan};
 ghost use Rattle.wasi_form.specs.Within.{is_within_limits};
 ghost use Rattle.wasi_script.specs.Headline.{Reports};
@@ -36,7 +36,7 @@ fn refusal_line(refusal: Refusal) -> &'static str
 // The script that the source has left; or how the program ends without one.
 fn read_from<S: Source>(alloc: Global, source: &mut S) -> Result<Script, Status>
     ensures count { S.faults source.old ≤ S.faults source.new }
-    ensures cause { result ≡ Err Status.ReadFault → Rose (S.faults source.old) (S.faults source.new) }
+    ensures cause { result ≡ Err Status.ReadFault → Risen (S.faults source.old) (S.faults source.new) }
     ensures ends { IfErr result EndsReading }
     ensures within { IfOk result (λ script. is_within_limits (plan script) ≡ true) }
     ensures rising { IfOk result (λ script. IsTrue (numbers_rise script.faults.items)) }
@@ -68,7 +68,7 @@ fn report_of(alloc: Global, script: Script) -> Result<Vec<u8>, AllocError>
 
 fn written<K: Sink>(sink: &mut K, text: &[u8], status: Status) -> Status
     ensures count { K.faults sink.old ≤ K.faults sink.new }
-    ensures written { Written (IsTrue K.told) (Rose (K.faults sink.old) (K.faults sink.new))
+    ensures written { Written (IsTrue K.told) (Risen (K.faults sink.old) (K.faults sink.new))
         (K.taken sink.old) (K.taken sink.new) text.now status result }
 {
     if write_all(sink, text) {
@@ -82,8 +82,8 @@ fn written<K: Sink>(sink: &mut K, text: &[u8], status: Status) -> Status
 fn run_source<S: Source, K: Sink>(alloc: Global, source: &mut S, sink: &mut K) -> Status
     ensures source_count { S.faults source.old ≤ S.faults source.new }
     ensures sink_count { K.faults sink.old ≤ K.faults sink.new }
-    ensures read_fault { result ≡ Status.ReadFault → Rose (S.faults source.old) (S.faults source.new) }
-    ensures write_fault { result ≡ Status.WriteFault → Rose (K.faults sink.old) (K.faults sink.new) }
+    ensures read_fault { result ≡ Status.ReadFault → Risen (S.faults source.old) (S.faults source.new) }
+    ensures write_fault { result ≡ Status.WriteFault → Risen (K.faults sink.old) (K.faults sink.new) }
     ensures usage { result ≢ Status.Usage }
     ensures exact { IsTrue S.told → OfDue result Task.Run (S.left source.old) (IsDue result) }
     ensures left { IsTrue S.told → LeavesBytes result (S.left source.old) (S.left source.new) }
@@ -115,7 +115,7 @@ fn run_generated<K: Sink>(alloc: Global, n: u64, sink: &mut K) -> Status
     requires some { 1 ≤ n }
     requires few { n < 10000 }
     ensures sink_count { K.faults sink.old ≤ K.faults sink.new }
-    ensures write_fault { result ≡ Status.WriteFault → Rose (K.faults sink.old) (K.faults sink.new) }
+    ensures write_fault { result ≡ Status.WriteFault → Risen (K.faults sink.old) (K.faults sink.new) }
     ensures ends { EndsGenerated result }
     ensures writes { IsTrue K.told → Writes result (the_line n) (K.taken sink.old) (K.taken sink.new) }
 {
@@ -142,8 +142,8 @@ pub fn run_script<S: Source, K: Sink>(
     ensures source_count { S.faults source.old ≤ S.faults source.new }
     ensures sink_count { K.faults sink.old ≤ K.faults sink.new }
     ensures read_fault { result ≡ Status.ReadFault
-        → (task_of (map string_bytes words.now.items) ≡ Task.Run) × Rose (S.faults source.old) (S.faults source.new) }
-    ensures write_fault { result ≡ Status.WriteFault → Rose (K.faults sink.old) (K.faults sink.new) }
+        → (task_of (map string_bytes words.now.items) ≡ Task.Run) × Risen (S.faults source.old) (S.faults source.new) }
+    ensures write_fault { result ≡ Status.WriteFault → Risen (K.faults sink.old) (K.faults sink.new) }
     ensures usage { result ≡ Status.Usage → task_of (map string_bytes words.now.items) ≡ Task.Usage }
     ensures other_words { task_of (map string_bytes words.now.items) ≡ Task.Usage
         → ((result ≡ Status.Usage) ⊎ (result ≡ Status.WriteFault)) × (source.new ≡ source.old) }

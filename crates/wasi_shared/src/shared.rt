@@ -1,6 +1,7 @@
 //! A tree that others change.
 ghost use Rattle.std.specs.Prelude.{◌≡◌, ℕ, ◌+◌, ◌-◌, ◌^◌, ◌<◌, ◌≤◌, min, true, false, All};
 ghost use Rattle.wasi_host.specs.Fates.{Follow};
+ghost use Rattle.wasi_host.specs.Meaning.{never_fails};
 ghost use Rattle.wasi_host.specs.declared.fate.Fate.TheVariants.{Passes};
 ghost use Rattle.wasi_tree.specs.MemState.{live_of, world_of};
 ghost use Rattle.wasi_shared.specs.declared.change.Change.{Change};
@@ -111,7 +112,7 @@ fn drop_due(changes: &mut VecDeque<Change>, number: u64)
 
 #[tactic(auto, using(crate::proofs::Finding::shared_rules))]
 impl Host for Shared {
-    ghost faults = { λ _. 0 };
+    ghost faults = { λ _. never_fails };
 
     ghost live = { λ s. live_of s.inner.handles };
 

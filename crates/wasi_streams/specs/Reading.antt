@@ -2,7 +2,7 @@
 use Rattle.std.specs.Prelude.{◌≡◌, ◌⊎◌, ℕ, ◌^◌, ◌<◌, ◌≤◌, min, Bool, IsTrue, List, length, Result, Ok, Err, IfOk, OnOk}
 use Rattle.std.specs.declared.alloc.AllocError.{AllocError}
 use Rattle.wasi_host.specs.HostCall.{Pread}
-use Rattle.wasi_host.specs.Meaning.{World, Handles, HasCause, Told, hosted}
+use Rattle.wasi_host.specs.Meaning.{World, Handles, HasCause, Told, hosted, FaultCount}
 use Rattle.wasi_host.specs.declared.lookup.Lookup.{Lookup}
 use Rattle.wasi_streams.specs.Input.{ReadReply, InputRow, known, read_then, InputAnswer}
 use Rattle.wasi_streams.specs.declared.input.ReadState.{ReadState}
@@ -11,12 +11,12 @@ use Rattle.wasi_streams.specs.declared.errors.StreamError.TheVariants.{Memory}
 
 -- what a host says of itself: its count of faults, its live handles, its look-ups, and its world
 pub record HostSeen : Type 0 where
-  pub faults : ℕ
+  pub faults : FaultCount
   pub live : Handles
   pub lookups : List Lookup
   pub world : World
 
-abbrev pub host_seen : {H : Type 0} → (H → ℕ) → (H → Handles) → (H → List Lookup) → (H → World) → H → HostSeen
+abbrev pub host_seen : {H : Type 0} → (H → FaultCount) → (H → Handles) → (H → List Lookup) → (H → World) → H → HostSeen
 host_seen faults live lookups world host =
     record { faults = faults host; live = live host; lookups = lookups host; world = world host }
 

@@ -8,7 +8,7 @@ use Rattle.wasi_host.specs.HostCall.{HostCall, OpenAt, StatAt, ReadLinkAt, MakeD
 use Rattle.wasi_host.specs.Refusal.{refusal, first_row, naming_rows, loop_rows, moving_rows, renaming_rows}
 use Rattle.wasi_host.specs.Answer.{HostAnswer}
 use Rattle.wasi_host.specs.Fates.{Fated}
-use Rattle.wasi_host.specs.Meaning.{AllHeld, IsHeld, HasCause}
+use Rattle.wasi_host.specs.Meaning.{AllHeld, IsHeld, HasCause, never_fails}
 use Rattle.wasi_host.specs.declared.errors.ErrorCode.TheVariants.{Io}
 use Rattle.wasi_host.specs.declared.errors.HostError.{HostError}
 use Rattle.wasi_host.specs.declared.errors.HostError.TheVariants.{Code, Memory}
@@ -106,11 +106,11 @@ never_io t (ListDir held) io = grind (arith)
 never_io t (Dup held) io = grind (arith)
 never_io t Close io = grind (arith)
 
-no_fault : {A : Type 0} (result : Result A HostError) → result ≢ Err (Code Io) → HasCause 0 0 result
-no_fault result never = record { later = omega arith; io = λ is. absurd (never is) }
+no_fault : {A : Type 0} (result : Result A HostError) → result ≢ Err (Code Io) → HasCause never_fails never_fails result
+no_fault result never = record { later = omega arith; most = refl; io = λ is. absurd (never is) }
 
 pub cause_of : {A : Type 0} {s u : Touched} (call : HostCall) (error : HostError) → RefusedByTable s u call error
-    → HasCause {A = A} 0 0 (Err error)
+    → HasCause {A = A} never_fails never_fails (Err error)
 cause_of call Memory is = no_fault (Err Memory) (λ io. (cc))
 cause_of {s = s} call (Code code) is =
     no_fault (Err (Code code)) (λ io.
@@ -118,12 +118,12 @@ cause_of {s = s} call (Code code) is =
     never_io s.tree call (refusal_of s.tree call (is.meant ∙ ap Err same)))
 
 pub cause_done : {A : Type 0} (s u : Touched) (call : HostCall) (shown : A → HostAnswer call)
-    (result : Result A HostError) → FollowsTable s u call shown result → HasCause 0 0 result
+    (result : Result A HostError) → FollowsTable s u call shown result → HasCause never_fails never_fails result
 cause_done s u call shown (Ok a) is = no_fault (Ok a) (λ io. (cc))
 cause_done s u call shown (Err error) is = cause_of call error is
 
 -- a host that has no faults tells that its calls pass
-pub fated : {A : Type 0} (result : Result A HostError) → HasCause 0 0 result
+pub fated : {A : Type 0} (result : Result A HostError) → HasCause never_fails never_fails result
     → Fated (λ _. Passes) (λ _. Passes) result
 fated (Ok a) cause = record { failed = refl; later = λ n. refl }
 fated (Err Memory) cause = record { failed = refl; later = λ n. refl }

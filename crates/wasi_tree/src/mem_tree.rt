@@ -6,7 +6,7 @@ ghost use Rattle.std.specs.FinSet.{contains, insert, empty, from_list};
 ghost use Rattle.wasi_host.specs.Tree.{next_of, node_at, is_directory};
 ghost use Rattle.wasi_tree.specs.Given.{given, given_of, tree_of};
 ghost use Rattle.wasi_host.specs.declared.fate.Fate.TheVariants.{Passes};
-ghost use Rattle.wasi_host.specs.Meaning.{both_looked};
+ghost use Rattle.wasi_host.specs.Meaning.{both_looked, never_fails};
 ghost use Rattle.wasi_host.specs.ValidTree.{AreLimits};
 ghost use Rattle.wasi_tree.specs.Fit.{AreFit, IsTreeCause};
 ghost use Rattle.wasi_tree.specs.Changed.{changed};
@@ -160,7 +160,7 @@ impl MemTree {
 
 #[tactic(auto, using(crate::proofs::MemLemmas::mem_rules))]
 impl Host for MemTree {
-    ghost faults = { λ _. 0 };
+    ghost faults = { λ _. never_fails };
 
     ghost live = { λ m. live_of m.handles };
 

@@ -379,7 +379,7 @@ fn add_entry(names: &mut Rows, directory: u64, entry: NewEntry) -> Result<(), Al
     ensures others { OtherNamesStay directory names.old.names names.new.names }
 {
     let NewEntry { name, node } = entry;
-    if names.find(directory, name.as_str()).is_some() {
+    if names.has(directory, name.as_str()) {
         return Ok(());
     }
     names.reserve()?;

@@ -28,7 +28,7 @@ use wasi_host::{
     Bits, DirEntry, ErrorCode, FILE_MAX, FileType, Held, HostError, LINK_MAX, Limits, Metadata,
     OpenOptions, SystemTime,
 };
-use wasi_names::Rows;
+use wasi_names::{Near, Rows};
 use wasi_paths::Name;
 
 /// The nodes of a tree, with the names of its directories, its limits and the nodes that steps have worked on. Contracts
@@ -179,8 +179,8 @@ impl Store {
         self.names.is_empty(directory)
     }
 
-    /// The node that a name holds in a directory.
-    pub fn child(&self, directory: u64, name: Name<'_>) -> Option<u64>
+    /// The node that a name holds in a directory. It is looked for near where a name was found last, before all else.
+    pub fn child(&self, near: &mut Near, directory: u64, name: Name<'_>) -> Option<u64>
         requires { directory < next_of self.now }
         ensures found { result ≡ child self.now directory (name_bytes name.entry) }
         ensures below { IfSome result (λ n. n < next_of self.now) }
@@ -191,7 +191,7 @@ impl Store {
         if !self.is_directory(directory) {
             return None;
         }
-        self.names.find(directory, name.as_str())
+        self.names.find(near, directory, name.as_str())
     }
 
     /// What is wrong with a name in a directory.

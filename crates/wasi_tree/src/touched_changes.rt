@@ -43,7 +43,8 @@ impl TouchedTree {
             return None;
         }
         let name = Name::plain(name)?;
-        let found = self.store.child(directory, name);
+        let mut near = self.near;
+        let found = self.store.child(&mut near, directory, name);
         Some(Looked {
             directory,
             name,

@@ -31,6 +31,7 @@ use std::marker::Model;
 use wasi_host::{
     Advice, DirEntry, ErrorCode, Held, HostError, Metadata, OpenOptions, SyncFlags, SystemTime,
 };
+use wasi_names::Near;
 use wasi_paths::Name;
 
 /// A tree with the parents of its directories, and which of its nodes calls have touched. Contracts see the tree and the
@@ -40,6 +41,8 @@ pub struct TouchedTree {
     pub(crate) store: Store,
     pub(crate) parents: Parents,
     pub(crate) touched: Marks,
+    /// Where a name was found last.
+    pub(crate) near: Near,
 }
 
 impl Model for TouchedTree {
@@ -69,6 +72,7 @@ impl TouchedTree {
             store,
             parents,
             touched,
+            near: Near::first(),
         })
     }
 
@@ -99,7 +103,13 @@ impl TouchedTree {
         ensures held { IfOk result (IsHeld self.new.tree) }
         ensures stays { NodesStay self.old.tree self.new.tree }
     {
-        let looked = find(&self.store, &mut self.touched, directory, name);
+        let looked = find(
+            &self.store,
+            &mut self.touched,
+            &mut self.near,
+            directory,
+            name,
+        );
         if let Some(code) = self.store.refuse_open(&looked, options) {
             return Err(HostError::Code(code));
         }
@@ -125,7 +135,13 @@ impl TouchedTree {
         ensures times { IfOk result HasTimes }
         ensures tree { self.new.tree ≡ self.old.tree }
     {
-        let looked = find(&self.store, &mut self.touched, directory, name);
+        let looked = find(
+            &self.store,
+            &mut self.touched,
+            &mut self.near,
+            directory,
+            name,
+        );
         self.store.stat_at(&looked)
     }
 
@@ -142,7 +158,13 @@ impl TouchedTree {
         ensures text { IfOk result (λ text. IsSoundText (string_bytes text)) }
         ensures tree { self.new.tree ≡ self.old.tree }
     {
-        let looked = find(&self.store, &mut self.touched, directory, name);
+        let looked = find(
+            &self.store,
+            &mut self.touched,
+            &mut self.near,
+            directory,
+            name,
+        );
         let text = self.store.read_link_at(&looked)?;
         Ok(String::from_str(alloc, text)?)
     }
@@ -153,7 +175,13 @@ impl TouchedTree {
         ensures does { FollowsTable self.old self.new (MakeDirAt directory (name_bytes name.entry)) (λ unit. unit) result }
         ensures stays { NodesStay self.old.tree self.new.tree }
     {
-        let looked = find(&self.store, &mut self.touched, directory, name);
+        let looked = find(
+            &self.store,
+            &mut self.touched,
+            &mut self.near,
+            directory,
+            name,
+        );
         if let Some(code) = self.store.refuse_make_dir(&looked) {
             return Err(HostError::Code(code));
         }
@@ -173,7 +201,13 @@ impl TouchedTree {
             (λ unit. unit) result }
         ensures stays { NodesStay self.old.tree self.new.tree }
     {
-        let looked = find(&self.store, &mut self.touched, directory, name);
+        let looked = find(
+            &self.store,
+            &mut self.touched,
+            &mut self.near,
+            directory,
+            name,
+        );
         if let Some(code) = self.store.refuse_symlink(target, &looked) {
             return Err(HostError::Code(code));
         }
@@ -217,8 +251,20 @@ impl TouchedTree {
             (λ unit. unit) result }
         ensures stays { NodesStay self.old.tree self.new.tree }
     {
-        let from = find(&self.store, &mut self.touched, old, old_name);
-        let to = find(&self.store, &mut self.touched, new, new_name);
+        let from = find(
+            &self.store,
+            &mut self.touched,
+            &mut self.near,
+            old,
+            old_name,
+        );
+        let to = find(
+            &self.store,
+            &mut self.touched,
+            &mut self.near,
+            new,
+            new_name,
+        );
         let node = self.store.node_to_link(&from, &to)?;
         self.store.add_link(new, new_name, node)?;
         Ok(())
@@ -240,8 +286,20 @@ impl TouchedTree {
             (λ unit. unit) result }
         ensures stays { NodesStay self.old.tree self.new.tree }
     {
-        let from = find(&self.store, &mut self.touched, old, old_name);
-        let to = find(&self.store, &mut self.touched, new, new_name);
+        let from = find(
+            &self.store,
+            &mut self.touched,
+            &mut self.near,
+            old,
+            old_name,
+        );
+        let to = find(
+            &self.store,
+            &mut self.touched,
+            &mut self.near,
+            new,
+            new_name,
+        );
         let Some(node) = self.node_to_move(&from, &to, requires_dir)? else {
             return Ok(());
         };
@@ -314,7 +372,13 @@ impl TouchedTree {
             (λ unit. unit) (hosted result) }
         ensures stays { NodesStay self.old.tree self.new.tree }
     {
-        let looked = find(&self.store, &mut self.touched, directory, name);
+        let looked = find(
+            &self.store,
+            &mut self.touched,
+            &mut self.near,
+            directory,
+            name,
+        );
         self.store.unlink_at(&looked)
     }
 
@@ -325,7 +389,13 @@ impl TouchedTree {
             (λ unit. unit) (hosted result) }
         ensures stays { NodesStay self.old.tree self.new.tree }
     {
-        let looked = find(&self.store, &mut self.touched, directory, name);
+        let looked = find(
+            &self.store,
+            &mut self.touched,
+            &mut self.near,
+            directory,
+            name,
+        );
         let node = self.store.remove_dir_at(&looked)?;
         self.parents.set(node, None);
         Ok(())
@@ -344,7 +414,13 @@ impl TouchedTree {
             (λ unit. unit) (hosted result) }
         ensures stays { NodesStay self.old.tree self.new.tree }
     {
-        let looked = find(&self.store, &mut self.touched, directory, name);
+        let looked = find(
+            &self.store,
+            &mut self.touched,
+            &mut self.near,
+            directory,
+            name,
+        );
         self.store.times_at(&looked, atime, mtime)
     }
 
@@ -486,7 +562,13 @@ fn holds_node(held: Option<u64>, node: u64) -> bool
 }
 
 /// Looks up a name in a directory. The directory is touched, and so is the node that the name holds.
-fn find<'n>(store: &Store, touched: &mut Marks, directory: u64, name: Name<'n>) -> Looked<'n>
+fn find<'n>(
+    store: &Store,
+    touched: &mut Marks,
+    near: &mut Near,
+    directory: u64,
+    name: Name<'n>,
+) -> Looked<'n>
     requires counted { touched.old.count ≡ next_of store.now }
     requires within { directory < next_of store.now }
     ensures looked { result ≡ looked_at store.now directory name.entry }
@@ -495,7 +577,7 @@ fn find<'n>(store: &Store, touched: &mut Marks, directory: u64, name: Name<'n>) 
     ensures nodes { touched.new.nodes
         ≡ with_nodes touched.old.nodes (found_under store.now directory (name_bytes name.entry)) }
 {
-    let found = store.child(directory, name);
+    let found = store.child(near, directory, name);
     touched.mark_found(directory, found);
     Looked {
         directory,

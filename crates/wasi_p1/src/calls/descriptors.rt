@@ -23,8 +23,8 @@ impl<H: Host> WasiP1Ctx<H> {
         ensures bounds { StaysInBounds H.Host self.old self.new memory.old (FdClose fd) result }
         ensures turn { DoesItsRow H.Host self.old self.new memory.old memory.new (FdClose fd) result }
     {
-        let slot = live_at(&self.host, &self.descriptors, fd)?;
-        close_slot(&mut self.host, &mut self.descriptors, fd, slot);
+        let slot = live_at(&self.fs.host, &self.descriptors, fd)?;
+        close_slot(&mut self.fs, &mut self.descriptors, fd, slot);
         Ok(Value::Unit)
     }
 
@@ -38,18 +38,18 @@ impl<H: Host> WasiP1Ctx<H> {
         ensures bounds { StaysInBounds H.Host self.old self.new memory.old (FdFdstatGet fd) result }
         ensures turn { DoesItsRow H.Host self.old self.new memory.old memory.new (FdFdstatGet fd) result }
     {
-        let slot = live_at(&self.host, &self.descriptors, fd)?;
+        let slot = live_at(&self.fs.host, &self.descriptors, fd)?;
         match slot {
             Slot::Stream(stream) => Ok(Value::Fdstat(stream_fdstat(stream))),
             Slot::Directory(DirectorySlot { dir, preopen }) => {
                 if preopen.is_some() {
                     return Ok(Value::Fdstat(preopen_fdstat()));
                 }
-                let fdstat = dir_fdstat(&mut self.host, dir)?;
+                let fdstat = dir_fdstat(&mut self.fs, &mut self.descriptors, fd, dir)?;
                 Ok(Value::Fdstat(fdstat))
             }
             Slot::File(file) => {
-                let fdstat = open_file_fdstat(&mut self.host, file)?;
+                let fdstat = open_file_fdstat(&mut self.fs, &mut self.descriptors, fd, file)?;
                 Ok(Value::Fdstat(fdstat))
             }
             Slot::Closed => Err(P1Error::Errno(Errno::Badf)),
@@ -71,7 +71,7 @@ impl<H: Host> WasiP1Ctx<H> {
     {
         let fdflags = fdflags_of(flags)?;
         let FileSlot { file, position, .. } = file_at(
-            &self.host,
+            &self.fs.host,
             &self.descriptors,
             fd,
             FileUse::Itself,
@@ -106,7 +106,7 @@ impl<H: Host> WasiP1Ctx<H> {
     {
         rights_of(base)?;
         rights_of(inheriting)?;
-        descriptor_at(&self.host, &self.descriptors, fd)?;
+        descriptor_at(&self.fs.host, &self.descriptors, fd)?;
         Err(P1Error::Errno(Errno::Notsup))
     }
 
@@ -118,15 +118,17 @@ impl<H: Host> WasiP1Ctx<H> {
         ensures bounds { StaysInBounds H.Host self.old self.new memory.old (FdFilestatGet fd) result }
         ensures turn { DoesItsRow H.Host self.old self.new memory.old memory.new (FdFilestatGet fd) result }
     {
-        let slot = live_at(&self.host, &self.descriptors, fd)?;
+        let slot = live_at(&self.fs.host, &self.descriptors, fd)?;
         match slot {
             Slot::Stream(_) => Ok(Value::Filestat(stream_filestat())),
             Slot::Directory(DirectorySlot { dir, .. }) => {
-                let filestat = node_filestat(&mut self.host, Descriptor::Dir(dir))?;
+                let dir = Descriptor::Dir(dir);
+                let filestat = node_filestat(&mut self.fs, &mut self.descriptors, fd, &dir)?;
                 Ok(Value::Filestat(filestat))
             }
             Slot::File(FileSlot { file, .. }) => {
-                let filestat = node_filestat(&mut self.host, Descriptor::File(file))?;
+                let file = Descriptor::File(file);
+                let filestat = node_filestat(&mut self.fs, &mut self.descriptors, fd, &file)?;
                 Ok(Value::Filestat(filestat))
             }
             Slot::Closed => Err(P1Error::Errno(Errno::Badf)),
@@ -141,7 +143,7 @@ impl<H: Host> WasiP1Ctx<H> {
         ensures turn { DoesItsRow H.Host self.old self.new memory.old memory.new (FdPrestatGet fd) result }
     {
         let name = preopen_at(
-            &self.host,
+            &self.fs.host,
             &self.descriptors,
             &self.holdings,
             fd,
@@ -165,9 +167,9 @@ impl<H: Host> WasiP1Ctx<H> {
         ensures turn { DoesItsRow H.Host self.old self.new memory.old memory.new (FdPrestatDirName fd path path_len)
             result }
     {
-        live_at(&self.host, &self.descriptors, fd)?;
+        live_at(&self.fs.host, &self.descriptors, fd)?;
         let name = preopen_at(
-            &self.host,
+            &self.fs.host,
             &self.descriptors,
             &self.holdings,
             fd,
@@ -184,9 +186,9 @@ impl<H: Host> WasiP1Ctx<H> {
         ensures bounds { StaysInBounds H.Host self.old self.new memory.old (FdRenumber from to) result }
         ensures turn { DoesItsRow H.Host self.old self.new memory.old memory.new (FdRenumber from to) result }
     {
-        live_at(&self.host, &self.descriptors, from)?;
-        let slot = live_at(&self.host, &self.descriptors, to)?;
-        renumber_slot(&mut self.host, &mut self.descriptors, from, to, slot);
+        live_at(&self.fs.host, &self.descriptors, from)?;
+        let slot = live_at(&self.fs.host, &self.descriptors, to)?;
+        renumber_slot(&mut self.fs, &mut self.descriptors, from, to, slot);
         Ok(Value::Unit)
     }
 }

@@ -34,9 +34,9 @@ impl<H: Host> WasiP1Ctx<H> {
         ensures turn { DoesItsRow H.Host self.old self.new memory.old memory.new (FdReaddir fd buf buf_len cookie)
             result }
     {
-        let dir = start_at(&self.host, &self.descriptors, fd)?;
-        room_at(&self.host, &self.descriptors, 1)?;
-        let entries = listing_of(self.alloc, &mut self.host, &dir)?;
+        let dir = start_at(&self.fs.host, &self.descriptors, fd)?;
+        room_at(&self.fs.host, &self.descriptors, 1)?;
+        let entries = listing_of(self.fs.alloc, &mut self.fs.host, &dir)?;
         let count = write_page(memory, buf, buf_len, cookie, entries.as_slice())?;
         Ok(Value::Number(count as u64))
     }

@@ -51,16 +51,9 @@ impl<H: Host> WasiP1Ctx<H> {
     {
         let with = OpenWith::of(dirflags, oflags, base, inheriting, fdflags)?;
         let text = text_at(memory, &mut self.fuel, path, path_len)?;
-        let dir = directory_at(&self.host, &self.descriptors, fd)?;
-        room_at(&self.host, &self.descriptors, 1)?;
-        let number = open_into(
-            self.alloc,
-            &mut self.host,
-            &mut self.descriptors,
-            dir,
-            text,
-            with,
-        )?;
+        let dir = directory_at(&self.fs.host, &self.descriptors, fd)?;
+        room_at(&self.fs.host, &self.descriptors, 1)?;
+        let number = open_into(&mut self.fs, &mut self.descriptors, fd, dir, text, with)?;
         Ok(Value::Number(number))
     }
 }

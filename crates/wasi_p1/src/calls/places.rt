@@ -6,6 +6,9 @@ use crate::call_parts::{start_at, stat_both, text_at, write_front};
 use crate::context::WasiP1Ctx;
 use crate::error::P1Error;
 use crate::open_with::path_flags_of;
+use crate::view_parts::places::{
+    create_directory_at, readlink_at, remove_directory_at, symlink_at, unlink_file_at,
+};
 use wasi_guest::Value;
 use wasi_host::Host;
 
@@ -31,9 +34,9 @@ impl<H: Host> WasiP1Ctx<H> {
         ensures turn { DoesItsRow H.Host self.old self.new memory.old memory.new
             (PathCreateDirectory fd path path_len) result }
     {
-        let dir = start_at(&self.host, &self.descriptors, fd)?;
+        let dir = start_at(&self.fs.host, &self.descriptors, fd)?;
         let text = text_at(memory, &mut self.fuel, path, path_len)?;
-        dir.create_directory_at(self.alloc, &mut self.host, text)?;
+        create_directory_at(&mut self.fs, &mut self.descriptors, fd, &dir, text)?;
         Ok(Value::Unit)
     }
 
@@ -55,9 +58,9 @@ impl<H: Host> WasiP1Ctx<H> {
         ensures turn { DoesItsRow H.Host self.old self.new memory.old memory.new
             (PathRemoveDirectory fd path path_len) result }
     {
-        let dir = start_at(&self.host, &self.descriptors, fd)?;
+        let dir = start_at(&self.fs.host, &self.descriptors, fd)?;
         let text = text_at(memory, &mut self.fuel, path, path_len)?;
-        dir.remove_directory_at(self.alloc, &mut self.host, text)?;
+        remove_directory_at(&mut self.fs, &mut self.descriptors, fd, &dir, text)?;
         Ok(Value::Unit)
     }
 
@@ -77,9 +80,9 @@ impl<H: Host> WasiP1Ctx<H> {
         ensures turn { DoesItsRow H.Host self.old self.new memory.old memory.new
             (PathUnlinkFile fd path path_len) result }
     {
-        let dir = start_at(&self.host, &self.descriptors, fd)?;
+        let dir = start_at(&self.fs.host, &self.descriptors, fd)?;
         let text = text_at(memory, &mut self.fuel, path, path_len)?;
-        dir.unlink_file_at(self.alloc, &mut self.host, text)?;
+        unlink_file_at(&mut self.fs, &mut self.descriptors, fd, &dir, text)?;
         Ok(Value::Unit)
     }
 
@@ -104,10 +107,10 @@ impl<H: Host> WasiP1Ctx<H> {
         ensures turn { DoesItsRow H.Host self.old self.new memory.old memory.new
             (PathSymlink old_path old_path_len fd new_path new_path_len) result }
     {
-        let dir = start_at(&self.host, &self.descriptors, fd)?;
+        let dir = start_at(&self.fs.host, &self.descriptors, fd)?;
         let target = text_at(memory, &mut self.fuel, old_path, old_path_len)?;
         let text = text_at(memory, &mut self.fuel, new_path, new_path_len)?;
-        dir.symlink_at(self.alloc, &mut self.host, target, text)?;
+        symlink_at(&mut self.fs, &mut self.descriptors, fd, &dir, target, text)?;
         Ok(Value::Unit)
     }
 
@@ -133,9 +136,9 @@ impl<H: Host> WasiP1Ctx<H> {
         ensures turn { DoesItsRow H.Host self.old self.new memory.old memory.new
             (PathReadlink fd path path_len buf buf_len) result }
     {
-        let dir = start_at(&self.host, &self.descriptors, fd)?;
+        let dir = start_at(&self.fs.host, &self.descriptors, fd)?;
         let text = text_at(memory, &mut self.fuel, path, path_len)?;
-        let link = dir.readlink_at(self.alloc, &mut self.host, text)?;
+        let link = readlink_at(&mut self.fs, &mut self.descriptors, fd, &dir, text)?;
         let count = write_front(memory, buf, buf_len, link.as_bytes())?;
         Ok(Value::Number(count as u64))
     }
@@ -160,9 +163,9 @@ impl<H: Host> WasiP1Ctx<H> {
             (PathFilestatGet fd flags path path_len) result }
     {
         let flags = path_flags_of(flags)?;
-        let dir = start_at(&self.host, &self.descriptors, fd)?;
+        let dir = start_at(&self.fs.host, &self.descriptors, fd)?;
         let text = text_at(memory, &mut self.fuel, path, path_len)?;
-        let both = stat_both(self.alloc, &mut self.host, dir, flags, text)?;
+        let both = stat_both(&mut self.fs, &mut self.descriptors, fd, &dir, flags, text)?;
         Ok(Value::Filestat(both.filestat()?))
     }
 }

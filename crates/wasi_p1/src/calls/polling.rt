@@ -43,18 +43,18 @@ impl<H: Host> WasiP1Ctx<H> {
         charge(&mut self.fuel, 32 * count as u64)?;
         lists_within(memory, subscriptions, events, count)?;
         let judged = judged_at(
-            &self.host,
+            &self.fs.host,
             &self.descriptors,
             &self.holdings,
             memory,
             subscriptions,
             count,
         )?;
-        room_at(&self.host, &self.descriptors, count + judged.files)?;
+        room_at(&self.fs.host, &self.descriptors, count + judged.files)?;
         let clocks = self.holdings.clocks_at(judged.earliest)?;
         let waited = all_waited(
-            self.alloc,
-            &self.host,
+            self.fs.alloc,
+            &self.fs.host,
             &self.descriptors,
             &self.holdings,
             memory,
@@ -64,7 +64,7 @@ impl<H: Host> WasiP1Ctx<H> {
         if !reads_files(&waited) {
             return Ok(tell_events(&mut self.holdings, memory, events, &waited, &[], clocks));
         }
-        let sizes = sizes_of(&mut self.host, self.alloc, &waited)?;
+        let sizes = sizes_of(&mut self.fs.host, self.fs.alloc, &waited)?;
         Ok(tell_events(&mut self.holdings, memory, events, &waited, &sizes, clocks))
     }
 }

@@ -5,9 +5,9 @@ ghost use Rattle.wasi_p1.specs.Method.{StaysInBounds, DoesItsRow};
 use crate::call_parts::put_back;
 use crate::context::{FileSlot, WasiP1Ctx};
 use crate::error::P1Error;
-use crate::file_parts::{FileUse, file_at, host_advice, position_sought};
+use crate::file_parts::{FileUse, file_at, position_sought, view_advice};
 use crate::raw_numbers::{advice_of, whence_of};
-use wasi_fs::Descriptor;
+use crate::view_parts::nodes::{advise, set_size, sync, sync_data};
 use wasi_guest::{Errno, Value};
 use wasi_host::Host;
 
@@ -28,9 +28,16 @@ impl<H: Host> WasiP1Ctx<H> {
         ensures turn { DoesItsRow H.Host self.old self.new memory.old memory.new (FdAdvise fd offset len advice) result }
     {
         let how = advice_of(advice)?;
-        let slot = file_at(&self.host, &self.descriptors, fd, FileUse::Itself)?;
-        slot.file
-            .advise(&mut self.host, offset, len, host_advice(how))?;
+        let slot = file_at(&self.fs.host, &self.descriptors, fd, FileUse::Itself)?;
+        advise(
+            &mut self.fs,
+            &mut self.descriptors,
+            fd,
+            &slot.file,
+            offset,
+            len,
+            view_advice(how),
+        )?;
         Ok(Value::Unit)
     }
 
@@ -46,7 +53,7 @@ impl<H: Host> WasiP1Ctx<H> {
         ensures bounds { StaysInBounds H.Host self.old self.new memory.old (FdAllocate fd offset len) result }
         ensures turn { DoesItsRow H.Host self.old self.new memory.old memory.new (FdAllocate fd offset len) result }
     {
-        file_at(&self.host, &self.descriptors, fd, FileUse::Itself)?;
+        file_at(&self.fs.host, &self.descriptors, fd, FileUse::Itself)?;
         Err(P1Error::Errno(Errno::Notsup))
     }
 
@@ -57,9 +64,8 @@ impl<H: Host> WasiP1Ctx<H> {
         ensures bounds { StaysInBounds H.Host self.old self.new memory.old (FdDatasync fd) result }
         ensures turn { DoesItsRow H.Host self.old self.new memory.old memory.new (FdDatasync fd) result }
     {
-        let slot = file_at(&self.host, &self.descriptors, fd, FileUse::Itself)?;
-        let file = Descriptor::File(slot.file);
-        file.sync_data(self.alloc, &mut self.host)?;
+        let slot = file_at(&self.fs.host, &self.descriptors, fd, FileUse::Itself)?;
+        sync_data(&mut self.fs, &mut self.descriptors, fd, &slot.file)?;
         Ok(Value::Unit)
     }
 
@@ -70,9 +76,8 @@ impl<H: Host> WasiP1Ctx<H> {
         ensures bounds { StaysInBounds H.Host self.old self.new memory.old (FdSync fd) result }
         ensures turn { DoesItsRow H.Host self.old self.new memory.old memory.new (FdSync fd) result }
     {
-        let slot = file_at(&self.host, &self.descriptors, fd, FileUse::Itself)?;
-        let file = Descriptor::File(slot.file);
-        file.sync(self.alloc, &mut self.host)?;
+        let slot = file_at(&self.fs.host, &self.descriptors, fd, FileUse::Itself)?;
+        sync(&mut self.fs, &mut self.descriptors, fd, &slot.file)?;
         Ok(Value::Unit)
     }
 
@@ -90,8 +95,8 @@ impl<H: Host> WasiP1Ctx<H> {
         ensures bounds { StaysInBounds H.Host self.old self.new memory.old (FdFilestatSetSize fd size) result }
         ensures turn { DoesItsRow H.Host self.old self.new memory.old memory.new (FdFilestatSetSize fd size) result }
     {
-        let slot = file_at(&self.host, &self.descriptors, fd, FileUse::Itself)?;
-        slot.file.set_size(&mut self.host, size)?;
+        let slot = file_at(&self.fs.host, &self.descriptors, fd, FileUse::Itself)?;
+        set_size(&mut self.fs, &mut self.descriptors, fd, &slot.file, size)?;
         Ok(Value::Unit)
     }
 
@@ -115,8 +120,8 @@ impl<H: Host> WasiP1Ctx<H> {
             file,
             position,
             modes,
-        } = file_at(&self.host, &self.descriptors, fd, FileUse::Position)?;
-        let position = position_sought(&mut self.host, file.file, position, place, offset)?;
+        } = file_at(&self.fs.host, &self.descriptors, fd, FileUse::Position)?;
+        let position = position_sought(&mut self.fs.host, file.file, position, place, offset)?;
         put_back(
             &mut self.descriptors,
             fd,
@@ -136,7 +141,7 @@ impl<H: Host> WasiP1Ctx<H> {
         ensures bounds { StaysInBounds H.Host self.old self.new memory.old (FdTell fd) result }
         ensures turn { DoesItsRow H.Host self.old self.new memory.old memory.new (FdTell fd) result }
     {
-        let slot = file_at(&self.host, &self.descriptors, fd, FileUse::Position)?;
+        let slot = file_at(&self.fs.host, &self.descriptors, fd, FileUse::Position)?;
         Ok(Value::Number(slot.position))
     }
 }

@@ -39,13 +39,13 @@ impl<H: Host> WasiP1Ctx<H> {
             result }
     {
         let buffer = buffer_at(memory, &mut self.fuel, iovs, iovs_len)?;
-        let slot = read_place(&self.host, &self.descriptors, fd)?;
+        let slot = read_place(&self.fs.host, &self.descriptors, fd)?;
         bytes_at(memory, buffer.buf, buffer.buf_len)?;
         let part = Iovec {
             buf: buffer.buf,
             buf_len: buffer.buf_len.min(MOST_READ),
         };
-        let count = read_into(&mut self.host, memory, slot.file.file, offset, part)?;
+        let count = read_into(&mut self.fs.host, memory, slot.file.file, offset, part)?;
         Ok(Value::Number(count as u64))
     }
 
@@ -69,11 +69,11 @@ impl<H: Host> WasiP1Ctx<H> {
             result }
     {
         let buffer = buffer_at(memory, &mut self.fuel, iovs, iovs_len)?;
-        let slot = file_at(&self.host, &self.descriptors, fd, FileUse::WriteAt)?;
+        let slot = file_at(&self.fs.host, &self.descriptors, fd, FileUse::WriteAt)?;
         let piece = bytes_at(memory, buffer.buf, buffer.buf_len)?;
         check_write(slot.file.perms)?;
         let handle = slot.file.file;
-        let count = put_piece(&mut self.host, handle, slot.modes, offset, piece)?;
+        let count = put_piece(&mut self.fs.host, handle, slot.modes, offset, piece)?;
         Ok(Value::Number(count))
     }
 
@@ -96,7 +96,7 @@ impl<H: Host> WasiP1Ctx<H> {
         ensures turn { DoesItsRow H.Host self.old self.new memory.old memory.new (FdRead fd iovs iovs_len) result }
     {
         let buffer = buffer_at(memory, &mut self.fuel, iovs, iovs_len)?;
-        let source = source_at(&self.host, &self.descriptors, fd)?;
+        let source = source_at(&self.fs.host, &self.descriptors, fd)?;
         bytes_at(memory, buffer.buf, buffer.buf_len)?;
         let FileSlot {
             file,
@@ -110,7 +110,7 @@ impl<H: Host> WasiP1Ctx<H> {
             Source::File(slot) => slot,
         };
         let handle = file.file;
-        let count = read_into(&mut self.host, memory, handle, position, buffer)?;
+        let count = read_into(&mut self.fs.host, memory, handle, position, buffer)?;
         let position = position + count as u64;
         put_back(
             &mut self.descriptors,
@@ -145,7 +145,7 @@ impl<H: Host> WasiP1Ctx<H> {
             (state_of H.world self.new memory.new) fd iovs iovs_len) }
     {
         let buffer = buffer_at(memory, &mut self.fuel, iovs, iovs_len)?;
-        let sink = sink_at(&self.host, &self.descriptors, fd)?;
+        let sink = sink_at(&self.fs.host, &self.descriptors, fd)?;
         let piece = bytes_at(memory, buffer.buf, buffer.buf_len)?;
         let FileSlot {
             file,
@@ -160,7 +160,7 @@ impl<H: Host> WasiP1Ctx<H> {
         };
         check_write(file.perms)?;
         let handle = file.file;
-        let Put { count, position } = put_next(&mut self.host, handle, modes, position, piece)?;
+        let Put { count, position } = put_next(&mut self.fs.host, handle, modes, position, piece)?;
         put_back(
             &mut self.descriptors,
             fd,

@@ -138,7 +138,7 @@ impl<H: Host> WasiP1Ctx<H> {
         ensures turn { DoesItsRow H.Host self.old self.new memory.old memory.new (SockAccept fd flags) result }
     {
         FdFlags::from_bits(flags).ok_or(INVALID)?;
-        live_at(&self.host, &self.descriptors, fd)?;
+        live_at(&self.fs.host, &self.descriptors, fd)?;
         Err(P1Error::Errno(Errno::Notsock))
     }
 
@@ -157,7 +157,7 @@ impl<H: Host> WasiP1Ctx<H> {
             (SockRecv fd iovs iovs_len ri_flags) result }
     {
         RiFlags::from_bits(ri_flags).ok_or(INVALID)?;
-        live_at(&self.host, &self.descriptors, fd)?;
+        live_at(&self.fs.host, &self.descriptors, fd)?;
         Err(P1Error::Errno(Errno::Notsock))
     }
 
@@ -175,7 +175,7 @@ impl<H: Host> WasiP1Ctx<H> {
         ensures turn { DoesItsRow H.Host self.old self.new memory.old memory.new
             (SockSend fd iovs iovs_len si_flags) result }
     {
-        live_at(&self.host, &self.descriptors, fd)?;
+        live_at(&self.fs.host, &self.descriptors, fd)?;
         Err(P1Error::Errno(Errno::Notsock))
     }
 
@@ -186,7 +186,7 @@ impl<H: Host> WasiP1Ctx<H> {
         ensures turn { DoesItsRow H.Host self.old self.new memory.old memory.new (SockShutdown fd how) result }
     {
         SdFlags::from_bits(how).ok_or(INVALID)?;
-        live_at(&self.host, &self.descriptors, fd)?;
+        live_at(&self.fs.host, &self.descriptors, fd)?;
         Err(P1Error::Errno(Errno::Notsock))
     }
 }

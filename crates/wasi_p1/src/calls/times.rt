@@ -7,6 +7,8 @@ use crate::context::WasiP1Ctx;
 use crate::error::P1Error;
 use crate::new_times::NewTimes;
 use crate::open_with::path_flags_of;
+use crate::view_parts::nodes::set_times;
+use crate::view_parts::places::set_times_at;
 use wasi_guest::Value;
 use wasi_host::Host;
 
@@ -40,15 +42,16 @@ impl<H: Host> WasiP1Ctx<H> {
     {
         let flags = path_flags_of(flags)?;
         let times = NewTimes::of(self.holdings.wall(), atim, mtim, fst_flags)?;
-        let dir = start_at(&self.host, &self.descriptors, fd)?;
+        let dir = start_at(&self.fs.host, &self.descriptors, fd)?;
         let text = text_at(memory, &mut self.fuel, path, path_len)?;
-        dir.set_times_at(
-            self.alloc,
-            &mut self.host,
+        set_times_at(
+            &mut self.fs,
+            &mut self.descriptors,
+            fd,
+            &dir,
             flags,
             text,
-            times.atime,
-            times.mtime,
+            times,
         )?;
         Ok(Value::Unit)
     }
@@ -71,8 +74,8 @@ impl<H: Host> WasiP1Ctx<H> {
             (FdFilestatSetTimes fd atim mtim fst_flags) result }
     {
         let times = NewTimes::of(self.holdings.wall(), atim, mtim, fst_flags)?;
-        let descriptor = descriptor_at(&self.host, &self.descriptors, fd)?;
-        descriptor.set_times(&mut self.host, times.atime, times.mtime)?;
+        let descriptor = descriptor_at(&self.fs.host, &self.descriptors, fd)?;
+        set_times(&mut self.fs, &mut self.descriptors, fd, &descriptor, times)?;
         Ok(Value::Unit)
     }
 }

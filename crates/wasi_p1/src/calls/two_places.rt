@@ -6,6 +6,7 @@ use crate::call_parts::{start_at, text_at};
 use crate::context::WasiP1Ctx;
 use crate::error::P1Error;
 use crate::open_with::path_flags_of;
+use crate::view_parts::two_places::{link_at, rename_at};
 use wasi_guest::Value;
 use wasi_host::Host;
 
@@ -39,11 +40,21 @@ impl<H: Host> WasiP1Ctx<H> {
             (PathLink old_fd old_flags old_path old_path_len new_fd new_path new_path_len) result }
     {
         let flags = path_flags_of(old_flags)?;
-        let old = start_at(&self.host, &self.descriptors, old_fd)?;
-        let new = start_at(&self.host, &self.descriptors, new_fd)?;
+        let old = start_at(&self.fs.host, &self.descriptors, old_fd)?;
+        let new = start_at(&self.fs.host, &self.descriptors, new_fd)?;
         let old_text = text_at(memory, &mut self.fuel, old_path, old_path_len)?;
         let new_text = text_at(memory, &mut self.fuel, new_path, new_path_len)?;
-        old.link_at(self.alloc, &mut self.host, flags, old_text, &new, new_text)?;
+        link_at(
+            &mut self.fs,
+            &mut self.descriptors,
+            old_fd,
+            &old,
+            flags,
+            old_text,
+            new_fd,
+            &new,
+            new_text,
+        )?;
         Ok(Value::Unit)
     }
 
@@ -77,11 +88,20 @@ impl<H: Host> WasiP1Ctx<H> {
         ensures turn { DoesItsRow H.Host self.old self.new memory.old memory.new
             (PathRename old_fd old_path old_path_len new_fd new_path new_path_len) result }
     {
-        let old = start_at(&self.host, &self.descriptors, old_fd)?;
-        let new = start_at(&self.host, &self.descriptors, new_fd)?;
+        let old = start_at(&self.fs.host, &self.descriptors, old_fd)?;
+        let new = start_at(&self.fs.host, &self.descriptors, new_fd)?;
         let old_text = text_at(memory, &mut self.fuel, old_path, old_path_len)?;
         let new_text = text_at(memory, &mut self.fuel, new_path, new_path_len)?;
-        old.rename_at(self.alloc, &mut self.host, old_text, &new, new_text)?;
+        rename_at(
+            &mut self.fs,
+            &mut self.descriptors,
+            old_fd,
+            &old,
+            old_text,
+            new_fd,
+            &new,
+            new_text,
+        )?;
         Ok(Value::Unit)
     }
 }

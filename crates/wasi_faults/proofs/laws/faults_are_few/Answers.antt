@@ -1,5 +1,5 @@
-use Rattle.wasi_faults.proofs.Rising.{counts_few, counts_met}
+use Rattle.wasi_faults.proofs.Rising.{counts_few}
 use Rattle.wasi_faults.proofs.laws.faults_are_few.Goals as goal
 
 pub returns : goal.returns
-returns c = record { few = counts_few; met = counts_met }
+returns c = record { few = counts_few }

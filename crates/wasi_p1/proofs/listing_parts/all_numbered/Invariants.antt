@@ -12,7 +12,8 @@ use Rattle.wasi_p1.proofs.listing_parts.all_numbered.Given as goal
 abbrev pub invariant-loop-name : goal.invariant-loop-name
 invariant-loop-name g l = record {
   items : l.yielded ++ into_iter_items l.name-iterator ≡ l.fn.names.items;
-  later : g.H.Host.faults l.fn.host ≤ g.H.Host.faults l.host;
+  later : (g.H.Host.faults l.fn.host).count ≤ (g.H.Host.faults l.host).count;
+  most : (g.H.Host.faults l.host).most ≡ (g.H.Host.faults l.fn.host).most;
   live : g.H.Host.live l.host ≡ g.H.Host.live l.fn.host;
   lineage : Traced (Only l.dir.dir) Nothing Nothing (g.H.Host.lookups l.fn.host) (g.H.Host.lookups l.host);
   short : HasShortNames (entries_seen l.entries.items);

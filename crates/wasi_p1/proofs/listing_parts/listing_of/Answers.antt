@@ -2,11 +2,11 @@ use Rattle.std.proofs.Common.{◌∙◌}
 use Rattle.std.proofs.lemmas.Result.{err_from_is_err_and}
 use Rattle.wasi_host.specs.declared.errors.HostError.TheVariants.{Code}
 use Rattle.wasi_host.proofs.Tracing.{traced_twice}
-use Rattle.wasi_p1.proofs.Listings.{all_short, not_listed, not_seen, is_listed}
+use Rattle.wasi_p1.proofs.Listings.{all_listed, not_listed, not_seen, is_listed}
 use Rattle.wasi_p1.proofs.listing_parts.listing_of.Goals as goal
 
-pub all_numbered-requires-clause-short : goal.all_numbered-requires-clause-short
-all_numbered-requires-clause-short g c = all_short c.in_ok-names.names.items c.in_ok-names.ensures.names
+pub all_numbered-requires-clause-listed : goal.all_numbered-requires-clause-listed
+all_numbered-requires-clause-listed g c = all_listed c.in_ok-names.names.items c.in_ok-names.ensures.names
 
 pub returns-clause-lineage : goal.returns-clause-lineage
 returns-clause-lineage g c =

@@ -1,4 +1,6 @@
-use Rattle.std.proofs.Common.{◌∙◌, ap, length, arith}
+use Rattle.std.proofs.Common.{◌∙◌, ap, length, arith, length-take}
+use Rattle.wasi_p1.specs.EntriesSeen.{entries_seen}
+use Rattle.wasi_p1.specs.Pages.{records_after}
 use Rattle.wasi_p1.proofs.Paging.{short_name, room_after}
 use Rattle.wasi_p1.proofs.listing_parts.page_size.Goals as goal
 
@@ -24,3 +26,11 @@ loop-i-preserved c = record {
       ∙ c.loop-i.invariant.left
       );
 }
+
+-- the records fill the buffer
+pub returns-then-room-eq0 : goal.returns-then-room-eq0
+returns-then-room-eq0 c = omega (
+  arith,
+  c.loop-i.invariant.left,
+  length-take c.args.buf_len (records_after (entries_seen c.args.entries.now) c.args.from),
+)

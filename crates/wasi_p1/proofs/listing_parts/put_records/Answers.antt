@@ -32,3 +32,10 @@ returns-clause-written c =
     sym (with_no_bytes c.loop-i.memory c.loop-i.place (page (entries_seen c.args.entries.now) c.loop-i.i c.loop-i.left)
     (omega (arith, none, length-take c.loop-i.left (records_after (entries_seen c.args.entries.now) c.loop-i.i))))
     ∙ c.loop-i.invariant.gives
+
+-- there is no room for more
+pub returns-then-left-eq0-clause-written : goal.returns-then-left-eq0-clause-written
+returns-then-left-eq0-clause-written c =
+    sym (with_no_bytes c.loop-i.memory c.loop-i.place (page (entries_seen c.args.entries.now) c.loop-i.i c.loop-i.left)
+    (omega (arith, length-take c.loop-i.left (records_after (entries_seen c.args.entries.now) c.loop-i.i))))
+    ∙ c.loop-i.invariant.gives

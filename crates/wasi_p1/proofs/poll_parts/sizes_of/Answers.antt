@@ -7,6 +7,7 @@ use Rattle.wasi_p1.proofs.poll_parts.sizes_of.Goals as goal
 pub loop-item-init : goal.loop-item-init
 loop-item-init g c = record {
   later = omega arith;
+  most = refl;
   live = refl;
   logged = refl;
   told = λ told. none_sized c.in_ok-sizes.ensures.items;
@@ -38,6 +39,7 @@ returns-in_err-push_size-clause-told g c = λ told.
 pub loop-item-preserved : goal.loop-item-preserved
 loop-item-preserved g c = record {
   later = omega (arith, c.loop-item.invariant.later, c.in_ok-size.ensures.cause.later);
+  most = c.in_ok-size.ensures.cause.most ∙ c.loop-item.invariant.most;
   live = c.size_of.ensures.live ∙ c.loop-item.invariant.live;
   logged = c.size_of.ensures.logged ∙ c.loop-item.invariant.logged;
   told = λ told. rw c.in_ok-push_size.ensures (one_sized_more c.item-item.result c.loop-item-test.true c.item-item.is

@@ -38,6 +38,7 @@ loop-one-init g c = record {
   valid = λ told start. start;
   done = rw c.in-Ok.ensures.empty none_done;
   later = omega arith;
+  most = refl;
   count = rw c.in-Ok.ensures.empty (omega arith);
   room = let fits : c.len.result ≤ c.in-Ok.answers.spare = c.in-Ok.ensures.room in omega (arith, fits, c.len.ensures);
 }
@@ -49,7 +50,7 @@ loop-one-preserved g c = record {
   size = c.call_with-outcome.ensures.size ∙ c.loop-one.invariant.size;
   ios =
       rw c.push.ensures.answers
-      (io_counted _ _ (sym c.in-Some.ensures) c.call_with-outcome.ensures.bounds.cause c.loop-one.invariant.ios);
+      (io_counted (g.H.Host.faults c.args.context.now.host) _ (sym c.in-Some.ensures) c.call_with-outcome.ensures.bounds.cause c.loop-one.invariant.ios);
   goes =
       rw c.push.ensures.answers
       (goes_on-push _ _ c.loop-one.invariant.goes (sym c.ends_run.ensures ∙ c.if-ends_run.false));
@@ -76,6 +77,7 @@ loop-one-preserved g c = record {
       (sym c.ends_run.ensures ∙ c.if-ends_run.false) in
       rw (c.push.ensures.answers, one) (rw c.deref-one-items.ensures.value at on);
   later = omega arith;
+  most = c.call_with-outcome.ensures.bounds.cause.most ∙ c.loop-one.invariant.most;
   count = rw (c.push.ensures.answers, length-append) (omega arith);
   room = omega arith;
 }
@@ -147,7 +149,7 @@ returns-then-ends_run-clause-answers g c =
 pub returns-then-ends_run-clause-ios : goal.returns-then-ends_run-clause-ios
 returns-then-ends_run-clause-ios g c =
     rw c.push.ensures.answers
-    (io_counted _ _ (sym c.in-Some.ensures) c.call_with-outcome.ensures.bounds.cause c.loop-one.invariant.ios)
+    (io_counted (g.H.Host.faults c.args.context.now.host) _ (sym c.in-Some.ensures) c.call_with-outcome.ensures.bounds.cause c.loop-one.invariant.ios)
 
 pub returns-then-ends_run-clause-handles : goal.returns-then-ends_run-clause-handles
 returns-then-ends_run-clause-handles g c = c.call_with-outcome.ensures.bounds.handles ∙ c.loop-one.invariant.handles

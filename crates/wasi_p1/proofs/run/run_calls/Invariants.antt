@@ -34,7 +34,8 @@ invariant-loop-one g l = record {
       → IsValidState (state_of g.H.Host.world l.context l.memory);
   done : DoneSoFar g.H.Host l.fuel l.fn.context l.fn.memory (take l.one-index l.calls.items) l.answers.answers l.context
       l.memory;
-  later : g.H.Host.faults l.fn.context.host ≤ g.H.Host.faults l.context.host;
+  later : (g.H.Host.faults l.fn.context.host).count ≤ (g.H.Host.faults l.context.host).count;
+  most : (g.H.Host.faults l.context.host).most ≡ (g.H.Host.faults l.fn.context.host).most;
   count : length l.answers.answers ≡ l.one-index;
   room : length l.calls.items ≤ l.answers.spare + l.one-index;
 }

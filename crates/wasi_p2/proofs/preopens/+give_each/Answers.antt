@@ -38,7 +38,7 @@ returns-in-Ok g n c = rw c.in-Some.ensures.cases.0 (record {
   gives = (
     c.in_ok-entry.entry ∷ c.in-Ok.ensures.gives.0,
     c.in-Ok.ensures.gives.1 ∙ search (rules, append_assoc),
-    rest_given _ (lives_these _ _ _ _ c.in-Some.ensures.cases.0 c.requires.live) c.in_ok-entry.ensures.cause.later
+    rest_given _ (lives_these _ _ _ _ c.in-Some.ensures.cases.0 c.requires.live) c.in_ok-entry.ensures.cause
         c.in_ok-entry.ensures.given c.in-Ok.ensures.gives.2,
   );
 })
@@ -48,7 +48,7 @@ returns-in-Err g n c = rw c.in-Some.ensures.cases.0 (record {
   gives = (
     [],
     tt,
-    rest_not _ (lives_these _ _ _ _ c.in-Some.ensures.cases.0 c.requires.live) c.in_ok-entry.ensures.cause.later
+    rest_not _ (lives_these _ _ _ _ c.in-Some.ensures.cases.0 c.requires.live) c.in_ok-entry.ensures.cause
         c.in_ok-entry.ensures.given c.in-Err.ensures.gives.2 c.take_back.ensures,
   );
 })

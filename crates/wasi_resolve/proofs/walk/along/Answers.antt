@@ -1,4 +1,4 @@
-use Rattle.std.proofs.Common.{◌-◌, ◌+◌, Ok, Err, inl, inr, refl, arith}
+use Rattle.std.proofs.Common.{◌-◌, ◌+◌, ◌∙◌, Ok, Err, inl, inr, refl, arith}
 use Rattle.std.proofs.lemmas.Result.{err_from_is_err_and}
 use Rattle.wasi_host.proofs.Tracing.{traced_none, traced_then, traced_last, traced_less}
 use Rattle.wasi_resolve.specs.Finding.{course_of}
@@ -14,6 +14,7 @@ use Rattle.wasi_resolve.proofs.walk.along.Goals as goal
 pub loop-links-init : goal.loop-links-init
 loop-links-init g c = record {
   later = omega arith;
+  most = refl;
   stands = λ first stands. stands;
   lineage = traced_none _ _ _ _ _ refl (λ q has. has);
   links_so_far = omega arith;
@@ -85,6 +86,7 @@ pub loop-links-preserved : goal.loop-links-preserved
 loop-links-preserved g c = record {
   later =
       omega (arith, c.in_ok-reached.ensures.cause.later, c.in_ok-slash-in-Link.ensures.cause.later, c.loop-links.invariant.later);
+  most = c.in_ok-slash-in-Link.ensures.cause.most ∙ c.in_ok-reached.ensures.cause.most ∙ c.loop-links.invariant.most;
   stands = λ first stands.
       stands_same (rw c.in-Link.is at
       (c.in_ok-reached.ensures.stands first (c.loop-links.invariant.stands first stands))) c.in_ok-slash-in-Link.ensures.live;

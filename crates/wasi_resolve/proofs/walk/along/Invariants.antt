@@ -1,4 +1,4 @@
-use Rattle.std.proofs.Common.{◌≤◌, ◌+◌, ◌-◌, IsTrue}
+use Rattle.std.proofs.Common.{◌≡◌, ◌≤◌, ◌+◌, ◌-◌, IsTrue}
 use Rattle.wasi_host.specs.Meaning.{Handles, World}
 use Rattle.wasi_resolve.specs.Finding.{course_of, StackTraced}
 use Rattle.wasi_resolve.specs.Resolved.{links_read}
@@ -10,7 +10,8 @@ use Rattle.wasi_resolve.proofs.walk.along.Given as goal
 
 abbrev pub invariant-loop-links : goal.invariant-loop-links
 invariant-loop-links g l = record {
-  later : g.H.Host.faults l.initial.host ≤ g.H.Host.faults l.host;
+  later : (g.H.Host.faults l.initial.host).count ≤ (g.H.Host.faults l.host).count;
+  most : (g.H.Host.faults l.host).most ≡ (g.H.Host.faults l.initial.host).most;
   stands : StillStands l.start (g.H.Host.live l.initial.host) l.initial.way.stack.items (g.H.Host.live l.host) l.way.stack.items;
   lineage : StackTraced l.start l.initial.way.stack.items l.way.stack.items (g.H.Host.lookups l.initial.host)
       (g.H.Host.lookups l.host);

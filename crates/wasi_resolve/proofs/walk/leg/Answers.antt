@@ -12,6 +12,7 @@ use Rattle.wasi_resolve.proofs.walk.leg.Goals as goal
 pub loop-part-init : goal.loop-part-init
 loop-part-init g c = record {
   later = omega arith;
+  most = refl;
   stands = λ first stands. stands;
   lineage = traced_none _ _ _ _ _ refl (λ q has. has);
   reads = record { calls = omega arith; links = omega arith };
@@ -52,6 +53,7 @@ returns-in-Some-stopped-clause-told g c told first w stands walked =
 pub loop-part-preserved : goal.loop-part-preserved
 loop-part-preserved g c = record {
   later = omega (arith, c.in_ok-stopped.ensures.cause.later, c.loop-part.invariant.later);
+  most = c.in_ok-stopped.ensures.cause.most ∙ c.loop-part.invariant.most;
   stands = λ first stands. c.in_ok-stopped.ensures.stands first (c.loop-part.invariant.stands first stands);
   lineage = traced_then (λ q has. has) (λ q has. has) c.loop-part.invariant.lineage c.in_ok-stopped.ensures.lineage;
   reads =

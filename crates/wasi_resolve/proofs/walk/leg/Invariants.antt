@@ -1,4 +1,4 @@
-use Rattle.std.proofs.Common.{◌≤◌, vec_len, IsTrue}
+use Rattle.std.proofs.Common.{◌≡◌, ◌≤◌, vec_len, IsTrue}
 use Rattle.wasi_host.specs.Meaning.{Handles, World}
 use Rattle.wasi_resolve.specs.Finding.{StackTraced, FewUntil}
 use Rattle.wasi_resolve.specs.Stack.{Stands, StillStands}
@@ -8,7 +8,8 @@ use Rattle.wasi_resolve.proofs.walk.leg.Given as goal
 
 abbrev pub invariant-loop-part : goal.invariant-loop-part
 invariant-loop-part g l = record {
-  later : g.H.Host.faults l.initial.host ≤ g.H.Host.faults l.host;
+  later : (g.H.Host.faults l.initial.host).count ≤ (g.H.Host.faults l.host).count;
+  most : (g.H.Host.faults l.host).most ≡ (g.H.Host.faults l.initial.host).most;
   stands : StillStands l.start (g.H.Host.live l.initial.host) l.initial.way.stack.items (g.H.Host.live l.host) l.way.stack.items;
   lineage : StackTraced l.start l.initial.way.stack.items l.way.stack.items (g.H.Host.lookups l.initial.host)
       (g.H.Host.lookups l.host);

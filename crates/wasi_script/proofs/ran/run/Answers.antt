@@ -1,6 +1,7 @@
 use Rattle.std.proofs.Common.{refl, ap, arith, length, ◌∙◌}
 use Rattle.std.proofs.lemmas.List.{length-map}
 use Rattle.wasi_faults.specs.Faults.{counted}
+use Rattle.wasi_host.specs.Meaning.{never_fails}
 use Rattle.wasi_guest.proofs.Ranges.{written_back}
 use Rattle.wasi_form.specs.Plan.{plan, planned_preopen}
 use Rattle.wasi_form.proofs.Accepted.{limits_kept}
@@ -27,8 +28,10 @@ returns c =
     let written = rw c.as_slice.ensures.value at c.in_ok-memory.ensures.written in
     let begun = rw c.as_slice-2.ensures.value at c.in_ok-context.ensures.begun in
     rw (written_back _ _ size) (record {
-      run = has_run (counted 0 c.in_ok-context.context.host.calls) (counted 0 c.run_calls-ran.new.context.host.calls)
-          (few_listed _ c.run_calls-ran.new.context.host.calls c.in_ok-context.ensures.faults)
+      run = has_run (counted never_fails c.in_ok-context.context.host.calls)
+          (counted never_fails c.run_calls-ran.new.context.host.calls)
+          (few_listed _ c.run_calls-ran.new.context.host.calls c.in_ok-context.ensures.faults c.run_calls-ran.ensures.most
+          (let v = c.args.script.faults in omega (arith, v.small, v.ok.0, v.ok.1)))
           (begun_at (plan c.args.script) begun written)
           (rw value at (c.in-Ok.ensures.run refl)) c.in-Ok.ensures.ios
           (rw value at (c.in-Ok.ensures.confined refl _ (confined_at_start _ begun.untouched)));

@@ -4,15 +4,15 @@ use Rattle.wasi_tree.specs.Given.{pair_of}
 use Rattle.wasi_tree.proofs.NamedLemmas.{first_there, first_put, others_put}
 use Rattle.wasi_tree.proofs.row.add_entry.Goals as goal
 
-pub returns-then-is_some-clause-added : goal.returns-then-is_some-clause-added
-returns-then-is_some-clause-added c =
+pub returns-then-has-clause-added : goal.returns-then-has-clause-added
+returns-then-has-clause-added c =
     first_there c.args.names.now.names c.args.directory (pair_of c.args.entry)
-    (rw (← c.as_str.ensures.value, ← c.find.ensures, ← c.is_some.ensures) c.if-is_some.true)
+    (rw (← c.as_str.ensures.value, ← c.has.ensures) c.if-has.true)
 
 pub returns-clause-added : goal.returns-clause-added
 returns-clause-added c =
     first_put c.args.names.now.names c.insert.new.self.names c.args.directory (pair_of c.args.entry)
-    (rw (← c.as_str.ensures.value, ← c.find.ensures, ← c.is_some.ensures) c.if-is_some.false)
+    (rw (← c.as_str.ensures.value, ← c.has.ensures) c.if-has.false)
     (c.insert.ensures.names
     ∙ ap (λ m. insert m (c.args.directory, (pair_of c.args.entry).0) c.args.entry.node) c.reserve.ensures.names)
 

@@ -1,5 +1,5 @@
 use Rattle.std.proofs.Common.{refl}
-use Rattle.wasi_embed.specs.Calling.{fueled}
+use Rattle.wasi_embed.specs.Calling.{faults, fueled}
 use Rattle.wasi_embed.proofs.Calls.{completes, leaves_all}
 use Rattle.wasi_embed.proofs.sandbox.Sandbox.call.Goals as goal
 
@@ -17,8 +17,8 @@ returns c =
         turn = turn;
         complete = completes c.args.self.now _ c.call-outcome.new.context _ _ _ set (c.call-outcome.ensures.complete refl);
         errnos = c.call-outcome.ensures.errnos refl;
-        confined = λ start is. c.turns_are_confined.ensures.confined start (fueled c.args.self.now) c.call-outcome.new.context _ _ _ _ _ _
-            (turn.turn refl) is;
+        confined = λ start is. c.turns_are_confined.ensures.confined start (fueled c.args.self.now) c.call-outcome.new.context _ _ _ _
+            (faults c.args.self.now.context.host) (faults c.call-outcome.new.context.host) (turn.turn refl) is;
         fuel = refl;
         answered = c.count_answer-self.ensures;
       };

@@ -4,22 +4,25 @@ use Rattle.wasi_p1.specs.Request.{Direct}
 use Rattle.wasi_p1.specs.Rows.{fd_advise}
 use Rattle.wasi_p1.proofs.Below.{changed_err, changed_ok}
 use Rattle.wasi_p1.proofs.Setting.{called_ok, called_err, not_wanted}
-use Rattle.wasi_p1.proofs.Taking.{unchanged, on_err}
+use Rattle.wasi_p1.proofs.Taking.{unchanged}
+use Rattle.wasi_p1.proofs.Viewing.{lowered_err, lowered_ok, on_refusal}
 use Rattle.wasi_p1.proofs.context.WasiP1Ctx.fd_advise.Goals as goal
 
 pub returns-in_err-advise-clause-turn : goal.returns-in_err-advise-clause-turn
 unfolding fd_advise
 returns-in_err-advise-clause-turn g c =
     let given = c.in_err-advise.ensures in
-    rw (← c.self.view_is) (on_err c.from_residual-in_err-advise.ensures.1 (changed_err {own = None} {r = Direct (Advise _ _ _ _)}
-    (rw (← c.in_ok-how.ensures.row, ← c.in_ok-slot.ensures.row, c.host_advice.ensures) refl)
-    c.self.invariant unchanged _ tt (not_wanted _ given.no_memory) (λ told _. (given.told told).keeps)
-    (λ told _. called_err _ (λ is. given.cause.io (ap Err is)) (given.told told))))
+    let lower = lowered_err _ given.cause given.did in
+    rw (given.same, ← c.self.view_is) (on_refusal lower c.from_residual-in_err-advise.ensures.1 (changed_err {own = None} {r = Direct (Advise _ _ _ _)}
+    (rw (← c.in_ok-how.ensures.row, ← c.in_ok-slot.ensures.row, c.view_advice.ensures) refl)
+    c.self.invariant.owned unchanged _ tt (not_wanted _ lower.did.0) (λ told _. (lower.did.1.does told refl).keeps)
+    (λ told _. called_err _ (λ is. lower.cause.io (ap Err is)) (lower.did.1.does told refl))))
 
 pub returns-clause-turn : goal.returns-clause-turn
 unfolding fd_advise
 returns-clause-turn g c =
     let given = c.in_ok-advise.ensures in
-    rw (← c.self.view_is) (changed_ok {own = None} {r = Direct (Advise _ _ _ _)}
-    (rw (← c.in_ok-how.ensures.row, ← c.in_ok-slot.ensures.row, c.host_advice.ensures) refl)
-    c.self.invariant unchanged tt tt tt (λ told _. (given.told told).keeps) (λ told _. called_ok (given.told told)))
+    let lower = lowered_ok _ given.did in
+    rw (given.same, ← c.self.view_is) (changed_ok {own = None} {r = Direct (Advise _ _ _ _)}
+    (rw (← c.in_ok-how.ensures.row, ← c.in_ok-slot.ensures.row, c.view_advice.ensures) refl)
+    c.self.invariant.owned unchanged tt tt tt (λ told _. (lower.1.does told refl).keeps) (λ told _. called_ok (lower.1.does told refl)))

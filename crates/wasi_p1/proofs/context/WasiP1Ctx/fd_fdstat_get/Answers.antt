@@ -5,51 +5,53 @@ use Rattle.wasi_p1.specs.Fdstats.{directory_fdstat, file_told}
 use Rattle.wasi_p1.specs.Request.{Direct}
 use Rattle.wasi_p1.specs.Row.{give}
 use Rattle.wasi_p1.specs.Rows.{fd_fdstat_get}
-use Rattle.wasi_p1.proofs.Owning.{live_slot}
+use Rattle.wasi_p1.specs.Viewed.{descriptor_under}
 use Rattle.wasi_p1.proofs.RowEnds.{with_fdstat}
 use Rattle.wasi_p1.proofs.Taking.{makes_err, makes_ok, unchanged, on_err}
 use Rattle.wasi_p1.proofs.context.WasiP1Ctx.fd_fdstat_get.Goals as goal
 
 pub dir_fdstat-requires : goal.dir_fdstat-requires
 dir_fdstat-requires g c = record {
-  live = live_slot _ _ c.self.invariant (c.in_ok-slot.ensures.is ∙ ap Some c.in-Directory.is);
+  holds = c.self.invariant;
+  stands = ap descriptor_under (c.in_ok-slot.ensures.is ∙ ap Some c.in-Directory.is);
 }
 
 pub returns-in_err-fdstat-in-Directory-clause-turn : goal.returns-in_err-fdstat-in-Directory-clause-turn
 unfolding fd_fdstat_get
 returns-in_err-fdstat-in-Directory-clause-turn g c =
     let given = c.in_err-fdstat-in-Directory.ensures in
-    rw (← c.self.view_is) (on_err c.from_residual-in_err-fdstat-in-Directory.ensures.1 (makes_err {r = Direct (Flags _)}
+    rw (given.same, ← c.self.view_is) (on_err c.from_residual-in_err-fdstat-in-Directory.ensures.1 (makes_err {r = Direct (Flags _)}
     (λ _. give directory_fdstat) with_fdstat
-    (rw (← c.in_ok-slot.ensures.row, c.in-Directory.is, ← c.if-is_some.ensures) refl) c.self.invariant given.front
+    (rw (← c.in_ok-slot.ensures.row, c.in-Directory.is, ← c.if-is_some.ensures) refl) c.self.invariant.owned given.front
     (λ is. absurd (given.never_wants is)) unchanged given.told))
 
 pub open_file_fdstat-requires : goal.open_file_fdstat-requires
 open_file_fdstat-requires g c = record {
-  live = live_slot _ _ c.self.invariant (c.in_ok-slot.ensures.is ∙ ap Some c.in-File.is);
+  holds = c.self.invariant;
+  stands = ap descriptor_under (c.in_ok-slot.ensures.is ∙ ap Some c.in-File.is);
 }
 
 pub returns-in_err-fdstat-in-File-clause-turn : goal.returns-in_err-fdstat-in-File-clause-turn
 unfolding fd_fdstat_get
 returns-in_err-fdstat-in-File-clause-turn g c =
     let given = c.in_err-fdstat-in-File.ensures in
-    rw (← c.self.view_is) (on_err c.from_residual-in_err-fdstat-in-File.ensures.1 (makes_err {r = Direct (Stat _)}
-    (λ metadata. give (file_told (open_file_of (g.H.Host.world c.self.inside.host).held c.in-File.file) metadata)) with_fdstat
-    (rw (← c.in_ok-slot.ensures.row, c.in-File.is) refl) c.self.invariant given.front
+    rw (given.same, ← c.self.view_is) (on_err c.from_residual-in_err-fdstat-in-File.ensures.1 (makes_err {r = Direct (Stat _)}
+    (λ metadata. give (file_told (open_file_of (g.H.Host.world c.self.inside.fs.host).held c.in-File.file) metadata)) with_fdstat
+    (rw (← c.in_ok-slot.ensures.row, c.in-File.is) refl) c.self.invariant.owned given.front
     (λ is. absurd (given.never_wants is)) unchanged given.told))
 
 pub returns-in_ok-fdstat-in-Directory-clause-turn : goal.returns-in_ok-fdstat-in-Directory-clause-turn
 unfolding fd_fdstat_get
 returns-in_ok-fdstat-in-Directory-clause-turn g c =
     let given = c.in_ok-fdstat-in-Directory.ensures in
-    rw (← c.self.view_is) (makes_ok {r = Direct (Flags _)} (λ _. give directory_fdstat) with_fdstat
+    rw (given.same, ← c.self.view_is) (makes_ok {r = Direct (Flags _)} (λ _. give directory_fdstat) with_fdstat
     (rw (← c.in_ok-slot.ensures.row, c.in-Directory.is, ← c.if-is_some.ensures) refl)
-    c.self.invariant refl given.front refl refl given.told)
+    c.self.invariant.owned refl given.front refl refl given.told)
 
 pub returns-in_ok-fdstat-in-File-clause-turn : goal.returns-in_ok-fdstat-in-File-clause-turn
 unfolding fd_fdstat_get
 returns-in_ok-fdstat-in-File-clause-turn g c =
     let given = c.in_ok-fdstat-in-File.ensures in
-    rw (← c.self.view_is) (makes_ok {r = Direct (Stat _)}
-    (λ metadata. give (file_told (open_file_of (g.H.Host.world c.self.inside.host).held c.in-File.file) metadata)) with_fdstat
-    (rw (← c.in_ok-slot.ensures.row, c.in-File.is) refl) c.self.invariant refl given.front refl refl given.told)
+    rw (given.same, ← c.self.view_is) (makes_ok {r = Direct (Stat _)}
+    (λ metadata. give (file_told (open_file_of (g.H.Host.world c.self.inside.fs.host).held c.in-File.file) metadata)) with_fdstat
+    (rw (← c.in_ok-slot.ensures.row, c.in-File.is) refl) c.self.invariant.owned refl given.front refl refl given.told)

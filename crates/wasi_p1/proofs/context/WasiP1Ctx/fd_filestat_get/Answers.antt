@@ -3,49 +3,51 @@ use Rattle.wasi_host.specs.HostCall.{Stat}
 use Rattle.wasi_p1.specs.Filestats.{filestat_in, stat_both}
 use Rattle.wasi_p1.specs.Request.{Direct}
 use Rattle.wasi_p1.specs.Rows.{fd_filestat_get}
-use Rattle.wasi_p1.proofs.Owning.{live_slot}
+use Rattle.wasi_p1.specs.Viewed.{descriptor_under}
 use Rattle.wasi_p1.proofs.RowEnds.{with_filestat}
 use Rattle.wasi_p1.proofs.Taking.{makes_err, makes_ok, unchanged, on_err}
 use Rattle.wasi_p1.proofs.context.WasiP1Ctx.fd_filestat_get.Goals as goal
 
 pub node_filestat-requires : goal.node_filestat-requires
 node_filestat-requires g c = record {
-  live = live_slot _ _ c.self.invariant (c.in_ok-slot.ensures.is ∙ ap Some c.in-Directory.is);
+  holds = c.self.invariant;
+  stands = ap descriptor_under (c.in_ok-slot.ensures.is ∙ ap Some c.in-Directory.is);
 }
 
 pub returns-in_err-filestat-in-Directory-clause-turn : goal.returns-in_err-filestat-in-Directory-clause-turn
 unfolding fd_filestat_get
 returns-in_err-filestat-in-Directory-clause-turn g c =
     let given = c.in_err-filestat-in-Directory.ensures in
-    rw (← c.self.view_is) (on_err c.from_residual-in_err-filestat-in-Directory.ensures.1 (makes_err {r = Direct (Stat _)}
+    rw (given.same, ← c.self.view_is) (on_err c.from_residual-in_err-filestat-in-Directory.ensures.1 (makes_err {r = Direct (Stat _)}
     (λ metadata. filestat_in (stat_both metadata)) with_filestat
-    (rw (← c.in_ok-slot.ensures.row, c.in-Directory.is) refl) c.self.invariant given.front
+    (rw (← c.in_ok-slot.ensures.row, c.in-Directory.is) refl) c.self.invariant.owned given.front
     (λ is. absurd (given.never_wants is)) unchanged given.told))
 
 pub node_filestat-requires-in-File : goal.node_filestat-requires-in-File
 node_filestat-requires-in-File g c = record {
-  live = live_slot _ _ c.self.invariant (c.in_ok-slot.ensures.is ∙ ap Some c.in-File.is);
+  holds = c.self.invariant;
+  stands = ap descriptor_under (c.in_ok-slot.ensures.is ∙ ap Some c.in-File.is);
 }
 
 pub returns-in_err-filestat-in-File-clause-turn : goal.returns-in_err-filestat-in-File-clause-turn
 unfolding fd_filestat_get
 returns-in_err-filestat-in-File-clause-turn g c =
     let given = c.in_err-filestat-in-File.ensures in
-    rw (← c.self.view_is) (on_err c.from_residual-in_err-filestat-in-File.ensures.1 (makes_err {r = Direct (Stat _)}
+    rw (given.same, ← c.self.view_is) (on_err c.from_residual-in_err-filestat-in-File.ensures.1 (makes_err {r = Direct (Stat _)}
     (λ metadata. filestat_in (stat_both metadata)) with_filestat
-    (rw (← c.in_ok-slot.ensures.row, c.in-File.is) refl) c.self.invariant given.front
+    (rw (← c.in_ok-slot.ensures.row, c.in-File.is) refl) c.self.invariant.owned given.front
     (λ is. absurd (given.never_wants is)) unchanged given.told))
 
 pub returns-in_ok-filestat-in-Directory-clause-turn : goal.returns-in_ok-filestat-in-Directory-clause-turn
 unfolding fd_filestat_get
 returns-in_ok-filestat-in-Directory-clause-turn g c =
     let given = c.in_ok-filestat-in-Directory.ensures in
-    rw (← c.self.view_is) (makes_ok {r = Direct (Stat _)} (λ metadata. filestat_in (stat_both metadata)) with_filestat
-    (rw (← c.in_ok-slot.ensures.row, c.in-Directory.is) refl) c.self.invariant refl given.front refl refl given.told)
+    rw (given.same, ← c.self.view_is) (makes_ok {r = Direct (Stat _)} (λ metadata. filestat_in (stat_both metadata)) with_filestat
+    (rw (← c.in_ok-slot.ensures.row, c.in-Directory.is) refl) c.self.invariant.owned refl given.front refl refl given.told)
 
 pub returns-in_ok-filestat-in-File-clause-turn : goal.returns-in_ok-filestat-in-File-clause-turn
 unfolding fd_filestat_get
 returns-in_ok-filestat-in-File-clause-turn g c =
     let given = c.in_ok-filestat-in-File.ensures in
-    rw (← c.self.view_is) (makes_ok {r = Direct (Stat _)} (λ metadata. filestat_in (stat_both metadata)) with_filestat
-    (rw (← c.in_ok-slot.ensures.row, c.in-File.is) refl) c.self.invariant refl given.front refl refl given.told)
+    rw (given.same, ← c.self.view_is) (makes_ok {r = Direct (Stat _)} (λ metadata. filestat_in (stat_both metadata)) with_filestat
+    (rw (← c.in_ok-slot.ensures.row, c.in-File.is) refl) c.self.invariant.owned refl given.front refl refl given.told)

@@ -24,11 +24,11 @@ returns-in_err-count-clause-turn g c = let given = c.in_err-count.ensures in
     rw (← c.self.view_is) (on_err c.from_residual-in_err-count.ensures.1 (makes_err {r = Direct (put_call _ _ _ _)}
     (λ answer. give (count_in _ _ _ _ answer)) with_number
     (rw (← (rw c.in_ok-buffer.was at c.buffer_at.ensures.row), ← c.in_ok-slot.ensures.row, ← c.in_ok-piece.ensures.row, ← c.in_ok-check_write.ensures.row) refl)
-    c.self.invariant given.front (λ _. refl) unchanged given.told))
+    c.self.invariant.owned given.front (λ _. refl) unchanged given.told))
 
 pub returns-clause-turn : goal.returns-clause-turn
 unfolding fd_pwrite
 returns-clause-turn g c = let given = c.in_ok-count.ensures in
     rw (← c.self.view_is) (makes_ok {r = Direct (put_call _ _ _ _)} (λ answer. give (count_in _ _ _ _ answer)) with_number
     (rw (← (rw c.in_ok-buffer.was at c.buffer_at.ensures.row), ← c.in_ok-slot.ensures.row, ← c.in_ok-piece.ensures.row, ← c.in_ok-check_write.ensures.row) refl)
-    c.self.invariant refl given.front refl refl given.told)
+    c.self.invariant.owned refl given.front refl refl given.told)

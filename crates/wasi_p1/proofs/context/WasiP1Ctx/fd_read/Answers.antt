@@ -10,9 +10,9 @@ pub returns-in_err-count-clause-turn : goal.returns-in_err-count-clause-turn
 unfolding fd_read
 returns-in_err-count-clause-turn g c = let given = c.in_err-count.ensures in
     rw (← c.self.view_is) (on_err c.from_residual-in_err-count.ensures.1 (makes_err (filled_at _ _)
-    (with_memory c.args.fd (open_file_of (g.H.Host.world c.self.inside.host).held c.in-File.slot))
+    (with_memory c.args.fd (open_file_of (g.H.Host.world c.self.inside.fs.host).held c.in-File.slot))
     (rw (← (rw c.in_ok-buffer.was at c.buffer_at.ensures.row), ← (rw c.in-File.is at c.in_ok-source.ensures.row), ← c.in_ok-bytes_at.ensures.row) refl)
-    c.self.invariant given.front (λ is. absurd (given.never_wants is))
+    c.self.invariant.owned given.front (λ is. absurd (given.never_wants is))
     (record { slots = refl; table_max = refl; holdings = refl; memory = given.same }) given.told))
 
 pub returns-clause-turn : goal.returns-clause-turn
@@ -20,7 +20,7 @@ unfolding fd_read
 returns-clause-turn g c = let given = c.in_ok-count.ensures in let put = c.put_back.ensures in
     rw (← c.self.view_is) (put_ok (filled_at _ _) (with_memory _ _)
     (rw (← (rw c.in_ok-buffer.was at c.buffer_at.ensures.row), ← (rw c.in-File.is at c.in_ok-source.ensures.row), ← c.in_ok-bytes_at.ensures.row) refl)
-    c.self.invariant given.size given.front refl (record { slots = put.slots; table_max = put.max; holdings = refl })
+    c.self.invariant.owned given.size given.front refl (record { slots = put.slots; table_max = put.max; holdings = refl })
     (Contains-here _ []) (rw c.in-File.is at c.in_ok-source.ensures.is) refl
     (rw c.in-File.is at c.in_ok-source.ensures.live) given.told)
 

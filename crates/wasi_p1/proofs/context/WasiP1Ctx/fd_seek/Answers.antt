@@ -23,9 +23,9 @@ returns-in_err-position-clause-turn g c = let given = c.in_err-position.ensures 
     let back = to_z-of_z w64 c.args.offset c.ranges.offset in
     let so : ℕ → Row ℕ = λ from. position_from from (to_z w64 (of_z w64 c.args.offset)) in
     rw (← c.self.view_is) (on_err c.from_residual-in_err-position.ensures.1 (known_err {r = Direct (Stat _)}
-    so (λ metadata. so metadata.size) (with_sought c.args.fd (open_file_of (g.H.Host.world c.self.inside.host).held c.in_ok-file.field-0))
+    so (λ metadata. so metadata.size) (with_sought c.args.fd (open_file_of (g.H.Host.world c.self.inside.fs.host).held c.in_ok-file.field-0))
     (rw (← c.in_ok-place.ensures.row, ← c.in_ok-file.ensures.row, back) refl)
-    c.self.invariant given.known given.front (λ is. absurd (given.never_wants is)) unchanged given.told))
+    c.self.invariant.owned given.known given.front (λ is. absurd (given.never_wants is)) unchanged given.told))
 
 pub returns-clause-turn : goal.returns-clause-turn
 unfolding fd_seek
@@ -33,7 +33,7 @@ returns-clause-turn g c = let given = c.in_ok-position.ensures in let put = c.pu
     let back = to_z-of_z w64 c.args.offset c.ranges.offset in
     let so : ℕ → Row ℕ = λ from. position_from from (to_z w64 (of_z w64 c.args.offset)) in
     rw (← c.self.view_is) (known_put {r = Direct (Stat _)}
-    so (λ metadata. so metadata.size) (with_sought c.args.fd (open_file_of (g.H.Host.world c.self.inside.host).held c.in_ok-file.field-0))
+    so (λ metadata. so metadata.size) (with_sought c.args.fd (open_file_of (g.H.Host.world c.self.inside.fs.host).held c.in_ok-file.field-0))
     (rw (← c.in_ok-place.ensures.row, ← c.in_ok-file.ensures.row, back) refl)
-    c.self.invariant given.known given.front refl refl (record { slots = put.slots; table_max = put.max; holdings = refl })
+    c.self.invariant.owned given.known given.front refl refl (record { slots = put.slots; table_max = put.max; holdings = refl })
     (Contains-here _ []) c.in_ok-file.ensures.is refl c.in_ok-file.ensures.live given.told)

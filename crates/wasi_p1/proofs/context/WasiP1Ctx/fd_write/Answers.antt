@@ -13,17 +13,17 @@ pub returns-in_err-count-clause-turn : goal.returns-in_err-count-clause-turn
 unfolding fd_write
 returns-in_err-count-clause-turn g c = let given = c.in_err-count.ensures in
     rw (← c.self.view_is) (on_err c.from_residual-in_err-count.ensures.1 (makes_err {r = put_request _ _ _ _}
-    (λ reply. give (put_in _ _ _ _ reply)) (with_position c.args.fd (open_file_of (g.H.Host.world c.self.inside.host).held c.in-File.slot))
+    (λ reply. give (put_in _ _ _ _ reply)) (with_position c.args.fd (open_file_of (g.H.Host.world c.self.inside.fs.host).held c.in-File.slot))
     (rw (← (rw c.in_ok-buffer.was at c.buffer_at.ensures.row), ← (rw c.in-File.is at c.in_ok-sink.ensures.row), ← c.in_ok-piece.ensures.row, ← c.in_ok-check_write.ensures.row) refl)
-    c.self.invariant given.front (λ _. refl) unchanged given.told))
+    c.self.invariant.owned given.front (λ _. refl) unchanged given.told))
 
 pub returns-clause-turn : goal.returns-clause-turn
 unfolding fd_write
 returns-clause-turn g c = let given = c.in_ok-count.ensures in let put = c.put_back.ensures in
     rw (← c.self.view_is) (put_ok {r = put_request _ _ _ _} (λ reply. give (put_in _ _ _ _ reply))
-    (with_position c.args.fd (open_file_of (g.H.Host.world c.self.inside.host).held c.in-File.slot))
+    (with_position c.args.fd (open_file_of (g.H.Host.world c.self.inside.fs.host).held c.in-File.slot))
     (rw (← (rw c.in_ok-buffer.was at c.buffer_at.ensures.row), ← (rw c.in-File.is at c.in_ok-sink.ensures.row), ← c.in_ok-piece.ensures.row, ← c.in_ok-check_write.ensures.row) refl)
-    c.self.invariant refl given.front refl (record { slots = put.slots; table_max = put.max; holdings = refl })
+    c.self.invariant.owned refl given.front refl (record { slots = put.slots; table_max = put.max; holdings = refl })
     (Contains-here _ []) (rw c.in-File.is at c.in_ok-sink.ensures.is) refl
     (rw c.in-File.is at c.in_ok-sink.ensures.live) given.told)
 

@@ -7,42 +7,47 @@ use Rattle.wasi_p1.proofs.Resolving.{made_ok, made_not}
 use Rattle.wasi_p1.proofs.Stating.{stated_reply, stated_again}
 use Rattle.wasi_p1.proofs.Taking.{makes_err, makes_ok, unchanged, on_err}
 use Rattle.wasi_p1.specs.Rows.{path_filestat_get}
+use Rattle.wasi_p1.proofs.ViewedStats.{shown_row}
+use Rattle.wasi_p1.proofs.Viewing.{lowered_err, lowered_shown, on_refusal}
 use Rattle.wasi_p1.proofs.context.WasiP1Ctx.path_filestat_get.Goals as goal
 
 pub returns-in_err-both-clause-turn : goal.returns-in_err-both-clause-turn
 unfolding path_filestat_get
 returns-in_err-both-clause-turn g c =
     let given = c.in_err-both.ensures in
-    rw (← c.self.view_is) (on_err c.from_residual-in_err-both.ensures.1 (makes_err {r = Path (LookPath _ _ _)} (λ metadata. filestat_in
+    let lower = lowered_err _ given.cause given.did in
+    rw (given.same, ← c.self.view_is) (on_refusal lower c.from_residual-in_err-both.ensures.1 (makes_err {r = Path (LookPath _ _ _)} (λ metadata. filestat_in
     (stat_both metadata)) with_filestat
     (rw (← c.in_ok-flags.ensures.row, ← c.in_ok-dir.ensures.row, ← c.in_ok-text.ensures.row) refl)
-    c.self.invariant (inl (_, refl)) (λ _. refl)
+    c.self.invariant.owned (inl (_, refl)) (λ _. refl)
     unchanged (λ told. record {
-      keeps = (given.told told).keeps;
-      does = inl (made_not (Path (LookPath _ _ _)) stat_both _ (λ is. given.cause.io (ap Err is)) (given.told told));
+      keeps = (lower.did.1.does told refl).keeps;
+      does = inl (made_not (Path (LookPath _ _ _)) stat_both _ (λ is. lower.cause.io (ap Err is)) (lower.did.1.does told refl));
     })))
 
 pub returns-in_err-filestat-clause-turn : goal.returns-in_err-filestat-clause-turn
 unfolding path_filestat_get
 returns-in_err-filestat-clause-turn g c =
     let given = c.in_ok-both.ensures in
-    rw (← c.self.view_is) (on_err c.from_residual-in_err-filestat.ensures.1 (makes_err {r = Path (LookPath _ _ _)} (λ metadata. filestat_in
+    let shown = lowered_shown _ given.did in
+    rw (given.same, ← c.self.view_is) (on_err c.from_residual-in_err-filestat.ensures.1 (makes_err {r = Path (LookPath _ _ _)} (λ metadata. filestat_in
     (stat_both metadata)) with_filestat
     (rw (← c.in_ok-flags.ensures.row, ← c.in_ok-dir.ensures.row, ← c.in_ok-text.ensures.row) refl)
-    c.self.invariant (inr (stated_reply given.some (sym c.in_err-filestat.ensures.row))) (λ _. refl)
+    c.self.invariant.owned (inr (stated_reply shown.2.0 (shown_row shown.0 shown.1 c.in_err-filestat.ensures.row))) (λ _. refl)
     unchanged (λ told. record {
-      keeps = (given.told told).keeps;
-      does = inr (stated_again (made_ok (Path (LookPath _ _ _)) stat_both (given.told told))
-          (sym c.in_err-filestat.ensures.row));
+      keeps = (shown.2.1.does told refl).keeps;
+      does = inr (stated_again (made_ok (Path (LookPath _ _ _)) stat_both (shown.2.1.does told refl))
+          (shown_row shown.0 shown.1 c.in_err-filestat.ensures.row));
     })))
 
 pub returns-clause-turn : goal.returns-clause-turn
 unfolding path_filestat_get
 returns-clause-turn g c =
     let given = c.in_ok-both.ensures in
-    rw (← c.self.view_is) (makes_ok {r = Path (LookPath _ _ _)} (λ metadata. filestat_in (stat_both metadata)) with_filestat
+    let shown = lowered_shown _ given.did in
+    rw (given.same, ← c.self.view_is) (makes_ok {r = Path (LookPath _ _ _)} (λ metadata. filestat_in (stat_both metadata)) with_filestat
     (rw (← c.in_ok-flags.ensures.row, ← c.in_ok-dir.ensures.row, ← c.in_ok-text.ensures.row) refl)
-    c.self.invariant refl (stated_reply given.some (sym c.in_ok-filestat.ensures.row)) refl refl (λ told. record {
-      keeps = (given.told told).keeps;
-      does = stated_again (made_ok (Path (LookPath _ _ _)) stat_both (given.told told)) (sym c.in_ok-filestat.ensures.row);
+    c.self.invariant.owned refl (stated_reply shown.2.0 (shown_row shown.0 shown.1 c.in_ok-filestat.ensures.row)) refl refl (λ told. record {
+      keeps = (shown.2.1.does told refl).keeps;
+      does = stated_again (made_ok (Path (LookPath _ _ _)) stat_both (shown.2.1.does told refl)) (shown_row shown.0 shown.1 c.in_ok-filestat.ensures.row);
     }))

@@ -3,24 +3,27 @@ use Rattle.wasi_resolve.specs.AtTwo.{HardLink}
 use Rattle.wasi_resolve.specs.PathRequest.{AtTwo}
 use Rattle.wasi_p1.proofs.Below.{done_err, done_ok}
 use Rattle.wasi_p1.specs.Rows.{path_link}
-use Rattle.wasi_p1.proofs.Taking.{refusals, on_err}
+use Rattle.wasi_p1.proofs.Taking.{refusals}
+use Rattle.wasi_p1.proofs.Viewing.{lowered_err, lowered_ok, on_refusal}
 use Rattle.wasi_p1.proofs.context.WasiP1Ctx.path_link.Goals as goal
 
 pub returns-in_err-link_at-clause-turn : goal.returns-in_err-link_at-clause-turn
 unfolding path_link
 returns-in_err-link_at-clause-turn g c =
     let given = c.in_err-link_at.ensures in
-    rw (← c.self.view_is) (on_err c.from_residual-in_err-link_at.ensures.1 (done_err (AtTwo _ _ _ _ HardLink)
-    (rw (← c.in_ok-flags.ensures.row, ← c.in_ok-old.ensures.row, ← c.in_ok-new.ensures.row, ← c.in_ok-old_text.ensures.row, ← c.in_ok-new_text.ensures.row) refl) c.self.invariant _ given.cause
-    given.permit refl given.told))
+    let lower = lowered_err _ given.cause given.did in
+    rw (given.same, ← c.self.view_is) (on_refusal lower c.from_residual-in_err-link_at.ensures.1 (done_err (AtTwo _ _ _ _ HardLink)
+    (rw (← c.in_ok-flags.ensures.row, ← c.in_ok-old.ensures.row, ← c.in_ok-new.ensures.row, ← c.in_ok-old_text.ensures.row, ← c.in_ok-new_text.ensures.row) refl) c.self.invariant.owned _ lower.cause
+    lower.did.permit refl lower.did.does))
 
 pub returns-clause-turn : goal.returns-clause-turn
 unfolding path_link
 returns-clause-turn g c =
     let given = c.in_ok-link_at.ensures in
-    rw (← c.self.view_is) (done_ok (AtTwo _ _ _ _ HardLink)
-    (rw (← c.in_ok-flags.ensures.row, ← c.in_ok-old.ensures.row, ← c.in_ok-new.ensures.row, ← c.in_ok-old_text.ensures.row, ← c.in_ok-new_text.ensures.row) refl) c.self.invariant
-    tt given.permit given.told)
+    let lower = lowered_ok _ given.did in
+    rw (given.same, ← c.self.view_is) (done_ok (AtTwo _ _ _ _ HardLink)
+    (rw (← c.in_ok-flags.ensures.row, ← c.in_ok-old.ensures.row, ← c.in_ok-new.ensures.row, ← c.in_ok-old_text.ensures.row, ← c.in_ok-new_text.ensures.row) refl) c.self.invariant.owned
+    tt lower.permit lower.does)
 
 pub returns-in_err-old_text-clause-turn : goal.returns-in_err-old_text-clause-turn
 unfolding path_link

@@ -1,6 +1,6 @@
 use Rattle.std.proofs.Common.{refl, rules}
 use Rattle.wasi_fs.specs.Calls.{opens}
-use Rattle.wasi_fs.specs.OpenHow.{how_of}
+use Rattle.wasi_p2.specs.Opens.{how_named}
 use Rattle.wasi_p1.specs.Request.{Path}
 use Rattle.wasi_p1.specs.Parts.{opened_among}
 use Rattle.wasi_p1.specs.Rows.{path_open}
@@ -15,7 +15,7 @@ unfolding path_open
 returns-in_err-number-clause-turn g c =
     let given = c.in_err-number.ensures in
     let with = c.in_ok-with.with in
-    let how = how_of with.path_flags with.open_flags with.flags in
+    let how = how_named with.path_flags with.open_flags with.flags in
     rw (← c.self.view_is) (on_err c.from_residual-in_err-number.ensures.1 (permitted_err {r = Path (opens _ _ how)}
     (opened_among _ c.in_ok-dir.dir.perms _ with.modes) with_slots
     (rw (
@@ -34,7 +34,7 @@ unfolding path_open
 returns-clause-turn g c =
     let given = c.in_ok-number.ensures in
     let with = c.in_ok-with.with in
-    let how = how_of with.path_flags with.open_flags with.flags in
+    let how = how_named with.path_flags with.open_flags with.flags in
     rw (← c.self.view_is) (permitted_ok {r = Path (opens _ _ how)} (opened_among _ c.in_ok-dir.dir.perms _ with.modes) with_slots
     (rw (
       ← c.in_ok-with.ensures.row,

@@ -74,7 +74,7 @@ pub returns-then-not-reads_files-clause-turn : goal.returns-then-not-reads_files
 returns-then-not-reads_files-clause-turn g c =
     let given = c.tell_events.ensures in
     rw (← c.self.view_is) (answered
-    (rw (given.count, given.written, given.clocks, c.deref-then-not-reads_files.ensures.value) (answer_front (g.H.Host.world c.self.inside.host).held c.in_ok-waited.waited.items
+    (rw (given.count, given.written, given.clocks, c.deref-then-not-reads_files.ensures.value) (answer_front (g.H.Host.world c.self.inside.fs.host).held c.in_ok-waited.waited.items
     (record {
       asked = c.in_ok-some_asked.ensures.row;
       mid = _;
@@ -91,7 +91,7 @@ returns-then-not-reads_files-clause-turn g c =
 pub returns-in_err-sizes-clause-turn : goal.returns-in_err-sizes-clause-turn
 returns-in_err-sizes-clause-turn g c =
     rw (← c.self.view_is) (on_err c.from_residual-in_err-sizes.ensures.1 (makes_err {r = Sizes _} (λ sizes. give sizes)
-    (tell_ready c.args.events (map (waited_by (g.H.Host.world c.self.inside.host).held) c.deref-2.result.now) c.in_ok-clocks.clocks) (ask_front (g.H.Host.world c.self.inside.host).held c.deref-2.result.now
+    (tell_ready c.args.events (map (waited_by (g.H.Host.world c.self.inside.fs.host).held) c.deref-2.result.now) c.in_ok-clocks.clocks) (ask_front (g.H.Host.world c.self.inside.fs.host).held c.deref-2.result.now
     (record {
       asked = c.in_ok-some_asked.ensures.row;
       mid = _;
@@ -102,14 +102,14 @@ returns-in_err-sizes-clause-turn g c =
       room = c.in_ok-room_at.ensures.row;
       later = c.in_ok-clocks.ensures.row;
     }) (rw c.deref-2.ensures.value (sym c.in_ok-waited.ensures.row)) (rw c.deref-2.ensures.value (some_of (rw c.deref.ensures.value at c.reads_files.ensures) c.if-not-reads_files.false)))
-    c.self.invariant c.in_err-sizes.ensures.front (λ _. refl) unchanged
+    c.self.invariant.owned c.in_err-sizes.ensures.front (λ _. refl) unchanged
     c.in_err-sizes.ensures.told))
 
 pub returns-clause-turn : goal.returns-clause-turn
 returns-clause-turn g c =
     let given = c.tell_events-2.ensures in
     rw (← c.self.view_is) (makes_ok {r = Sizes _} (λ sizes. give sizes)
-    (tell_ready c.args.events (map (waited_by (g.H.Host.world c.self.inside.host).held) c.deref-2.result.now) c.in_ok-clocks.clocks) (ask_front (g.H.Host.world c.self.inside.host).held c.deref-2.result.now
+    (tell_ready c.args.events (map (waited_by (g.H.Host.world c.self.inside.fs.host).held) c.deref-2.result.now) c.in_ok-clocks.clocks) (ask_front (g.H.Host.world c.self.inside.fs.host).held c.deref-2.result.now
     (record {
       asked = c.in_ok-some_asked.ensures.row;
       mid = _;
@@ -120,7 +120,7 @@ returns-clause-turn g c =
       room = c.in_ok-room_at.ensures.row;
       later = c.in_ok-clocks.ensures.row;
     }) (rw c.deref-2.ensures.value (sym c.in_ok-waited.ensures.row)) (rw c.deref-2.ensures.value (some_of (rw c.deref.ensures.value at c.reads_files.ensures) c.if-not-reads_files.false)))
-    c.self.invariant given.size c.in_ok-sizes.ensures.front
+    c.self.invariant.owned given.size c.in_ok-sizes.ensures.front
     (rw (
       given.count,
       given.written,
@@ -128,6 +128,6 @@ returns-clause-turn g c =
       c.deref-3.ensures.value,
       c.deref-4.ensures.value,
       c.deref-2.ensures.value,
-      events_by (g.H.Host.world c.self.inside.host).held
+      events_by (g.H.Host.world c.self.inside.fs.host).held
           c.in_ok-clocks.clocks.monotonic c.in_ok-waited.waited.items c.in_ok-sizes.sizes.items,
     ) refl) refl c.in_ok-sizes.ensures.told)

@@ -1,0 +1,18 @@
+use Rattle.std.proofs.Common.{◌≡◌, ℕ, IfSome, Option, Some, None, drop, sym, arith}
+use Rattle.std.specs.FinMap.{find}
+use Rattle.wasi_names.specs.Fronts.{list_at}
+use Rattle.wasi_names.specs.Places.{first_at}
+use Rattle.wasi_names.specs.NameRows.{key_cmp}
+use Rattle.wasi_names.specs.Blocks.{all_entries, block_entries}
+use Rattle.wasi_names.proofs.BlockLemmas.{find_there}
+use Rattle.wasi_names.proofs.blocks.node_at.Goals as goal
+
+pub returns : goal.returns
+returns c = by c.found_at.result c.found_at.ensures
+  where
+    by : (o : Option ℕ)
+        → o ≡ first_at key_cmp (c.args.directory, c.args.name.now) (drop c.args.at.row (list_at block_entries c.args.blocks.now.items c.args.at.block))
+        → IfSome o (λ n. find key_cmp (c.args.directory, c.args.name.now) (all_entries c.args.blocks.now.items) ≡ Some n)
+    by None is = tt
+    by (Some n) is = find_there (c.args.directory, c.args.name.now) c.args.blocks.now.items c.args.at.block c.args.at.row n
+        c.requires (omega arith) (sym is)

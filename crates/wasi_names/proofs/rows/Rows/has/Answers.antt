@@ -1,0 +1,23 @@
+use Rattle.std.proofs.Common.{◌∙◌, is_some, sym, ap}
+use Rattle.std.specs.FinMap.{get, get-from_sorted}
+use Rattle.wasi_names.specs.NameRows.{key_cmp}
+use Rattle.wasi_names.specs.Rows.{HeldNames}
+use Rattle.wasi_names.proofs.EntryLemmas.{told}
+use Rattle.wasi_names.proofs.rows.Rows.has.Goals as goal
+
+pub returns-then-is_behind : goal.returns-then-is_behind
+returns-then-is_behind c =
+    sym (ap is_some (
+    sym (ap (λ (h : HeldNames). get h.names (c.args.directory, c.args.name.now)) c.self.view_is)
+    ∙ get-from_sorted key_cmp _ (c.args.directory, c.args.name.now) (told c.self.invariant.kept.rises)
+    ∙ c.is_behind.ensures c.if-is_behind.true
+    ))
+
+pub returns : goal.returns
+returns c =
+    c.is_some.ensures
+    ∙ ap is_some (
+    c.find.ensures
+    ∙ sym (get-from_sorted key_cmp _ (c.args.directory, c.args.name.now) (told c.self.invariant.kept.rises))
+    ∙ ap (λ (h : HeldNames). get h.names (c.args.directory, c.args.name.now)) c.self.view_is
+    )
