@@ -9,6 +9,7 @@ pub mod Items
 pub mod AtomLists
 pub mod Digits
 pub mod Entries
+pub mod StableNames
 pub mod Lengths
 pub mod Moments
 pub mod ScriptRanges

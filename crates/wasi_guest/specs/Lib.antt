@@ -7,6 +7,7 @@ pub mod Iovec
 pub mod Subscription
 pub mod Event
 pub mod Dirent
+pub mod Kept
 pub mod Room
 pub mod Errnos
 pub mod Enums

@@ -14,6 +14,7 @@ mod filetype;
 mod flags;
 mod guest_error;
 mod iovec;
+mod kept;
 mod memory;
 mod prestat;
 mod range;

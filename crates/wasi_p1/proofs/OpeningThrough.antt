@@ -18,14 +18,14 @@ use Rattle.wasi_streams.specs.declared.entry.Entry.{Entry}
 use Rattle.wasi_streams.specs.declared.entry.Entry.TheVariants.{Descriptor as AnOpened}
 use Rattle.wasi_streams.specs.declared.table.Resource.{Resource}
 use Rattle.wasi_p2.specs.FsErrors.{fs_error, FsCause}
-use Rattle.wasi_p2.specs.Opens.{how_named, AddsEntry, AddsHandle, GotFor, HasRoom, OpensAt, OpensBelow as BelowIt, StandsFor}
+use Rattle.wasi_p2.specs.Opens.{how_named, AddsEntry, AddsHandle, GotFor, HasRoom, OpensAt, OpensBelow, StandsFor}
 use Rattle.wasi_p2.specs.Resources.{directory_at, entry_handle, HasIt}
 use Rattle.wasi_p2.specs.Views.{Files, OrRefused}
 use Rattle.wasi_p2.specs.declared.error.FsError.{FsError}
 use Rattle.wasi_p2.specs.declared.types.flags.DescriptorFlags.{DescriptorFlags}
 use Rattle.wasi_p2.specs.declared.types.flags.OpenFlags.{OpenFlags}
 use Rattle.wasi_p2.specs.declared.types.flags.PathFlags.{PathFlags}
-use Rattle.wasi_p1.specs.Viewed.{Opens, OpensBelow, PutEntry}
+use Rattle.wasi_p1.specs.Viewed.{Opens, OpenedBelow, PutEntry}
 use Rattle.wasi_p1.proofs.Viewing.{directory_stands, lowered_err, LowerRefusal}
 
 one : {a b : ℕ} → Some a ≡ Some b → a ≡ b
@@ -53,7 +53,7 @@ module _ {H : Type 0} (host : Ghosts H) (old new : Files H) (fd : ℕ) (dir : Di
 
   opened_by : (result : Result Resource FsError) (answer : Result Descriptor HostError)
       → StandsFor AnOpened new.table.entries result answer
-      → BelowIt host old new dir.dir dir.perms path how answer
+      → OpensBelow host old new dir.dir dir.perms path how answer
       → AddsEntry (host.live old.ctx.host) old.table.entries result (host.live new.ctx.host) new.table.entries
       → Traced (HasIt old.table.entries fd) Nothing (GotFor new.table.entries result) (host.lookups old.ctx.host)
       (host.lookups new.ctx.host)
@@ -63,7 +63,7 @@ module _ {H : Type 0} (host : Ghosts H) (old new : Files H) (fd : ℕ) (dir : Di
       let same = same_entry made.number put at in (
         d,
         (fresh, put ∙ ap (insert old.table.entries made.number) same),
-        subst (λ (a : Result Descriptor HostError). OpensBelow host old.ctx.host new.ctx.host dir path how a) is (record {
+        subst (λ (a : Result Descriptor HostError). OpenedBelow host old.ctx.host new.ctx.host dir path how a) is (record {
           live = subst (λ (a : Result Descriptor HostError). LiveOpened (host.live old.ctx.host) a (host.live new.ctx.host))
               (sym is) (subst (λ (e : Entry). AddsHandle (host.live old.ctx.host) (entry_handle (Some e))
               (host.live new.ctx.host)) same adds);
@@ -80,7 +80,7 @@ module _ {H : Type 0} (host : Ghosts H) (old new : Files H) (fd : ℕ) (dir : Di
     error,
     same,
     entries,
-    subst (λ (a : Result Descriptor HostError). OpensBelow host old.ctx.host new.ctx.host dir path how a) is (record {
+    subst (λ (a : Result Descriptor HostError). OpenedBelow host old.ctx.host new.ctx.host dir path how a) is (record {
       live = subst (λ (a : Result Descriptor HostError). LiveOpened (host.live old.ctx.host) a (host.live new.ctx.host))
           (sym is) live;
       lineage = looks_below (Err e) answer
@@ -108,20 +108,20 @@ opened_entry {host = host} {old} {new} {result} fd dir path_flags path oflags fl
   where
     found : HasRoom old.table 1 (new.ctx.host ≡ old.ctx.host)
         ((answer : Result Descriptor HostError) × StandsFor AnOpened new.table.entries result answer
-        × BelowIt host old new dir.dir dir.perms path (how_named path_flags oflags flags) answer) result
+        × OpensBelow host old new dir.dir dir.perms path (how_named path_flags oflags flags) answer) result
     found = subst (λ (o : Result Dir FsError). OrRefused o (new.ctx.host ≡ old.ctx.host) (λ x. HasRoom old.table 1
         (new.ctx.host ≡ old.ctx.host)
         ((answer : Result Descriptor HostError) × StandsFor AnOpened new.table.entries result answer
-        × BelowIt host old new x.dir x.perms path (how_named path_flags oflags flags) answer) result) result)
+        × OpensBelow host old new x.dir x.perms path (how_named path_flags oflags flags) answer) result) result)
         (directory_stands old.table.entries fd stands) made.did
 
 -- where it was refused
 pub open_refusal : {H A : Type 0} {host : Ghosts H} {old new : H} {dir : Dir} {path : List ℕ} {how : OpenHow}
     {before now : FaultCount} {e : FsError} {same : Type 0} → FsCause {A = A} before now (Err e)
-    → (error : HostError) × (e ≡ fs_error error) × same × OpensBelow host old new dir path how (Err error)
-    → LowerRefusal before now (OpensBelow host old new dir path how) e × same
+    → (error : HostError) × (e ≡ fs_error error) × same × OpenedBelow host old new dir path how (Err error)
+    → LowerRefusal before now (OpenedBelow host old new dir path how) e × same
 open_refusal {A = A} {host} {old} {new} {dir} {path} {how} cause (error, is, same, below) = (
-  lowered_err {shown = λ (x : Descriptor). x} (OpensBelow host old new dir path how)
+  lowered_err {shown = λ (x : Descriptor). x} (OpenedBelow host old new dir path how)
       (record { later = cause.later; most = cause.most; io = λ io. cause.io (ap Err (why io)) })
       (Err error, ap Err is, below),
   same,

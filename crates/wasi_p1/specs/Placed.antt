@@ -9,14 +9,14 @@ use Rattle.wasi_p1.specs.declared.context.Slot.{Slot}
 use Rattle.wasi_p1.specs.declared.items.Item.{Item}
 
 -- what is kept of it stands under its number
-pub record IsPlaced (heap : List ℕ) (capacity : ℕ) (items now : List Item) (table table' : Entries) (slot : Slot) (n : ℕ)
+pub record TakesNumber (heap : List ℕ) (capacity : ℕ) (items now : List Item) (table table' : Entries) (slot : Slot) (n : ℕ)
     : Type 0 where
   pub kept : AreKept heap capacity now table'
   pub number : n ≡ free_number is_closed_slot (slots_of table items)
   pub slots : slots_of table' now ≡ with_new is_closed_slot (slots_of table items) slot
 
 -- wherever its entry was put
-abbrev pub Places : List ℕ → ℕ → List Item → List ℕ → ℕ → List Item → Item → ℕ → Type 0
-Places heap capacity items heap' capacity' items' item n = (table table' : Entries) (slot : Slot)
+abbrev pub TakesFreeNumber : List ℕ → ℕ → List Item → List ℕ → ℕ → List Item → Item → ℕ → Type 0
+TakesFreeNumber heap capacity items heap' capacity' items' item n = (table table' : Entries) (slot : Slot)
     → AreKept heap capacity items table → Admitted table table' item slot → is_closed_slot slot ≡ false
-    → IsPlaced heap' capacity' items items' table table' slot n
+    → TakesNumber heap' capacity' items items' table table' slot n

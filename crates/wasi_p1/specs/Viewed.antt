@@ -30,7 +30,7 @@ abbrev pub Lowered : {A B : Type 0} → (A → B) → (Result A HostError → Ty
 Lowered {A = A} shown Did result = (answer : Result A HostError) × (result ≡ raised shown answer) × Did answer
 
 -- an open below a directory, which gave this or was refused so
-pub record OpensBelow {H : Type 0} (host : Ghosts H) (old new : H) (dir : Dir) (path : List ℕ) (how : OpenHow)
+pub record OpenedBelow {H : Type 0} (host : Ghosts H) (old new : H) (dir : Dir) (path : List ℕ) (how : OpenHow)
     (answer : Result Descriptor HostError) : Type 0 where
   pub live : LiveOpened (host.live old) answer (host.live new)
   pub lineage : Traced (Only dir.dir) Nothing (GotOpened answer) (host.lookups old) (host.lookups new)
@@ -45,9 +45,9 @@ pub record OpensBelow {H : Type 0} (host : Ghosts H) (old new : H) (dir : Dir) (
 abbrev pub Opens : {H A : Type 0} → Ghosts H → H → H → Dir → List ℕ → OpenHow → (A → Descriptor → Type 0) → Type 0
     → Result A FsError → Type 0
 Opens host old new dir path how Put same (Ok a) =
-    (d : Descriptor) × Put a d × OpensBelow host old new dir path how (Ok d)
+    (d : Descriptor) × Put a d × OpenedBelow host old new dir path how (Ok d)
 Opens host old new dir path how Put same (Err e) =
-    (error : HostError) × (e ≡ fs_error error) × same × OpensBelow host old new dir path how (Err error)
+    (error : HostError) × (e ≡ fs_error error) × same × OpenedBelow host old new dir path how (Err error)
 
 -- as an entry of the table, under a number that was free
 abbrev pub PutEntry : Entries → Entries → Resource → Descriptor → Type 0

@@ -6,7 +6,7 @@ ghost use Rattle.std.specs.BinaryHeap.{heap_items, heap_len, heap_capacity};
 ghost use Rattle.wasi_streams.specs.Table.{Entries};
 ghost use Rattle.wasi_p1.specs.CallParts.{Rests};
 ghost use Rattle.wasi_p1.specs.Descriptors.{AreKept};
-ghost use Rattle.wasi_p1.specs.Placed.{Places};
+ghost use Rattle.wasi_p1.specs.Placed.{TakesFreeNumber};
 ghost use Rattle.wasi_p1.specs.Viewed.{descriptor_under, Opens, PutDescriptor};
 ghost use Rattle.wasi_p2.specs.FsErrors.{FsCause};
 ghost use Rattle.wasi_p2.specs.Opens.{how_named};
@@ -69,7 +69,7 @@ impl Model for Descriptors {
 fn place(items: &mut Vec<Item>, closed: &mut BinaryHeap<u32>, item: Item) -> u64
     requires kept { (table : Entries) × AreKept (heap_items closed.old) (heap_capacity closed.old) items.old.items table }
     requires room { 0 < heap_len closed.old + (min (vec_capacity items.old) (heap_capacity closed.old) - vec_len items.old) }
-    ensures placed { Places (heap_items closed.old) (heap_capacity closed.old) items.old.items
+    ensures placed { TakesFreeNumber (heap_items closed.old) (heap_capacity closed.old) items.old.items
         (heap_items closed.new) (heap_capacity closed.new) items.new.items item result }
     ensures room { heap_len closed.new + (min (vec_capacity items.new) (heap_capacity closed.new) - vec_len items.new) + 1
         ≡ heap_len closed.old + (min (vec_capacity items.old) (heap_capacity closed.old) - vec_len items.old) }

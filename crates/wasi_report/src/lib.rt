@@ -8,4 +8,4 @@ mod told_answers;
 mod told_nodes;
 
 pub use laws::reports_are_told;
-pub use outcome::{Outcome, report};
+pub use outcome::{Outcome, report, report_in};

@@ -7,6 +7,7 @@ ghost use Rattle.wasi_report.specs.Report.{reported, report_value, report_text, 
 ghost use Rattle.wasi_report.specs.Told.{told, told_at};
 
 use crate::told::{Told, tell_bytes, tell_list};
+use crate::told_answers::tell_answers;
 use crate::told_nodes::tell_node;
 use json::Writer;
 use std::alloc::{AllocError, Global};
@@ -32,7 +33,21 @@ pub fn report(alloc: Global, outcome: &Outcome, tree: &MemTree) -> Result<Vec<u8
     ensures text { IfOk result (λ text. text.items ≡ report_text (reported outcome.now tree.now.tree.nodes)) }
     ensures ordered { OnOk result (IsOrdered (reported outcome.now tree.now.tree.nodes)) }
 {
-    let mut out = Writer::new(Vec::new(alloc));
+    report_in(alloc, Vec::new(alloc), outcome, tree)
+}
+
+/// The same text as `report`, written in the memory of a buffer, whose bytes are let go.
+pub fn report_in(
+    alloc: Global,
+    mut buffer: Vec<u8>,
+    outcome: &Outcome,
+    tree: &MemTree,
+) -> Result<Vec<u8>, AllocError>
+    ensures text { IfOk result (λ text. text.items ≡ report_text (reported outcome.now tree.now.tree.nodes)) }
+    ensures ordered { OnOk result (IsOrdered (reported outcome.now tree.now.tree.nodes)) }
+{
+    buffer.clear();
+    let mut out = Writer::new(buffer);
     tell_outcome(alloc, outcome, tree, &mut out)?;
     let mut text = out.into_inner();
     text.push(b'\n')?;
@@ -52,7 +67,8 @@ fn tell_outcome(
     ensures ordered { OnOk result (IsOrdered (reported outcome.now tree.now.tree.nodes)) }
 {
     out.begin_object()?;
-    tell_list_at(alloc, "answers", outcome.answers.as_slice(), out)?;
+    out.key("answers")?;
+    tell_answers(alloc, &outcome.answers, out)?;
     tell_texts_at(alloc, "memory", outcome.shown.as_slice(), out)?;
     tell_bytes_at(alloc, "stderr", outcome.stderr.as_slice(), out)?;
     tell_bytes_at(alloc, "stdout", outcome.stdout.as_slice(), out)?;

@@ -1,14 +1,14 @@
 //! How answers are reported.
-ghost use Rattle.std.specs.Prelude.{◌≡◌, ◌++◌, OnOk, codes};
+ghost use Rattle.std.specs.Prelude.{◌≡◌, ◌++◌, OnOk, All, codes};
 ghost use Rattle.serde_json.specs.Data.{string};
 ghost use Rattle.wasi_report.specs.ReadBack.{FitsAnswer, FitsFdstat, FitsFilestat, FitsValue};
-ghost use Rattle.wasi_report.specs.Report.{only, number_value, fdstat_value, filestat_value, success_value, trap_name, answer_value};
+ghost use Rattle.wasi_report.specs.Report.{only, list_value, number_value, fdstat_value, filestat_value, success_value, trap_name, answer_value};
 ghost use Rattle.wasi_report.specs.Told.{told};
 
 use crate::told::{Told, tell_list};
 use json::Writer;
 use std::alloc::{AllocError, Global};
-use wasi_guest::{Answer, Fdstat, Filestat, TrapKind, Value};
+use wasi_guest::{Answer, Answers, Fdstat, Filestat, TrapKind, Value};
 
 impl Told for Answer {
     ghost value = { answer_value };
@@ -77,6 +77,20 @@ impl Told for Filestat {
         ];
         tell_list(alloc, &numbers, out)
     }
+}
+
+/// The answers, in order.
+pub fn tell_answers(alloc: Global, answers: &Answers, out: &mut Writer) -> Result<(), AllocError>
+    ensures before { out.new.before ≡ out.old.before }
+    ensures tokens { OnOk result (out.new.tokens
+        ≡ out.old.tokens ++ told (list_value answer_value answers.now.answers)) }
+    ensures fits { OnOk result (All FitsAnswer answers.now.answers) }
+{
+    out.begin_array()?;
+    for i in 0..answers.len() {
+        answers.at(i).tell(alloc, out)?;
+    }
+    out.end_array()
 }
 
 fn trap_name(kind: TrapKind) -> &'static str

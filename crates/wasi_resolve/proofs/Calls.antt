@@ -1,5 +1,5 @@
 -- A call of a told host by itself, and behind others that leave the tree.
-use Rattle.std.proofs.Common.{ℕ, ◌≡◌, inl, inr, true, List, [], ◌∷◌, ◌++◌, Option, None, Result, Ok, Err, refl, sym, ap, subst, ◌∙◌, arith}
+use Rattle.std.proofs.Common.{ℕ, ◌≡◌, inl, inr, true, List, [], ◌∷◌, ◌++◌, Result, Ok, Err, refl, sym, ap, subst, ◌∙◌, arith}
 use Rattle.std.specs.Prelude.{All, Contains, is_ok, if◌then◌else◌}
 use Rattle.std.specs.FinSet.{contains, insert, members}
 use Rattle.std.proofs.lemmas.List.Elements.{All-nil, Contains-append_cases}
@@ -7,9 +7,8 @@ use Rattle.std.proofs.lemmas.Bool.Decides.{nat_tests}
 use Rattle.wasi_host.specs.Tree.{Tree}
 use Rattle.wasi_host.specs.ValidTree.{Reached}
 use Rattle.wasi_host.specs.Agree.{Touches, OrMade}
-use Rattle.wasi_host.specs.HostCall.{HostCall, OpenAt, StatAt, ReadLinkAt, MakeDirAt, SymlinkAt, UnlinkAt, RemoveDirAt, LinkAt, RenameAt, TimesAt, SetTimes, ListDir, Access, Stat, Pread, Pwrite, Append, SetSize, Sync, Advise, Flags, Dup, Close}
-use Rattle.wasi_host.specs.Refusal.{refusal}
-use Rattle.wasi_host.specs.Answer.{HostAnswer, host_answer, unless}
+use Rattle.wasi_host.specs.HostCall.{HostCall, Close}
+use Rattle.wasi_host.specs.Answer.{HostAnswer, host_answer}
 use Rattle.wasi_host.specs.Step.{step, found_by, made_by, starts_of}
 use Rattle.wasi_host.specs.Steps.{◌>>=◌}
 use Rattle.wasi_host.specs.Meaning.{World, Handles, Told, Stepped, AfterErr, answered, Means, MeansErr}

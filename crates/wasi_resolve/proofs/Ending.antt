@@ -24,7 +24,6 @@ use Rattle.wasi_resolve.specs.Meanings.{ends_by, opened_node}
 use Rattle.wasi_resolve.specs.Paths.{Opening, opened_by, step_of, behind_slash, looked_at}
 use Rattle.wasi_resolve.specs.Resolved.{Meant, Resolved, TreeAfter, call_meant}
 use Rattle.wasi_resolve.specs.Finding.{is_link_kind, is_directory_kind}
-use Rattle.wasi_resolve.specs.NameText.{left_bytes}
 use Rattle.wasi_resolve.specs.Ways.{Course}
 use Rattle.wasi_resolve.specs.WalkSteps.{OnlyLooks, IsFault, Enters, EndsUnread, EndsAtLink, EndsAtName, EndsInDirectory, open_meant, meant_at, Sight, HandleFor, Seen, shown_found}
 use Rattle.wasi_resolve.specs.declared.found.Found.TheVariants as found
@@ -88,23 +87,23 @@ as_reach name (Err e) = Err e
 
 pub last_opened : (live : Handles) (w u : World) (d : ℕ) (name : NameLeft) (o : Options) (follow slash : Bool)
     (r : Result (Option ℕ) HostError)
-    → Enters live w u d (left_bytes name.text) (last_options o slash) (follow || slash) r
-    → EndsAtName live w u d (record { aim = Open o; follow = follow; slash = slash }) (left_bytes name.text)
+    → Enters live w u d name.text.now (last_options o slash) (follow || slash) r
+    → EndsAtName live w u d (record { aim = Open o; follow = follow; slash = slash }) name.text.now
     (as_reach name r)
 last_opened live w u d name o follow slash (Ok (Some h)) opens = record {
-  unread = open_to_read w.tree o follow slash d (left_bytes name.text) ∙ opens.unread;
+  unread = open_to_read w.tree o follow slash d name.text.now ∙ opens.unread;
   resolved = mapped_ok HandleFor (shown_found u.held) (found.Handle h) refl opens.resolved;
 }
 last_opened live w u d name o follow slash (Ok None) met = record {
-  reads = open_to_read w.tree o follow slash d (left_bytes name.text) ∙ met.reads;
-  free = met_reads w.tree d (left_bytes name.text) (last_options o slash) (follow || slash) name.plain met.reads;
+  reads = open_to_read w.tree o follow slash d name.text.now ∙ met.reads;
+  free = met_reads w.tree d name.text.now (last_options o slash) (follow || slash) name.plain met.reads;
   looks = met.looks;
   same = refl;
 }
 last_opened live w u d name o follow slash (Err e) fails = elim fails [
   | inl fault ↦ inl fault
   | inr opens ↦ inr (record {
-    unread = open_to_read w.tree o follow slash d (left_bytes name.text) ∙ opens.unread;
+    unread = open_to_read w.tree o follow slash d name.text.now ∙ opens.unread;
     resolved = mapped_err HandleFor (shown_found u.held) e opens.resolved;
   })
 ]

@@ -13,7 +13,6 @@ use Rattle.wasi_host.specs.declared.lookup.Lookup.{Lookup}
 use Rattle.wasi_paths.specs.Parts.{Component, Normal}
 use Rattle.wasi_resolve.specs.Walk.{Aim, Open, Look, Outcome, Stop, Name, Dot, Leg, Linked, is_to_be_read}
 use Rattle.wasi_resolve.specs.ByNodes.{top, leg_nodes}
-use Rattle.wasi_resolve.specs.NameText.{left_bytes}
 use Rattle.wasi_resolve.specs.Resolved.{Resolved}
 use Rattle.wasi_resolve.specs.Stack.{Stands, Among, top_handle, nodes_under}
 use Rattle.wasi_resolve.specs.Finding.{StackTraced, handle_reached, LiveWith, StandsWith, IsGot, ReachTraced, FewReads, FewBefore, FewUntil}
@@ -178,14 +177,14 @@ module _ {b : Begin} {now : Handles} {v : World} {stack : List ℕ} {here : ℕ}
         let kept = kept_on on ends.looks in
         let is : leg_from b k m a
         ≡ Linked (suc taken) (nodes_under u.held stack) (link_text w.tree (top (origin b)
-        (nodes_under u.held stack)) (left_bytes other.text)) left =
+        (nodes_under u.held stack)) other.text.now) left =
         leg_is
         ∙ last_linked w.tree (origin b) k.aim k.follow k.slash taken name nodes (to_start
         (λ t n. is_to_be_read t k.aim k.follow k.slash true n name ≡ true) ends.reads)
         ∙ ap (λ l. let r : Leg (List ℕ) = Linked (suc taken) nodes (link_text w.tree d name) l in r) (sym last.none)
         ∙ ap (λ n. let r : Leg (List ℕ) = Linked (suc taken) nodes (link_text w.tree d n) left in r) (sym ends.same)
         ∙ ap (λ ns. let r : Leg (List ℕ) =
-        Linked (suc taken) ns (link_text w.tree (top (origin b) ns) (left_bytes other.text)) left in r)
+        Linked (suc taken) ns (link_text w.tree (top (origin b) ns) other.text.now) left in r)
         (sym kept) in
         record {
           walked = walked_on on ends.looks;
@@ -193,7 +192,7 @@ module _ {b : Begin} {now : Handles} {v : World} {stack : List ℕ} {here : ℕ}
           count = count_is;
           linked = is;
           free =
-              subst (λ ns. refusal w.tree (ReadLinkAt (top (origin b) ns) (left_bytes other.text)) ≡ None)
+              subst (λ ns. refusal w.tree (ReadLinkAt (top (origin b) ns) other.text.now) ≡ None)
               (sym kept)
               (subst (λ n. refusal w.tree (ReadLinkAt d n) ≡ None) (sym ends.same) (to_start (λ t n. refusal t
               (ReadLinkAt n name) ≡ None) ends.free));

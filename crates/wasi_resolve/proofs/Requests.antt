@@ -11,7 +11,7 @@ use Rattle.wasi_host.specs.declared.held.Held.{Held}
 use Rattle.wasi_host.specs.declared.system_time.SystemTime.{SystemTime}
 use Rattle.wasi_host.specs.Refusal.{refusal}
 use Rattle.wasi_host.specs.Step.{open_step, starts_of}
-use Rattle.wasi_host.specs.Answer.{reached, unless, link_text, metadata_of}
+use Rattle.wasi_host.specs.Answer.{reached, unless, metadata_of}
 use Rattle.wasi_host.specs.Steps.{◌>>=◌}
 use Rattle.wasi_host.specs.declared.errors.ErrorCode.{ErrorCode}
 use Rattle.wasi_host.specs.declared.errors.ErrorCode.TheVariants.{NotDirectory}

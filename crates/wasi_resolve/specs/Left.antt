@@ -1,7 +1,6 @@
 -- The parts that are left, as contracts see them.
 use Rattle.std.specs.Prelude.{Bool, true, false, List, [], ◌∷◌, map, reverse}
 use Rattle.wasi_paths.specs.Parts.{Component, RootDir, CurDir, ParentDir, Normal}
-use Rattle.wasi_resolve.specs.NameText.{left_bytes}
 use Rattle.wasi_resolve.specs.declared.left.PartLeft.{PartLeft}
 use Rattle.wasi_resolve.specs.declared.left.PartLeft.TheVariants as left
 
@@ -9,7 +8,7 @@ abbrev pub component_left : PartLeft → Component
 component_left left.Root = RootDir
 component_left left.CurDir = CurDir
 component_left left.ParentDir = ParentDir
-component_left (left.Normal name) = Normal (left_bytes name.text)
+component_left (left.Normal name) = Normal name.text.now
 
 -- the next part stands last
 abbrev pub parts_left : List PartLeft → List Component

@@ -6,7 +6,6 @@ pub mod Laws
 pub mod Resolved
 pub mod Meanings
 pub mod PathRequest
-pub mod NameText
 pub mod Left
 pub mod Stack
 pub mod Ways

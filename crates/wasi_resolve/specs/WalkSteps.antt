@@ -27,7 +27,6 @@ use Rattle.wasi_resolve.specs.ByNodes.{top, leg_nodes, walk_nodes}
 use Rattle.wasi_resolve.specs.Paths.{Place, opening_of, opened_by, step_of, looked_at}
 use Rattle.wasi_resolve.specs.Meanings.{ends_by, opened_node}
 use Rattle.wasi_resolve.specs.Resolved.{Meant, Resolved}
-use Rattle.wasi_resolve.specs.NameText.{left_bytes}
 use Rattle.wasi_resolve.specs.Stack.{nodes_under}
 use Rattle.wasi_resolve.specs.Ways.{Begin, origin, Course, Way, way_nodes, leg_from}
 use Rattle.wasi_resolve.specs.declared.found.Found.{Found}
@@ -154,8 +153,8 @@ pub record Fails (b : Begin) (a c : Way) (e : HostError) : Type 0 where
 
 abbrev pub StopsAt : Begin → Way → Way → stopping.Stop → Type 0
 StopsAt b a c stops.Dot = GoesOn b a c × (c.left ≡ [])
-StopsAt b a c (stops.Last name) = AtLast b a c (left_bytes name.text)
-StopsAt b a c (stops.Link name) = AtLink b a c (left_bytes name.text)
+StopsAt b a c (stops.Last name) = AtLast b a c name.text.now
+StopsAt b a c (stops.Link name) = AtLink b a c name.text.now
 
 abbrev pub Stopped : Begin → Way → Way → Result stopping.Stop HostError → Type 0
 Stopped b a c (Ok stop) = StopsAt b a c stop
@@ -208,7 +207,7 @@ pub record EndsAtLink (live : Handles) (w u : World) (d : ℕ) (k : Course) (nam
 
 abbrev pub EndsAtName : Handles → World → World → ℕ → Course → List ℕ → Result Reach HostError → Type 0
 EndsAtName live w u d k name (Ok (reach.Found it)) = EndsUnread live w u d k name (Ok it)
-EndsAtName live w u d k name (Ok (reach.Link other)) = EndsAtLink live w u d k name (left_bytes other.text)
+EndsAtName live w u d k name (Ok (reach.Link other)) = EndsAtLink live w u d k name other.text.now
 EndsAtName live w u d k name (Err e) = (OnlyLooks live w u (d ∷ []) × IsFault e) ⊎ EndsUnread live w u d k name (Err e)
 
 -- ---- a directory
@@ -256,7 +255,7 @@ pub record ReachFails (b : Begin) (k : Course) (m : ℕ) (a c : Way) (e : HostEr
 
 abbrev pub Reaches : Begin → Course → ℕ → Way → Way → Result Reach HostError → Type 0
 Reaches b k m a c (Ok (reach.Found it)) = ReachesEnd b k m a c (Ok it)
-Reaches b k m a c (Ok (reach.Link name)) = ReachesLink b k m a c (left_bytes name.text)
+Reaches b k m a c (Ok (reach.Link name)) = ReachesLink b k m a c name.text.now
 Reaches b k m a c (Err e) = ReachFails b k m a c e ⊎ ReachesEnd b k m a c (Err e)
 
 -- ---- a link

@@ -1,16 +1,16 @@
 //! The parts of a path that a walk has still to take.
-ghost use Rattle.std.specs.Prelude.{◌≡◌, ◌++◌, ◌∷◌, [], if◌then◌else◌, IfOk, IfErr, OnOk};
+ghost use Rattle.std.specs.Prelude.{◌≡◌, ◌++◌, ◌∷◌, [], if◌then◌else◌, IfErr, OnOk};
 ghost use Rattle.wasi_paths.specs.Parts.{CurDir, parts, trailing_dot};
 ghost use Rattle.wasi_paths.specs.Part.{component};
 ghost use Rattle.wasi_paths.specs.TextLaws.{HasPlainName};
 ghost use Rattle.wasi_resolve.specs.Left.{component_left, parts_left};
 
-use crate::name_left::{NameLeft, NameText};
-use std::alloc::{AllocError, Global};
+use crate::name_left::NameLeft;
 use wasi_host::HostError;
 use wasi_paths::{Part, names_are_plain, path_has_trailing_dot};
 
-/// A part that is left. It stands for the crate's `CowComponent`.
+/// A part that is left, borrowed from the path or from the text of a link. It stands for the crate's `CowComponent`,
+/// which owns the parts of a link's text.
 #[derive(Debug, Drop)]
 pub(crate) enum PartLeft<'p> {
     Root,
@@ -19,8 +19,8 @@ pub(crate) enum PartLeft<'p> {
     Normal(NameLeft<'p>),
 }
 
-/// A part of the path itself.
-fn of_path<'p>(part: Part<'p>) -> PartLeft<'p>
+/// A part of a text, as one that is left.
+fn of_text<'p>(part: Part<'p>) -> PartLeft<'p>
     requires { HasPlainName (component part) }
     ensures { component_left result ≡ component part.entry }
 {
@@ -28,27 +28,7 @@ fn of_path<'p>(part: Part<'p>) -> PartLeft<'p>
         Part::Root => PartLeft::Root,
         Part::CurDir => PartLeft::CurDir,
         Part::ParentDir => PartLeft::ParentDir,
-        Part::Normal(text) => PartLeft::Normal(NameLeft {
-            text: NameText::OfPath(text),
-        }),
-    }
-}
-
-/// A part of a link's text, whose name is copied.
-fn of_link<'p>(alloc: Global, part: Part<'_>) -> Result<PartLeft<'p>, AllocError>
-    requires { HasPlainName (component part) }
-    ensures { IfOk result (λ left. component_left left ≡ component part.entry) }
-{
-    match part {
-        Part::Root => Ok(PartLeft::Root),
-        Part::CurDir => Ok(PartLeft::CurDir),
-        Part::ParentDir => Ok(PartLeft::ParentDir),
-        Part::Normal(text) => {
-            let text = String::from_str(alloc, text)?;
-            Ok(PartLeft::Normal(NameLeft {
-                text: NameText::OfLink(text),
-            }))
-        }
+        Part::Normal(text) => PartLeft::Normal(NameLeft { text }),
     }
 }
 
@@ -64,34 +44,16 @@ fn put_dot(left: &mut Vec<PartLeft<'_>>, text: &str) -> Result<(), HostError>
     Ok(())
 }
 
-/// Puts the parts of a path before those that are left. The next part stands last.
-pub(crate) fn put_path<'p>(left: &mut Vec<PartLeft<'p>>, path: &'p str) -> Result<(), HostError>
+/// Puts the parts of a text before those that are left. The next part stands last.
+pub(crate) fn put_parts<'p>(left: &mut Vec<PartLeft<'p>>, text: &'p str) -> Result<(), HostError>
     ensures memory { IfErr result (λ e. e ≡ HostError.Memory) }
-    ensures parts { OnOk result (parts_left left.new.items ≡ parts path.entry.now ++ parts_left left.old.items) }
-{
-    names_are_plain();
-    put_dot(left, path)?;
-    let mut rest = wasi_paths::parts(path);
-    while let Some(part) = rest.next_back() {
-        left.push(of_path(part))?;
-    }
-    Ok(())
-}
-
-/// Puts the parts of a link's text before those that are left.
-pub(crate) fn put_link<'p>(
-    alloc: Global,
-    left: &mut Vec<PartLeft<'p>>,
-    text: &str,
-) -> Result<(), HostError>
-    ensures memory { IfErr result (λ e. e ≡ HostError.Memory) }
-    ensures parts { OnOk result (parts_left left.new.items ≡ parts text.now ++ parts_left left.old.items) }
+    ensures parts { OnOk result (parts_left left.new.items ≡ parts text.entry.now ++ parts_left left.old.items) }
 {
     names_are_plain();
     put_dot(left, text)?;
     let mut rest = wasi_paths::parts(text);
     while let Some(part) = rest.next_back() {
-        left.push(of_link(alloc, part)?)?;
+        left.push(of_text(part))?;
     }
     Ok(())
 }

@@ -8,7 +8,6 @@ ghost use Rattle.wasi_paths.specs.Name.{name_bytes};
 ghost use Rattle.wasi_paths.specs.Parts.{Component, Normal};
 ghost use Rattle.wasi_resolve.specs.Walk.{middle_options, last_options};
 ghost use Rattle.wasi_resolve.specs.Meanings.{follows};
-ghost use Rattle.wasi_resolve.specs.NameText.{left_bytes};
 ghost use Rattle.wasi_resolve.specs.Stack.{Stands, StillStands};
 ghost use Rattle.wasi_resolve.specs.Ways.{begin, way};
 ghost use Rattle.wasi_resolve.specs.Finding.{course_of, StackTraced, LiveWith, IsGot, IsLast, FewReads, ReadsBy, ReadsOnce, is_loop, may_be_link, is_link_kind, is_directory_kind, FoundAs, handle_entered, handle_reached};
@@ -168,7 +167,7 @@ pub(crate) fn go_down<'p, H: Host>(
         → Stands first (H.live host.old) start stack.old.items
         → Walked first w (H.world host.old) start stack.old.items
         → TakesPart (begin first w start)
-        (way (H.world host.old) stack.old.items (Normal (left_bytes name.entry.text) ∷ next ∷ rest))
+        (way (H.world host.old) stack.old.items (Normal name.entry.text.now ∷ next ∷ rest))
         (way (H.world host.new) stack.new.items (next ∷ rest)) result }
 {
     stack.reserve(1)?;
@@ -199,7 +198,7 @@ pub(crate) fn at_last<'p, H: Host>(
     ensures last { IsLast (handle_reached result) (H.lookups host.new) }
     ensures reads { FewReads 2 0 (H.lookups host.old) (H.lookups host.new) }
     ensures told { IsTrue H.told → EndsAtName (H.live host.old) (H.world host.old) (H.world host.new)
-        ((H.world host.old).held here).node (course_of aim.now slash) (left_bytes name.entry.text) result }
+        ((H.world host.old).held here).node (course_of aim.now slash) name.entry.text.now result }
 {
     match aim {
         Aim::Open(options) => {

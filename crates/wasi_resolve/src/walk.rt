@@ -5,7 +5,6 @@ ghost use Rattle.wasi_host.specs.Meaning.{HasCause, World};
 ghost use Rattle.wasi_host.specs.Lineage.{Traced, Only, Nothing};
 ghost use Rattle.wasi_paths.specs.Parts.{Component, trailing_slash, is_empty};
 ghost use Rattle.wasi_resolve.specs.Walk.{walk, walk_looks};
-ghost use Rattle.wasi_resolve.specs.NameText.{left_bytes};
 ghost use Rattle.wasi_resolve.specs.Left.{component_left, parts_left, is_nil};
 ghost use Rattle.wasi_resolve.specs.Stack.{Stands, StillStands, Among};
 ghost use Rattle.wasi_resolve.specs.Ways.{begin, way, way_of};
@@ -15,11 +14,12 @@ ghost use Rattle.wasi_resolve.specs.WalkSteps.{Walked, TakesPart, Stopped, EndsI
 
 use crate::MAX_SYMLINK_EXPANSIONS;
 use crate::found::{Aim, Found, Reach, Stop};
-use crate::left::{PartLeft, put_link, put_path};
+use crate::left::{PartLeft, put_parts};
 use crate::name_left::NameLeft;
 use crate::names::{at_last, go_down};
 use crate::stack::{close_all, leave, top_of};
 use crate::way::Way;
+use bumpalo::Bump;
 use std::alloc::Global;
 use wasi_host::{ErrorCode, Handle, Host, HostError};
 use wasi_paths::{Name, path_has_trailing_slash};
@@ -155,9 +155,10 @@ fn slash_behind(slash: bool, was_last: bool, text: &str) -> bool
     slash || (was_last && path_has_trailing_slash(text))
 }
 
-/// Reads a link and puts the parts of its text before those that are left. It answers whether the last part has a slash
-/// behind it then.
+/// Reads a link and puts the parts of its text, which is kept in the arena, before those that are left. It answers
+/// whether the last part has a slash behind it then.
 fn read_link<'p, H: Host>(
+    texts: &'p Bump,
     alloc: Global,
     host: &mut H,
     here: Handle,
@@ -171,17 +172,19 @@ fn read_link<'p, H: Host>(
     ensures lineage { Traced (Only here) Nothing Nothing (H.lookups host.old) (H.lookups host.new) }
     ensures reads { FewReads 1 1 (H.lookups host.old) (H.lookups host.new) }
     ensures told { IsTrue H.told → ReadsLink (H.live host.old) (H.world host.old) (H.world host.new)
-        (record { directory = ((H.world host.old).held here).node; name = left_bytes name.entry.text })
+        (record { directory = ((H.world host.old).held here).node; name = name.entry.text.now })
         (parts_left left.old.items) (parts_left left.new.items) slash result }
 {
-    let text = host.read_link_at(alloc, here, name.name())?;
+    let read = host.read_link_at(alloc, here, name.name())?;
+    let text = texts.try_alloc_str(read.as_str())?;
     let was_last = left.as_slice().is_empty();
-    put_link(alloc, left, text.as_str())?;
-    Ok(slash_behind(slash, was_last, text.as_str()))
+    put_parts(left, text)?;
+    Ok(slash_behind(slash, was_last, text))
 }
 
 /// The whole walk along the parts that are left. It reads a link in each turn, and none behind the last turn.
 fn along<'p, H: Host>(
+    texts: &'p Bump,
     alloc: Global,
     host: &mut H,
     start: Handle,
@@ -207,19 +210,19 @@ fn along<'p, H: Host>(
 {
     let mut slash = has_slash;
     for links in 0..MAX_SYMLINK_EXPANSIONS {
-        let reached = reach(host, start, way, aim, slash)?;
-        let here = top_of(start, &way.stack);
-        match reached {
-            Reach::Found(found) => return Ok(found),
-            Reach::Link(name) => {
-                slash = read_link(alloc, host, here, name, &mut way.left, slash)?;
+        match reach(host, start, way, aim, slash) {
+            Ok(Reach::Found(found)) => return Ok(found),
+            Ok(Reach::Link(name)) => {
+                let here = top_of(start, &way.stack);
+                slash = read_link(texts, alloc, host, here, name, &mut way.left, slash)?;
             }
+            Err(e) => return Err(e),
         }
     }
-    let last = reach(host, start, way, aim, slash)?;
-    match last {
-        Reach::Found(found) => Ok(found),
-        Reach::Link(_name) => Err(HostError::Code(ErrorCode::Loop)),
+    match reach(host, start, way, aim, slash) {
+        Ok(Reach::Found(found)) => Ok(found),
+        Ok(Reach::Link(_name)) => Err(HostError::Code(ErrorCode::Loop)),
+        Err(e) => Err(e),
     }
 }
 
@@ -228,6 +231,44 @@ pub(crate) fn is_empty(path: &str) -> bool
     ensures { result ≡ is_empty path.now }
 {
     path.is_empty()
+}
+
+/// The walk of a path from a start, which keeps the texts of its links in an arena.
+fn walk_among<'p, H: Host>(
+    texts: &'p Bump,
+    alloc: Global,
+    host: &mut H,
+    start: Handle,
+    path: &'p str,
+    aim: &Aim,
+) -> Result<Found, HostError>
+    requires { contains (H.live host.old) start ≡ true }
+    ensures cause { HasCause (H.faults host.old) (H.faults host.new) result }
+    ensures live { LiveWith (H.live host.old) (handle_found result) (H.live host.new) }
+    ensures for_aim { FoundOf aim.now result }
+    ensures lineage { Traced (Only start) Nothing (IsGot (handle_found result)) (H.lookups host.old) (H.lookups host.new) }
+    ensures last { IsLast (handle_found result) (H.lookups host.new) }
+    ensures links { links_read (H.lookups host.new) ≤ links_read (H.lookups host.old) + 40 }
+    ensures told { IsTrue H.told → Resolved (H.live host.old) (H.world host.old) (H.world host.new)
+        (meant_at (H.world host.old).tree (aim_of aim.now) ((H.world host.old).held start).node
+        (walk (H.world host.old).tree ((H.world host.old).held start).node path.now (aim_of aim.now)
+        (aim_follows aim.now)).outcome)
+        (shown_found (H.world host.new).held) result }
+    ensures bound { IsTrue H.told → length (H.lookups host.new) ≤ length (H.lookups host.old)
+        + walk_looks (walk (H.world host.old).tree ((H.world host.old).held start).node path.now (aim_of aim.now)
+        (aim_follows aim.now)) }
+{
+    if is_empty(path) {
+        return Err(HostError::Code(ErrorCode::NoEntry));
+    }
+    let stack = Vec::new(alloc);
+    let left = Vec::new(alloc);
+    let mut way = Way { stack, left };
+    put_parts(&mut way.left, path)?;
+    let slash = path_has_trailing_slash(path);
+    let found = along(texts, alloc, host, start, &mut way, aim, slash);
+    close_all(host, start, &mut way.stack);
+    found
 }
 
 /// The walk of a path from a start.
@@ -254,15 +295,6 @@ pub(crate) fn walk<H: Host>(
         + walk_looks (walk (H.world host.old).tree ((H.world host.old).held start).node path.now (aim_of aim.now)
         (aim_follows aim.now)) }
 {
-    if is_empty(path) {
-        return Err(HostError::Code(ErrorCode::NoEntry));
-    }
-    let stack = Vec::new(alloc);
-    let left = Vec::new(alloc);
-    let mut way = Way { stack, left };
-    put_path(&mut way.left, path)?;
-    let slash = path_has_trailing_slash(path);
-    let found = along(alloc, host, start, &mut way, aim, slash);
-    close_all(host, start, &mut way.stack);
-    found
+    let texts = Bump::new(alloc);
+    walk_among(&texts, alloc, host, start, path, aim)
 }

@@ -35,11 +35,23 @@ pub struct Ended {
 impl Ended {
     /// Whether it is what became of another run too, whose answers from a place on are the same.
     pub fn agrees(&self, whole: &Ended, place: usize) -> bool {
-        let last = whole.answers.as_slice().get(place..).unwrap_or(&[]);
-        last == self.answers.as_slice()
+        ends(&whole.answers, place, &self.answers)
             && self.report.as_slice() == whole.report.as_slice()
             && self.memory.bytes() == whole.memory.bytes()
     }
+}
+
+// Whether the last answers, from a place on, are these.
+fn ends(whole: &Answers, place: usize, last: &Answers) -> bool {
+    if whole.len().saturating_sub(place) != last.len() {
+        return false;
+    }
+    for i in 0..last.len() {
+        if whole.get(place.saturating_add(i)) != last.get(i) {
+            return false;
+        }
+    }
+    true
 }
 
 fn begin(alloc: Global, script: Script) -> Result<Begun, AllocError>

@@ -1,11 +1,12 @@
 -- The line of a script that was made.
 use Rattle.std.proofs.Common.{Result, Ok, Err, String, Global, ◌≡◌, ℕ, ◌+◌, ◌<◌, ◌≤◌, List, length, take, get_or, min, refl, ◌∙◌, subst, arith}
-use Rattle.std.specs.Prelude.{count_by, sum_by, IfOk}
+use Rattle.std.specs.Prelude.{count_by, sum_by, slice_get, Some, IfOk}
 use Rattle.std.specs.String.{string_bytes}
 use Rattle.std.specs.declared.alloc.AllocError.{AllocError}
 use Rattle.std.specs.List.{zip}
 use Rattle.std.proofs.lemmas.List.{take_all}
 use Rattle.std.proofs.lemmas.List.Sums.{sum_by_more}
+use Rattle.std.proofs.lemmas.Option.{get_or_from_slice_get}
 use Rattle.std.proofs.lemmas.Slice.Zip.{length-zip, get_or-zip}
 use Rattle.wasi_guest.specs.declared.answer.Answer.{Answer}
 use Rattle.wasi_guest.specs.declared.call.Call.{Call}
@@ -23,13 +24,15 @@ abbrev pub read_so_far : List Call → List Answer → ℕ → ℕ
 read_so_far calls answers i = sum_by (λ p. bytes_in_answer p.0 p.1) (take i (zip calls answers))
 
 pub more_read : (calls : List Call) (answers : List Answer) (i : ℕ) (call : Call) (answer : Answer) (sum count : ℕ)
-    → i < length calls → i < length answers → count ≡ bytes_in_answer (get_or calls i call) (get_or answers i answer)
-    → sum ≡ read_so_far calls answers i → sum + count ≡ read_so_far calls answers (i + 1)
-more_read calls answers i call answer sum count low high count-is sum-is =
+    → i < length calls → i < length answers → slice_get answers i ≡ Some answer
+    → count ≡ bytes_in_answer (get_or calls i call) answer → sum ≡ read_so_far calls answers i
+    → sum + count ≡ read_so_far calls answers (i + 1)
+more_read calls answers i call answer sum count low high found count-is sum-is =
     let long = length-zip calls answers in
     let more = sum_by_more (λ p. bytes_in_answer p.0 p.1) (zip calls answers) i (call, answer) (omega (arith, long)) in
     let item = get_or-zip calls answers i (call, answer) low high in
-    rw (sum-is, count-is, more, item) refl
+    let is = get_or_from_slice_get answers i answer answer found in
+    rw (sum-is, count-is, more, item, is) refl
 
 pub all_read : (calls : List Call) (answers : List Answer) (i : ℕ) → i ≡ min (length calls) (length answers)
     → read_so_far calls answers i ≡ bytes_answered calls answers

@@ -7,19 +7,25 @@ ghost use Rattle.wasi_script.specs.Summary as specs;
 use crate::ran::run;
 use std::alloc::{AllocError, Global};
 use wasi_gen::gen_script;
-use wasi_guest::{Answer, Call, Value};
+use wasi_guest::{Answer, Answers, Call, Value};
 
-fn is_success(answer: &Answer) -> bool
-    ensures { result ≡ is_success answer.now }
+fn is_success(answer: Answer) -> bool
+    ensures { result ≡ is_success answer }
 {
     matches!(answer, Answer::Ok(_))
 }
 
 // How many of the answers are Ok.
-fn successes(answers: &[Answer]) -> usize
-    ensures { result ≡ count_by is_success answers.now }
+fn successes(answers: &Answers) -> usize
+    ensures { result ≡ count_by is_success answers.now.answers }
 {
-    answers.iter().filter(|answer| is_success(answer)).count()
+    let mut count = 0;
+    for i in 0..answers.len() {
+        if is_success(answers.at(i)) {
+            count += 1;
+        }
+    }
+    count
 }
 
 fn is_read(call: Call) -> bool
@@ -50,13 +56,13 @@ fn bytes_in_answer(call: Call, answer: Answer) -> u64
 }
 
 // The sum of the numbers that `fd_read` was answered, of calls and the answers of the first of them.
-fn bytes_answered(calls: &[Call], answers: &[Answer]) -> u128
-    ensures { result ≡ specs.bytes_answered calls.now answers.now }
+fn bytes_answered(calls: &[Call], answers: &Answers) -> u128
+    ensures { result ≡ specs.bytes_answered calls.now answers.now.answers }
 {
     let answered = calls.len().min(answers.len());
     let mut sum = 0;
     for i in 0..answered {
-        sum += bytes_in_answer(calls[i], answers[i]) as u128;
+        sum += bytes_in_answer(calls[i], answers.at(i)) as u128;
     }
     sum
 }
@@ -83,9 +89,8 @@ pub fn summary_of(alloc: Global, n: u64) -> Result<String, AllocError>
 {
     let ran = run(alloc, gen_script(alloc, n)?)?;
     let calls = ran.calls.as_slice();
-    let answers = ran.answers.as_slice();
-    let ok = successes(answers);
-    let bytes = bytes_answered(calls, answers);
+    let ok = successes(&ran.answers);
+    let bytes = bytes_answered(calls, &ran.answers);
     let nodes = ran.context.host().inner().count();
     line_of(alloc, n, calls.len(), ok, bytes, nodes)
 }

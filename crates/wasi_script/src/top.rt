@@ -17,7 +17,7 @@ use crate::words::{Task, task_of};
 use std::alloc::{AllocError, Global};
 use wasi_ends::{Sink, Source, read_all, write_all};
 use wasi_form::{Refusal, Script, read_script};
-use wasi_report::{Outcome, report};
+use wasi_report::{Outcome, report_in};
 
 const USAGE: &str = "usage: wasirun run | wasirun gen N\n";
 
@@ -33,8 +33,12 @@ fn refusal_line(refusal: Refusal) -> &'static str
     }
 }
 
-// The script that the source has left; or how the program ends without one.
-fn read_from<S: Source>(alloc: Global, source: &mut S) -> Result<Script, Status>
+// The script that the source has left, whose bytes the buffer has then; or how the program ends without one.
+fn read_from<S: Source>(
+    alloc: Global,
+    source: &mut S,
+    buffer: &mut Vec<u8>,
+) -> Result<Script, Status>
     ensures count { S.faults source.old ≤ S.faults source.new }
     ensures cause { result ≡ Err Status.ReadFault → Risen (S.faults source.old) (S.faults source.new) }
     ensures ends { IfErr result EndsReading }
@@ -42,11 +46,12 @@ fn read_from<S: Source>(alloc: Global, source: &mut S) -> Result<Script, Status>
     ensures rising { IfOk result (λ script. IsTrue (numbers_rise script.faults.items)) }
     ensures read { IsTrue S.told → ReadsScript result (S.left source.old) (S.left source.new) }
 {
-    let bytes = read_all(alloc, source)?;
-    Ok(read_script(alloc, bytes.as_slice())?)
+    *buffer = read_all(alloc, source)?;
+    Ok(read_script(alloc, buffer.as_slice())?)
 }
 
-fn report_of(alloc: Global, script: Script) -> Result<Vec<u8>, AllocError>
+// The report of a script, in the memory of a buffer.
+fn report_of(alloc: Global, script: Script, buffer: Vec<u8>) -> Result<Vec<u8>, AllocError>
     requires within { is_within_limits (plan script) ≡ true }
     requires rising { IsTrue (numbers_rise script.faults.items) }
     ensures { IfOk result (λ text. Reports (plan script) text.items) }
@@ -63,7 +68,7 @@ fn report_of(alloc: Global, script: Script) -> Result<Vec<u8>, AllocError>
         stderr: outputs.stderr,
         touched,
     };
-    report(alloc, &outcome, ended.host.inner())
+    report_in(alloc, buffer, &outcome, ended.host.inner())
 }
 
 fn written<K: Sink>(sink: &mut K, text: &[u8], status: Status) -> Status
@@ -78,7 +83,8 @@ fn written<K: Sink>(sink: &mut K, text: &[u8], status: Status) -> Status
     }
 }
 
-// Runs a script that is read of the source, and writes its report, or why there is none.
+// Runs a script that is read of the source, and writes its report, or why there is none. The report is written where the
+// script's bytes stood.
 fn run_source<S: Source, K: Sink>(alloc: Global, source: &mut S, sink: &mut K) -> Status
     ensures source_count { S.faults source.old ≤ S.faults source.new }
     ensures sink_count { K.faults sink.old ≤ K.faults sink.new }
@@ -93,7 +99,8 @@ fn run_source<S: Source, K: Sink>(alloc: Global, source: &mut S, sink: &mut K) -
     ensures read_only { IsTrue S.told → IsTrue K.told → OfDue result Task.Run (S.left source.old)
         (λ due. KeepsTree result due (K.taken sink.old) (K.taken sink.new)) }
 {
-    let script = match read_from(alloc, source) {
+    let mut bytes = Vec::new(alloc);
+    let script = match read_from(alloc, source, &mut bytes) {
         Ok(script) => script,
         Err(Status::Refused(refusal)) => {
             return written(
@@ -104,7 +111,7 @@ fn run_source<S: Source, K: Sink>(alloc: Global, source: &mut S, sink: &mut K) -
         }
         Err(status) => return status,
     };
-    match report_of(alloc, script) {
+    match report_of(alloc, script, bytes) {
         Ok(text) => written(sink, text.as_slice(), Status::Done),
         Err(AllocError) => Status::NoMemory,
     }

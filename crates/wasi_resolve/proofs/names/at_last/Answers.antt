@@ -25,8 +25,8 @@ returns-in-Ok-None-clause-told g c told =
       c.is_follow.ensures.value,
     ) at (c.in-Ok-None.ensures.told told)))
 
-pub returns-in-Open-clause-told : goal.returns-in-Open-clause-told
-returns-in-Open-clause-told g c told =
+pub returns-in-Err-clause-told : goal.returns-in-Err-clause-told
+returns-in-Err-clause-told g c told =
     rw c.in-Open.is (last_opened _ _ _ _ c.args.name c.in-Open.options _ c.args.slash (Err c.in-Err.e)
     (rw (c.name.ensures.bytes, c.last_options-last.ensures, c.reads_links-may_read.ensures, c.is_follow.ensures.value)
     at (c.in-Err.ensures.told told)))
@@ -52,8 +52,8 @@ returns-then-is_no_directory-clause-told g c told =
     (rw c.reads_links.ensures at (sym c.is_read.ensures ∙ c.if-is_read.false))
     (sym c.is_no_directory.ensures ∙ c.if-is_no_directory.true)))
 
-pub returns-clause-told : goal.returns-clause-told
-returns-clause-told g c told =
+pub returns-else-is_no_directory-clause-told : goal.returns-else-is_no_directory-clause-told
+returns-else-is_no_directory-clause-told g c told =
     rw c.in-Look.is (last_seen _ c.args.slash c.args.name.plain c.in_ok-metadata-in-Look.ensures.live
     (rw c.name-in-Look.ensures.bytes at (c.in_ok-metadata-in-Look.ensures.told told))
     (rw c.reads_links.ensures at (sym c.is_read.ensures ∙ c.if-is_read.false))

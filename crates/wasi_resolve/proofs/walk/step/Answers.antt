@@ -1,6 +1,5 @@
 use Rattle.std.proofs.Common.{◌∙◌, ◌∷◌, inr}
 use Rattle.wasi_paths.specs.Parts.{RootDir, Normal}
-use Rattle.wasi_resolve.specs.NameText.{left_bytes}
 use Rattle.wasi_resolve.specs.Ways.{begin, way}
 use Rattle.wasi_resolve.specs.WalkSteps.{TakesPart}
 use Rattle.wasi_resolve.proofs.Going.{when_more, nil_is}
@@ -33,6 +32,6 @@ pub returns-else-is_last-clause-told : goal.returns-else-is_last-clause-told
 returns-else-is_last-clause-told g c told first w rest last stands walked =
     rw c.in-Normal.is
     (when_more (λ parts. TakesPart (begin first w c.args.start)
-    (way (g.H.Host.world c.args.host.now) c.args.stack.now.items (Normal (left_bytes c.in-Normal.name.text) ∷ parts))
+    (way (g.H.Host.world c.args.host.now) c.args.stack.now.items (Normal c.in-Normal.name.text.now ∷ parts))
     (way (g.H.Host.world c.go_down.new.host) c.go_down.new.stack.items parts) c.go_down.result)
     rest (last ∙ c.if-is_last.false) (λ next more. c.go_down.ensures.told told first w next more stands walked))

@@ -3,16 +3,16 @@ use Rattle.wasi_form.proofs.Accepted.{accepted}
 use Rattle.wasi_script.proofs.Tops.{judged, unread, no_script}
 use Rattle.wasi_script.proofs.top.read_from.Goals as goal
 
-pub returns-in_err-bytes-clause-read : goal.returns-in_err-bytes-clause-read
-returns-in_err-bytes-clause-read g c = λ told.
+pub returns-in_err-buffer-clause-read : goal.returns-in_err-buffer-clause-read
+returns-in_err-buffer-clause-read g c = λ told.
     let error = err_from_is_err_and c.from_residual.result c.from_residual.ensures.1 in
-    rw (error.1, error.2) (unread _ _ _ (c.in_err-bytes.ensures.bytes told))
+    rw (error.1, error.2) (unread _ _ _ (c.in_err-buffer.ensures.bytes told))
 
 pub returns-in_err-read_script-clause-read : goal.returns-in_err-read_script-clause-read
 returns-in_err-read_script-clause-read g c = λ told.
     let residual = c.from_residual-in_err-read_script in
     let error = err_from_is_err_and residual.result residual.ensures.1 in
-    let all = c.in_ok-bytes.ensures.bytes told in
+    let all = c.in_ok-buffer.ensures.bytes told in
     let reads = rw c.as_slice.ensures.value at c.in_err-read_script.ensures.verdict in
     rw (error.1, error.2) (no_script _ reads all.0 all.1 all.2)
 
@@ -24,6 +24,6 @@ returns-clause-rising g c = c.in_ok-read_script.ensures.rising
 
 pub returns-clause-read : goal.returns-clause-read
 returns-clause-read g c = λ told.
-    let all = c.in_ok-bytes.ensures.bytes told in
+    let all = c.in_ok-buffer.ensures.bytes told in
     let reads = rw c.as_slice.ensures.value at c.in_ok-read_script.ensures.verdict in
     judged _ reads all.0 all.1 all.2

@@ -17,5 +17,5 @@ returns c =
     let outputs = c.into_outputs-outputs.ensures in
     let listed = rw (c.inner.ensures.inner, c.host.ensures.host) at c.in_ok-touched.ensures.nodes in
     reports _ _ ran.run listed c.in_ok-touched.ensures.rising
-    (rw (shown-is, outputs.stderr, outputs.stdout, c.inner-2.ensures.inner, ended.host, ended.holdings) at c.report.ensures.ordered)
-    (rw (shown-is, outputs.stderr, outputs.stdout, c.inner-2.ensures.inner, ended.host, ended.holdings) at c.report.ensures.text)
+    (rw (shown-is, outputs.stderr, outputs.stdout, c.inner-2.ensures.inner, ended.host, ended.holdings) at c.report_in.ensures.ordered)
+    (rw (shown-is, outputs.stderr, outputs.stdout, c.inner-2.ensures.inner, ended.host, ended.holdings) at c.report_in.ensures.text)

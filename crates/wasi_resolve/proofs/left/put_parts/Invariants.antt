@@ -1,7 +1,7 @@
 use Rattle.std.proofs.Common.{◌++◌, length}
 use Rattle.wasi_resolve.specs.Left.{parts_left}
 use Rattle.wasi_resolve.proofs.Putting.{IsPut}
-use Rattle.wasi_resolve.proofs.left.put_path.Given as goal
+use Rattle.wasi_resolve.proofs.left.put_parts.Given as goal
 
 abbrev pub invariant-loop-part : goal.invariant-loop-part
 invariant-loop-part l = IsPut (l.initial.rest ++ parts_left l.initial.left.items) l.rest l.left.items

@@ -11,7 +11,7 @@ use Rattle.wasi_resolve.proofs.Reaching.{stop_resolved, fault_resolved}
 use Rattle.wasi_resolve.proofs.Coming.{walk_empty, comes_resolved, comes_bound, walks_start}
 use Rattle.wasi_resolve.proofs.Putting.{put_first}
 use Rattle.wasi_resolve.proofs.Answering.{with_got, stands_all, live_after, closed_resolved, from_start}
-use Rattle.wasi_resolve.proofs.walk.walk.Goals as goal
+use Rattle.wasi_resolve.proofs.walk.walk_among.Goals as goal
 
 pub returns-then-is_empty-clause-told : goal.returns-then-is_empty-clause-told
 returns-then-is_empty-clause-told g c told =
@@ -22,11 +22,11 @@ returns-then-is_empty-clause-told g c told =
     (aim_follows c.args.aim.now) (sym c.is_empty.ensures ∙ c.if-is_empty.true))))
     (stop_resolved (aim_of c.args.aim.now) NoEntry refl (looks_none _ _ _))
 
-pub returns-in_err-put_path-clause-told : goal.returns-in_err-put_path-clause-told
-returns-in_err-put_path-clause-told g c told =
+pub returns-in_err-put_parts-clause-told : goal.returns-in_err-put_parts-clause-told
+returns-in_err-put_parts-clause-told g c told =
     let w = g.H.Host.world c.args.host.now in
     let error = err_from_is_err_and c.from_residual.result c.from_residual.ensures.1 in
-    rw (error.1, error.2) (fault_resolved (aim_of c.args.aim.now) _ (inl c.in_err-put_path.ensures.memory)
+    rw (error.1, error.2) (fault_resolved (aim_of c.args.aim.now) _ (inl c.in_err-put_parts.ensures.memory)
     (looks_none _ w _))
 
 pub along-found-requires : goal.along-found-requires
@@ -58,8 +58,8 @@ returns-clause-told g c told =
     let stands = c.along-found.ensures.stands live empty in
     closed_resolved c.along-found.result
     (comes_resolved c.args.path.now (sym c.is_empty.ensures
-    ∙ c.if-is_empty.false) (put_first c.new-left.result.items c.put_path.new.left.items c.args.path.now
-    c.new-left.ensures.items c.in_ok-put_path.ensures.parts) c.new-stack.ensures.items
+    ∙ c.if-is_empty.false) (put_first c.new-left.result.items c.put_parts.new.left.items c.args.path.now
+    c.new-left.ensures.items c.in_ok-put_parts.ensures.parts) c.new-stack.ensures.items
     (rw c.path_has_trailing_slash-slash.ensures.test at (c.along-found.ensures.told told live w empty
     (walks_start c.new-stack.ensures.items))))
     (c.close_all.ensures.told told _ (stands_all _ _ _ _ (handle_found c.along-found.result) stands))
@@ -71,7 +71,7 @@ returns-clause-bound g c told =
     let empty = stands_empty c.requires c.new-stack.ensures.items in
     rw c.close_all.ensures.logged
     (comes_bound c.args.path.now (sym c.is_empty.ensures
-    ∙ c.if-is_empty.false) (put_first c.new-left.result.items c.put_path.new.left.items c.args.path.now
-    c.new-left.ensures.items c.in_ok-put_path.ensures.parts) c.new-stack.ensures.items
+    ∙ c.if-is_empty.false) (put_first c.new-left.result.items c.put_parts.new.left.items c.args.path.now
+    c.new-left.ensures.items c.in_ok-put_parts.ensures.parts) c.new-stack.ensures.items
     (rw c.path_has_trailing_slash-slash.ensures.test at (c.along-found.ensures.told told live w empty
     (walks_start c.new-stack.ensures.items))))
