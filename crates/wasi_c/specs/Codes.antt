@@ -5,8 +5,8 @@ use Rattle.wasi_form.specs.declared.verdict.Refusal.TheVariants.{Long, Json, Sha
 use Rattle.wasi_guest.specs.Errnos.{errno_number}
 use Rattle.wasi_guest.specs.declared.answer.TrapKind.TheVariants.{Pointer, TableFull, ExitStatus}
 use Rattle.wasi_guest.specs.declared.answer.Value.{Value}
-use Rattle.wasi_p1.specs.declared.error.P1Error.{P1Error}
-use Rattle.wasi_p1.specs.declared.error.P1Error.TheVariants.{Errno, Trap, Exit, Memory}
+use Rattle.wasi_turns.specs.declared.error.P1Error.{P1Error}
+use Rattle.wasi_turns.specs.declared.error.P1Error.TheVariants.{Errno, Trap, Exit, Memory}
 use Rattle.wasi_embed.specs.declared.error.StartError.{StartError}
 use Rattle.wasi_embed.specs.declared.error.StartError.TheVariants as starts
 

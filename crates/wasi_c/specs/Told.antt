@@ -2,7 +2,7 @@
 use Rattle.std.specs.Prelude.{◌≡◌, ◌<◌, ℕ, List, ◌++◌, length, drop, Result, Ok, Err, Some, None}
 use Rattle.wasi_guest.specs.declared.answer.Value.{Value}
 use Rattle.wasi_guest.specs.declared.call.Call.{Call}
-use Rattle.wasi_p1.specs.declared.error.P1Error.{P1Error}
+use Rattle.wasi_turns.specs.declared.error.P1Error.{P1Error}
 use Rattle.wasi_results.specs.declared.shape.Places.{Places}
 use Rattle.wasi_embed.specs.Calling.{CalledInto}
 use Rattle.wasi_embed.specs.Starting.{StartsBy}

@@ -3,13 +3,13 @@ use Rattle.std.proofs.Common.{◌≡◌, ℕ, List, Result, Ok, Err, true, subst
 use Rattle.wasi_guest.specs.declared.answer.Value.{Value}
 use Rattle.wasi_guest.specs.declared.call.Call.{Call}
 use Rattle.wasi_host.specs.Meaning.{Rose}
-use Rattle.wasi_p1.specs.CallTurn.{IsAnswered, IsValidCall}
-use Rattle.wasi_p1.specs.Front.{with_fuel}
-use Rattle.wasi_p1.specs.Guest.{state_of}
-use Rattle.wasi_p1.specs.Slots.{View}
-use Rattle.wasi_p1.specs.Unchanged.{LeavesAll}
-use Rattle.wasi_p1.specs.declared.error.P1Error.{P1Error}
-use Rattle.wasi_script.specs.Start.{world_behind}
+use Rattle.wasi_turns.specs.CallTurn.{IsAnswered, IsValidCall}
+use Rattle.wasi_turns.specs.Front.{with_fuel}
+use Rattle.wasi_turns.specs.Guest.{state_of}
+use Rattle.wasi_turns.specs.Slots.{View}
+use Rattle.wasi_turns.specs.Unchanged.{LeavesAll}
+use Rattle.wasi_turns.specs.declared.error.P1Error.{P1Error}
+use Rattle.wasi_start.specs.Start.{world_behind}
 use Rattle.wasi_embed.specs.Calling.{SandboxHost, faults, fueled, state_with}
 use Rattle.wasi_embed.specs.declared.sandbox.Sandbox.{Sandbox}
 

@@ -6,19 +6,19 @@ use Rattle.wasi_guest.specs.declared.answer.Value.{Value}
 use Rattle.wasi_guest.specs.declared.call.Call.{Call}
 use Rattle.wasi_host.specs.Meaning.{FaultCount, Handles, Rose, never_fails}
 use Rattle.wasi_host.specs.declared.lookup.Lookup.{Lookup}
-use Rattle.wasi_p1.specs.CallTurn.{Causes, FollowsRow, IsAnswered, IsValidCall, Looks, OthersStay}
-use Rattle.wasi_p1.specs.ErrorNumbers.{MayCome}
-use Rattle.wasi_p1.specs.Front.{with_fuel}
-use Rattle.wasi_p1.specs.Guest.{State, state_of}
-use Rattle.wasi_p1.specs.Reach.{Confined}
-use Rattle.wasi_p1.specs.Run.{answer_of}
-use Rattle.wasi_p1.specs.Slots.{View}
-use Rattle.wasi_p1.specs.Unchanged.{LeavesAll}
-use Rattle.wasi_p1.specs.declared.error.P1Error.{P1Error}
-use Rattle.wasi_p1.specs.declared.error.P1Error.TheVariants.{Memory, Trap}
+use Rattle.wasi_turns.specs.CallTurn.{Causes, FollowsRow, IsAnswered, IsValidCall, Looks, OthersStay}
+use Rattle.wasi_turns.specs.ErrorNumbers.{MayCome}
+use Rattle.wasi_turns.specs.Front.{with_fuel}
+use Rattle.wasi_turns.specs.Guest.{State, state_of}
+use Rattle.wasi_turns.specs.Reach.{Confined}
+use Rattle.wasi_turns.specs.Run.{answer_of}
+use Rattle.wasi_turns.specs.Slots.{View}
+use Rattle.wasi_turns.specs.Unchanged.{LeavesAll}
+use Rattle.wasi_turns.specs.declared.error.P1Error.{P1Error}
+use Rattle.wasi_turns.specs.declared.error.P1Error.TheVariants.{Memory, Trap}
 use Rattle.wasi_results.specs.Shapes.{has_room, shape_of, with_answer}
 use Rattle.wasi_results.specs.declared.shape.Places.{Places}
-use Rattle.wasi_script.specs.Start.{world_behind}
+use Rattle.wasi_start.specs.Start.{world_behind}
 use Rattle.wasi_tree.specs.MemState.{MemState, live_of}
 use Rattle.wasi_embed.specs.declared.sandbox.Sandbox.{Sandbox}
 

@@ -5,7 +5,7 @@ use Rattle.wasi_form.specs.Plan.{Plan}
 use Rattle.wasi_form.specs.Verdict.{IsVerdict}
 use Rattle.wasi_form.specs.declared.verdict.ScriptError.{ScriptError}
 use Rattle.wasi_form.specs.declared.verdict.ScriptError.TheVariants as scripts
-use Rattle.wasi_script.specs.Start.{world_behind, IsBegun}
+use Rattle.wasi_start.specs.Start.{world_behind, IsBegun}
 use Rattle.wasi_embed.specs.declared.error.StartError.{StartError}
 use Rattle.wasi_embed.specs.declared.error.StartError.TheVariants.{Refused, Guest, Memory}
 use Rattle.wasi_embed.specs.declared.sandbox.Sandbox.{Sandbox}

@@ -5,8 +5,8 @@ use Rattle.std.specs.List.Sorted.{IsStrictlySortedBy}
 use Rattle.std.specs.Ordering.{nat_cmp}
 use Rattle.wasi_report.specs.ReadBack.{IsOrdered}
 use Rattle.wasi_report.specs.Report.{Report, report_text}
-use Rattle.wasi_script.specs.Headline.{report_after}
-use Rattle.wasi_script.specs.Start.{world_behind}
+use Rattle.wasi_start.specs.ReportAfter.{report_after}
+use Rattle.wasi_start.specs.Start.{world_behind}
 use Rattle.wasi_embed.specs.Calling.{state_with}
 use Rattle.wasi_embed.specs.declared.sandbox.Sandbox.{Sandbox}
 

@@ -9,7 +9,7 @@ use crate::error::StartError;
 use crate::sandbox::Sandbox;
 use std::alloc::{AllocError, Global};
 use wasi_form::{Script, read_script};
-use wasi_script::first_context;
+use wasi_start::first_context;
 
 fn has_no_guest(script: &Script) -> bool
     ensures { result ≡ has_no_guest (plan script.now) }

@@ -1,5 +1,5 @@
 -- The heap of the closed numbers, as descriptors change.
-use Rattle.std.proofs.Common.{ℕ, ◌+◌, ◌<◌, ◌≤◌, ◌==◌, ◌≡◌, ◌≢◌, Bool, true, false, cond, List, [], ◌∷◌, ◌++◌, length, slice_set, refl, ap, sym, ◌∙◌, subst, arith}
+use Rattle.std.proofs.Common.{ℕ, ◌+◌, ◌<◌, ◌≤◌, ◌==◌, ◌≡◌, Bool, true, false, cond, List, [], ◌∷◌, ◌++◌, length, slice_set, refl, ap, sym, ◌∙◌, subst, arith}
 use Rattle.std.specs.Prelude.{count_by, IsPermutation}
 use Rattle.std.specs.BinaryHeap.{IsHeap, IsUpperBound}
 use Rattle.std.specs.Ordering.{nat_cmp}
@@ -9,13 +9,13 @@ use Rattle.std.proofs.lemmas.Bool.Decides.{nat_tests}
 use Rattle.std.proofs.lemmas.List.Sorted.{length_permutation, sum_by-IsPermutation}
 use Rattle.std.proofs.lemmas.List.Sums.{sum_by-cons, sum_by-set, sum_by_push, count_by-le-length}
 use Rattle.std.proofs.lemmas.List.{length-set}
-use Rattle.wasi_p1.specs.Numbering.{passes_at, free_number, with_new}
+use Rattle.wasi_turns.specs.Numbering.{passes_at, free_number, with_new}
 use Rattle.wasi_p1.specs.Descriptors.{HoldsClosed}
-use Rattle.wasi_p1.specs.Owners.{one_if}
-use Rattle.wasi_p1.specs.Slots.{is_closed_slot}
-use Rattle.wasi_p1.specs.declared.context.Slot.{Slot}
-use Rattle.wasi_p1.specs.declared.context.Slot.TheVariants.{Closed}
-use Rattle.wasi_p1.proofs.Numbers.{not_true, passes_within, passes_at-get_or, passes_at-set_same, passes_at-set_other, passes_at-push, new_behind, new_under}
+use Rattle.wasi_turns.specs.Owners.{one_if}
+use Rattle.wasi_turns.specs.Slots.{is_closed_slot}
+use Rattle.wasi_turns.specs.declared.slots.Slot.{Slot}
+use Rattle.wasi_turns.specs.declared.slots.Slot.TheVariants.{Closed}
+use Rattle.wasi_turns.proofs.Numbers.{same_number, other_number, not_true, passes_within, passes_at-get_or, passes_at-set_same, passes_at-set_other, passes_at-push, new_behind, new_under}
 
 -- how often a number is in the heap
 abbrev times : ℕ → List ℕ → ℕ
@@ -38,12 +38,6 @@ times-cons k n heap = sum_by-cons (λ j. cond (j == n) 1 0) k heap ∙ ap (λ m.
 
 itself : (n : ℕ) → (n == n) ≡ true
 itself n = grind (arith, nat_tests)
-
-pub same_number : (k n : ℕ) → (k == n) ≡ true → k ≡ n
-same_number k n is = grind (arith, nat_tests)
-
-pub other_number : (k n : ℕ) → (k == n) ≡ false → k ≢ n
-other_number k n is same = absurd (let one : (k == n) ≡ true = grind (arith, nat_tests) in cc)
 
 -- what holds of all numbers of a heap holds of one that is counted
 counted : (P : ℕ → Type 0) (n : ℕ) (heap : List ℕ) → AllByRecursion P heap → 1 ≤ times n heap → P n

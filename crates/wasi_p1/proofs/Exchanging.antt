@@ -8,21 +8,16 @@ use Rattle.std.proofs.Math.ListN.{get_or-map}
 use Rattle.wasi_streams.specs.Table.{Entries}
 use Rattle.wasi_p1.specs.Descriptors.{AreKept, HoldsClosed}
 use Rattle.wasi_p1.specs.Items.{resource_in, slot_in, slots_of, IsOfKind, AreNamed}
-use Rattle.wasi_p1.specs.Numbering.{passes_at, renumbered}
-use Rattle.wasi_p1.specs.Slots.{is_closed_slot}
-use Rattle.wasi_p1.specs.declared.context.Slot.{Slot}
-use Rattle.wasi_p1.specs.declared.context.Slot.TheVariants as slots
+use Rattle.wasi_turns.specs.Numbering.{passes_at, renumbered}
+use Rattle.wasi_turns.specs.Slots.{is_closed_slot}
+use Rattle.wasi_turns.specs.declared.slots.Slot.{Slot}
+use Rattle.wasi_turns.specs.declared.slots.Slot.TheVariants as slots
 use Rattle.wasi_p1.specs.declared.items.Item.{Item}
 use Rattle.wasi_p1.specs.declared.items.Item.TheVariants.{Closed}
-use Rattle.wasi_p1.proofs.ClosedHeap.{holds_set, same_number, other_number}
-use Rattle.wasi_p1.proofs.Numbers.{passes_at-get_or, passes_at-set_other}
+use Rattle.wasi_p1.proofs.ClosedHeap.{holds_set}
+use Rattle.wasi_turns.proofs.Numbers.{other_number, passes_at-get_or, passes_at-set_other, same_number}
+use Rattle.wasi_turns.proofs.Renumbering.{AreTwo}
 use Rattle.wasi_p1.proofs.Tabled.{is_given}
-
--- two numbers of a list, which aren't the same
-pub record AreTwo {A : Type 0} (xs : List A) (i j : ℕ) : Type 0 where
-  pub one : i < length xs
-  pub other : j < length xs
-  pub apart : i ≢ j
 
 -- ---- where an item stood
 

@@ -2,11 +2,10 @@
 use Rattle.std.proofs.Common.{◌≡◌, ℕ, Bool, true, false, not, ◌&&◌, ◌||◌, [], ◌∷◌, refl}
 use Rattle.wasi_fs.specs.Calls.{bits_set}
 use Rattle.wasi_fs.specs.OpenFlags.{includes}
-use Rattle.wasi_fs.specs.OpenHow.{OpenHow}
 use Rattle.wasi_p2.specs.Opens.{how_named}
-use Rattle.wasi_p2.specs.declared.types.flags.PathFlags.{PathFlags}
-use Rattle.wasi_p2.specs.declared.types.flags.OpenFlags.{OpenFlags}
-use Rattle.wasi_p2.specs.declared.types.flags.DescriptorFlags.{DescriptorFlags}
+use Rattle.wasi_p2_types.specs.declared.flags.PathFlags.{PathFlags}
+use Rattle.wasi_p2_types.specs.declared.flags.OpenFlags.{OpenFlags}
+use Rattle.wasi_p2_types.specs.declared.flags.DescriptorFlags.{DescriptorFlags}
 use Rattle.wasi_p1.specs.ViewFlags.{path_set, open_set, descriptor_set}
 
 -- a test that both truth values pass, and so each does

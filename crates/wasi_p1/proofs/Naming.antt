@@ -15,17 +15,17 @@ use Rattle.wasi_streams.specs.declared.table.Resource.{Resource}
 use Rattle.wasi_streams.specs.declared.entry.Entry.TheVariants as entries
 use Rattle.wasi_p1.specs.Descriptors.{AreKept}
 use Rattle.wasi_p1.specs.LiveEntries.{AreLiveDescriptors, entry_of_slot, entry_under}
-use Rattle.wasi_p1.specs.Numbering.{passes_at, live_count}
-use Rattle.wasi_p1.specs.Slots.{is_closed_slot}
-use Rattle.wasi_p1.proofs.Numbers.{passes_within, passes_at-get_or, live_and_closed}
+use Rattle.wasi_turns.specs.Numbering.{passes_at, live_count}
+use Rattle.wasi_turns.specs.Slots.{file_under, is_closed_slot}
+use Rattle.wasi_turns.proofs.Numbers.{passes_within, passes_at-get_or, live_and_closed}
 use Rattle.wasi_streams.specs.Table.{Entries}
 use Rattle.wasi_streams.specs.declared.entry.Entry.{Entry}
-use Rattle.wasi_p1.specs.declared.context.FileModes.{FileModes}
-use Rattle.wasi_p1.specs.declared.context.Slot.{Slot}
-use Rattle.wasi_p1.specs.declared.context.Slot.TheVariants as slots
+use Rattle.wasi_turns.specs.declared.slots.FileModes.{FileModes}
+use Rattle.wasi_turns.specs.declared.slots.Slot.{Slot}
+use Rattle.wasi_turns.specs.declared.slots.Slot.TheVariants as slots
 use Rattle.wasi_p1.specs.declared.items.Item.{Item}
 use Rattle.wasi_p1.specs.declared.items.Item.TheVariants.{Closed, Stream, Directory, File}
-use Rattle.wasi_p1.specs.Items.{resource_in, slot_in, slots_of, directory_of_entry, file_of_entry, stream_entry, IsOfKind, NamesResource, AreNamed, Admitted, is_closed_item, without_item, file_under, put_item}
+use Rattle.wasi_p1.specs.Items.{resource_in, slot_in, slots_of, directory_of_entry, file_of_entry, stream_entry, IsOfKind, NamesResource, AreNamed, Admitted, is_closed_item, without_item, put_item}
 
 one : {a b : ℕ} → Some a ≡ Some b → a ≡ b
 one is = cc

@@ -1,5 +1,5 @@
 -- Opening a path through a view, as the open below its directory.
-use Rattle.std.proofs.Common.{◌≡◌, ◌≤◌, ◌<◌, ◌+◌, ℕ, List, Option, Some, None, Result, Ok, Err, refl, ap, sym, subst, ◌∙◌, inl, inr, arith}
+use Rattle.std.proofs.Common.{◌≡◌, ◌≤◌, ◌<◌, ◌+◌, ℕ, List, Some, Result, Ok, Err, ap, sym, subst, ◌∙◌, inl, inr, arith}
 use Rattle.std.proofs.lemmas.Bool.Decides.{nat_tests}
 use Rattle.std.specs.FinMap.{get, gets, insert, len}
 use Rattle.wasi_fs.specs.Calls.{GotOpened, LiveOpened}
@@ -11,20 +11,19 @@ use Rattle.wasi_host.specs.Lineage.{Traced, Only, Nothing}
 use Rattle.wasi_host.specs.Meaning.{FaultCount}
 use Rattle.wasi_host.specs.declared.errors.HostError.{HostError}
 use Rattle.wasi_host.specs.declared.host.Host.{Ghosts}
-use Rattle.wasi_host.specs.declared.lookup.Lookup.{Lookup}
 use Rattle.wasi_host.proofs.Tracing.{traced_given, traced_kept}
-use Rattle.wasi_streams.specs.Table.{Entries, Table}
+use Rattle.wasi_streams.specs.Table.{Entries}
 use Rattle.wasi_streams.specs.declared.entry.Entry.{Entry}
 use Rattle.wasi_streams.specs.declared.entry.Entry.TheVariants.{Descriptor as AnOpened}
 use Rattle.wasi_streams.specs.declared.table.Resource.{Resource}
-use Rattle.wasi_p2.specs.FsErrors.{fs_error, FsCause}
+use Rattle.wasi_p2_types.specs.FsErrors.{fs_error, FsCause}
 use Rattle.wasi_p2.specs.Opens.{how_named, AddsEntry, AddsHandle, GotFor, HasRoom, OpensAt, OpensBelow, StandsFor}
-use Rattle.wasi_p2.specs.Resources.{directory_at, entry_handle, HasIt}
+use Rattle.wasi_p2.specs.Resources.{entry_handle, HasIt}
 use Rattle.wasi_p2.specs.Views.{Files, OrRefused}
-use Rattle.wasi_p2.specs.declared.error.FsError.{FsError}
-use Rattle.wasi_p2.specs.declared.types.flags.DescriptorFlags.{DescriptorFlags}
-use Rattle.wasi_p2.specs.declared.types.flags.OpenFlags.{OpenFlags}
-use Rattle.wasi_p2.specs.declared.types.flags.PathFlags.{PathFlags}
+use Rattle.wasi_p2_types.specs.declared.error.FsError.{FsError}
+use Rattle.wasi_p2_types.specs.declared.flags.DescriptorFlags.{DescriptorFlags}
+use Rattle.wasi_p2_types.specs.declared.flags.OpenFlags.{OpenFlags}
+use Rattle.wasi_p2_types.specs.declared.flags.PathFlags.{PathFlags}
 use Rattle.wasi_p1.specs.Viewed.{Opens, OpenedBelow, PutEntry}
 use Rattle.wasi_p1.proofs.Viewing.{directory_stands, lowered_err, LowerRefusal}
 

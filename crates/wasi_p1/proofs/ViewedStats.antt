@@ -1,21 +1,21 @@
 -- What preview2 says of a node tells what the crates below say of it.
-use Rattle.std.proofs.Common.{ℕ, ℤ, pos, negsuc, ◌≡◌, Option, Some, None, Result, Ok, Err, refl, ap, sym, subst, ◌∙◌}
+use Rattle.std.proofs.Common.{ℕ, ℤ, pos, negsuc, ◌≡◌, Option, Some, None, refl, ap, sym, ◌∙◌}
 use Rattle.wasi_fs.specs.declared.descriptor_stat.Datetime.{Datetime}
 use Rattle.wasi_fs.specs.declared.descriptor_stat.DescriptorType.{DescriptorType}
 use Rattle.wasi_fs.specs.declared.descriptor_stat.DescriptorType.TheVariants as lower
-use Rattle.wasi_p2.specs.Stats.{after_epoch, moment_kept, type_named, wall_seconds}
-use Rattle.wasi_p1.specs.Filestats.{filestat_in, filetype_of, nanoseconds_in, or_overflow, since_epoch}
-use Rattle.wasi_p1.specs.Row.{Row}
+use Rattle.wasi_p2_types.specs.Stats.{after_epoch, moment_kept, type_named, wall_seconds}
+use Rattle.wasi_turns.specs.Filestats.{filestat_in, filetype_of, nanoseconds_in, or_overflow, since_epoch}
+use Rattle.wasi_turns.specs.Row.{Row}
 use Rattle.wasi_p1.specs.ViewedStats.{filetype_named, viewed, viewed_filestat, wall_nanoseconds}
 use Rattle.wasi_fs.specs.declared.open_mode.OpenMode.{OpenMode}
 use Rattle.wasi_guest.specs.FiletypeNumber.{filetype_number}
 use Rattle.wasi_guest.specs.declared.fdstat.Fdstat.{Fdstat}
 use Rattle.wasi_guest.specs.declared.filestat.Filestat.{Filestat}
 use Rattle.wasi_guest.specs.declared.filetype.Filetype.{Filetype}
-use Rattle.wasi_p2.specs.declared.types.descriptor_stat.DescriptorType.{DescriptorType as Viewed}
-use Rattle.wasi_p1.specs.Fdstats.{file_fdstat, file_rights, modes_bits}
-use Rattle.wasi_p1.specs.declared.context.FileModes.{FileModes}
-use Rattle.wasi_p1.specs.declared.filestats.StatBoth.{StatBoth}
+use Rattle.wasi_p2_types.specs.declared.descriptor_stat.DescriptorType.{DescriptorType as Viewed}
+use Rattle.wasi_turns.specs.Fdstats.{file_fdstat, file_rights, modes_bits}
+use Rattle.wasi_turns.specs.declared.slots.FileModes.{FileModes}
+use Rattle.wasi_turns.specs.declared.looked.StatBoth.{StatBoth}
 use Rattle.wasi_p1.specs.declared.filestats.ViewedStat.{ViewedStat}
 
 -- a time before the epoch is none

@@ -23,39 +23,39 @@ use Rattle.wasi_host.proofs.Tracing.{traced_given}
 use Rattle.wasi_streams.specs.Table.{Entries}
 use Rattle.wasi_streams.specs.declared.entry.Entry.{Entry}
 use Rattle.wasi_streams.specs.declared.entry.Entry.TheVariants as entries
-use Rattle.wasi_p2.specs.ErrorCodes.{code_named}
-use Rattle.wasi_p2.specs.FsErrors.{fs_error, FsCause}
-use Rattle.wasi_p2.specs.Moments.{time_wanted}
+use Rattle.wasi_p2_types.specs.ErrorCodes.{code_named}
+use Rattle.wasi_p2_types.specs.FsErrors.{fs_error, FsCause}
+use Rattle.wasi_p2_types.specs.Moments.{time_wanted}
 use Rattle.wasi_p2.specs.Timed.{timed_by, with_wanted}
-use Rattle.wasi_p2.specs.declared.types.times.NewTimestamp.{NewTimestamp}
+use Rattle.wasi_p2_types.specs.declared.times.NewTimestamp.{NewTimestamp}
 use Rattle.wasi_fs.specs.declared.descriptor.Dir.{Dir}
 use Rattle.wasi_fs.specs.declared.descriptor.File.{File as OpenedFile}
 use Rattle.wasi_streams.specs.Found.{descriptor_found}
 use Rattle.wasi_p2.specs.Resources.{as_directory_of, as_file_of, as_opened, both_found, directory_at, file_at, descriptor_at, AreOwned, HasIt, Holder, OneHasIt, entry_handle, handle_held, preopened, tabled}
 use Rattle.wasi_p2.specs.Views.{Passes}
 use Rattle.wasi_p2.specs.declared.context.Preopen.{Preopen}
-use Rattle.wasi_p2.specs.declared.error.FsError.{FsError}
-use Rattle.wasi_p1.specs.CallTurn.{FollowsRow}
+use Rattle.wasi_p2_types.specs.declared.error.FsError.{FsError}
+use Rattle.wasi_turns.specs.CallTurn.{FollowsRow}
 use Rattle.wasi_p1.specs.Descriptors.{AreKept, SlotTable}
-use Rattle.wasi_p1.specs.Errnos.{errno_of, error_of}
+use Rattle.wasi_turns.specs.Errnos.{errno_of, error_of}
 use Rattle.wasi_p1.specs.Held.{HoldsHandles}
 use Rattle.wasi_p1.specs.Items.{resource_in, slot_in, slots_of, directory_of_entry, file_of_entry, stream_entry, is_closed_item, IsOfKind, NamesResource, AreNamed}
-use Rattle.wasi_p1.specs.Owners.{handle_in, handles, Owned}
-use Rattle.wasi_p1.specs.Slots.{descriptor_in, View}
-use Rattle.wasi_p1.specs.ViewErrors.{errno_named, view_error_of}
+use Rattle.wasi_turns.specs.Owners.{handle_in, handles, Owned}
+use Rattle.wasi_turns.specs.Slots.{descriptor_in, View}
+use Rattle.wasi_turns.specs.ViewErrors.{errno_named, view_error_of}
 use Rattle.wasi_p1.specs.Viewed.{descriptor_under, Lowered}
-use Rattle.wasi_p1.specs.declared.context.Slot.{Slot}
-use Rattle.wasi_p1.specs.declared.context.Slot.TheVariants as slots
-use Rattle.wasi_p1.specs.declared.context.Stream.{Stream as StandardStream}
-use Rattle.wasi_p1.specs.declared.context.Stream.TheVariants as streams
-use Rattle.wasi_p1.specs.declared.error.P1Error.{P1Error}
-use Rattle.wasi_p1.specs.declared.error.P1Error.TheVariants.{Errno as ByNumber}
+use Rattle.wasi_turns.specs.declared.slots.Slot.{Slot}
+use Rattle.wasi_turns.specs.declared.slots.Slot.TheVariants as slots
+use Rattle.wasi_turns.specs.declared.slots.Stream.{Stream as StandardStream}
+use Rattle.wasi_turns.specs.declared.slots.Stream.TheVariants as streams
+use Rattle.wasi_turns.specs.declared.error.P1Error.{P1Error}
+use Rattle.wasi_turns.specs.declared.error.P1Error.TheVariants.{Errno as ByNumber}
 use Rattle.wasi_p1.specs.declared.items.Item.{Item}
 use Rattle.wasi_p1.specs.declared.items.Item.TheVariants.{Closed, Stream, Directory, File}
-use Rattle.wasi_p1.proofs.Counting.{handle_at}
+use Rattle.wasi_turns.proofs.Counting.{handle_at}
 use Rattle.wasi_p1.proofs.Naming.{slots_get}
-use Rattle.wasi_p1.proofs.Owning.{owned_apart}
-use Rattle.wasi_p1.proofs.Taking.{on_err}
+use Rattle.wasi_turns.proofs.Owning.{owned_apart}
+use Rattle.wasi_turns.proofs.Taking.{on_err}
 
 one : {a b : ℕ} → Some a ≡ Some b → a ≡ b
 one is = cc

@@ -1,14 +1,13 @@
 -- A time that isn't before the epoch, as a moment of the wall clock and back.
-use Rattle.std.proofs.Common.{ℕ, ◌+◌, ◌*◌, ◌<◌, ◌/◌, ◌%◌, ◌^◌, ◌≡◌, true, nat_lt, Result, Ok, refl, ap, sym, ◌∙◌, arith, pos, negsuc, ℤ, ◌≤ℤ◌, w64, to_z, of_z}
+use Rattle.std.proofs.Common.{ℕ, ◌+◌, ◌<◌, ◌/◌, ◌%◌, ◌^◌, ◌≡◌, true, nat_lt, Result, Ok, refl, ap, ◌∙◌, arith, pos, negsuc, ℤ, ◌≤ℤ◌, w64, to_z, of_z}
 use Rattle.std.proofs.lemmas.Bool.Decides.{nat_tests}
 use Rattle.std.proofs.lemmas.Int.{to_z-of_z}
 use lib.IntN.{nat_abs}
 use mir.Val.{SFits}
 use Rattle.wasi_host.proofs.Times.{same_time}
 use Rattle.wasi_host.specs.declared.system_time.SystemTime.{SystemTime}
-use Rattle.wasi_guest.specs.declared.services.WallDatetime.{WallDatetime}
-use Rattle.wasi_p2.specs.Moments.{time_at}
-use Rattle.wasi_p2.specs.declared.types.times.DatetimeError.{DatetimeError}
+use Rattle.wasi_p2_types.specs.Moments.{time_at}
+use Rattle.wasi_p2_types.specs.declared.times.DatetimeError.{DatetimeError}
 
 pub seconds_since : (z : ℤ) → SFits w64 z → pos 0 ≤ℤ z
     → (pos (nat_abs (to_z w64 (of_z w64 z))) ≡ z) × (nat_abs (to_z w64 (of_z w64 z)) < 2 ^ 63)

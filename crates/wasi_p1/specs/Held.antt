@@ -1,7 +1,7 @@
 -- What holds of a context's handles between its calls.
 use Rattle.std.specs.Prelude.{◌≡◌, ℕ, List, [], Option}
 use Rattle.wasi_host.specs.Meaning.{Handles}
-use Rattle.wasi_p1.specs.Owners.{Owned}
+use Rattle.wasi_turns.specs.Owners.{Owned}
 use Rattle.wasi_p2.specs.declared.context.Preopen.{Preopen}
 
 -- each descriptor's handle is live, and no other's; and nothing but a descriptor has one

@@ -7,11 +7,11 @@ use Rattle.wasi_fs.specs.declared.descriptor.File.{File as OpenedFile}
 use Rattle.wasi_streams.specs.Table.{Entries}
 use Rattle.wasi_streams.specs.declared.entry.Entry.{Entry}
 use Rattle.wasi_streams.specs.declared.entry.Entry.TheVariants as entries
-use Rattle.wasi_p1.specs.declared.context.FileModes.{FileModes}
-use Rattle.wasi_p1.specs.declared.context.Slot.{Slot}
-use Rattle.wasi_p1.specs.declared.context.Slot.TheVariants as slots
-use Rattle.wasi_p1.specs.declared.context.Stream.{Stream as StandardStream}
-use Rattle.wasi_p1.specs.declared.context.Stream.TheVariants as streams
+use Rattle.wasi_turns.specs.declared.slots.FileModes.{FileModes}
+use Rattle.wasi_turns.specs.declared.slots.Slot.{Slot}
+use Rattle.wasi_turns.specs.declared.slots.Slot.TheVariants as slots
+use Rattle.wasi_turns.specs.declared.slots.Stream.{Stream as StandardStream}
+use Rattle.wasi_turns.specs.declared.slots.Stream.TheVariants as streams
 use Rattle.wasi_p1.specs.declared.items.Item.{Item}
 use Rattle.wasi_p1.specs.declared.items.Item.TheVariants.{Closed, Stream, Directory, File}
 
@@ -68,11 +68,6 @@ put_item (File r was were) position modes = File r position modes
 put_item Closed position modes = Closed
 put_item (Stream s r) position modes = Stream s r
 put_item (Directory r preopen) position modes = Directory r preopen
-
--- the file of a descriptor
-abbrev pub file_under : Option Slot → Option OpenedFile
-file_under (Some (slots.File f)) = Some f.file
-file_under other = None
 
 -- ---- what holds of table and descriptors together
 

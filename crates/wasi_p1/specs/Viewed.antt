@@ -11,14 +11,14 @@ use Rattle.wasi_resolve.specs.PathRequest.{meant_by}
 use Rattle.wasi_streams.specs.Table.{Entries}
 use Rattle.wasi_streams.specs.declared.entry.Entry.TheVariants.{Descriptor as AnOpened}
 use Rattle.wasi_streams.specs.declared.table.Resource.{Resource}
-use Rattle.wasi_p1.specs.Numbering.{free_number, with_new}
-use Rattle.wasi_p1.specs.declared.context.FileModes.{FileModes}
+use Rattle.wasi_turns.specs.Numbering.{free_number, with_new}
+use Rattle.wasi_turns.specs.declared.slots.FileModes.{FileModes}
 use Rattle.wasi_host.specs.declared.errors.HostError.{HostError}
-use Rattle.wasi_p1.specs.Slots.{descriptor_in, is_closed_slot, slot_of}
-use Rattle.wasi_p1.specs.declared.context.Slot.{Slot}
-use Rattle.wasi_p2.specs.FsErrors.{fs_error, raised}
+use Rattle.wasi_turns.specs.Slots.{descriptor_in, is_closed_slot, slot_of}
+use Rattle.wasi_turns.specs.declared.slots.Slot.{Slot}
+use Rattle.wasi_p2_types.specs.FsErrors.{fs_error, raised}
 use Rattle.wasi_p2.specs.Views.{Performs}
-use Rattle.wasi_p2.specs.declared.error.FsError.{FsError}
+use Rattle.wasi_p2_types.specs.declared.error.FsError.{FsError}
 
 -- what a directory's or file's number stands for
 abbrev pub descriptor_under : Option Slot → Option Descriptor

@@ -6,13 +6,13 @@ use Rattle.wasi_guest.specs.declared.filetype.Filetype.{Filetype}
 use Rattle.wasi_guest.specs.declared.filetype.Filetype.TheVariants as filetypes
 use Rattle.wasi_guest.specs.declared.services.WallDatetime.{WallDatetime}
 use Rattle.wasi_host.specs.Steps.{◌>>=◌}
-use Rattle.wasi_p1.specs.Filestats.{or_overflow}
-use Rattle.wasi_p1.specs.Row.{Row, give}
-use Rattle.wasi_p1.specs.declared.filestats.StatBoth.{StatBoth}
+use Rattle.wasi_turns.specs.Filestats.{or_overflow}
+use Rattle.wasi_turns.specs.Row.{Row, give}
+use Rattle.wasi_turns.specs.declared.looked.StatBoth.{StatBoth}
 use Rattle.wasi_p1.specs.declared.filestats.ViewedStat.{ViewedStat}
-use Rattle.wasi_p2.specs.Stats.{hash_named, stat_named}
-use Rattle.wasi_p2.specs.declared.types.descriptor_stat.DescriptorType.{DescriptorType}
-use Rattle.wasi_p2.specs.declared.types.descriptor_stat.DescriptorType.TheVariants as types
+use Rattle.wasi_p2_types.specs.Stats.{hash_named, stat_named}
+use Rattle.wasi_p2_types.specs.declared.descriptor_stat.DescriptorType.{DescriptorType}
+use Rattle.wasi_p2_types.specs.declared.descriptor_stat.DescriptorType.TheVariants as types
 
 -- what the crates below say of it, as preview2 does
 abbrev pub viewed : StatBoth → ViewedStat

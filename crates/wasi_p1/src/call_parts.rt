@@ -1,86 +1,45 @@
 //! What the calls of preview1 do with a host and a guest's memory, a part at a time.
-ghost use Rattle.std.specs.Prelude.{◌≡◌, ◌<◌, ◌≤◌, ◌+◌, ◌^◌, true, false, IsTrue, length, take, slice_get, slice_set, Ok, Err, IfOk, IfErr, OnOk, OnErr, Some, None};
+ghost use Rattle.std.specs.Prelude.{◌≡◌, ◌<◌, ◌≤◌, ◌+◌, ◌^◌, true, false, IsTrue, length, slice_get, slice_set, Ok, Err, IfOk, IfErr, OnOk, OnErr, Some, None};
 ghost use Rattle.std.specs.Result.{result_map_both};
 ghost use Rattle.std.specs.FinSet.{contains};
 ghost use Rattle.wasi_host.specs.HostCall.{Pread, Pwrite};
-ghost use Rattle.wasi_host.specs.Meaning.{HasCause, Rose};
+ghost use Rattle.wasi_host.specs.Meaning.{Rose};
 ghost use Rattle.wasi_host.specs.Lineage.{Traced, Only, Nothing};
-ghost use Rattle.wasi_p1.specs.CallTurn.{Causes};
+ghost use Rattle.wasi_turns.specs.CallTurn.{Causes};
 ghost use Rattle.wasi_p1.specs.Held.{HoldsHandles};
-ghost use Rattle.wasi_p1.specs.Items.{file_under};
-ghost use Rattle.wasi_p1.specs.Owners.{handle_in, handles, without, HasHandle, Owned, Owns, SlotsTraced, SlotsStay};
-ghost use Rattle.wasi_p1.specs.Guest.{guest_slot, guest_slots};
+ghost use Rattle.wasi_turns.specs.Owners.{handles, HasHandle, Owned, Owns, SlotsTraced, SlotsStay};
+ghost use Rattle.wasi_turns.specs.Guest.{guest_slot, guest_slots};
 ghost use Rattle.wasi_resolve.specs.PathRequest.{meant_by};
-ghost use Rattle.wasi_resolve.specs.Resolved.{Resolved};
-ghost use Rattle.wasi_p1.specs.Request.{Path, Direct};
+ghost use Rattle.wasi_turns.specs.Request.{Path, Direct};
 ghost use Rattle.wasi_fs.specs.Calls.{opens, looks, meant_as, handle_of};
 ghost use Rattle.wasi_fs.specs.OpenHow.{may_open, mode_of};
 ghost use Rattle.wasi_p2.specs.Opens.{how_named};
-ghost use Rattle.wasi_p1.specs.Filestats.{stat_both, IsStated};
-ghost use Rattle.wasi_p1.specs.Front.{charge, charged_text, charged_buffer};
-ghost use Rattle.wasi_p1.specs.Parts.{range, live_in, directory_in, start_in, source_in, sink_in, open_node_in, may_write, room_for, opened_among, text_to};
-ghost use Rattle.wasi_p1.specs.Numbering.{passes_at, live_count, renumbered};
-ghost use Rattle.wasi_p1.specs.Slots.{is_closed_slot};
+ghost use Rattle.wasi_turns.specs.Filestats.{stat_both, IsStated};
+ghost use Rattle.wasi_turns.specs.Parts.{live_in, directory_in, start_in, source_in, sink_in, open_node_in, room_for, opened_among};
+ghost use Rattle.wasi_turns.specs.Numbering.{passes_at, live_count, renumbered};
+ghost use Rattle.wasi_turns.specs.Slots.{file_under, is_closed_slot};
 ghost use Rattle.wasi_guest.specs.Range.{IsInMemory};
-ghost use Rattle.wasi_p1.specs.CallParts.{open_directory_of, source_of, sink_of, OfSource, OfSink, open_node_of, Refused, ReadsInto, WritesPiece, OpensInto, filled_at, with_after, Rests, Stays, IsLive, IsReplied, WantsNoMemory, is_failure};
-ghost use Rattle.wasi_p1.specs.Row.{give};
+ghost use Rattle.wasi_turns.specs.CallParts.{open_directory_of, source_of, sink_of, OfSource, OfSink, open_node_of, Refused, ReadsInto, WritesPiece, OpensInto, filled_at, with_after, Stays, IsReplied, WantsNoMemory, is_failure};
+ghost use Rattle.wasi_turns.specs.Row.{give};
 ghost use Rattle.wasi_p1.specs.Viewed.{descriptor_under, Lowered};
 ghost use Rattle.wasi_p1.specs.ViewedStats.{viewed};
-ghost use Rattle.wasi_p2.specs.FlagNames.{path_flags_named};
-ghost use Rattle.wasi_p2.specs.FsErrors.{FsCause};
+ghost use Rattle.wasi_p2_types.specs.FlagNames.{path_flags_named};
+ghost use Rattle.wasi_p2_types.specs.FsErrors.{FsCause};
 ghost use Rattle.wasi_p2.specs.Views.{Performs};
 
-use crate::context::{DirectorySlot, FileSlot, Slot, Stream};
 use crate::descriptors::Descriptors;
-use crate::error::P1Error;
 use crate::filestats::ViewedStat;
-use crate::holdings::Output;
 use crate::open_with::OpenWith;
 use crate::view_parts::places::{metadata_hash_at, stat_at};
-use std::alloc::Global;
-use wasi_fs::{Descriptor, Dir, FsPerms};
-use wasi_guest::{Errno, Iovec, TrapKind, first_buffer, slice_at, text_in, write_bytes};
+use wasi_fs::{Descriptor, Dir};
+use wasi_guest::{Errno, Iovec, TrapKind};
 use wasi_host::{Handle, Host};
 use wasi_p2::types::PathFlags;
 use wasi_p2::{FsResult, WasiFilesystemCtx};
-
-/// The bytes of a range of memory, or the trap.
-pub fn bytes_at(memory: &[u8], ptr: u32, n: u32) -> Result<&[u8], P1Error>
-    ensures row { result_map_both (λ bytes. bytes.now) (λ e. e) result ≡ range memory.now ptr n }
-    ensures inside { OnOk result (IsInMemory memory.now ptr n) }
-{
-    let Some(bytes) = slice_at(memory, ptr, n) else {
-        return Err(P1Error::Trap(TrapKind::Pointer));
-    };
-    Ok(bytes)
-}
-
-/// Takes so much fuel: Nomem where there is less.
-#[tactic(auto, unfolding(crate::specs::Front::charge))]
-pub fn charge(fuel: &mut u64, n: u64) -> Result<(), P1Error>
-    ensures row { (result, fuel.new) ≡ charge n fuel.old }
-    ensures refusal { IfErr result (λ e. is_failure e ≡ false) }
-{
-    if *fuel < n {
-        return Err(P1Error::Errno(Errno::Nomem));
-    }
-    *fuel -= n;
-    Ok(())
-}
-
-/// The text in a range of memory, which takes as much fuel as it has bytes.
-#[tactic(auto, using(crate::proofs::Wanting::fault_never), unfolding(crate::specs::Front::charged_text))]
-pub fn text_at<'m>(memory: &'m [u8], fuel: &mut u64, ptr: u32, n: u32) -> Result<&'m str, P1Error>
-    ensures row { (result_map_both (λ text. text.now) (λ e. e) result, fuel.new)
-        ≡ charged_text memory.now ptr n fuel.old }
-    ensures refusal { IfErr result (λ e. is_failure e ≡ false) }
-{
-    charge(fuel, n as u64)?;
-    Ok(text_in(memory, ptr, n)?)
-}
+use wasi_turns::{DirectorySlot, FileSlot, Output, P1Error, Sink, Slot, Source, Stream};
 
 /// What a live number stands for.
-#[tactic(auto, using(crate::proofs::SlotRules::slots))]
+#[tactic(auto, using(wasi_turns::proofs::SlotRules::slots))]
 pub fn live_at<H: Host>(host: &H, descriptors: &Descriptors, fd: u32) -> Result<Slot, P1Error>
     ensures is { IfOk result (λ slot. slice_get descriptors.now.slots fd ≡ Some slot) }
     ensures in_use { IfOk result (λ slot. is_closed_slot slot ≡ false) }
@@ -97,7 +56,7 @@ pub fn live_at<H: Host>(host: &H, descriptors: &Descriptors, fd: u32) -> Result<
 }
 
 /// The directory that a path is opened from: Badf where the number isn't a directory's or file's, Notdir of a file.
-#[tactic(auto, using(crate::proofs::SlotRules::slots))]
+#[tactic(auto, using(wasi_turns::proofs::SlotRules::slots))]
 pub fn directory_at<H: Host>(host: &H, descriptors: &Descriptors, fd: u32) -> Result<Dir, P1Error>
     requires owned { Owned (H.live host.now) (handles descriptors.now.slots) }
     ensures live { IfOk result (λ dir. contains (H.live host.now) dir.dir ≡ true) }
@@ -118,7 +77,7 @@ pub fn directory_at<H: Host>(host: &H, descriptors: &Descriptors, fd: u32) -> Re
 }
 
 /// The directory from which a path starts: Badf where the number isn't a directory's.
-#[tactic(auto, using(crate::proofs::SlotRules::slots))]
+#[tactic(auto, using(wasi_turns::proofs::SlotRules::slots))]
 pub fn start_at<H: Host>(host: &H, descriptors: &Descriptors, fd: u32) -> Result<Dir, P1Error>
     requires owned { Owned (H.live host.now) (handles descriptors.now.slots) }
     ensures live { IfOk result (λ dir. contains (H.live host.now) dir.dir ≡ true) }
@@ -139,7 +98,7 @@ pub fn start_at<H: Host>(host: &H, descriptors: &Descriptors, fd: u32) -> Result
 }
 
 /// The descriptor of a directory's or file's number: Badf of any other.
-#[tactic(auto, using(crate::proofs::SlotRules::slots))]
+#[tactic(auto, using(wasi_turns::proofs::SlotRules::slots))]
 pub fn descriptor_at<H: Host>(
     host: &H,
     descriptors: &Descriptors,
@@ -163,15 +122,8 @@ pub fn descriptor_at<H: Host>(
     }
 }
 
-/// What is read by a number.
-#[derive(Drop)]
-pub enum Source {
-    Input,
-    File(FileSlot),
-}
-
 /// What is read by a number: Badf where that is neither a file's nor the standard input's.
-#[tactic(auto, using(crate::proofs::SlotRules::slots))]
+#[tactic(auto, using(wasi_turns::proofs::SlotRules::slots))]
 pub fn source_at<H: Host>(host: &H, descriptors: &Descriptors, fd: u32) -> Result<Source, P1Error>
     requires owned { Owned (H.live host.now) (handles descriptors.now.slots) }
     ensures live { IfOk result (OfSource (λ file. contains (H.live host.now) file.file.file ≡ true)) }
@@ -192,15 +144,8 @@ pub fn source_at<H: Host>(host: &H, descriptors: &Descriptors, fd: u32) -> Resul
     }
 }
 
-/// What is written by a number.
-#[derive(Drop)]
-pub enum Sink {
-    Output(Output),
-    File(FileSlot),
-}
-
 /// What is written by a number: Badf where that is neither a file's nor an output's.
-#[tactic(auto, using(crate::proofs::SlotRules::slots))]
+#[tactic(auto, using(wasi_turns::proofs::SlotRules::slots))]
 pub fn sink_at<H: Host>(host: &H, descriptors: &Descriptors, fd: u32) -> Result<Sink, P1Error>
     requires owned { Owned (H.live host.now) (handles descriptors.now.slots) }
     ensures live { IfOk result (OfSink (λ file. contains (H.live host.now) file.file.file ≡ true)) }
@@ -219,31 +164,6 @@ pub fn sink_at<H: Host>(host: &H, descriptors: &Descriptors, fd: u32) -> Result<
         Slot::Directory(_) => Err(P1Error::Errno(Errno::Badf)),
         Slot::Closed => Err(P1Error::Errno(Errno::Badf)),
     }
-}
-
-/// The first buffer that has bytes, of so many records at an address. Where none has any it is an empty one at 0. The
-/// records take as much fuel as they have bytes, before they are read, and then the buffer does.
-#[tactic(auto, using(crate::proofs::Wanting::fault_never), unfolding(crate::specs::Front::charged_buffer))]
-pub fn buffer_at(memory: &[u8], fuel: &mut u64, iovs: u32, iovs_len: u32) -> Result<Iovec, P1Error>
-    ensures row { (result, fuel.new) ≡ charged_buffer memory.now iovs iovs_len fuel.old }
-    ensures refusal { IfErr result (λ e. is_failure e ≡ false) }
-{
-    charge(fuel, 8 * iovs_len as u64)?;
-    let buffer = first_buffer(memory, iovs, iovs_len)?;
-    charge(fuel, buffer.buf_len as u64)?;
-    Ok(buffer)
-}
-
-/// Whether a file may be written that was opened under these permissions.
-#[tactic(auto, unfolding(crate::specs::Parts::may_write))]
-pub fn check_write(perms: FsPerms) -> Result<(), P1Error>
-    ensures row { result ≡ may_write perms }
-    ensures refusal { IfErr result (λ e. is_failure e ≡ false) }
-{
-    if perms.write_not_permitted() {
-        return Err(P1Error::Errno(Errno::Badf));
-    }
-    Ok(())
 }
 
 /// Trap TableFull where so many more descriptors may not be live.
@@ -330,7 +250,7 @@ pub fn put_back(descriptors: &mut Descriptors, fd: u32, slot: FileSlot)
 
 /// Opens a path into the descriptors, of which there may be one more, and gives the new one's number. The memory for it
 /// is taken before the host is called.
-#[tactic(auto, using(crate::proofs::Staying::all_stay))]
+#[tactic(auto, using(wasi_turns::proofs::Staying::all_stay))]
 pub fn open_into<H: Host>(
     fs: &mut WasiFilesystemCtx<H>,
     descriptors: &mut Descriptors,
@@ -377,22 +297,6 @@ pub fn open_into<H: Host>(
     descriptors.reserve()?;
     let number = descriptors.open(fs, fd, &dir, text, with)?;
     Ok(number)
-}
-
-/// Puts bytes into the front of a buffer in memory, as many as it takes, and gives how many.
-pub fn write_front(memory: &mut [u8], buf: u32, buf_len: u32, bytes: &[u8]) -> Result<u32, P1Error>
-    ensures size { length memory.new ≡ length memory.old }
-    ensures same { OnErr result (memory.new ≡ memory.old) }
-    ensures refusal { IfErr result (λ e. is_failure e ≡ false) }
-    ensures never_wants { IfErr result WantsNoMemory }
-    ensures row { with_after result memory.new ≡ text_to memory.old buf (take buf_len bytes.now) }
-{
-    let n = (buf_len as usize).min(bytes.len());
-    let part = &bytes[..n];
-    let n = n as u32;
-    bytes_at(memory, buf, n)?;
-    write_bytes(memory, buf as usize, part);
-    Ok(n)
 }
 
 /// What is told of the node that a path names: the two answers of its directory, which make one record.

@@ -1,79 +1,15 @@
 //! The context of a guest's calls: its descriptors over a host.
-ghost use Rattle.std.specs.Prelude.{◌≡◌, ◌≢◌, ◌<◌, ◌≤◌, ◌+◌, ◌↔◌, [], true, length, map, IsTrue, All, AllPairs, IfOk, IfErr, IsErrAnd};
+ghost use Rattle.std.specs.Prelude.{◌≡◌, ◌≢◌, ◌<◌, ◌≤◌, ◌+◌, ◌↔◌, true, length, map, All, AllPairs, IfOk, IfErr, IsErrAnd};
 ghost use Rattle.std.specs.FinSet.{contains};
-ghost use Rattle.wasi_p1.specs.Slots.{given_directory};
 
 use crate::descriptors::Descriptors;
-use crate::error::CtxError;
-use crate::holdings::Holdings;
-use bitflags::Flags;
 use std::alloc::Global;
 use std::marker::Model;
-use wasi_fs::{Dir, File, FsPerms, OpenMode};
 use wasi_guest::Services;
-use wasi_host::{Handle, Host, SystemTime};
+use wasi_host::{Host, SystemTime};
 use wasi_p2::WasiFilesystemCtx;
 use wasi_streams::ResourceTable;
-
-/// The three standard streams: descriptors 0, 1 and 2, as POSIX numbers them.
-#[derive(Clone, Copy, Debug, PartialEq, Eq)]
-pub enum Stream {
-    Input,
-    Output,
-    Error,
-}
-
-/// How a file's descriptor is used, by preview1's `fdflags`: whether all that it writes goes behind the file's last
-/// byte, and whether its calls wait. No call waits here, so the latter is only kept.
-#[derive(Clone, Copy, Debug, PartialEq, Eq)]
-pub struct FileModes {
-    pub append: bool,
-    pub nonblock: bool,
-}
-
-/// A directory's descriptor, and its place among those that the guest was given, if it is one of them.
-#[derive(Drop)]
-pub struct DirectorySlot {
-    pub dir: Dir,
-    pub preopen: Option<usize>,
-}
-
-/// A file's descriptor: the file, where in bytes its next read or write begins, and how it is used.
-#[derive(Drop)]
-pub struct FileSlot {
-    pub file: File,
-    pub position: u64,
-    pub modes: FileModes,
-}
-
-/// What a descriptor number stands for, as the crate's `Descriptor` of `preview1.rs`.
-#[derive(Drop)]
-pub enum Slot {
-    Closed,
-    Stream(Stream),
-    Directory(DirectorySlot),
-    File(FileSlot),
-}
-
-/// A directory that a guest is given: a handle of it, what may be done below it, and the name by which the guest knows
-/// it.
-#[derive(Debug, Drop)]
-pub struct P1Preopen {
-    pub handle: Handle,
-    pub perms: FsPerms,
-    pub name: String,
-}
-
-impl P1Preopen {
-    /// The directory, which may be read, and written unless it is read-only.
-    pub fn directory(&self) -> Dir
-        ensures directory { result ≡ given_directory self.now }
-    {
-        let mut mode = OpenMode::READ;
-        mode.set(OpenMode::WRITE, !self.perms.write_not_permitted());
-        Dir::new(self.handle, self.perms, mode)
-    }
-}
+use wasi_turns::{CtxError, Holdings, P1Preopen};
 
 /// The calls of one guest over preview2's files of a host, with its descriptors, and what it has beside them: the
 /// crate's `WasiP1Ctx` of `preview1.rs`. The directories that the guest is given are descriptors from the first, so the
@@ -87,9 +23,9 @@ pub struct WasiP1Ctx<H: Host> {
 }
 
 impl<H: Host> Model for WasiP1Ctx<H> {
-    ghost use Rattle.wasi_p1.specs.Slots.{View};
+    ghost use Rattle.wasi_turns.specs.Slots.{View};
     ghost use Rattle.wasi_p1.specs.Held.{HoldsHandles};
-    ghost use Rattle.wasi_p1.specs.Owners.{handles};
+    ghost use Rattle.wasi_turns.specs.Owners.{handles};
 
     ghost Value = { View H };
 
@@ -124,12 +60,12 @@ pub struct Ended<H: Host> {
 
 impl<H: Host> WasiP1Ctx<H> {
     ghost use Rattle.wasi_p1.specs.LiveEntries.{AreLiveDescriptors};
-    ghost use Rattle.wasi_p1.specs.Numbering.{live_count};
-    ghost use Rattle.wasi_p1.specs.Owners.{OwnedApart, handles};
-    ghost use Rattle.wasi_p1.specs.Slots.{first_slots, given_name, is_closed_slot};
-    ghost use Rattle.wasi_p1.specs.declared.error.CtxError.TheVariants.{Full};
+    ghost use Rattle.wasi_turns.specs.Numbering.{live_count};
+    ghost use Rattle.wasi_turns.specs.Owners.{OwnedApart, handles};
+    ghost use Rattle.wasi_turns.specs.Slots.{first_slots, given_name, is_closed_slot};
+    ghost use Rattle.wasi_turns.specs.declared.error.CtxError.TheVariants.{Full};
     ghost use Rattle.wasi_guest.specs.Services.{handed};
-    ghost use Rattle.wasi_p1.specs.Stock.{first_fuel, first_stock};
+    ghost use Rattle.wasi_turns.specs.Stock.{first_fuel, first_stock};
 
     /// A context with the three standard streams as descriptors 0 to 2, and then the directories that the guest is
     /// given, in order, which takes their handles over. Each handle is live, and given once. Nothing is asked of the

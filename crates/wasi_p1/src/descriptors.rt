@@ -1,25 +1,22 @@
 //! The descriptors of a guest by number.
-ghost use Rattle.std.specs.Prelude.{◌≡◌, ◌≢◌, ◌≤◌, ◌<◌, ◌+◌, ◌↔◌, true, false, [], nat_le, length, slice_get, slice_index_or, slice_set, Some, IsTrue, Err, IsOk, IfOk, OnOk};
+ghost use Rattle.std.specs.Prelude.{◌≡◌, ◌≢◌, ◌≤◌, ◌<◌, ◌+◌, ◌↔◌, false, [], nat_le, length, slice_get, slice_index_or, slice_set, Some, IsTrue, Err, IsOk, IfOk, OnOk};
 ghost use Rattle.std.specs.Prelude.{◌-◌, min};
 ghost use Rattle.std.specs.Vec.{vec_len, vec_capacity};
 ghost use Rattle.std.specs.BinaryHeap.{heap_items, heap_len, heap_capacity};
 ghost use Rattle.wasi_streams.specs.Table.{Entries};
-ghost use Rattle.wasi_p1.specs.CallParts.{Rests};
+ghost use Rattle.wasi_turns.specs.CallParts.{Rests};
 ghost use Rattle.wasi_p1.specs.Descriptors.{AreKept};
 ghost use Rattle.wasi_p1.specs.Placed.{TakesFreeNumber};
 ghost use Rattle.wasi_p1.specs.Viewed.{descriptor_under, Opens, PutDescriptor};
-ghost use Rattle.wasi_p2.specs.FsErrors.{FsCause};
+ghost use Rattle.wasi_p2_types.specs.FsErrors.{FsCause};
 ghost use Rattle.wasi_p2.specs.Opens.{how_named};
 ghost use Rattle.wasi_p1.specs.Held.{HoldsHandles};
-ghost use Rattle.wasi_p1.specs.Items.{file_under};
 ghost use Rattle.wasi_p1.specs.LiveEntries.{AreLiveDescriptors};
-ghost use Rattle.wasi_p1.specs.Numbering.{passes_at, free_number, with_new, renumbered, live_count};
-ghost use Rattle.wasi_p1.specs.Owners.{handle_in, handles, without};
-ghost use Rattle.wasi_p1.specs.Slots.{first_slots, is_closed_slot};
-ghost use Rattle.wasi_p1.specs.declared.error.CtxError.TheVariants.{Full};
+ghost use Rattle.wasi_turns.specs.Numbering.{passes_at, free_number, with_new, renumbered, live_count};
+ghost use Rattle.wasi_turns.specs.Owners.{handle_in, handles, without};
+ghost use Rattle.wasi_turns.specs.Slots.{file_under, first_slots, is_closed_slot};
+ghost use Rattle.wasi_turns.specs.declared.error.CtxError.TheVariants.{Full};
 
-use crate::context::{DirectorySlot, FileSlot, P1Preopen, Slot, Stream};
-use crate::error::CtxError;
 use crate::items::{Item, admit, item_at, item_under, put_item, reserve_entry, slot_of_item};
 use crate::open_with::OpenWith;
 use crate::view_parts::closing::drop_item;
@@ -32,6 +29,7 @@ use wasi_fs::{Descriptor, Dir};
 use wasi_host::Host;
 use wasi_p2::{FsResult, WasiFilesystemCtx};
 use wasi_streams::ResourceTable;
+use wasi_turns::{CtxError, DirectorySlot, FileSlot, P1Preopen, Slot, Stream};
 
 /// How many standard streams there are.
 const STREAMS: usize = 3;
@@ -101,7 +99,7 @@ impl Descriptors {
     }
 
     /// The three standard streams as descriptors 0 to 2.
-    #[tactic(auto, unfolding(crate::specs::Numbering::with_new))]
+    #[tactic(auto, unfolding(wasi_turns::specs::Numbering::with_new))]
     fn streams(alloc: Global, max: u32) -> Result<Descriptors, AllocError>
         requires fits { 3 ≤ max }
         ensures slots { IfOk result (λ descriptors. descriptors.slots ≡ first_slots []) }

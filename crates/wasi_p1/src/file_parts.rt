@@ -5,46 +5,32 @@ ghost use Rattle.std.specs.Result.{result_map_both};
 ghost use Rattle.wasi_guest.specs.FlagSets.{fdflag_bits};
 ghost use Rattle.wasi_host.specs.HostCall.{Append, Stat};
 ghost use Rattle.wasi_host.specs.Meaning.{Rose};
-ghost use Rattle.wasi_p1.specs.CallParts.{IsReplied, Knows, Makes, WantsNoMemory, is_failure, open_file_of};
-ghost use Rattle.wasi_p1.specs.CallTurn.{Causes};
-ghost use Rattle.wasi_p1.specs.Files.{base_in, file_in, host_advice, name_at, name_into, not_synchronized, or_refused, position_from, read_place_in, stream_refused};
-ghost use Rattle.wasi_p1.specs.Guest.{guest_slots};
-ghost use Rattle.wasi_p1.specs.Owners.{handles, Owned};
-ghost use Rattle.wasi_p1.specs.Putting.{appended_in, count_in, put_call, put_in, put_request};
-ghost use Rattle.wasi_p1.specs.Request.{Direct, Behind};
-ghost use Rattle.wasi_p1.specs.Row.{give};
-ghost use Rattle.wasi_p1.specs.Services.{with_unit};
+ghost use Rattle.wasi_turns.specs.CallParts.{IsReplied, Knows, Makes, WantsNoMemory, is_failure, open_file_of};
+ghost use Rattle.wasi_turns.specs.CallTurn.{Causes};
+ghost use Rattle.wasi_turns.specs.Files.{base_in, file_in, host_advice, name_at, name_into, not_synchronized, or_refused, position_from, read_place_in, stream_refused};
+ghost use Rattle.wasi_turns.specs.Guest.{guest_slots};
+ghost use Rattle.wasi_turns.specs.Owners.{handles, Owned};
+ghost use Rattle.wasi_turns.specs.Putting.{appended_in, count_in, put_call, put_in, put_request};
+ghost use Rattle.wasi_turns.specs.Request.{Direct, Behind};
+ghost use Rattle.wasi_turns.specs.Row.{give};
+ghost use Rattle.wasi_turns.specs.Services.{with_unit};
 ghost use Rattle.wasi_p1.specs.Viewed.{descriptor_under};
-ghost use Rattle.wasi_p2.specs.Advices.{advice_named};
-ghost use Rattle.wasi_p1.specs.CallParts.{with_after};
+ghost use Rattle.wasi_p2_types.specs.Advices.{advice_named};
+ghost use Rattle.wasi_turns.specs.CallParts.{with_after};
 ghost use Rattle.wasi_guest.specs.declared.errno.Errno.TheVariants as errnos;
-ghost use Rattle.wasi_p1.specs.declared.error.P1Error.TheVariants as errors;
-ghost use Rattle.wasi_p1.specs.declared.file_parts.FileUse.TheVariants.{ReadAt};
+ghost use Rattle.wasi_turns.specs.declared.error.P1Error.TheVariants as errors;
+ghost use Rattle.wasi_turns.specs.declared.usage.FileUse.TheVariants.{ReadAt};
 
-use crate::call_parts::{bytes_at, room_at, write_piece};
-use crate::context::{FileModes, FileSlot, Slot, Stream};
+use crate::call_parts::{room_at, write_piece};
 use crate::descriptors::Descriptors;
-use crate::error::P1Error;
-use crate::holdings::Holdings;
-use crate::raw_numbers::INVALID;
 use bitflags::Flags;
 use wasi_fs::Descriptor;
 use wasi_guest::{Advice, Errno, FdFlags, Whence, write_bytes};
 use wasi_host::{Handle, Host};
 use wasi_p2::types;
-
-/// What a number is named for where a file's is asked for; by it a standard stream is refused.
-#[derive(Clone, Copy, Debug, PartialEq, Eq)]
-pub enum FileUse {
-    /// For the file itself.
-    Itself,
-    /// For its position.
-    Position,
-    /// To be read at an offset.
-    ReadAt,
-    /// To be written at an offset.
-    WriteAt,
-}
+use wasi_turns::{
+    FileModes, FileSlot, FileUse, Holdings, INVALID, P1Error, Put, Slot, Stream, bytes_at,
+};
 
 /// How a standard stream is refused where a file is asked for.
 fn stream_refusal(wanted: FileUse, stream: Stream) -> P1Error
@@ -68,7 +54,7 @@ fn stream_refusal(wanted: FileUse, stream: Stream) -> P1Error
 
 /// The file of a number: Badf where that isn't a file's, and Spipe of a standard stream where a place in a file is
 /// named that could be read or written there.
-#[tactic(auto, using(crate::proofs::SlotRules::slots))]
+#[tactic(auto, using(wasi_turns::proofs::SlotRules::slots))]
 pub fn file_at<H: Host>(
     host: &H,
     descriptors: &Descriptors,
@@ -127,7 +113,7 @@ fn base_of(position: u64, whence: Whence) -> Option<u64>
 }
 
 /// A position so far from another one: Inval where that is below 0, or 64 bits don't hold it.
-#[tactic(auto, unfolding(crate::specs::Files::position_from))]
+#[tactic(auto, unfolding(wasi_turns::specs::Files::position_from))]
 fn position_from(base: u64, offset: i64) -> Result<u64, P1Error>
     ensures row { result ≡ position_from base offset }
     ensures refusal { IfErr result (λ e. is_failure e ≡ false) }
@@ -205,13 +191,6 @@ fn append_piece<H: Host>(host: &mut H, file: Handle, piece: &[u8]) -> Result<u64
         return Err(P1Error::Errno(Errno::Io));
     }
     Ok(count as u64)
-}
-
-/// How many bytes of a piece a file took, and where its position is then.
-#[derive(Clone, Copy, Debug, PartialEq, Eq)]
-pub struct Put {
-    pub count: u64,
-    pub position: u64,
 }
 
 /// Puts a piece behind a file's last byte, as `append_piece` does; the position is the file's size after that.
@@ -310,7 +289,7 @@ pub fn view_advice(advice: Advice) -> types::Advice
 }
 
 /// Inval of a flag of integrity.
-#[tactic(auto, unfolding(crate::specs::Files::not_synchronized))]
+#[tactic(auto, unfolding(wasi_turns::specs::Files::not_synchronized))]
 pub fn not_synchronized(fdflags: FdFlags) -> Result<(), P1Error>
     ensures row { result ≡ not_synchronized (fdflag_bits fdflags) }
     ensures refusal { IfErr result (λ e. is_failure e ≡ false) }
@@ -358,7 +337,7 @@ pub fn preopen_at<'h, H: Host>(
 
 /// Puts a name into a range of memory: Nametoolong where it is longer than the range may be, and trap Pointer where the
 /// memory doesn't hold it there.
-#[tactic(auto, unfolding(crate::specs::Files::name_into, crate::specs::Files::name_within))]
+#[tactic(auto, unfolding(wasi_turns::specs::Files::name_into, wasi_turns::specs::Files::name_within))]
 pub fn put_name(memory: &mut [u8], path: u32, path_len: u32, name: &str) -> Result<(), P1Error>
     ensures size { length memory.new ≡ length memory.old }
     ensures same { OnErr result (memory.new ≡ memory.old) }

@@ -1,40 +1,18 @@
 //! The record that tells of a node.
 ghost use Rattle.std.specs.Prelude.{◌≡◌, false, IfErr};
-ghost use Rattle.wasi_p1.specs.CallParts.{WantsNoMemory, is_failure};
-ghost use Rattle.wasi_p1.specs.Filestats.{filetype_of, stream_filestat};
+ghost use Rattle.wasi_turns.specs.CallParts.{WantsNoMemory, is_failure};
 ghost use Rattle.wasi_p1.specs.ViewedStats.{filetype_named, viewed_filestat, wall_nanoseconds};
 
-use crate::error::P1Error;
 use wasi_fs::{DescriptorStat, DescriptorType, MetadataHashValue};
 use wasi_guest::{Errno, Filestat, Filetype, WallDatetime};
 use wasi_p2::types;
-
-/// What the crates below say of a node, by their two calls.
-#[derive(Clone, Copy, Debug, PartialEq, Eq)]
-pub struct StatBoth {
-    pub stat: DescriptorStat,
-    pub hash: MetadataHashValue,
-}
+use wasi_turns::P1Error;
 
 /// What preview2 says of a node, by its two calls.
 #[derive(Clone, Copy, Debug, PartialEq, Eq)]
 pub struct ViewedStat {
     pub stat: types::DescriptorStat,
     pub hash: types::MetadataHashValue,
-}
-
-/// The type of the same name.
-pub fn filetype_of(kind: DescriptorType) -> Filetype
-    ensures filetype { result ≡ filetype_of kind }
-{
-    match kind {
-        DescriptorType::Unknown => Filetype::Unknown,
-        DescriptorType::BlockDevice => Filetype::BlockDevice,
-        DescriptorType::CharacterDevice => Filetype::CharacterDevice,
-        DescriptorType::Directory => Filetype::Directory,
-        DescriptorType::SymbolicLink => Filetype::SymbolicLink,
-        DescriptorType::RegularFile => Filetype::RegularFile,
-    }
 }
 
 /// The type of the same name as one of preview2. Preview1 has no pipe, and no socket that tells its kind.
@@ -92,21 +70,5 @@ impl ViewedStat {
             mtim,
             ctim,
         })
-    }
-}
-
-/// What is told of a standard stream: nothing.
-pub fn stream_filestat() -> Filestat
-    ensures { result ≡ stream_filestat }
-{
-    Filestat {
-        dev: 0,
-        ino: 0,
-        filetype: Filetype::Unknown.number(),
-        nlink: 0,
-        size: 0,
-        atim: 0,
-        mtim: 0,
-        ctim: 0,
     }
 }

@@ -6,36 +6,28 @@ mod call_parts;
 mod calls;
 mod context;
 mod descriptors;
-mod error;
-mod fdstats;
 mod file_parts;
 mod filestats;
-mod holdings;
 mod items;
-mod laws;
 mod listing_parts;
 mod look_parts;
 mod new_times;
 mod open_with;
 mod poll_parts;
-mod raw_numbers;
 mod run;
 mod view_parts;
 
-pub use context::{
-    CtxRefused, DirectorySlot, Ended, FUEL, FileModes, FileSlot, P1Preopen, Slot, Stream, WasiP1Ctx,
-};
-pub use error::{CtxError, P1Error};
-pub use holdings::{Holdings, Output, Outputs};
-pub use laws::{
-    bytes_put_are_got, descriptor_numbers, live_handles_stay, methods_are_complete,
-    other_errors_never_come, pages_list_each_entry_once, permissions_stem, positions,
-    read_only_runs_leave_the_tree, read_only_turns_leave_the_tree, records_and_pages_have_lengths,
-    runs_agree, runs_are_functions, runs_stay_valid, turns_agree, turns_are_confined,
-    valid_calls_are_answered, writes_are_whole,
-};
-pub use run::{RunError, call, run_calls};
+pub use context::{CtxRefused, Ended, FUEL, WasiP1Ctx};
+pub use run::{call, run_calls};
 pub use wasi_fs::FsPerms;
 pub use wasi_guest::{
     Answer, Answers, Call, EnvPair, Errno, Services, TrapKind, Value, WallDatetime,
+};
+pub use wasi_turns::{
+    CtxError, DirectorySlot, FileModes, FileSlot, Holdings, Output, Outputs, P1Error, P1Preopen,
+    RunError, Slot, Stream, bytes_put_are_got, descriptor_numbers, live_handles_stay,
+    methods_are_complete, other_errors_never_come, pages_list_each_entry_once, permissions_stem,
+    positions, read_only_runs_leave_the_tree, read_only_turns_leave_the_tree,
+    records_and_pages_have_lengths, runs_agree, runs_are_functions, runs_stay_valid, turns_agree,
+    turns_are_confined, valid_calls_are_answered, writes_are_whole,
 };

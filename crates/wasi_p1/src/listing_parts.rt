@@ -1,5 +1,5 @@
 //! A directory's listing, and its pages in a guest's memory.
-ghost use Rattle.std.specs.Prelude.{◌≡◌, ◌+◌, ◌≤◌, ◌++◌, true, false, IsTrue, IfOk, IfErr, OnErr, All, map, length, take, drop, min};
+ghost use Rattle.std.specs.Prelude.{◌≡◌, ◌+◌, ◌≤◌, true, false, IsTrue, IfOk, IfErr, OnErr, All, map, length, take, min};
 ghost use Rattle.std.specs.FinSet.{contains};
 ghost use Rattle.std.specs.String.{string_bytes};
 ghost use Rattle.wasi_guest.specs.Range.{with_bytes, IsInMemory};
@@ -8,29 +8,19 @@ ghost use Rattle.wasi_host.specs.Lineage.{Traced, Only, Nothing};
 ghost use Rattle.wasi_host.specs.Meaning.{HasCause};
 ghost use Rattle.wasi_host.specs.declared.file_type.FileType.TheVariants.{Directory};
 ghost use Rattle.wasi_resolve.specs.Resolved.{Resolved};
-ghost use Rattle.wasi_p1.specs.CallParts.{WantsNoMemory, is_failure, with_after};
-ghost use Rattle.wasi_p1.specs.EntriesSeen.{entry_seen, entries_seen, reads_from, numbered_behind, IsListed};
-ghost use Rattle.wasi_p1.specs.Listing.{dots, numbered_at, HasShortNames};
-ghost use Rattle.wasi_p1.specs.Pages.{dirent_of, record_of, page};
-ghost use Rattle.wasi_p1.specs.Parts.{text_to};
-ghost use Rattle.wasi_p1.specs.Request.{ListDirectory, meant_of};
+ghost use Rattle.wasi_turns.specs.CallParts.{WantsNoMemory, is_failure, with_after};
+ghost use Rattle.wasi_turns.specs.EntriesSeen.{entry_seen, entries_seen, reads_from, numbered_behind, IsListed};
+ghost use Rattle.wasi_turns.specs.Listing.{dots, numbered_at, HasShortNames};
+ghost use Rattle.wasi_turns.specs.Pages.{dirent_of, record_of, page};
+ghost use Rattle.wasi_turns.specs.Parts.{text_to};
+ghost use Rattle.wasi_turns.specs.Request.{ListDirectory, meant_of};
 
-use crate::call_parts::bytes_at;
-use crate::error::P1Error;
-use crate::filestats::filetype_of;
 use std::alloc::{AllocError, Global};
 use wasi_fs::{DescriptorType, Dir};
 use wasi_guest::{Dirent, write_bytes};
 use wasi_host::{DirEntry, FileType, Host, HostError};
 use wasi_paths::Name;
-
-/// A name in a directory, and the number and the kind of the node that it holds, a link's own.
-#[derive(Debug, Drop)]
-pub struct Entry {
-    pub name: String,
-    pub node: u64,
-    pub kind: FileType,
-}
+use wasi_turns::{Entry, P1Error, bytes_at, filetype_of};
 
 /// A name under which a directory lists itself.
 fn dot(alloc: Global, name: &str, node: u64) -> Result<Entry, AllocError>

@@ -3,29 +3,27 @@ ghost use Rattle.std.specs.Prelude.{◌≡◌, slice_get, IsTrue, IfOk, IfErr, N
 ghost use Rattle.wasi_fs.specs.Calls.{handle_of, meant_as, stats, NotMemory};
 ghost use Rattle.wasi_host.specs.HostCall.{Flags, Stat};
 ghost use Rattle.wasi_host.specs.Meaning.{Rose};
-ghost use Rattle.wasi_p1.specs.CallParts.{IsReplied, Makes, WantsNoMemory, open_file_of};
-ghost use Rattle.wasi_p1.specs.CallTurn.{Causes};
-ghost use Rattle.wasi_p1.specs.Fdstats.{directory_fdstat, file_told};
-ghost use Rattle.wasi_p1.specs.Filestats.{filestat_in, stat_both, IsStated};
+ghost use Rattle.wasi_turns.specs.CallParts.{IsReplied, Makes, WantsNoMemory, open_file_of};
+ghost use Rattle.wasi_turns.specs.CallTurn.{Causes};
+ghost use Rattle.wasi_turns.specs.Fdstats.{directory_fdstat, file_told};
+ghost use Rattle.wasi_turns.specs.Filestats.{filestat_in, stat_both, IsStated};
 ghost use Rattle.wasi_p1.specs.Held.{HoldsHandles};
-ghost use Rattle.wasi_p1.specs.Owners.{handles};
-ghost use Rattle.wasi_p1.specs.Request.{Direct};
-ghost use Rattle.wasi_p1.specs.Row.{give};
+ghost use Rattle.wasi_turns.specs.Owners.{handles};
+ghost use Rattle.wasi_turns.specs.Request.{Direct};
+ghost use Rattle.wasi_turns.specs.Row.{give};
 ghost use Rattle.wasi_p1.specs.Viewed.{descriptor_under, Lowered};
 ghost use Rattle.wasi_p1.specs.ViewedStats.{viewed};
-ghost use Rattle.wasi_p2.specs.FsErrors.{FsCause};
+ghost use Rattle.wasi_p2_types.specs.FsErrors.{FsCause};
 ghost use Rattle.wasi_p2.specs.Views.{Performs};
 
-use crate::context::FileSlot;
 use crate::descriptors::Descriptors;
-use crate::error::P1Error;
-use crate::fdstats::{directory_fdstat, file_fdstat};
 use crate::filestats::{ViewedStat, filetype_named};
 use crate::view_parts::nodes::{get_flags, get_type, metadata_hash, stat};
 use wasi_fs::{Descriptor, Dir};
 use wasi_guest::{Fdstat, Filestat};
 use wasi_host::Host;
 use wasi_p2::{FsResult, WasiFilesystemCtx};
+use wasi_turns::{FileSlot, P1Error, directory_fdstat, file_fdstat};
 
 /// What is told of a descriptor's node: its two answers, which make one record.
 pub fn looked_at<H: Host>(

@@ -1,175 +1,33 @@
 //! What a poll waits for, and what it is told, a part at a time.
-ghost use Rattle.std.specs.Prelude.{[], ◌∷◌, ◌≡◌, ◌⊎◌, ◌+◌, ◌-◌, ◌++◌, ◌*◌, ◌^◌, ◌<◌, ◌≤◌, ◌==◌, not, nat_le, true, false, IsTrue, All, drop, length, map, min, if◌then◌else◌, Ok, Err, IfOk, IfErr, OnOk};
+ghost use Rattle.std.specs.Prelude.{[], ◌∷◌, ◌≡◌, ◌⊎◌, ◌+◌, ◌-◌, ◌++◌, ◌*◌, ◌^◌, ◌<◌, ◌==◌, not, nat_le, true, false, IsTrue, All, drop, length, map, if◌then◌else◌, Ok, Err, IfOk, IfErr, OnOk};
 ghost use Rattle.std.specs.FinSet.{contains};
 ghost use Rattle.std.specs.Result.{result_map_both};
 ghost use Rattle.std.specs.Option.{option_to_list};
 ghost use Rattle.wasi_guest.specs.Event.{event_bytes};
 ghost use Rattle.wasi_guest.specs.Range.{IsInMemory, with_bytes};
 ghost use Rattle.wasi_host.specs.Meaning.{Rose};
-ghost use Rattle.wasi_p1.specs.CallParts.{IsFromHost, IsReplied, Makes, is_failure, source_of, sink_of, OfSource};
-ghost use Rattle.wasi_p1.specs.CallTurn.{Causes};
-ghost use Rattle.wasi_p1.specs.Guest.{guest_slots};
-ghost use Rattle.wasi_p1.specs.Owners.{handles, Owned};
-ghost use Rattle.wasi_p1.specs.Polling.{OfReading, all_waited, awaited_by, nbytes_in, comes_at, event_of, events, files_in, first_size, event_flags, judged_in, lists_within, nodes_in, nodes_read, some_asked, type_of, waited_at, waited_by, waiting_for, waiting_to_read, waiting_to_write, with_clocks, with_events};
-ghost use Rattle.wasi_p1.specs.Request.{Sizes};
-ghost use Rattle.wasi_p1.specs.Row.{give};
+ghost use Rattle.wasi_turns.specs.CallParts.{IsFromHost, IsReplied, Makes, is_failure, source_of, sink_of, OfSource};
+ghost use Rattle.wasi_turns.specs.CallTurn.{Causes};
+ghost use Rattle.wasi_turns.specs.Guest.{guest_slots};
+ghost use Rattle.wasi_turns.specs.Owners.{handles, Owned};
+ghost use Rattle.wasi_turns.specs.Polling.{OfReading, all_waited, awaited_by, comes_at, event_of, events, first_size, judged_in, lists_within, nodes_in, nodes_read, some_asked, waited_at, waited_by, waiting_for, waiting_to_read, waiting_to_write, with_clocks, with_events};
+ghost use Rattle.wasi_turns.specs.Request.{Sizes};
+ghost use Rattle.wasi_turns.specs.Row.{give};
 ghost use Rattle.wasi_guest.specs.declared.answer.Value.TheVariants.{Number};
-ghost use Rattle.wasi_p1.specs.declared.error.P1Error.TheVariants.{Memory};
+ghost use Rattle.wasi_turns.specs.declared.error.P1Error.TheVariants.{Memory};
 
-use crate::call_parts::{Sink, Source, sink_at, source_at};
+use crate::call_parts::{sink_at, source_at};
 use crate::descriptors::Descriptors;
-use crate::error::P1Error;
-use crate::holdings::{Clocks, Holdings};
-use crate::raw_numbers::INVALID;
 use std::alloc::{AllocError, Global};
 use wasi_guest::{Errno, Event, SubscriptionKind, TrapKind, Value, subscription_in, write_bytes};
-use wasi_host::{Handle, Host};
+use wasi_host::Host;
+use wasi_turns::{Awaited, Clocks, Holdings, INVALID, Judged, P1Error, Sink, Source, Waited};
 
 /// How many bytes a subscription has in memory.
 const SUBSCRIPTION: u32 = 48;
 
-/// What is waited for.
-#[derive(Clone, Copy, Debug, PartialEq, Eq)]
-pub enum Awaited {
-    /// The monotonic clock, until it stands at this moment.
-    Clock { end: u64 },
-    /// The standard input, which can be read at once.
-    Input,
-    /// A standard output, which can be written at once.
-    Output,
-    /// A file that is written.
-    FileToWrite,
-    /// A file that is read, at this position.
-    FileToRead { file: Handle, position: u64 },
-}
-
-/// What a subscription waits for, with the number that comes back with its event.
-#[derive(Clone, Copy, Debug, PartialEq, Eq)]
-pub struct Waited {
-    pub userdata: u64,
-    pub what: Awaited,
-}
-
-/// How many of some subscriptions name a file, and at which moment of the monotonic clock the first of them comes.
-#[derive(Clone, Copy, Debug, PartialEq, Eq)]
-pub struct Judged {
-    pub files: u32,
-    pub earliest: u64,
-}
-
-impl Awaited {
-    /// From which moment of the monotonic clock on it is ready: the first one of what isn't a clock.
-    fn comes_at(self) -> u64
-        ensures { result ≡ comes_at self }
-    {
-        match self {
-            Awaited::Clock { end } => end,
-            Awaited::Input => 0,
-            Awaited::Output => 0,
-            Awaited::FileToWrite => 0,
-            Awaited::FileToRead { .. } => 0,
-        }
-    }
-
-    /// How many files it names.
-    fn files(self) -> u32
-        ensures count { result ≡ files_in self }
-        ensures most { result ≤ 1 }
-    {
-        match self {
-            Awaited::Clock { .. } => 0,
-            Awaited::Input => 0,
-            Awaited::Output => 0,
-            Awaited::FileToWrite => 1,
-            Awaited::FileToRead { .. } => 1,
-        }
-    }
-
-    /// For how many files it asks for the size.
-    fn sizes(self) -> usize
-        ensures count { result ≡ length (nodes_in self) }
-        ensures most { result ≤ 1 }
-    {
-        match self {
-            Awaited::Clock { .. } => 0,
-            Awaited::Input => 0,
-            Awaited::Output => 0,
-            Awaited::FileToWrite => 0,
-            Awaited::FileToRead { .. } => 1,
-        }
-    }
-
-    /// The number of its event's type, as `Eventtype` has it.
-    fn kind(self) -> u8
-        ensures { result ≡ type_of self }
-    {
-        match self {
-            Awaited::Clock { .. } => 0,
-            Awaited::Input => 1,
-            Awaited::Output => 2,
-            Awaited::FileToWrite => 2,
-            Awaited::FileToRead { .. } => 1,
-        }
-    }
-
-    /// How many bytes can be read or written, as far as that is told.
-    fn nbytes(self) -> u64
-        ensures { result ≡ nbytes_in self }
-    {
-        match self {
-            Awaited::Clock { .. } => 0,
-            Awaited::Input => 1,
-            Awaited::Output => 1,
-            Awaited::FileToWrite => 1,
-            Awaited::FileToRead { .. } => 1,
-        }
-    }
-
-    /// The bits of `EventRwFlags`: that a file of this size is read to its end.
-    fn flags(self, size: u64) -> u16
-        ensures { result ≡ event_flags self size }
-    {
-        match self {
-            Awaited::Clock { .. } => 0,
-            Awaited::Input => 0,
-            Awaited::Output => 0,
-            Awaited::FileToWrite => 0,
-            Awaited::FileToRead { position, .. } => { if size <= position { 1 } else { 0 } }
-        }
-    }
-}
-
-impl Waited {
-    /// What is told of it, where a file that is read has this size.
-    fn event(self, size: u64) -> Event
-        ensures { result ≡ event_of self size }
-    {
-        Event {
-            userdata: self.userdata,
-            error: 0,
-            kind: self.what.kind(),
-            nbytes: self.what.nbytes(),
-            flags: self.what.flags(size),
-        }
-    }
-}
-
-impl Judged {
-    /// With one subscription more, which names so many files and comes at this moment.
-    fn with(self, files: u32, comes_at: u64) -> Judged
-        requires { self.files + files < 2 ^ 32 }
-        ensures files { result.files ≡ self.files + files }
-        ensures earliest { result.earliest ≡ min self.earliest comes_at }
-    {
-        Judged {
-            files: self.files + files,
-            earliest: self.earliest.min(comes_at),
-        }
-    }
-}
-
 /// Inval of a poll of nothing.
-#[tactic(auto, unfolding(crate::specs::Polling::some_asked))]
+#[tactic(auto, unfolding(wasi_turns::specs::Polling::some_asked))]
 pub fn some_asked(count: u32) -> Result<(), P1Error>
     ensures row { result ≡ some_asked count }
     ensures refusal { IfErr result (λ e. is_failure e ≡ false) }
@@ -181,7 +39,7 @@ pub fn some_asked(count: u32) -> Result<(), P1Error>
 }
 
 /// Trap Pointer where so many subscriptions, or as many events, aren't at a multiple of 8, or leave the memory.
-#[tactic(auto, unfolding(crate::specs::Polling::lists_within))]
+#[tactic(auto, unfolding(wasi_turns::specs::Polling::lists_within))]
 pub fn lists_within(
     memory: &[u8],
     subscriptions: u32,
@@ -270,7 +128,7 @@ pub fn waiting_for<H: Host>(
 }
 
 /// The subscription at an address: as it can't be read, then as what it asks for is refused.
-#[tactic(auto, using(crate::proofs::Wanting::fault_never), unfolding(crate::specs::Polling::waited_at))]
+#[tactic(auto, using(wasi_turns::proofs::Wanting::fault_never), unfolding(wasi_turns::specs::Polling::waited_at))]
 fn waited_at<H: Host>(
     host: &H,
     descriptors: &Descriptors,
@@ -436,7 +294,7 @@ pub fn reads_files(waited: &[Waited]) -> bool
 }
 
 /// The size at a place, or 0 past the last.
-#[tactic(auto, using(crate::proofs::Telling::size_there, crate::proofs::Telling::size_past))]
+#[tactic(auto, using(wasi_turns::proofs::Telling::size_there, wasi_turns::proofs::Telling::size_past))]
 fn size_at(sizes: &[u64], place: usize) -> u64
     ensures { result ≡ first_size (drop place sizes.now) }
 {

@@ -1,33 +1,26 @@
 //! A list of calls, one after another.
 ghost use Rattle.std.specs.Prelude.{◌≡◌, ◌≤◌, length, map, Err, All, IsTrue, IfOk, IfErr, IfSome};
-ghost use Rattle.wasi_p1.specs.ErrorNumbers.{MayCome};
-ghost use Rattle.wasi_p1.specs.Front.{with_fuel};
-ghost use Rattle.wasi_p1.specs.CallTurn.{IsAnswered, IsValidCall, OthersStay, TakesTurn};
-ghost use Rattle.wasi_p1.specs.Method.{StaysInBounds, DoesItsRow};
+ghost use Rattle.wasi_turns.specs.ErrorNumbers.{MayCome};
+ghost use Rattle.wasi_turns.specs.Front.{with_fuel};
+ghost use Rattle.wasi_turns.specs.CallTurn.{IsAnswered, IsValidCall, OthersStay, TakesTurn};
+ghost use Rattle.wasi_turns.specs.Method.{StaysInBounds, DoesItsRow};
 ghost use Rattle.wasi_host.specs.Meaning.{Rose};
-ghost use Rattle.wasi_p1.specs.Guest.{State, state_of};
-ghost use Rattle.wasi_p1.specs.Rows.{may_want};
-ghost use Rattle.wasi_p1.specs.Run.{AnswersEach, answer_of, ends, ios, Allows, answered_in, WantedAt, DidRun, StoodAt};
-ghost use Rattle.wasi_p1.specs.declared.error.P1Error.TheVariants.{Memory};
-ghost use Rattle.wasi_p1.specs.Owners.{RunTraced, SlotsOfCall, SlotsOfRun};
-ghost use Rattle.wasi_p1.specs.Reach.{Confined, StaysTouched};
-ghost use Rattle.wasi_p1.specs.InTurn.{DoesCall, DoCalls, DoCallsUntil};
-ghost use Rattle.wasi_p1.specs.StatesAgree.{SeesOnlyReach};
-ghost use Rattle.wasi_p1.specs.Unchanged.{LeavesAll};
-ghost use Rattle.wasi_p1.specs.Validity.{IsValidState};
+ghost use Rattle.wasi_turns.specs.Guest.{State, state_of};
+ghost use Rattle.wasi_turns.specs.Rows.{may_want};
+ghost use Rattle.wasi_turns.specs.Run.{AnswersEach, answer_of, ends, ios, Allows, answered_in, WantedAt, DidRun, StoodAt};
+ghost use Rattle.wasi_turns.specs.declared.error.P1Error.TheVariants.{Memory};
+ghost use Rattle.wasi_turns.specs.Owners.{RunTraced, SlotsOfCall, SlotsOfRun};
+ghost use Rattle.wasi_turns.specs.Reach.{Confined, StaysTouched};
+ghost use Rattle.wasi_turns.specs.InTurn.{DoesCall, DoCalls, DoCallsUntil};
+ghost use Rattle.wasi_turns.specs.StatesAgree.{SeesOnlyReach};
+ghost use Rattle.wasi_turns.specs.Unchanged.{LeavesAll};
+ghost use Rattle.wasi_turns.specs.Validity.{IsValidState};
 
 use crate::context::WasiP1Ctx;
-use crate::error::P1Error;
 use std::alloc::Global;
 use wasi_guest::{Answer, Answers, Call, Value};
 use wasi_host::Host;
-
-/// Why a run wasn't finished.
-#[derive(Clone, Copy, Debug, PartialEq, Eq)]
-pub enum RunError {
-    /// Memory was wanted, for the answers or by the call behind the first `answered`. All stands as after these.
-    Memory { answered: usize },
-}
+use wasi_turns::{P1Error, RunError};
 
 /// The answer of a call; want of memory is none.
 fn answer_of(outcome: Result<Value, P1Error>) -> Option<Answer>
@@ -54,7 +47,7 @@ fn ends_run(answer: Answer) -> bool
 /// number is answered that `may_be_answered` doesn't list. A trap, want of memory and every error number but `io` leave all
 /// as before: the descriptors, the guest's memory, its outputs, what it has left of its input, the clocks, the place in the
 /// random bytes, and the tree of a host that tells it.
-#[tactic(auto, using(crate::proofs::Completing::turn_completes))]
+#[tactic(auto, using(wasi_turns::proofs::Completing::turn_completes))]
 pub fn call<H: Host>(
     context: &mut WasiP1Ctx<H>,
     memory: &mut [u8],

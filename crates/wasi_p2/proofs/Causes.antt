@@ -5,10 +5,10 @@ use Rattle.wasi_host.specs.declared.errors.ErrorCode.{ErrorCode as LowerCode}
 use Rattle.wasi_host.specs.declared.errors.ErrorCode.TheVariants as lower
 use Rattle.wasi_host.specs.declared.errors.HostError.{HostError}
 use Rattle.wasi_host.specs.declared.errors.HostError.TheVariants as hosts
-use Rattle.wasi_p2.specs.ErrorCodes.{code_named}
-use Rattle.wasi_p2.specs.FsErrors.{fs_error, FsCause}
-use Rattle.wasi_p2.specs.declared.error.FsError.TheVariants.{Code}
-use Rattle.wasi_p2.specs.declared.types.error_code.ErrorCode.TheVariants.{Io}
+use Rattle.wasi_p2_types.specs.ErrorCodes.{code_named}
+use Rattle.wasi_p2_types.specs.FsErrors.{fs_error, FsCause}
+use Rattle.wasi_p2_types.specs.declared.error.FsError.TheVariants.{Code}
+use Rattle.wasi_p2_types.specs.declared.error_code.ErrorCode.TheVariants.{Io}
 
 -- only the code of this name becomes `Io`
 pub io_named : (code : LowerCode) → code_named code ≡ Io → code ≡ lower.Io

@@ -16,8 +16,8 @@ use Rattle.wasi_p2.specs.Rooms.{ClosesHandle, TakenOut}
 use Rattle.wasi_p2.specs.Views.{OrRefused, files_of}
 use Rattle.wasi_p2.specs.declared.context.Preopen.{Preopen}
 use Rattle.wasi_p2.specs.declared.context.WasiFilesystemCtx.{WasiFilesystemCtx}
-use Rattle.wasi_p2.specs.declared.error.FsError.{FsError}
-use Rattle.wasi_p2.specs.declared.types.descriptor_stat.DirectoryEntry.{DirectoryEntry}
+use Rattle.wasi_p2_types.specs.declared.error.FsError.{FsError}
+use Rattle.wasi_p2_types.specs.declared.descriptor_stat.DirectoryEntry.{DirectoryEntry}
 use Rattle.wasi_p2.proofs.Owning.{owned_taken}
 
 -- an entry that is there is taken out, and its handle closed

@@ -12,8 +12,8 @@ use Rattle.wasi_p2.specs.Drops.{DropsDescriptor, DropsStream, ReadsNext, listing
 use Rattle.wasi_p2.specs.Resources.{AreOwned, Holder, descriptor_at, handle_held, preopened, tabled}
 use Rattle.wasi_p2.specs.Views.{Files, FilesOwned, OrRefused}
 use Rattle.wasi_p2.specs.declared.context.Preopen.{Preopen}
-use Rattle.wasi_p2.specs.declared.error.FsError.{FsError}
-use Rattle.wasi_p2.specs.declared.types.descriptor_stat.DirectoryEntry.{DirectoryEntry}
+use Rattle.wasi_p2_types.specs.declared.error.FsError.{FsError}
+use Rattle.wasi_p2_types.specs.declared.descriptor_stat.DirectoryEntry.{DirectoryEntry}
 
 -- a refusal leaves all as it is
 kept_or : {H X B : Type 0} (host : Ghosts H) (old new : Files H) (found : Result X FsError) (Did : X → Type 0)

@@ -6,14 +6,14 @@ use Rattle.wasi_streams.specs.Input.{ReadReply}
 use Rattle.wasi_streams.specs.Reading.{HasRead}
 use Rattle.wasi_streams.specs.Writing.{Puts}
 use Rattle.wasi_streams.specs.declared.output.FileOutputMode.TheVariants.{Position}
-use Rattle.wasi_p2.specs.ErrorCodes.{code_named}
-use Rattle.wasi_p2.specs.FsErrors.{fs_error}
+use Rattle.wasi_p2_types.specs.ErrorCodes.{code_named}
+use Rattle.wasi_p2_types.specs.FsErrors.{fs_error}
 use Rattle.wasi_p2.specs.Resources.{file_at, writable_at}
 use Rattle.wasi_p2.specs.Views.{Files, AsksHost, OrRefused, seen_in}
-use Rattle.wasi_p2.specs.declared.error.FsError.{FsError}
-use Rattle.wasi_p2.specs.declared.error.FsError.TheVariants.{Code, Memory}
+use Rattle.wasi_p2_types.specs.declared.error.FsError.{FsError}
+use Rattle.wasi_p2_types.specs.declared.error.FsError.TheVariants.{Code, Memory}
 use Rattle.wasi_p2.specs.declared.read_result.ReadResult.{ReadResult}
-use Rattle.wasi_p2.specs.declared.types.error_code.ErrorCode.TheVariants.{Io}
+use Rattle.wasi_p2_types.specs.declared.error_code.ErrorCode.TheVariants.{Io}
 
 abbrev pub is_none_left : List ℕ → Bool
 is_none_left [] = true

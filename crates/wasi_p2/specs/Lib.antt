@@ -1,17 +1,11 @@
-pub mod Advices
 pub mod Directories
 pub mod Drops
-pub mod ErrorCodes
 pub mod FileBytes
-pub mod FlagNames
-pub mod FsErrors
-pub mod Moments
 pub mod Named
 pub mod Nodes
 pub mod Opens
 pub mod Places
 pub mod Resources
 pub mod Rooms
-pub mod Stats
 pub mod Timed
 pub mod Views

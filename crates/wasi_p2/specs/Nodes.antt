@@ -9,19 +9,19 @@ use Rattle.wasi_fs.specs.MetadataHash.{metadata_hash, IsHash}
 use Rattle.wasi_fs.specs.OpenFlags.{descriptor_flag_bits}
 use Rattle.wasi_fs.specs.declared.descriptor.Descriptor.{Descriptor}
 use Rattle.wasi_fs.specs.declared.descriptor.File.{File}
-use Rattle.wasi_p2.specs.Advices.{advice_named}
-use Rattle.wasi_p2.specs.FlagNames.{descriptor_flags_told}
+use Rattle.wasi_p2_types.specs.Advices.{advice_named}
+use Rattle.wasi_p2_types.specs.FlagNames.{descriptor_flags_told}
 use Rattle.wasi_p2.specs.Resources.{both_found, descriptor_at, file_at}
-use Rattle.wasi_p2.specs.Stats.{type_named, stat_named, hash_named}
+use Rattle.wasi_p2_types.specs.Stats.{type_named, stat_named, hash_named}
 use Rattle.wasi_p2.specs.Timed.{timed_by}
 use Rattle.wasi_p2.specs.Views.{Files, CallsOn, LooksAtNone, LooksFrom, Performs, node_held, tree_in}
-use Rattle.wasi_p2.specs.declared.error.FsError.{FsError}
-use Rattle.wasi_p2.specs.declared.types.advice.Advice.{Advice}
-use Rattle.wasi_p2.specs.declared.types.descriptor_stat.DescriptorStat.{DescriptorStat}
-use Rattle.wasi_p2.specs.declared.types.descriptor_stat.DescriptorType.{DescriptorType}
-use Rattle.wasi_p2.specs.declared.types.descriptor_stat.MetadataHashValue.{MetadataHashValue}
-use Rattle.wasi_p2.specs.declared.types.flags.DescriptorFlags.{DescriptorFlags}
-use Rattle.wasi_p2.specs.declared.types.times.NewTimestamp.{NewTimestamp}
+use Rattle.wasi_p2_types.specs.declared.error.FsError.{FsError}
+use Rattle.wasi_p2_types.specs.declared.advice.Advice.{Advice}
+use Rattle.wasi_p2_types.specs.declared.descriptor_stat.DescriptorStat.{DescriptorStat}
+use Rattle.wasi_p2_types.specs.declared.descriptor_stat.DescriptorType.{DescriptorType}
+use Rattle.wasi_p2_types.specs.declared.descriptor_stat.MetadataHashValue.{MetadataHashValue}
+use Rattle.wasi_p2_types.specs.declared.flags.DescriptorFlags.{DescriptorFlags}
+use Rattle.wasi_p2_types.specs.declared.times.NewTimestamp.{NewTimestamp}
 
 -- a call about a resource's descriptor, and about its file, which looks up no name
 abbrev pub AboutIt : {H A B : Type 0} → Ghosts H → Files H → Files H → ℕ → (A → B)

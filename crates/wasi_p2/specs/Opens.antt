@@ -23,15 +23,15 @@ use Rattle.wasi_streams.specs.declared.output.FileOutputMode.{FileOutputMode}
 use Rattle.wasi_streams.specs.declared.output.FileOutputMode.TheVariants.{Position, Append}
 use Rattle.wasi_streams.specs.declared.output.OutputState.TheVariants.{Ready}
 use Rattle.wasi_streams.specs.declared.table.Resource.{Resource}
-use Rattle.wasi_p2.specs.FlagNames.{path_flags_named, open_flags_named, descriptor_flags_named}
-use Rattle.wasi_p2.specs.FsErrors.{fs_error, FsCause}
+use Rattle.wasi_p2_types.specs.FlagNames.{path_flags_named, open_flags_named, descriptor_flags_named}
+use Rattle.wasi_p2_types.specs.FsErrors.{fs_error, FsCause}
 use Rattle.wasi_p2.specs.Resources.{HasIt, directory_at, entry_handle, readable_at, writable_at}
 use Rattle.wasi_p2.specs.Views.{Files, FilesOwned, OrRefused, Performs, node_held, tree_in}
-use Rattle.wasi_p2.specs.declared.error.FsError.{FsError}
-use Rattle.wasi_p2.specs.declared.error.FsError.TheVariants.{Trap, Memory}
-use Rattle.wasi_p2.specs.declared.types.flags.DescriptorFlags.{DescriptorFlags}
-use Rattle.wasi_p2.specs.declared.types.flags.OpenFlags.{OpenFlags}
-use Rattle.wasi_p2.specs.declared.types.flags.PathFlags.{PathFlags}
+use Rattle.wasi_p2_types.specs.declared.error.FsError.{FsError}
+use Rattle.wasi_p2_types.specs.declared.error.FsError.TheVariants.{Trap, Memory}
+use Rattle.wasi_p2_types.specs.declared.flags.DescriptorFlags.{DescriptorFlags}
+use Rattle.wasi_p2_types.specs.declared.flags.OpenFlags.{OpenFlags}
+use Rattle.wasi_p2_types.specs.declared.flags.PathFlags.{PathFlags}
 
 -- a new handle is live, or none is new
 abbrev pub AddsHandle : Handles → Option ℕ → Handles → Type 0

@@ -14,16 +14,16 @@ use Rattle.wasi_fs.specs.DescriptorStat.{descriptor_stat, IsStat}
 use Rattle.wasi_fs.specs.MetadataHash.{metadata_hash, IsHash}
 use Rattle.wasi_fs.specs.OpenHow.{is_followed}
 use Rattle.wasi_fs.specs.declared.descriptor.Dir.{Dir}
-use Rattle.wasi_p2.specs.FlagNames.{path_flags_named}
+use Rattle.wasi_p2_types.specs.FlagNames.{path_flags_named}
 use Rattle.wasi_p2.specs.Resources.{both_found, directory_at}
-use Rattle.wasi_p2.specs.Stats.{stat_named, hash_named}
+use Rattle.wasi_p2_types.specs.Stats.{stat_named, hash_named}
 use Rattle.wasi_p2.specs.Timed.{timed_by}
 use Rattle.wasi_p2.specs.Views.{Files, CallsOn, LooksFrom, LooksFromBoth, Performs, node_held, tree_in}
-use Rattle.wasi_p2.specs.declared.error.FsError.{FsError}
-use Rattle.wasi_p2.specs.declared.types.descriptor_stat.DescriptorStat.{DescriptorStat}
-use Rattle.wasi_p2.specs.declared.types.descriptor_stat.MetadataHashValue.{MetadataHashValue}
-use Rattle.wasi_p2.specs.declared.types.flags.PathFlags.{PathFlags}
-use Rattle.wasi_p2.specs.declared.types.times.NewTimestamp.{NewTimestamp}
+use Rattle.wasi_p2_types.specs.declared.error.FsError.{FsError}
+use Rattle.wasi_p2_types.specs.declared.descriptor_stat.DescriptorStat.{DescriptorStat}
+use Rattle.wasi_p2_types.specs.declared.descriptor_stat.MetadataHashValue.{MetadataHashValue}
+use Rattle.wasi_p2_types.specs.declared.flags.PathFlags.{PathFlags}
+use Rattle.wasi_p2_types.specs.declared.times.NewTimestamp.{NewTimestamp}
 
 -- a call below the directory of a resource
 abbrev pub BelowIt : {H A B : Type 0} → Ghosts H → Files H → Files H → ℕ → (A → B) → (Dir → Result A HostError → Type 0)

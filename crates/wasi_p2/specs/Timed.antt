@@ -1,11 +1,11 @@
 -- The times that a call sets, beside what it sets them of.
 use Rattle.std.specs.Prelude.{Option, Result, Ok, Err}
 use Rattle.wasi_host.specs.declared.system_time.SystemTime.{SystemTime}
-use Rattle.wasi_p2.specs.Moments.{time_wanted}
-use Rattle.wasi_p2.specs.declared.error.FsError.{FsError}
-use Rattle.wasi_p2.specs.declared.error.FsError.TheVariants.{Code}
-use Rattle.wasi_p2.specs.declared.types.error_code.ErrorCode.{ErrorCode}
-use Rattle.wasi_p2.specs.declared.types.times.NewTimestamp.{NewTimestamp}
+use Rattle.wasi_p2_types.specs.Moments.{time_wanted}
+use Rattle.wasi_p2_types.specs.declared.error.FsError.{FsError}
+use Rattle.wasi_p2_types.specs.declared.error.FsError.TheVariants.{Code}
+use Rattle.wasi_p2_types.specs.declared.error_code.ErrorCode.{ErrorCode}
+use Rattle.wasi_p2_types.specs.declared.times.NewTimestamp.{NewTimestamp}
 
 -- of the last read, and of the last change
 abbrev pub TimesWanted : Type 0

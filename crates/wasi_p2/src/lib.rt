@@ -4,7 +4,6 @@
 mod calls;
 mod context;
 mod entries;
-mod error;
 mod found;
 mod named;
 mod preopens;
@@ -13,7 +12,7 @@ pub mod types;
 mod views;
 
 pub use context::{Preopen, WasiFilesystemCtx, WasiFilesystemCtxView};
-pub use error::{FsError, FsResult};
 pub use preopens::PreopenEntry;
 pub use read_result::ReadResult;
 pub use views::{NamedId, WasiCtxNamedView, WasiFilesystemNamedView, WasiFilesystemView};
+pub use wasi_p2_types::{FsError, FsResult};

@@ -1,17 +1,8 @@
 //! The records of preview2's files, and how they become the types of the crates below and come from these: by equal
 //! names.
 
-mod advice;
-mod descriptor_stat;
-mod error_code;
-mod flags;
-mod times;
-
-pub use advice::Advice;
-pub use descriptor_stat::{DescriptorStat, DescriptorType, DirectoryEntry, MetadataHashValue};
-pub use error_code::ErrorCode;
-pub use flags::{DescriptorFlags, OpenFlags, PathFlags};
-pub use times::{
-    DatetimeError, NewTimestamp, systemtime_from, systemtimespec_from, wall_datetime_from,
+pub use wasi_p2_types::{
+    Advice, DatetimeError, DescriptorFlags, DescriptorStat, DescriptorType, DirectoryEntry,
+    ErrorCode, MetadataHashValue, NewTimestamp, OpenFlags, PathFlags, WallDatetime,
+    systemtime_from, systemtimespec_from, wall_datetime_from,
 };
-pub use wasi_guest::WallDatetime;

@@ -6,11 +6,11 @@ ghost use Rattle.wasi_form.specs.Within.{is_within_limits};
 
 use std::alloc::{AllocError, Global};
 use wasi_faults::FailAt;
-use wasi_form::{Script, read_script};
-use wasi_guest::{Answers, Call, GuestMemory};
+use wasi_form::{Script, Shown, read_script};
+use wasi_guest::{Answers, Call, GuestMemory, slice_at};
 use wasi_p1::{RunError, WasiP1Ctx, run_calls};
 use wasi_report::{Outcome, report};
-use wasi_script::{first_context, first_memory};
+use wasi_start::{first_context, first_memory};
 use wasi_tree::MemTree;
 
 /// A script that has begun, and the calls that are left to be made.
@@ -21,6 +21,7 @@ pub struct Begun {
     context: WasiP1Ctx<FailAt<MemTree>>,
     fuel: u64,
     calls: Vec<Call>,
+    show: Vec<Shown>,
 }
 
 /// What became of a script: its answers; its report, with no answers, nothing shown of the memory and no nodes touched; and
@@ -73,7 +74,28 @@ fn begin(alloc: Global, script: Script) -> Result<Begun, AllocError>
         context,
         fuel: script.fuel,
         calls: script.calls,
+        show: script.show,
     })
+}
+
+// The report of what a context came to.
+fn told(
+    alloc: Global,
+    context: WasiP1Ctx<FailAt<MemTree>>,
+    answers: Answers,
+    shown: Vec<Vec<u8>>,
+    touched: Vec<u64>,
+) -> Result<Vec<u8>, AllocError> {
+    let ended = context.into_parts();
+    let outputs = ended.holdings.into_outputs();
+    let outcome = Outcome {
+        answers,
+        shown,
+        stdout: outputs.stdout,
+        stderr: outputs.stderr,
+        touched,
+    };
+    report(alloc, &outcome, ended.host.inner())
 }
 
 impl Begun {
@@ -99,20 +121,34 @@ impl Begun {
         Ok(())
     }
 
+    // The bytes of each range that is to be shown. A script has none outside of its memory.
+    fn shown(&self) -> Result<Vec<Vec<u8>>, AllocError> {
+        let mut list = Vec::new(self.alloc);
+        for range in &self.show {
+            if let Some(bytes) = slice_at(self.memory.bytes(), range.ptr, range.len) {
+                list.push(bytes.to_vec(self.alloc)?)?;
+            }
+        }
+        Ok(list)
+    }
+
+    /// Makes the calls that are left: their report.
+    pub fn report(mut self) -> Result<Vec<u8>, AllocError> {
+        let Ok(answers) = self.run() else {
+            return Err(AllocError);
+        };
+        let shown = self.shown()?;
+        let touched = self.context.host().inner().touched(self.alloc)?;
+        told(self.alloc, self.context, answers, shown, touched)
+    }
+
     // What became of it, of which these are the answers.
     fn ended(self, answers: Answers) -> Result<Ended, AllocError> {
-        let ended = self.context.into_parts();
-        let outputs = ended.holdings.into_outputs();
-        let outcome = Outcome {
-            answers: Answers::with_room(self.alloc, 0)?,
-            shown: Vec::new(self.alloc),
-            stdout: outputs.stdout,
-            stderr: outputs.stderr,
-            touched: Vec::new(self.alloc),
-        };
+        let none = Answers::with_room(self.alloc, 0)?;
+        let alloc = self.alloc;
         Ok(Ended {
             answers,
-            report: report(self.alloc, &outcome, ended.host.inner())?,
+            report: told(alloc, self.context, none, Vec::new(alloc), Vec::new(alloc))?,
             memory: self.memory,
         })
     }

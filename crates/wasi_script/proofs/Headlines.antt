@@ -18,16 +18,17 @@ use Rattle.wasi_faults.specs.declared.fault.Fault.{Fault}
 use Rattle.wasi_faults.proofs.Rising.{counts_few}
 use Rattle.wasi_tree.specs.MemState.{MemState}
 use Rattle.wasi_script.specs.HasRun.{HasRun}
-use Rattle.wasi_script.specs.Headline.{report_after, Reports, fueled_calls}
-use Rattle.wasi_p1.specs.Reach.{Confined}
+use Rattle.wasi_start.specs.ReportAfter.{report_after}
+use Rattle.wasi_script.specs.Headline.{Reports, fueled_calls}
+use Rattle.wasi_turns.specs.Reach.{Confined}
 use Rattle.wasi_report.specs.Report.{report_text}
 use Rattle.wasi_report.specs.ReadBack.{IsOrdered}
-use Rattle.wasi_p1.specs.Front.{FueledCall}
-use Rattle.wasi_p1.specs.Run.{Turned, Spends, Run, Allows, DidRun, ends, ios, named}
+use Rattle.wasi_turns.specs.Front.{FueledCall}
+use Rattle.wasi_turns.specs.Run.{Turned, Spends, Run, Allows, DidRun, ends, ios, named}
 use Rattle.wasi_form.specs.Plan.{Plan}
-use Rattle.wasi_p1.specs.Slots.{View}
-use Rattle.wasi_script.specs.Start.{start, with_pieces, world_behind, IsBegun}
-use Rattle.wasi_p1.specs.Guest.{State, state_of}
+use Rattle.wasi_turns.specs.Slots.{View}
+use Rattle.wasi_start.specs.Start.{start, with_pieces, world_behind, IsBegun}
+use Rattle.wasi_turns.specs.Guest.{State, state_of}
 use Rattle.wasi_guest.specs.declared.answer.Answer.{Answer}
 
 -- what a set made of a list has is in the list

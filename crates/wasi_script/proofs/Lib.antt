@@ -1,4 +1,3 @@
-mod Starts
 mod Headlines
 mod OwnTrees
 mod Tops

@@ -7,12 +7,13 @@ use Rattle.wasi_host.specs.Tree.{Tree}
 use Rattle.wasi_fs.specs.declared.perms.FsPerms.TheVariants.{ReadOnly}
 use Rattle.wasi_form.specs.Plan.{Plan, PlannedPreopen}
 use Rattle.wasi_tree.specs.Given.{Given, GivenContent, file, directory, link, given_of, node_from, nodes_from, tree_of}
-use Rattle.wasi_p1.specs.Guest.{perms_in}
-use Rattle.wasi_p1.specs.ReadOnly.{IsReadOnlyGuest}
-use Rattle.wasi_p1.proofs.Permitting.{run_leaves}
+use Rattle.wasi_turns.specs.Guest.{perms_in}
+use Rattle.wasi_turns.specs.ReadOnly.{IsReadOnlyGuest}
+use Rattle.wasi_turns.proofs.Permitting.{run_leaves}
 use Rattle.wasi_script.specs.Due.{Due, the_usage, the_refusal, the_report, the_line, OfDue, Writes, KeepsTree}
-use Rattle.wasi_script.specs.Headline.{Reports, GivesReadOnly, TellsOwnTree, fueled_calls, own_nodes, node_in_order, report_after}
-use Rattle.wasi_script.specs.Start.{start, given_guest_slots}
+use Rattle.wasi_start.specs.ReportAfter.{report_after}
+use Rattle.wasi_script.specs.Headline.{Reports, GivesReadOnly, TellsOwnTree, fueled_calls, own_nodes, node_in_order}
+use Rattle.wasi_start.specs.Start.{start, given_guest_slots}
 use Rattle.wasi_script.specs.declared.status.Status.{Status}
 use Rattle.wasi_script.specs.declared.status.Status.TheVariants as statuses
 use Rattle.wasi_script.specs.declared.words.Task.{Task}

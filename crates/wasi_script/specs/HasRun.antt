@@ -2,13 +2,13 @@
 use Rattle.std.specs.Prelude.{◌≡◌, ◌≤◌, List, length, true, All}
 use Rattle.std.specs.FinSet.{contains}
 use Rattle.wasi_host.specs.Tree.{Nodes}
-use Rattle.wasi_p1.specs.Guest.{State, state_of}
-use Rattle.wasi_p1.specs.Reach.{Confined}
-use Rattle.wasi_p1.specs.Run.{Turned, Run, answers_of, ios, named}
+use Rattle.wasi_turns.specs.Guest.{State, state_of}
+use Rattle.wasi_turns.specs.Reach.{Confined}
+use Rattle.wasi_turns.specs.Run.{Turned, Run, answers_of, ios, named}
 use Rattle.wasi_guest.specs.declared.answer.Answer.{Answer}
 use Rattle.wasi_form.specs.Plan.{Plan}
 use Rattle.wasi_script.specs.Headline.{fueled_calls}
-use Rattle.wasi_script.specs.Start.{start, world_behind}
+use Rattle.wasi_start.specs.Start.{start, world_behind}
 use Rattle.wasi_script.specs.declared.ran.Ran.{Ran}
 
 -- A run of a plan's calls from its start came to a state with these answers, and touched these nodes. At most as many

@@ -1,35 +1,20 @@
 -- What the report of a script holds.
-use Rattle.std.specs.Prelude.{◌≡◌, ◌≤◌, ℕ, ◌+◌, List, length, map, slice_range, All, Contains}
+use Rattle.std.specs.Prelude.{◌≡◌, ◌≤◌, ℕ, List, length, map, All, Contains}
 use Rattle.std.specs.FinMap as maps
 use Rattle.std.specs.List.Sorted.{IsStrictlySortedBy}
 use Rattle.std.specs.Ordering.{nat_cmp}
 use Rattle.wasi_host.specs.Tree.{Names}
-use Rattle.wasi_tree.specs.Given.{Given, GivenContent, file, directory, link, given_of}
+use Rattle.wasi_tree.specs.Given.{Given, GivenContent, file, directory, link}
 use Rattle.wasi_fs.specs.declared.perms.FsPerms.TheVariants.{ReadOnly}
-use Rattle.wasi_p1.specs.Front.{FueledCall, with_fuel}
-use Rattle.wasi_p1.specs.Reach.{InReach}
+use Rattle.wasi_turns.specs.Front.{FueledCall, with_fuel}
+use Rattle.wasi_turns.specs.Reach.{InReach}
 use Rattle.wasi_report.specs.Report.{Report, report_text}
 use Rattle.wasi_report.specs.ReadBack.{IsOrdered}
-use Rattle.wasi_p1.specs.Run.{Turned, Run, answers_of, ios, named}
+use Rattle.wasi_turns.specs.Run.{Turned, Run, answers_of, ios, named}
 use Rattle.wasi_form.specs.Plan.{Plan}
-use Rattle.wasi_script.specs.Start.{start}
-use Rattle.wasi_p1.specs.Guest.{State}
-use Rattle.wasi_form.specs.declared.script.Shown.{Shown}
-
--- the bytes of a range of memory
-abbrev pub bytes_shown : List ℕ → Shown → List ℕ
-bytes_shown memory range = slice_range memory range.ptr (range.ptr + range.len)
-
--- the answers of the turns, and of the state after them the ranges to be shown, what was written out, and the tree
-abbrev pub report_after : List Shown → List Turned → State → List ℕ → Report
-report_after show turns last touched = record {
-  answers = answers_of turns;
-  memory = map (bytes_shown last.guest.memory) show;
-  stderr = last.guest.holdings.stderr;
-  stdout = last.guest.holdings.stdout;
-  touched = touched;
-  tree = map given_of last.tree.nodes;
-}
+use Rattle.wasi_start.specs.ReportAfter.{report_after}
+use Rattle.wasi_start.specs.Start.{start}
+use Rattle.wasi_turns.specs.Guest.{State}
 
 -- a plan's calls, each with all the fuel that the plan has for one
 abbrev pub fueled_calls : Plan → List FueledCall

@@ -1,6 +1,5 @@
 pub mod Exit
 pub mod Words
-pub mod Start
 pub mod Headline
 pub mod HasRun
 pub mod Summary

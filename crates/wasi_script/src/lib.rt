@@ -3,13 +3,12 @@
 #![tactic(auto)]
 
 mod ran;
-mod start;
 mod status;
 mod summary;
 mod top;
 mod words;
 
-pub use start::{first_context, first_memory, shown};
 pub use status::Status;
 pub use top::run_script;
+pub use wasi_start::{first_context, first_memory, shown};
 pub use words::{Task, task_of, words_after_name};

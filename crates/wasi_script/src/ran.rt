@@ -5,12 +5,12 @@ ghost use Rattle.wasi_form.specs.Plan.{plan};
 ghost use Rattle.wasi_form.specs.Within.{is_within_limits};
 ghost use Rattle.wasi_script.specs.HasRun.{IsRanOf};
 
-use crate::start::{first_context, first_memory};
 use std::alloc::{AllocError, Global};
 use wasi_faults::FailAt;
 use wasi_form::{Script, Shown};
 use wasi_guest::{Answers, Call, GuestMemory};
 use wasi_p1::{WasiP1Ctx, run_calls};
+use wasi_start::{first_context, first_memory};
 use wasi_tree::MemTree;
 
 /// A script whose calls were made: what they were answered, the memory and the context after them, the ranges of the

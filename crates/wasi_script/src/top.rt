@@ -10,7 +10,6 @@ ghost use Rattle.wasi_script.specs.Words.{task_of};
 ghost use Rattle.wasi_script.specs.Due.{the_usage, the_line, refusal_line, OfDue, IsDue, Writes, KeepsTree, LeavesBytes, KeepsSink, EndsReading, EndsGenerated, ReadsScript, Written};
 
 use crate::ran::run;
-use crate::start::shown;
 use crate::status::Status;
 use crate::summary::summary_of;
 use crate::words::{Task, task_of};
@@ -18,6 +17,7 @@ use std::alloc::{AllocError, Global};
 use wasi_ends::{Sink, Source, read_all, write_all};
 use wasi_form::{Refusal, Script, read_script};
 use wasi_report::{Outcome, report_in};
+use wasi_start::shown;
 
 const USAGE: &str = "usage: wasirun run | wasirun gen N\n";
 

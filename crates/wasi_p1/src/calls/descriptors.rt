@@ -1,24 +1,24 @@
 //! The calls on a descriptor itself.
 ghost use Rattle.wasi_guest.specs.declared.call.Call.TheVariants.{FdClose, FdFdstatGet, FdFdstatSetFlags, FdFdstatSetRights, FdFilestatGet, FdPrestatDirName, FdPrestatGet, FdRenumber};
-ghost use Rattle.wasi_p1.specs.Method.{StaysInBounds, DoesItsRow};
+ghost use Rattle.wasi_turns.specs.Method.{StaysInBounds, DoesItsRow};
 
 use crate::call_parts::{close_slot, descriptor_at, live_at, put_back, renumber_slot};
-use crate::context::{DirectorySlot, FileSlot, Slot, WasiP1Ctx};
-use crate::error::P1Error;
-use crate::fdstats::{preopen_fdstat, stream_fdstat};
-use crate::file_parts::{FileUse, file_at, not_synchronized, preopen_at, put_name};
-use crate::filestats::stream_filestat;
+use crate::context::WasiP1Ctx;
+use crate::file_parts::{file_at, not_synchronized, preopen_at, put_name};
 use crate::look_parts::{dir_fdstat, node_filestat, open_file_fdstat};
 use crate::open_with::file_modes;
-use crate::raw_numbers::{fdflags_of, rights_of};
 use wasi_fs::Descriptor;
 use wasi_guest::{Errno, Value};
 use wasi_host::Host;
+use wasi_turns::{
+    DirectorySlot, FileSlot, FileUse, P1Error, Slot, fdflags_of, preopen_fdstat, rights_of,
+    stream_fdstat, stream_filestat,
+};
 
 impl<H: Host> WasiP1Ctx<H> {
     /// The number becomes closed, and what it stood for is closed. Refusal: Badf where the number isn't live. It takes
     /// no memory.
-    #[tactic(auto, using(crate::proofs::Taking::refusals, crate::proofs::CallTracing::traced_free), unfolding(crate::specs::Rows::fd_close))]
+    #[tactic(auto, using(wasi_turns::proofs::Taking::refusals, wasi_turns::proofs::CallTracing::traced_free), unfolding(wasi_turns::specs::Rows::Descriptors::fd_close))]
     pub fn fd_close(&mut self, memory: &mut [u8], fd: u32) -> Result<Value, P1Error>
         ensures bounds { StaysInBounds H.Host self.old self.new memory.old (FdClose fd) result }
         ensures turn { DoesItsRow H.Host self.old self.new memory.old memory.new (FdClose fd) result }
@@ -33,7 +33,7 @@ impl<H: Host> WasiP1Ctx<H> {
     /// was given has rights of its own, and every other directory others. A file has all, but those to read where it
     /// wasn't opened for reading and that to write where not for writing. Refusal: Badf where the number isn't live. No
     /// host refuses it. It takes no memory.
-    #[tactic(auto, using(crate::proofs::Taking::refusals, crate::proofs::Taking::answered_at_once), unfolding(crate::specs::Rows::fd_fdstat_get))]
+    #[tactic(auto, using(wasi_turns::proofs::Taking::refusals, wasi_turns::proofs::Taking::answered_at_once), unfolding(wasi_turns::specs::Rows::Descriptors::fd_fdstat_get))]
     pub fn fd_fdstat_get(&mut self, memory: &mut [u8], fd: u32) -> Result<Value, P1Error>
         ensures bounds { StaysInBounds H.Host self.old self.new memory.old (FdFdstatGet fd) result }
         ensures turn { DoesItsRow H.Host self.old self.new memory.old memory.new (FdFdstatGet fd) result }
@@ -59,7 +59,7 @@ impl<H: Host> WasiP1Ctx<H> {
     /// Sets how a file's descriptor is used: whether what it writes goes behind the file's last byte, and nonblock, by
     /// which nothing changes. Refusals, in this order: Inval where a flag is none of preview1's; Badf where the number
     /// isn't a file's; Inval of dsync, rsync and sync. It takes no memory.
-    #[tactic(auto, using(crate::proofs::Taking::refusals), unfolding(crate::specs::Rows::fd_fdstat_set_flags))]
+    #[tactic(auto, using(wasi_turns::proofs::Taking::refusals), unfolding(wasi_turns::specs::Rows::Descriptors::fd_fdstat_set_flags))]
     pub fn fd_fdstat_set_flags(
         &mut self,
         memory: &mut [u8],
@@ -92,7 +92,7 @@ impl<H: Host> WasiP1Ctx<H> {
 
     /// A descriptor's rights can't be set. Refusals, in this order: Inval where a bit is no right of preview1; Badf where
     /// the number is no directory's or file's; Notsup. It takes no memory.
-    #[tactic(auto, using(crate::proofs::Taking::refusals), unfolding(crate::specs::Rows::fd_fdstat_set_rights))]
+    #[tactic(auto, using(wasi_turns::proofs::Taking::refusals), unfolding(wasi_turns::specs::Rows::Descriptors::fd_fdstat_set_rights))]
     pub fn fd_fdstat_set_rights(
         &mut self,
         memory: &mut [u8],
@@ -113,7 +113,7 @@ impl<H: Host> WasiP1Ctx<H> {
     /// Tells of what a descriptor stands for; of a standard stream nothing, by zeros. Refusals, in this order: Badf where
     /// the number isn't live; Overflow of a time that 64 bits of nanoseconds don't hold. No host refuses it, where
     /// POSIX's `fstat` may. It takes no memory.
-    #[tactic(auto, using(crate::proofs::Taking::refusals, crate::proofs::Taking::answered_at_once), unfolding(crate::specs::Rows::fd_filestat_get))]
+    #[tactic(auto, using(wasi_turns::proofs::Taking::refusals, wasi_turns::proofs::Taking::answered_at_once), unfolding(wasi_turns::specs::Rows::Descriptors::fd_filestat_get))]
     pub fn fd_filestat_get(&mut self, memory: &mut [u8], fd: u32) -> Result<Value, P1Error>
         ensures bounds { StaysInBounds H.Host self.old self.new memory.old (FdFilestatGet fd) result }
         ensures turn { DoesItsRow H.Host self.old self.new memory.old memory.new (FdFilestatGet fd) result }
@@ -137,7 +137,7 @@ impl<H: Host> WasiP1Ctx<H> {
 
     /// How many bytes the name of a directory has that the guest was given. Refusal: Badf of every other number. It
     /// takes no memory.
-    #[tactic(auto, using(crate::proofs::Taking::refusals), unfolding(crate::specs::Rows::fd_prestat_get))]
+    #[tactic(auto, using(wasi_turns::proofs::Taking::refusals), unfolding(wasi_turns::specs::Rows::Descriptors::fd_prestat_get))]
     pub fn fd_prestat_get(&mut self, memory: &mut [u8], fd: u32) -> Result<Value, P1Error>
         ensures bounds { StaysInBounds H.Host self.old self.new memory.old (FdPrestatGet fd) result }
         ensures turn { DoesItsRow H.Host self.old self.new memory.old memory.new (FdPrestatGet fd) result }
@@ -155,7 +155,7 @@ impl<H: Host> WasiP1Ctx<H> {
     /// Puts the name of a directory that the guest was given into a range of memory, which may have more bytes. Refusals,
     /// in this order: Badf where the number isn't live, Notdir where the guest wasn't given it; Nametoolong where the
     /// name has more bytes than the range; trap Pointer where the memory doesn't hold it there.
-    #[tactic(auto, using(crate::proofs::Taking::refusals), unfolding(crate::specs::Rows::fd_prestat_dir_name))]
+    #[tactic(auto, using(wasi_turns::proofs::Taking::refusals), unfolding(wasi_turns::specs::Rows::Descriptors::fd_prestat_dir_name))]
     pub fn fd_prestat_dir_name(
         &mut self,
         memory: &mut [u8],
@@ -181,7 +181,7 @@ impl<H: Host> WasiP1Ctx<H> {
 
     /// What `to` stood for is closed, what stands under `from` gets its number, and `from` becomes closed; where the two
     /// are one number nothing changes. Refusal: Badf where one of them isn't live. It takes no memory.
-    #[tactic(auto, using(crate::proofs::Taking::refusals, crate::proofs::CallTracing::traced_free), unfolding(crate::specs::Rows::fd_renumber))]
+    #[tactic(auto, using(wasi_turns::proofs::Taking::refusals, wasi_turns::proofs::CallTracing::traced_free), unfolding(wasi_turns::specs::Rows::Descriptors::fd_renumber))]
     pub fn fd_renumber(&mut self, memory: &mut [u8], from: u32, to: u32) -> Result<Value, P1Error>
         ensures bounds { StaysInBounds H.Host self.old self.new memory.old (FdRenumber from to) result }
         ensures turn { DoesItsRow H.Host self.old self.new memory.old memory.new (FdRenumber from to) result }

@@ -1,13 +1,13 @@
 //! The call that lists a directory.
 ghost use Rattle.wasi_guest.specs.declared.call.Call.TheVariants.{FdReaddir};
-ghost use Rattle.wasi_p1.specs.Method.{StaysInBounds, DoesItsRow};
+ghost use Rattle.wasi_turns.specs.Method.{StaysInBounds, DoesItsRow};
 
 use crate::call_parts::{room_at, start_at};
 use crate::context::WasiP1Ctx;
-use crate::error::P1Error;
 use crate::listing_parts::{listing_of, write_page};
 use wasi_guest::Value;
 use wasi_host::Host;
+use wasi_turns::P1Error;
 
 impl<H: Host> WasiP1Ctx<H> {
     /// Lists the directory of a number: writes its records from a cookie on into a buffer, as far as it takes them, and
@@ -21,7 +21,7 @@ impl<H: Host> WasiP1Ctx<H> {
     /// POSIX's `fstatat`: Acces where the directory has a name and no search bit; trap Pointer where what is to be written
     /// leaves the memory. What was opened is closed again. Each page costs a listing, a look at each name included, and
     /// memory by its length.
-    #[tactic(auto, using(crate::proofs::Taking::refusals, crate::proofs::CallTracing::traced_below), unfolding(crate::specs::Rows::fd_readdir))]
+    #[tactic(auto, using(wasi_turns::proofs::Taking::refusals, wasi_turns::proofs::CallTracing::traced_below), unfolding(wasi_turns::specs::Rows::Listing::fd_readdir))]
     pub fn fd_readdir(
         &mut self,
         memory: &mut [u8],

@@ -1,13 +1,13 @@
 //! The call that opens a path.
 ghost use Rattle.wasi_guest.specs.declared.call.Call.TheVariants.{PathOpen};
-ghost use Rattle.wasi_p1.specs.Method.{StaysInBounds, DoesItsRow};
+ghost use Rattle.wasi_turns.specs.Method.{StaysInBounds, DoesItsRow};
 
-use crate::call_parts::{directory_at, open_into, room_at, text_at};
+use crate::call_parts::{directory_at, open_into, room_at};
 use crate::context::WasiP1Ctx;
-use crate::error::P1Error;
 use crate::open_with::OpenWith;
 use wasi_guest::Value;
 use wasi_host::Host;
+use wasi_turns::{P1Error, text_at};
 
 impl<H: Host> WasiP1Ctx<H> {
     /// Opens the path in a range of memory from the directory of a descriptor, and answers the number of the new
@@ -31,7 +31,7 @@ impl<H: Host> WasiP1Ctx<H> {
     /// directory, Acces of `..` where a directory may not be searched, Loop of a link past the 40th, Isdir of a path
     /// that ends in `.` or `..` where creat, trunc or FD_WRITE is asked for, and at each name the host's, which are
     /// those of POSIX's `openat`; Notdir where DIRECTORY is asked for and no directory was opened.
-    #[tactic(auto, using(crate::proofs::Taking::refusals, crate::proofs::CallTracing::traced_from), unfolding(crate::specs::Rows::path_open))]
+    #[tactic(auto, using(wasi_turns::proofs::Taking::refusals, wasi_turns::proofs::CallTracing::traced_from), unfolding(wasi_turns::specs::Rows::Opening::path_open))]
     pub fn path_open(
         &mut self,
         memory: &mut [u8],

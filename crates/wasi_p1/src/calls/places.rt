@@ -1,16 +1,16 @@
 //! The calls at the place that a path names.
 ghost use Rattle.wasi_guest.specs.declared.call.Call.TheVariants.{PathCreateDirectory, PathFilestatGet, PathReadlink, PathRemoveDirectory, PathSymlink, PathUnlinkFile};
-ghost use Rattle.wasi_p1.specs.Method.{StaysInBounds, DoesItsRow};
+ghost use Rattle.wasi_turns.specs.Method.{StaysInBounds, DoesItsRow};
 
-use crate::call_parts::{start_at, stat_both, text_at, write_front};
+use crate::call_parts::{start_at, stat_both};
 use crate::context::WasiP1Ctx;
-use crate::error::P1Error;
 use crate::open_with::path_flags_of;
 use crate::view_parts::places::{
     create_directory_at, readlink_at, remove_directory_at, symlink_at, unlink_file_at,
 };
 use wasi_guest::Value;
 use wasi_host::Host;
+use wasi_turns::{P1Error, text_at, write_front};
 
 impl<H: Host> WasiP1Ctx<H> {
     /// Makes an empty directory at the path in a range of memory, from the directory of a descriptor; slashes behind
@@ -21,7 +21,7 @@ impl<H: Host> WasiP1Ctx<H> {
     /// of one of more than 255 bytes, Acces where its directory may not be searched; then those of POSIX's `mkdirat`:
     /// Exist where the name is there, `.` and `..` among them, Noent where the directory is removed, Acces where it may
     /// not be written, Nospc where the tree has as many nodes as it may.
-    #[tactic(auto, using(crate::proofs::Taking::refusals, crate::proofs::CallTracing::traced_below), unfolding(crate::specs::Rows::path_create_directory))]
+    #[tactic(auto, using(wasi_turns::proofs::Taking::refusals, wasi_turns::proofs::CallTracing::traced_below), unfolding(wasi_turns::specs::Rows::Places::path_create_directory))]
     pub fn path_create_directory(
         &mut self,
         memory: &mut [u8],
@@ -45,7 +45,7 @@ impl<H: Host> WasiP1Ctx<H> {
     /// to those of every host call by a name; then those of POSIX's `unlinkat` with AT_REMOVEDIR: Inval of a path that
     /// ends in `/`, `.` or `..`, Noent where the name is missing, Acces where its directory may not be written, Notdir
     /// where it holds no directory, Notempty where that has names.
-    #[tactic(auto, using(crate::proofs::Taking::refusals, crate::proofs::CallTracing::traced_below), unfolding(crate::specs::Rows::path_remove_directory))]
+    #[tactic(auto, using(wasi_turns::proofs::Taking::refusals, wasi_turns::proofs::CallTracing::traced_below), unfolding(wasi_turns::specs::Rows::Places::path_remove_directory))]
     pub fn path_remove_directory(
         &mut self,
         memory: &mut [u8],
@@ -68,7 +68,7 @@ impl<H: Host> WasiP1Ctx<H> {
     /// itself is dropped, not what it leads to. Refusals, in this order: those of `path_create_directory` up to those
     /// of every host call by a name; then those of POSIX's `unlinkat`: Isdir of a path that ends in `/`, `.` or `..`,
     /// Noent where the name is missing, Acces where its directory may not be written, Isdir of a directory.
-    #[tactic(auto, using(crate::proofs::Taking::refusals, crate::proofs::CallTracing::traced_below), unfolding(crate::specs::Rows::path_unlink_file))]
+    #[tactic(auto, using(wasi_turns::proofs::Taking::refusals, wasi_turns::proofs::CallTracing::traced_below), unfolding(wasi_turns::specs::Rows::Places::path_unlink_file))]
     pub fn path_unlink_file(
         &mut self,
         memory: &mut [u8],
@@ -92,7 +92,7 @@ impl<H: Host> WasiP1Ctx<H> {
     /// leading slash; those of the walk to the directory of the name, as in `path_open`; then those of POSIX's
     /// `symlinkat`: Noent of an empty text, Inval of one with a NUL, Nametoolong of one of more than 4,095 bytes, and
     /// those of `path_create_directory` behind its walk.
-    #[tactic(auto, using(crate::proofs::Taking::refusals, crate::proofs::CallTracing::traced_below), unfolding(crate::specs::Rows::path_symlink))]
+    #[tactic(auto, using(wasi_turns::proofs::Taking::refusals, wasi_turns::proofs::CallTracing::traced_below), unfolding(wasi_turns::specs::Rows::Places::path_symlink))]
     pub fn path_symlink(
         &mut self,
         memory: &mut [u8],
@@ -121,7 +121,7 @@ impl<H: Host> WasiP1Ctx<H> {
     /// by a name, as in `path_create_directory`; then those of POSIX's `readlinkat`: Noent where the name is missing,
     /// Inval of what is no link; Perm of a link's text with a leading slash; trap Pointer where what is to be written
     /// leaves the memory.
-    #[tactic(auto, using(crate::proofs::Taking::refusals, crate::proofs::CallTracing::traced_below), unfolding(crate::specs::Rows::path_readlink))]
+    #[tactic(auto, using(wasi_turns::proofs::Taking::refusals, wasi_turns::proofs::CallTracing::traced_below), unfolding(wasi_turns::specs::Rows::Places::path_readlink))]
     pub fn path_readlink(
         &mut self,
         memory: &mut [u8],
@@ -148,7 +148,7 @@ impl<H: Host> WasiP1Ctx<H> {
     /// isn't a directory's; Nomem where the range has more bytes than the fuel that is left; trap Pointer where it
     /// leaves the memory; Ilseq where its bytes aren't UTF-8; those of the walk and of the look at its end, as in
     /// `path_open` and POSIX's `fstatat`; Overflow of a time that 64 bits of nanoseconds don't hold.
-    #[tactic(auto, using(crate::proofs::Taking::refusals, crate::proofs::CallTracing::traced_below), unfolding(crate::specs::Rows::path_filestat_get))]
+    #[tactic(auto, using(wasi_turns::proofs::Taking::refusals, wasi_turns::proofs::CallTracing::traced_below), unfolding(wasi_turns::specs::Rows::Places::path_filestat_get))]
     pub fn path_filestat_get(
         &mut self,
         memory: &mut [u8],

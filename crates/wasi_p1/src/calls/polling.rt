@@ -1,15 +1,15 @@
 //! The call that waits.
 ghost use Rattle.wasi_guest.specs.declared.call.Call.TheVariants.{PollOneoff};
-ghost use Rattle.wasi_p1.specs.Method.{StaysInBounds, DoesItsRow};
+ghost use Rattle.wasi_turns.specs.Method.{StaysInBounds, DoesItsRow};
 
-use crate::call_parts::{charge, room_at};
+use crate::call_parts::room_at;
 use crate::context::WasiP1Ctx;
-use crate::error::P1Error;
 use crate::poll_parts::{
     all_waited, judged_at, lists_within, reads_files, sizes_of, some_asked, tell_events,
 };
 use wasi_guest::Value;
 use wasi_host::Host;
+use wasi_turns::{P1Error, charge};
 
 impl<H: Host> WasiP1Ctx<H> {
     /// Waits until something of so many subscriptions comes, and writes an event of each that has come, in order, from
@@ -25,7 +25,7 @@ impl<H: Host> WasiP1Ctx<H> {
     /// read-only permissions; trap TableFull where no descriptor more may be live for each subscription, and for each
     /// that names a file once more; Overflow where an i64 wouldn't hold the wall clock's seconds; then the host's, of a
     /// look at each file that is read.
-    #[tactic(auto, using(crate::proofs::Taking::refusals), unfolding(crate::specs::Rows::poll_oneoff))]
+    #[tactic(auto, using(wasi_turns::proofs::Taking::refusals), unfolding(wasi_turns::specs::Rows::Polling::poll_oneoff))]
     pub fn poll_oneoff(
         &mut self,
         memory: &mut [u8],

@@ -1,21 +1,20 @@
 //! The calls on a file's position, on its size, and on how it is stored.
 ghost use Rattle.wasi_guest.specs.declared.call.Call.TheVariants.{FdAdvise, FdAllocate, FdDatasync, FdFilestatSetSize, FdSeek, FdSync, FdTell};
-ghost use Rattle.wasi_p1.specs.Method.{StaysInBounds, DoesItsRow};
+ghost use Rattle.wasi_turns.specs.Method.{StaysInBounds, DoesItsRow};
 
 use crate::call_parts::put_back;
-use crate::context::{FileSlot, WasiP1Ctx};
-use crate::error::P1Error;
-use crate::file_parts::{FileUse, file_at, position_sought, view_advice};
-use crate::raw_numbers::{advice_of, whence_of};
+use crate::context::WasiP1Ctx;
+use crate::file_parts::{file_at, position_sought, view_advice};
 use crate::view_parts::nodes::{advise, set_size, sync, sync_data};
 use wasi_guest::{Errno, Value};
 use wasi_host::Host;
+use wasi_turns::{FileSlot, FileUse, P1Error, advice_of, whence_of};
 
 impl<H: Host> WasiP1Ctx<H> {
     /// Tells the host how `len` bytes of a file from `offset` on will be used, of which nothing changes. Refusals, in
     /// this order: Inval where the advice is none of preview1's; Badf where the number isn't a file's. No host refuses
     /// it, where POSIX's `posix_fadvise` may. It takes no memory.
-    #[tactic(auto, using(crate::proofs::Taking::refusals), unfolding(crate::specs::Rows::fd_advise))]
+    #[tactic(auto, using(wasi_turns::proofs::Taking::refusals), unfolding(wasi_turns::specs::Rows::PositionsAndSizes::fd_advise))]
     pub fn fd_advise(
         &mut self,
         memory: &mut [u8],
@@ -42,7 +41,7 @@ impl<H: Host> WasiP1Ctx<H> {
     }
 
     /// Is refused, as the crate does: Badf where the number isn't a file's, and Notsup of a file.
-    #[tactic(auto, using(crate::proofs::Taking::refusals), unfolding(crate::specs::Rows::fd_allocate))]
+    #[tactic(auto, using(wasi_turns::proofs::Taking::refusals), unfolding(wasi_turns::specs::Rows::PositionsAndSizes::fd_allocate))]
     pub fn fd_allocate(
         &mut self,
         memory: &mut [u8],
@@ -59,7 +58,7 @@ impl<H: Host> WasiP1Ctx<H> {
 
     /// Waits until a file's bytes are stored. Refusal: Badf where the number isn't a file's. No host refuses it, where
     /// POSIX's `fdatasync` may. It takes no memory.
-    #[tactic(auto, using(crate::proofs::Taking::refusals), unfolding(crate::specs::Rows::fd_datasync))]
+    #[tactic(auto, using(wasi_turns::proofs::Taking::refusals), unfolding(wasi_turns::specs::Rows::PositionsAndSizes::fd_datasync))]
     pub fn fd_datasync(&mut self, memory: &mut [u8], fd: u32) -> Result<Value, P1Error>
         ensures bounds { StaysInBounds H.Host self.old self.new memory.old (FdDatasync fd) result }
         ensures turn { DoesItsRow H.Host self.old self.new memory.old memory.new (FdDatasync fd) result }
@@ -71,7 +70,7 @@ impl<H: Host> WasiP1Ctx<H> {
 
     /// Waits until a file's bytes are stored, and what is said of it. Refusal: Badf where the number isn't a file's. No
     /// host refuses it, where POSIX's `fsync` may. It takes no memory.
-    #[tactic(auto, using(crate::proofs::Taking::refusals), unfolding(crate::specs::Rows::fd_sync))]
+    #[tactic(auto, using(wasi_turns::proofs::Taking::refusals), unfolding(wasi_turns::specs::Rows::PositionsAndSizes::fd_sync))]
     pub fn fd_sync(&mut self, memory: &mut [u8], fd: u32) -> Result<Value, P1Error>
         ensures bounds { StaysInBounds H.Host self.old self.new memory.old (FdSync fd) result }
         ensures turn { DoesItsRow H.Host self.old self.new memory.old memory.new (FdSync fd) result }
@@ -85,7 +84,7 @@ impl<H: Host> WasiP1Ctx<H> {
     /// where the number isn't a file's; Perm under read-only permissions; then the host's, which are those of POSIX's
     /// `ftruncate`: Inval where the file isn't open for writing, and of a size of 2^63 or more, and Fbig of more than
     /// 2^30 bytes.
-    #[tactic(auto, using(crate::proofs::Taking::refusals), unfolding(crate::specs::Rows::fd_filestat_set_size))]
+    #[tactic(auto, using(wasi_turns::proofs::Taking::refusals), unfolding(wasi_turns::specs::Rows::PositionsAndSizes::fd_filestat_set_size))]
     pub fn fd_filestat_set_size(
         &mut self,
         memory: &mut [u8],
@@ -104,7 +103,7 @@ impl<H: Host> WasiP1Ctx<H> {
     /// and answers it. It may be past the end. Refusals, in this order: Inval where `whence` is none of preview1's;
     /// Spipe of a standard stream, and Badf where the number else isn't a file's; Inval where the position would be
     /// below 0, or 64 bits don't hold it, as POSIX's `lseek` refuses them. It takes no memory.
-    #[tactic(auto, using(crate::proofs::Taking::refusals), unfolding(crate::specs::Rows::fd_seek))]
+    #[tactic(auto, using(wasi_turns::proofs::Taking::refusals), unfolding(wasi_turns::specs::Rows::PositionsAndSizes::fd_seek))]
     pub fn fd_seek(
         &mut self,
         memory: &mut [u8],
@@ -136,7 +135,7 @@ impl<H: Host> WasiP1Ctx<H> {
 
     /// A file's position. Refusals: Spipe of a standard stream, and Badf where the number else isn't a file's. It takes
     /// no memory.
-    #[tactic(auto, using(crate::proofs::Taking::refusals), unfolding(crate::specs::Rows::fd_tell))]
+    #[tactic(auto, using(wasi_turns::proofs::Taking::refusals), unfolding(wasi_turns::specs::Rows::PositionsAndSizes::fd_tell))]
     pub fn fd_tell(&mut self, memory: &mut [u8], fd: u32) -> Result<Value, P1Error>
         ensures bounds { StaysInBounds H.Host self.old self.new memory.old (FdTell fd) result }
         ensures turn { DoesItsRow H.Host self.old self.new memory.old memory.new (FdTell fd) result }

@@ -1,18 +1,16 @@
 //! The calls that read and write by a descriptor.
 ghost use Rattle.std.specs.Prelude.{IsTrue, IfOk};
 ghost use Rattle.wasi_guest.specs.declared.call.Call.TheVariants.{FdPread, FdPwrite, FdRead, FdWrite};
-ghost use Rattle.wasi_p1.specs.Method.{StaysInBounds, DoesItsRow};
-ghost use Rattle.wasi_p1.specs.Guest.{state_of};
-ghost use Rattle.wasi_p1.specs.Writing.{WritesWhole};
+ghost use Rattle.wasi_turns.specs.Method.{StaysInBounds, DoesItsRow};
+ghost use Rattle.wasi_turns.specs.Guest.{state_of};
+ghost use Rattle.wasi_turns.specs.Writing.{WritesWhole};
 
-use crate::call_parts::{
-    Sink, Source, buffer_at, bytes_at, check_write, put_back, read_into, sink_at, source_at,
-};
-use crate::context::{FileSlot, WasiP1Ctx};
-use crate::error::P1Error;
-use crate::file_parts::{FileUse, Put, file_at, put_next, put_piece, read_place};
+use crate::call_parts::{put_back, read_into, sink_at, source_at};
+use crate::context::WasiP1Ctx;
+use crate::file_parts::{file_at, put_next, put_piece, read_place};
 use wasi_guest::{Iovec, Value};
 use wasi_host::Host;
+use wasi_turns::{FileSlot, FileUse, P1Error, Put, Sink, Source, buffer_at, bytes_at, check_write};
 
 /// How many bytes a read at an offset fills at most.
 const MOST_READ: u32 = 65_536;
@@ -25,7 +23,7 @@ impl<H: Host> WasiP1Ctx<H> {
     /// where as many descriptors are live as may be; trap Pointer where the buffer leaves the memory; then the host's,
     /// which are those of POSIX's `pread`. At or past the end, and with no bytes to fill, the answer is 0. It takes no
     /// memory.
-    #[tactic(auto, using(crate::proofs::Taking::refusals), unfolding(crate::specs::Rows::fd_pread))]
+    #[tactic(auto, using(wasi_turns::proofs::Taking::refusals), unfolding(wasi_turns::specs::Rows::ReadingAndWriting::fd_pread))]
     pub fn fd_pread(
         &mut self,
         memory: &mut [u8],
@@ -55,7 +53,7 @@ impl<H: Host> WasiP1Ctx<H> {
     /// Pointer where a record up to that one isn't aligned to 4 or leaves the memory; Spipe of an output, and Badf where
     /// the number else isn't a file's; trap Pointer where the buffer leaves the memory; Badf under read-only
     /// permissions; then the host's, which are those of POSIX's `pwrite`.
-    #[tactic(auto, using(crate::proofs::Taking::refusals), unfolding(crate::specs::Rows::fd_pwrite))]
+    #[tactic(auto, using(wasi_turns::proofs::Taking::refusals), unfolding(wasi_turns::specs::Rows::ReadingAndWriting::fd_pwrite))]
     pub fn fd_pwrite(
         &mut self,
         memory: &mut [u8],
@@ -84,7 +82,7 @@ impl<H: Host> WasiP1Ctx<H> {
     /// standard input's; trap Pointer where the buffer leaves the memory; then of a file the host's, which are those of
     /// POSIX's `pread`, and of the standard input Intr of no bytes to fill where some are left. At or past the end, and
     /// with no bytes of a file to fill, the answer is 0.
-    #[tactic(auto, using(crate::proofs::Taking::refusals), unfolding(crate::specs::Rows::fd_read))]
+    #[tactic(auto, using(wasi_turns::proofs::Taking::refusals), unfolding(wasi_turns::specs::Rows::ReadingAndWriting::fd_read))]
     pub fn fd_read(
         &mut self,
         memory: &mut [u8],
@@ -131,7 +129,7 @@ impl<H: Host> WasiP1Ctx<H> {
     /// or the buffer, are more than the fuel; trap Pointer where a record up to that one isn't aligned to 4 or leaves
     /// the memory; Badf where the number is neither a file's nor an output's; trap Pointer where the buffer leaves the
     /// memory; then of a file Badf under read-only permissions, and the host's, which are those of POSIX's `pwrite`.
-    #[tactic(auto, using(crate::proofs::Taking::refusals), unfolding(crate::specs::Rows::fd_write))]
+    #[tactic(auto, using(wasi_turns::proofs::Taking::refusals), unfolding(wasi_turns::specs::Rows::ReadingAndWriting::fd_write))]
     pub fn fd_write(
         &mut self,
         memory: &mut [u8],

@@ -1,19 +1,18 @@
 //! The calls of a guest that ask nothing of the tree.
 ghost use Rattle.wasi_guest.specs.declared.call.Call.TheVariants.{ArgsGet, ArgsSizesGet, ClockResGet, ClockTimeGet, EnvironGet, EnvironSizesGet, ProcExit, ProcRaise, RandomGet, SchedYield, SockAccept, SockRecv, SockSend, SockShutdown};
-ghost use Rattle.wasi_p1.specs.Method.{StaysInBounds, DoesItsRow};
+ghost use Rattle.wasi_turns.specs.Method.{StaysInBounds, DoesItsRow};
 
-use crate::call_parts::{bytes_at, live_at};
+use crate::call_parts::live_at;
 use crate::context::WasiP1Ctx;
-use crate::error::P1Error;
-use crate::raw_numbers::{INVALID, exit_with, known_signal};
 use wasi_guest::{Errno, FdFlags, RiFlags, SdFlags, Value};
 use wasi_host::Host;
+use wasi_turns::{INVALID, P1Error, bytes_at, exit_with, known_signal};
 
 impl<H: Host> WasiP1Ctx<H> {
     /// Writes the addresses of the arguments from `argv` on, and the arguments, each with a zero behind it, from
     /// `argv_buf` on. Where there are any: trap Pointer where `argv` is no multiple of 4, or one of the two ranges
     /// leaves the memory.
-    #[tactic(auto, using(crate::proofs::Taking::refusals, crate::proofs::Taking::answered_at_once), unfolding(crate::specs::Rows::args_get))]
+    #[tactic(auto, using(wasi_turns::proofs::Taking::refusals, wasi_turns::proofs::Taking::answered_at_once), unfolding(wasi_turns::specs::Rows::Services::args_get))]
     pub fn args_get(
         &mut self,
         memory: &mut [u8],
@@ -29,7 +28,7 @@ impl<H: Host> WasiP1Ctx<H> {
 
     /// How many arguments there are, and how many bytes they have with a zero behind each. Overflow where one of the
     /// two numbers is above 2^32 - 1.
-    #[tactic(auto, using(crate::proofs::Taking::refusals, crate::proofs::Taking::answered_at_once), unfolding(crate::specs::Rows::args_sizes_get))]
+    #[tactic(auto, using(wasi_turns::proofs::Taking::refusals, wasi_turns::proofs::Taking::answered_at_once), unfolding(wasi_turns::specs::Rows::Services::args_sizes_get))]
     pub fn args_sizes_get(&mut self, memory: &mut [u8]) -> Result<Value, P1Error>
         ensures bounds { StaysInBounds H.Host self.old self.new memory.old ArgsSizesGet result }
         ensures turn { DoesItsRow H.Host self.old self.new memory.old memory.new ArgsSizesGet result }
@@ -38,7 +37,7 @@ impl<H: Host> WasiP1Ctx<H> {
     }
 
     /// As `args_get`, of the variables of the environment, each a text with `=` between its key and its value.
-    #[tactic(auto, using(crate::proofs::Taking::refusals, crate::proofs::Taking::answered_at_once), unfolding(crate::specs::Rows::environ_get))]
+    #[tactic(auto, using(wasi_turns::proofs::Taking::refusals, wasi_turns::proofs::Taking::answered_at_once), unfolding(wasi_turns::specs::Rows::Services::environ_get))]
     pub fn environ_get(
         &mut self,
         memory: &mut [u8],
@@ -54,7 +53,7 @@ impl<H: Host> WasiP1Ctx<H> {
     }
 
     /// As `args_sizes_get`, of the variables of the environment as `environ_get` has them.
-    #[tactic(auto, using(crate::proofs::Taking::refusals, crate::proofs::Taking::answered_at_once), unfolding(crate::specs::Rows::environ_sizes_get))]
+    #[tactic(auto, using(wasi_turns::proofs::Taking::refusals, wasi_turns::proofs::Taking::answered_at_once), unfolding(wasi_turns::specs::Rows::Services::environ_sizes_get))]
     pub fn environ_sizes_get(&mut self, memory: &mut [u8]) -> Result<Value, P1Error>
         ensures bounds { StaysInBounds H.Host self.old self.new memory.old EnvironSizesGet result }
         ensures turn { DoesItsRow H.Host self.old self.new memory.old memory.new EnvironSizesGet result }
@@ -64,7 +63,7 @@ impl<H: Host> WasiP1Ctx<H> {
 
     /// How far apart two moments of a clock are, in nanoseconds. Refusals: Inval of an unknown clock; Badf of that of a
     /// processor; Overflow of a number that 64 bits don't hold.
-    #[tactic(auto, using(crate::proofs::Taking::refusals, crate::proofs::Taking::answered_at_once), unfolding(crate::specs::Rows::clock_res_get))]
+    #[tactic(auto, using(wasi_turns::proofs::Taking::refusals, wasi_turns::proofs::Taking::answered_at_once), unfolding(wasi_turns::specs::Rows::Services::clock_res_get))]
     pub fn clock_res_get(&mut self, memory: &mut [u8], id: u32) -> Result<Value, P1Error>
         ensures bounds { StaysInBounds H.Host self.old self.new memory.old (ClockResGet id) result }
         ensures turn { DoesItsRow H.Host self.old self.new memory.old memory.new (ClockResGet id) result }
@@ -73,7 +72,7 @@ impl<H: Host> WasiP1Ctx<H> {
     }
 
     /// What a clock stands at, in nanoseconds, refused as in `clock_res_get`. The precision isn't used.
-    #[tactic(auto, using(crate::proofs::Taking::refusals, crate::proofs::Taking::answered_at_once), unfolding(crate::specs::Rows::clock_time_get))]
+    #[tactic(auto, using(wasi_turns::proofs::Taking::refusals, wasi_turns::proofs::Taking::answered_at_once), unfolding(wasi_turns::specs::Rows::Services::clock_time_get))]
     pub fn clock_time_get(
         &mut self,
         memory: &mut [u8],
@@ -87,7 +86,7 @@ impl<H: Host> WasiP1Ctx<H> {
     }
 
     /// Ends the guest with a status below 126; trap ExitStatus of another.
-    #[tactic(auto, using(crate::proofs::Taking::refusals, crate::proofs::Taking::answered_at_once), unfolding(crate::specs::Rows::proc_exit))]
+    #[tactic(auto, using(wasi_turns::proofs::Taking::refusals, wasi_turns::proofs::Taking::answered_at_once), unfolding(wasi_turns::specs::Rows::Services::proc_exit))]
     pub fn proc_exit(&mut self, memory: &mut [u8], status: u32) -> Result<Value, P1Error>
         ensures bounds { StaysInBounds H.Host self.old self.new memory.old (ProcExit status) result }
         ensures turn { DoesItsRow H.Host self.old self.new memory.old memory.new (ProcExit status) result }
@@ -96,7 +95,7 @@ impl<H: Host> WasiP1Ctx<H> {
     }
 
     /// Refusals: Inval of an unknown signal; Notsup of every other.
-    #[tactic(auto, using(crate::proofs::Taking::refusals, crate::proofs::Taking::answered_at_once), unfolding(crate::specs::Rows::proc_raise))]
+    #[tactic(auto, using(wasi_turns::proofs::Taking::refusals, wasi_turns::proofs::Taking::answered_at_once), unfolding(wasi_turns::specs::Rows::Services::proc_raise))]
     pub fn proc_raise(&mut self, memory: &mut [u8], signal: u32) -> Result<Value, P1Error>
         ensures bounds { StaysInBounds H.Host self.old self.new memory.old (ProcRaise signal) result }
         ensures turn { DoesItsRow H.Host self.old self.new memory.old memory.new (ProcRaise signal) result }
@@ -106,7 +105,7 @@ impl<H: Host> WasiP1Ctx<H> {
     }
 
     /// Puts the next random bytes into a buffer: trap Pointer where it leaves the memory.
-    #[tactic(auto, using(crate::proofs::Taking::refusals, crate::proofs::Taking::answered_at_once), unfolding(crate::specs::Rows::random_get))]
+    #[tactic(auto, using(wasi_turns::proofs::Taking::refusals, wasi_turns::proofs::Taking::answered_at_once), unfolding(wasi_turns::specs::Rows::Services::random_get))]
     pub fn random_get(
         &mut self,
         memory: &mut [u8],
@@ -122,7 +121,7 @@ impl<H: Host> WasiP1Ctx<H> {
     }
 
     /// Lets others run: nothing is done.
-    #[tactic(auto, using(crate::proofs::Taking::refusals, crate::proofs::Taking::answered_at_once), unfolding(crate::specs::Rows::sched_yield))]
+    #[tactic(auto, using(wasi_turns::proofs::Taking::refusals, wasi_turns::proofs::Taking::answered_at_once), unfolding(wasi_turns::specs::Rows::Services::sched_yield))]
     pub fn sched_yield(&mut self, memory: &mut [u8]) -> Result<Value, P1Error>
         ensures bounds { StaysInBounds H.Host self.old self.new memory.old SchedYield result }
         ensures turn { DoesItsRow H.Host self.old self.new memory.old memory.new SchedYield result }
@@ -132,7 +131,7 @@ impl<H: Host> WasiP1Ctx<H> {
 
     /// Refusals: Inval of an unknown flag of `fdflags`; Badf where the number isn't live; Notsock of every other, since
     /// no number is a socket's.
-    #[tactic(auto, using(crate::proofs::Taking::refusals, crate::proofs::Taking::answered_at_once), unfolding(crate::specs::Rows::sock_accept))]
+    #[tactic(auto, using(wasi_turns::proofs::Taking::refusals, wasi_turns::proofs::Taking::answered_at_once), unfolding(wasi_turns::specs::Rows::Services::sock_accept))]
     pub fn sock_accept(&mut self, memory: &mut [u8], fd: u32, flags: u32) -> Result<Value, P1Error>
         ensures bounds { StaysInBounds H.Host self.old self.new memory.old (SockAccept fd flags) result }
         ensures turn { DoesItsRow H.Host self.old self.new memory.old memory.new (SockAccept fd flags) result }
@@ -143,7 +142,7 @@ impl<H: Host> WasiP1Ctx<H> {
     }
 
     /// Refused as in `sock_accept`, by the flags of `riflags`. No buffer is looked at.
-    #[tactic(auto, using(crate::proofs::Taking::refusals, crate::proofs::Taking::answered_at_once), unfolding(crate::specs::Rows::sock_recv))]
+    #[tactic(auto, using(wasi_turns::proofs::Taking::refusals, wasi_turns::proofs::Taking::answered_at_once), unfolding(wasi_turns::specs::Rows::Services::sock_recv))]
     pub fn sock_recv(
         &mut self,
         memory: &mut [u8],
@@ -162,7 +161,7 @@ impl<H: Host> WasiP1Ctx<H> {
     }
 
     /// Refused as in `sock_accept`; any number is a set of `siflags`. No buffer is looked at.
-    #[tactic(auto, using(crate::proofs::Taking::refusals, crate::proofs::Taking::answered_at_once), unfolding(crate::specs::Rows::sock_send))]
+    #[tactic(auto, using(wasi_turns::proofs::Taking::refusals, wasi_turns::proofs::Taking::answered_at_once), unfolding(wasi_turns::specs::Rows::Services::sock_send))]
     pub fn sock_send(
         &mut self,
         memory: &mut [u8],
@@ -180,7 +179,7 @@ impl<H: Host> WasiP1Ctx<H> {
     }
 
     /// Refused as in `sock_accept`, by the flags of `sdflags`.
-    #[tactic(auto, using(crate::proofs::Taking::refusals, crate::proofs::Taking::answered_at_once), unfolding(crate::specs::Rows::sock_shutdown))]
+    #[tactic(auto, using(wasi_turns::proofs::Taking::refusals, wasi_turns::proofs::Taking::answered_at_once), unfolding(wasi_turns::specs::Rows::Services::sock_shutdown))]
     pub fn sock_shutdown(&mut self, memory: &mut [u8], fd: u32, how: u32) -> Result<Value, P1Error>
         ensures bounds { StaysInBounds H.Host self.old self.new memory.old (SockShutdown fd how) result }
         ensures turn { DoesItsRow H.Host self.old self.new memory.old memory.new (SockShutdown fd how) result }

@@ -1,16 +1,15 @@
 //! The calls that set times.
 ghost use Rattle.wasi_guest.specs.declared.call.Call.TheVariants.{FdFilestatSetTimes, PathFilestatSetTimes};
-ghost use Rattle.wasi_p1.specs.Method.{StaysInBounds, DoesItsRow};
+ghost use Rattle.wasi_turns.specs.Method.{StaysInBounds, DoesItsRow};
 
-use crate::call_parts::{descriptor_at, start_at, text_at};
+use crate::call_parts::{descriptor_at, start_at};
 use crate::context::WasiP1Ctx;
-use crate::error::P1Error;
-use crate::new_times::NewTimes;
 use crate::open_with::path_flags_of;
 use crate::view_parts::nodes::set_times;
 use crate::view_parts::places::set_times_at;
 use wasi_guest::Value;
 use wasi_host::Host;
+use wasi_turns::{NewTimes, P1Error, text_at};
 
 impl<H: Host> WasiP1Ctx<H> {
     /// Sets the times of the last read and of the last change of the node that the path in a range of memory names,
@@ -23,7 +22,7 @@ impl<H: Host> WasiP1Ctx<H> {
     /// `path_create_directory`, and then that of POSIX's `utimensat`: Noent where the name is missing. With it those of
     /// an open of the path for writing, as in `path_open`; where that is refused Acces or Isdir, those of one for
     /// reading, of which Acces is answered Notsup.
-    #[tactic(auto, using(crate::proofs::Taking::refusals, crate::proofs::CallTracing::traced_below), unfolding(crate::specs::Rows::path_filestat_set_times))]
+    #[tactic(auto, using(wasi_turns::proofs::Taking::refusals, wasi_turns::proofs::CallTracing::traced_below), unfolding(wasi_turns::specs::Rows::Times::path_filestat_set_times))]
     pub fn path_filestat_set_times(
         &mut self,
         memory: &mut [u8],
@@ -59,7 +58,7 @@ impl<H: Host> WasiP1Ctx<H> {
     /// Sets the times of the node of a descriptor, as `path_filestat_set_times` does. It takes no memory. Refusals, in
     /// this order: those of its flags and times, as there; Badf where the number isn't a directory's or file's; Perm
     /// under read-only permissions. No host refuses it further, where POSIX's `futimens` may.
-    #[tactic(auto, using(crate::proofs::Taking::refusals), unfolding(crate::specs::Rows::fd_filestat_set_times))]
+    #[tactic(auto, using(wasi_turns::proofs::Taking::refusals), unfolding(wasi_turns::specs::Rows::Times::fd_filestat_set_times))]
     pub fn fd_filestat_set_times(
         &mut self,
         memory: &mut [u8],

@@ -1,14 +1,14 @@
 //! The calls at the places that two paths name.
 ghost use Rattle.wasi_guest.specs.declared.call.Call.TheVariants.{PathLink, PathRename};
-ghost use Rattle.wasi_p1.specs.Method.{StaysInBounds, DoesItsRow};
+ghost use Rattle.wasi_turns.specs.Method.{StaysInBounds, DoesItsRow};
 
-use crate::call_parts::{start_at, text_at};
+use crate::call_parts::start_at;
 use crate::context::WasiP1Ctx;
-use crate::error::P1Error;
 use crate::open_with::path_flags_of;
 use crate::view_parts::two_places::{link_at, rename_at};
 use wasi_guest::Value;
 use wasi_host::Host;
+use wasi_turns::{P1Error, text_at};
 
 impl<H: Host> WasiP1Ctx<H> {
     /// Gives the file or link under the path in one range of memory a further name, the path in another, each from the
@@ -22,7 +22,7 @@ impl<H: Host> WasiP1Ctx<H> {
     /// the old name is missing, Exist where the new one is there, a path that ends in `/`, `.` or `..` among them,
     /// Noent where its directory is removed, Acces where that may not be written, Perm of a directory, Mlink of a node
     /// that has as many names as it may.
-    #[tactic(auto, using(crate::proofs::Taking::refusals, crate::proofs::CallTracing::traced_between), unfolding(crate::specs::Rows::path_link))]
+    #[tactic(auto, using(wasi_turns::proofs::Taking::refusals, wasi_turns::proofs::CallTracing::traced_between), unfolding(wasi_turns::specs::Rows::TwoPlaces::path_link))]
     pub fn path_link(
         &mut self,
         memory: &mut [u8],
@@ -72,7 +72,7 @@ impl<H: Host> WasiP1Ctx<H> {
     /// node there are no others, and nothing changes. Acces where the old directory may not be written, or the new one,
     /// or a directory that is to move from one to the other; Noent where the new directory is removed; Notdir of a
     /// directory onto what is none; Isdir of what is none onto a directory; Notempty onto a directory that has names.
-    #[tactic(auto, using(crate::proofs::Taking::refusals, crate::proofs::CallTracing::traced_between), unfolding(crate::specs::Rows::path_rename))]
+    #[tactic(auto, using(wasi_turns::proofs::Taking::refusals, wasi_turns::proofs::CallTracing::traced_between), unfolding(wasi_turns::specs::Rows::TwoPlaces::path_rename))]
     pub fn path_rename(
         &mut self,
         memory: &mut [u8],

@@ -2,9 +2,9 @@
 ghost use Rattle.std.specs.Prelude.{◌≡◌, ◌+◌, false, IsTrue, Some};
 ghost use Rattle.std.specs.FinMap.{get};
 ghost use Rattle.wasi_fs.specs.declared.descriptor.Descriptor.{Descriptor};
-ghost use Rattle.wasi_p1.specs.CallParts.{Rests};
+ghost use Rattle.wasi_turns.specs.CallParts.{Rests};
 ghost use Rattle.wasi_p1.specs.Items.{is_closed_item, slot_in, without_item, IsOfKind};
-ghost use Rattle.wasi_p1.specs.Owners.{handle_in, without};
+ghost use Rattle.wasi_turns.specs.Owners.{handle_in, without};
 ghost use Rattle.wasi_p2.specs.Drops.{Closes};
 ghost use Rattle.wasi_p2.specs.Resources.{AreOwned};
 ghost use Rattle.wasi_p2.specs.Views.{files_of};

@@ -6,22 +6,23 @@ ghost use Rattle.wasi_fs.specs.MetadataHash.{metadata_hash, IsHash};
 ghost use Rattle.wasi_fs.specs.OpenFlags.{descriptor_flag_bits};
 ghost use Rattle.wasi_host.specs.HostCall.{Advise, SetSize, Sync};
 ghost use Rattle.wasi_p1.specs.Held.{HoldsHandles};
-ghost use Rattle.wasi_p1.specs.SinceEpoch.{AreSinceEpoch};
-ghost use Rattle.wasi_p1.specs.Owners.{handles};
+ghost use Rattle.wasi_turns.specs.SinceEpoch.{AreSinceEpoch};
+ghost use Rattle.wasi_turns.specs.Owners.{handles};
 ghost use Rattle.wasi_p1.specs.Viewed.{descriptor_under, Lowered};
-ghost use Rattle.wasi_p2.specs.Advices.{advice_named};
-ghost use Rattle.wasi_p2.specs.FlagNames.{descriptor_flags_told};
-ghost use Rattle.wasi_p2.specs.FsErrors.{FsCause};
-ghost use Rattle.wasi_p2.specs.Stats.{hash_named, stat_named, type_named};
+ghost use Rattle.wasi_p2_types.specs.Advices.{advice_named};
+ghost use Rattle.wasi_p2_types.specs.FlagNames.{descriptor_flags_told};
+ghost use Rattle.wasi_p2_types.specs.FsErrors.{FsCause};
+ghost use Rattle.wasi_p2_types.specs.Stats.{hash_named, stat_named, type_named};
 ghost use Rattle.wasi_p2.specs.Views.{Performs};
 
 use crate::descriptors::Descriptors;
-use crate::new_times::{NewTimes, timestamp_of};
+use crate::new_times::timestamp_of;
 use crate::view_parts::resource_under;
 use wasi_fs::{Descriptor, File};
 use wasi_host::Host;
 use wasi_p2::types::{Advice, DescriptorFlags, DescriptorStat, DescriptorType, MetadataHashValue};
 use wasi_p2::{FsResult, WasiFilesystemCtx, WasiFilesystemCtxView};
+use wasi_turns::NewTimes;
 
 /// Tells the host how a file's bytes will be used.
 pub fn advise<H: Host>(

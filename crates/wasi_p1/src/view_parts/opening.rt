@@ -3,20 +3,20 @@ ghost use Rattle.std.specs.Prelude.{◌≡◌, ◌<◌, ◌≤◌, ◌+◌, Some
 ghost use Rattle.std.specs.FinMap.{get, len};
 ghost use Rattle.wasi_fs.specs.declared.descriptor.Descriptor.{Descriptor as Opened};
 ghost use Rattle.wasi_p1.specs.Items.{resource_in, slot_in, Admitted, IsOfKind};
-ghost use Rattle.wasi_p1.specs.Slots.{slot_of};
+ghost use Rattle.wasi_turns.specs.Slots.{slot_of};
 ghost use Rattle.wasi_p1.specs.Viewed.{Opens};
-ghost use Rattle.wasi_p2.specs.FsErrors.{FsCause};
+ghost use Rattle.wasi_p2_types.specs.FsErrors.{FsCause};
 ghost use Rattle.wasi_p2.specs.Opens.{how_named, OpensAt};
 ghost use Rattle.wasi_p2.specs.Resources.{AreOwned};
 ghost use Rattle.wasi_p2.specs.Views.{files_of};
 
-use crate::context::FileModes;
 use crate::items::Item;
 use crate::open_with::OpenWith;
 use wasi_fs::{Descriptor, Dir};
 use wasi_host::Host;
 use wasi_p2::{FsResult, WasiFilesystemCtx, WasiFilesystemCtxView};
 use wasi_streams::{Entry, Resource, ResourceTable};
+use wasi_turns::FileModes;
 
 /// Opens a path below the directory of a resource.
 fn open_at<H: Host>(

@@ -6,24 +6,25 @@ ghost use Rattle.wasi_fs.specs.DescriptorStat.{descriptor_stat, IsStat};
 ghost use Rattle.wasi_fs.specs.MetadataHash.{metadata_hash, IsHash};
 ghost use Rattle.wasi_host.specs.Lineage.{Traced, Only, Nothing};
 ghost use Rattle.wasi_p1.specs.Held.{HoldsHandles};
-ghost use Rattle.wasi_p1.specs.SinceEpoch.{AreSinceEpoch};
-ghost use Rattle.wasi_p1.specs.Owners.{handles};
+ghost use Rattle.wasi_turns.specs.SinceEpoch.{AreSinceEpoch};
+ghost use Rattle.wasi_turns.specs.Owners.{handles};
 ghost use Rattle.wasi_p1.specs.Viewed.{descriptor_under, Lowered};
-ghost use Rattle.wasi_p2.specs.FlagNames.{path_flags_named};
-ghost use Rattle.wasi_p2.specs.FsErrors.{FsCause};
+ghost use Rattle.wasi_p2_types.specs.FlagNames.{path_flags_named};
+ghost use Rattle.wasi_p2_types.specs.FsErrors.{FsCause};
 ghost use Rattle.wasi_p2.specs.Places.{IsReadText};
-ghost use Rattle.wasi_p2.specs.Stats.{hash_named, stat_named};
+ghost use Rattle.wasi_p2_types.specs.Stats.{hash_named, stat_named};
 ghost use Rattle.wasi_p2.specs.Views.{Performs};
 ghost use Rattle.wasi_resolve.specs.AtPlace.{CreateDir, ReadLink, RemoveDir, RemoveFile, Symlink};
 ghost use Rattle.wasi_resolve.specs.PathRequest.{AtPlace, meant_by};
 
 use crate::descriptors::Descriptors;
-use crate::new_times::{NewTimes, timestamp_of};
+use crate::new_times::timestamp_of;
 use crate::view_parts::resource_under;
 use wasi_fs::{Descriptor, Dir};
 use wasi_host::Host;
 use wasi_p2::types::{DescriptorStat, MetadataHashValue, PathFlags};
 use wasi_p2::{FsResult, WasiFilesystemCtx, WasiFilesystemCtxView};
+use wasi_turns::NewTimes;
 
 /// Makes an empty directory.
 pub fn create_directory_at<H: Host>(

@@ -1,8 +1,8 @@
 use Rattle.std.proofs.lemmas.Option.{get_or_from_slice_get}
-use Rattle.wasi_p1.specs.declared.context.Slot.TheVariants.{Closed}
-use Rattle.wasi_p1.proofs.Owning.{owns_closed}
-use Rattle.wasi_p1.proofs.CallTracing.{traced_closed}
-use Rattle.wasi_p1.proofs.GuestSlots.{closed_stays}
+use Rattle.wasi_turns.specs.declared.slots.Slot.TheVariants.{Closed}
+use Rattle.wasi_turns.proofs.Owning.{owns_closed}
+use Rattle.wasi_turns.proofs.CallTracing.{traced_closed}
+use Rattle.wasi_turns.proofs.GuestSlots.{closed_stays}
 use Rattle.wasi_p1.proofs.call_parts.close_slot.Goals as goal
 
 pub returns-clause-owns : goal.returns-clause-owns

@@ -1,4 +1,4 @@
-use Rattle.wasi_p1.proofs.Owning.{put_file}
+use Rattle.wasi_turns.proofs.Owning.{put_file}
 use Rattle.wasi_p1.proofs.call_parts.put_back.Goals as goal
 
 pub returns-clause-handles : goal.returns-clause-handles

@@ -1,6 +1,6 @@
 use Rattle.std.proofs.Common.{ap, sym, ◌∙◌}
-use Rattle.wasi_p1.specs.Owners.{handle_in}
-use Rattle.wasi_p1.proofs.Owning.{owned_live}
+use Rattle.wasi_turns.specs.Owners.{handle_in}
+use Rattle.wasi_turns.proofs.Owning.{owned_live}
 use Rattle.wasi_p1.proofs.call_parts.sink_at.Goals as goal
 
 pub returns-in-File-clause-live : goal.returns-in-File-clause-live

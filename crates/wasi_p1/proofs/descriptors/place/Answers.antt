@@ -1,4 +1,4 @@
-use Rattle.std.proofs.Common.{arith, ap, sym, ◌<◌, ◌≤◌, ◌∙◌, length}
+use Rattle.std.proofs.Common.{arith, sym, ◌<◌, ◌≤◌, ◌∙◌, length}
 use Rattle.std.specs.BinaryHeap.{heap_capacity}
 use Rattle.wasi_p1.proofs.ClosedHeap.{pushed_new, top_within, top_closed, taken_new}
 use Rattle.wasi_p1.proofs.Naming.{slots_length, taken_slots, behind_slots}

@@ -1,11 +1,11 @@
-use Rattle.std.proofs.Common.{◌∙◌, Err, refl}
+use Rattle.std.proofs.Common.{Err, refl}
 use Rattle.std.specs.String.{string_bytes}
 use Rattle.std.proofs.lemmas.Result.{err_from_is_err_and}
 use Rattle.wasi_host.specs.declared.lookup.LookKind.TheVariants as kinds
 use Rattle.wasi_host.specs.declared.metadata.Metadata.{Metadata}
 use Rattle.wasi_host.proofs.Tracing.{traced_call}
-use Rattle.wasi_p1.proofs.Listings.{entry_is_plain}
-use Rattle.wasi_p1.proofs.PlainLook.{not_numbered, numbered_so}
+use Rattle.wasi_turns.proofs.Listings.{entry_is_plain}
+use Rattle.wasi_turns.proofs.PlainLook.{not_numbered, numbered_so}
 use Rattle.wasi_p1.proofs.listing_parts.numbered.Goals as goal
 
 pub returns-in_err-metadata-clause-lineage : goal.returns-in_err-metadata-clause-lineage

@@ -1,7 +1,7 @@
 use Rattle.std.proofs.Common.{Err, Ok, inl, refl, ap, sym}
 use Rattle.wasi_fs.specs.declared.descriptor.Descriptor.TheVariants.{Dir}
-use Rattle.wasi_p1.proofs.LookingAt.{flags_err, flags_ok}
-use Rattle.wasi_p1.proofs.Setting.{not_wanted}
+use Rattle.wasi_turns.proofs.LookingAt.{flags_err, flags_ok}
+use Rattle.wasi_turns.proofs.Setting.{not_wanted}
 use Rattle.wasi_p1.proofs.Viewing.{lowered_err, lowered_shown, refusal_is}
 use Rattle.wasi_p1.proofs.look_parts.dir_fdstat.Goals as goal
 

@@ -2,9 +2,9 @@ use Rattle.std.proofs.Common.{Ok, Err, ap}
 use Rattle.std.proofs.lemmas.Result.{err_from_is_err_and}
 use Rattle.wasi_fs.specs.DescriptorStat.{descriptor_stat}
 use Rattle.wasi_fs.specs.MetadataHash.{metadata_hash}
-use Rattle.wasi_p1.specs.Filestats.{stat_both}
-use Rattle.wasi_p1.proofs.LookingAt.{both_seen, seen_looks, seen_through, unseen}
-use Rattle.wasi_p1.proofs.Stating.{stated}
+use Rattle.wasi_turns.specs.Filestats.{stat_both}
+use Rattle.wasi_turns.proofs.LookingAt.{both_seen, seen_looks, seen_through, unseen}
+use Rattle.wasi_turns.proofs.Stating.{stated}
 use Rattle.wasi_p1.proofs.Viewing.{lowered_err, lowered_shown, stands_live}
 use Rattle.wasi_p1.proofs.look_parts.looked_at.Goals as goal
 

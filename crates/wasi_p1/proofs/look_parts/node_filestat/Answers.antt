@@ -1,9 +1,9 @@
 use Rattle.std.proofs.Common.{Err, inl, inr, refl, ap}
 use Rattle.std.proofs.lemmas.Result.{err_from_is_err_and}
-use Rattle.wasi_p1.specs.Filestats.{stat_both}
-use Rattle.wasi_p1.proofs.LookingAt.{seen_err, seen_ok}
-use Rattle.wasi_p1.proofs.Setting.{not_wanted}
-use Rattle.wasi_p1.proofs.Stating.{stated_again, stated_reply}
+use Rattle.wasi_turns.specs.Filestats.{stat_both}
+use Rattle.wasi_turns.proofs.LookingAt.{seen_err, seen_ok}
+use Rattle.wasi_turns.proofs.Setting.{not_wanted}
+use Rattle.wasi_turns.proofs.Stating.{stated_again, stated_reply}
 use Rattle.wasi_p1.proofs.ViewedStats.{shown_row}
 use Rattle.wasi_p1.proofs.Viewing.{lowered_err, lowered_shown, refusal_is}
 use Rattle.wasi_p1.proofs.look_parts.node_filestat.Goals as goal

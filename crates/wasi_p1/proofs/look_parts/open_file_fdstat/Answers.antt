@@ -1,11 +1,11 @@
-use Rattle.std.proofs.Common.{◌≡◌, Err, Ok, inl, refl, ap, sym, ◌∙◌, arith}
+use Rattle.std.proofs.Common.{Err, Ok, inl, refl, ap, sym, ◌∙◌, arith}
 use Rattle.wasi_fs.specs.DescriptorStat.{descriptor_type}
 use Rattle.wasi_fs.specs.declared.descriptor.Descriptor.TheVariants.{File}
 use Rattle.wasi_host.specs.declared.metadata.Metadata.{Metadata}
-use Rattle.wasi_p1.specs.Fdstats.{file_fdstat}
-use Rattle.wasi_p1.specs.Row.{give}
-use Rattle.wasi_p1.proofs.LookingAt.{flags_looks, seen_err, seen_ok, seen_through, typed_reply, unflagged}
-use Rattle.wasi_p1.proofs.Setting.{not_wanted}
+use Rattle.wasi_turns.specs.Fdstats.{file_fdstat}
+use Rattle.wasi_turns.specs.Row.{give}
+use Rattle.wasi_turns.proofs.LookingAt.{flags_looks, seen_err, seen_ok, seen_through, typed_reply, unflagged}
+use Rattle.wasi_turns.proofs.Setting.{not_wanted}
 use Rattle.wasi_p1.proofs.ViewedStats.{told_fdstat}
 use Rattle.wasi_p1.proofs.Viewing.{lowered_err, lowered_shown, refusal_is, stands_live}
 use Rattle.wasi_p1.proofs.look_parts.open_file_fdstat.Goals as goal

@@ -1,4 +1,4 @@
-use Rattle.wasi_p1.proofs.Telling.{Put}
+use Rattle.wasi_turns.proofs.Telling.{Put}
 use Rattle.wasi_p1.proofs.poll_parts.put_events.Given as goal
 
 -- what was written so far, and what is left

@@ -1,5 +1,5 @@
-use Rattle.wasi_p1.proofs.ErrorNumbers.{turn_errnos}
-use Rattle.wasi_p1.proofs.Unchanged.{leaves_all}
+use Rattle.wasi_turns.proofs.ErrorNumbers.{turn_errnos}
+use Rattle.wasi_turns.proofs.Unchanged.{leaves_all}
 use Rattle.wasi_p1.proofs.run.call.Goals as goal
 
 pub returns-clause-errnos : goal.returns-clause-errnos

@@ -1,14 +1,14 @@
-use Rattle.wasi_p1.specs.Front.{with_fuel}
+use Rattle.wasi_turns.specs.Front.{with_fuel}
 use Rattle.std.proofs.Common.{map, take, length, ◌+◌, ◌≤◌, ◌≡◌}
 use Rattle.std.specs.Prelude.{IsTrue}
-use Rattle.wasi_p1.specs.Guest.{State, state_of}
-use Rattle.wasi_p1.specs.Reach.{Confined, StaysTouched}
-use Rattle.wasi_p1.specs.Run.{ios, Allows, GoOn}
-use Rattle.wasi_p1.specs.CallTurn.{OthersStay}
-use Rattle.wasi_p1.specs.Owners.{RunTraced, SlotsOfRun}
-use Rattle.wasi_p1.specs.Validity.{IsValidState}
-use Rattle.wasi_p1.proofs.Runs.{SoFar}
-use Rattle.wasi_p1.proofs.InTurn.{DoneSoFar}
+use Rattle.wasi_turns.specs.Guest.{State, state_of}
+use Rattle.wasi_turns.specs.Reach.{Confined, StaysTouched}
+use Rattle.wasi_turns.specs.Run.{ios, Allows, GoOn}
+use Rattle.wasi_turns.specs.CallTurn.{OthersStay}
+use Rattle.wasi_turns.specs.Owners.{RunTraced, SlotsOfRun}
+use Rattle.wasi_turns.specs.Validity.{IsValidState}
+use Rattle.wasi_turns.proofs.Runs.{SoFar}
+use Rattle.wasi_turns.proofs.InTurn.{DoneSoFar}
 use Rattle.wasi_p1.proofs.run.run_calls.Given as goal
 
 abbrev pub invariant-loop-one : goal.invariant-loop-one

@@ -5,7 +5,7 @@ use Rattle.wasi_host.specs.Meaning.{never_fails}
 use Rattle.wasi_guest.proofs.Ranges.{written_back}
 use Rattle.wasi_form.specs.Plan.{plan, planned_preopen}
 use Rattle.wasi_form.proofs.Accepted.{limits_kept}
-use Rattle.wasi_script.proofs.Starts.{confined_at_start}
+use Rattle.wasi_start.proofs.Starts.{confined_at_start}
 use Rattle.wasi_script.proofs.Headlines.{begun_at, few_listed, has_run}
 use Rattle.wasi_script.proofs.ran.run.Goals as goal
 

@@ -1,7 +1,7 @@
 use Rattle.std.proofs.Common.{refl}
-use Rattle.wasi_p1.specs.Rows.{args_get}
-use Rattle.wasi_p1.proofs.Taking.{refused, on_err}
-use Rattle.wasi_p1.proofs.Texts.{unit_refused}
+use Rattle.wasi_turns.specs.Rows.Services.{args_get}
+use Rattle.wasi_turns.proofs.Taking.{refused, on_err}
+use Rattle.wasi_turns.proofs.Texts.{unit_refused}
 use Rattle.wasi_p1.proofs.context.WasiP1Ctx.args_get.Goals as goal
 
 pub returns-in_err-args_into-clause-turn : goal.returns-in_err-args_into-clause-turn

@@ -1,6 +1,6 @@
 use Rattle.std.proofs.Common.{refl}
-use Rattle.wasi_p1.specs.Rows.{clock_res_get}
-use Rattle.wasi_p1.proofs.Taking.{refused, on_err}
+use Rattle.wasi_turns.specs.Rows.Services.{clock_res_get}
+use Rattle.wasi_turns.proofs.Taking.{refused, on_err}
 use Rattle.wasi_p1.proofs.context.WasiP1Ctx.clock_res_get.Goals as goal
 
 pub returns-in_err-clock_res-clause-turn : goal.returns-in_err-clock_res-clause-turn

@@ -1,6 +1,6 @@
 use Rattle.std.proofs.Common.{refl}
-use Rattle.wasi_p1.specs.Rows.{clock_time_get}
-use Rattle.wasi_p1.proofs.Taking.{refused, on_err}
+use Rattle.wasi_turns.specs.Rows.Services.{clock_time_get}
+use Rattle.wasi_turns.proofs.Taking.{refused, on_err}
 use Rattle.wasi_p1.proofs.context.WasiP1Ctx.clock_time_get.Goals as goal
 
 pub returns-in_err-clock_time-clause-turn : goal.returns-in_err-clock_time-clause-turn

@@ -1,10 +1,10 @@
 use Rattle.std.proofs.Common.{refl, ap, None, Err}
 use Rattle.wasi_host.specs.HostCall.{Advise}
-use Rattle.wasi_p1.specs.Request.{Direct}
-use Rattle.wasi_p1.specs.Rows.{fd_advise}
-use Rattle.wasi_p1.proofs.Below.{changed_err, changed_ok}
-use Rattle.wasi_p1.proofs.Setting.{called_ok, called_err, not_wanted}
-use Rattle.wasi_p1.proofs.Taking.{unchanged}
+use Rattle.wasi_turns.specs.Request.{Direct}
+use Rattle.wasi_turns.specs.Rows.PositionsAndSizes.{fd_advise}
+use Rattle.wasi_turns.proofs.Below.{changed_err, changed_ok}
+use Rattle.wasi_turns.proofs.Setting.{called_ok, called_err, not_wanted}
+use Rattle.wasi_turns.proofs.Taking.{unchanged}
 use Rattle.wasi_p1.proofs.Viewing.{lowered_err, lowered_ok, on_refusal}
 use Rattle.wasi_p1.proofs.context.WasiP1Ctx.fd_advise.Goals as goal
 

@@ -1,9 +1,9 @@
 use Rattle.std.proofs.Common.{refl, []}
 use Rattle.std.proofs.lemmas.List.{map-set}
 use Rattle.wasi_host.proofs.Leaving.{Contains-here}
-use Rattle.wasi_p1.specs.Rows.{fd_close}
-use Rattle.wasi_p1.proofs.Staying.{close_stays}
-use Rattle.wasi_p1.proofs.Taking.{answered}
+use Rattle.wasi_turns.specs.Rows.Descriptors.{fd_close}
+use Rattle.wasi_turns.proofs.Staying.{close_stays}
+use Rattle.wasi_turns.proofs.Taking.{answered}
 use Rattle.wasi_p1.proofs.context.WasiP1Ctx.fd_close.Goals as goal
 
 pub returns-clause-turn : goal.returns-clause-turn

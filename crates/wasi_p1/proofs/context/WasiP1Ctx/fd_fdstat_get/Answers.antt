@@ -1,13 +1,13 @@
 use Rattle.std.proofs.Common.{refl, ap, ◌∙◌, Some}
 use Rattle.wasi_host.specs.HostCall.{Flags, Stat}
-use Rattle.wasi_p1.specs.CallParts.{open_file_of}
-use Rattle.wasi_p1.specs.Fdstats.{directory_fdstat, file_told}
-use Rattle.wasi_p1.specs.Request.{Direct}
-use Rattle.wasi_p1.specs.Row.{give}
-use Rattle.wasi_p1.specs.Rows.{fd_fdstat_get}
+use Rattle.wasi_turns.specs.CallParts.{open_file_of}
+use Rattle.wasi_turns.specs.Fdstats.{directory_fdstat, file_told}
+use Rattle.wasi_turns.specs.Request.{Direct}
+use Rattle.wasi_turns.specs.Row.{give}
+use Rattle.wasi_turns.specs.Rows.Descriptors.{fd_fdstat_get}
 use Rattle.wasi_p1.specs.Viewed.{descriptor_under}
-use Rattle.wasi_p1.proofs.RowEnds.{with_fdstat}
-use Rattle.wasi_p1.proofs.Taking.{makes_err, makes_ok, unchanged, on_err}
+use Rattle.wasi_turns.proofs.RowEnds.{with_fdstat}
+use Rattle.wasi_turns.proofs.Taking.{makes_err, makes_ok, unchanged, on_err}
 use Rattle.wasi_p1.proofs.context.WasiP1Ctx.fd_fdstat_get.Goals as goal
 
 pub dir_fdstat-requires : goal.dir_fdstat-requires

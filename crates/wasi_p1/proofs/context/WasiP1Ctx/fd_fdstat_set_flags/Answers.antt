@@ -1,7 +1,7 @@
 use Rattle.std.proofs.Common.{refl, []}
 use Rattle.wasi_host.proofs.Leaving.{Contains-here}
-use Rattle.wasi_p1.specs.Rows.{fd_fdstat_set_flags}
-use Rattle.wasi_p1.proofs.Taking.{put_answered, refused, on_err}
+use Rattle.wasi_turns.specs.Rows.Descriptors.{fd_fdstat_set_flags}
+use Rattle.wasi_turns.proofs.Taking.{put_answered, refused, on_err}
 use Rattle.wasi_p1.proofs.context.WasiP1Ctx.fd_fdstat_set_flags.Goals as goal
 
 pub returns-clause-turn : goal.returns-clause-turn

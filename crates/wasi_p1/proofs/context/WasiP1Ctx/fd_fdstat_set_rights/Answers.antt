@@ -1,6 +1,6 @@
 use Rattle.std.proofs.Common.{refl}
-use Rattle.wasi_p1.specs.Rows.{fd_fdstat_set_rights}
-use Rattle.wasi_p1.proofs.Taking.{refused}
+use Rattle.wasi_turns.specs.Rows.Descriptors.{fd_fdstat_set_rights}
+use Rattle.wasi_turns.proofs.Taking.{refused}
 use Rattle.wasi_p1.proofs.context.WasiP1Ctx.fd_fdstat_set_rights.Goals as goal
 
 pub returns-clause-turn : goal.returns-clause-turn

@@ -1,11 +1,11 @@
 use Rattle.std.proofs.Common.{refl, ap, Err}
-use Rattle.wasi_p1.specs.CallParts.{open_node_of}
+use Rattle.wasi_turns.specs.CallParts.{open_node_of}
 use Rattle.wasi_host.specs.HostCall.{SetTimes}
-use Rattle.wasi_p1.specs.Request.{Direct}
-use Rattle.wasi_p1.proofs.Below.{changed_err, changed_ok}
-use Rattle.wasi_p1.proofs.Setting.{set_ok, set_err, not_wanted}
-use Rattle.wasi_p1.proofs.Taking.{refused, unchanged, on_err}
-use Rattle.wasi_p1.specs.Rows.{fd_filestat_set_times}
+use Rattle.wasi_turns.specs.Request.{Direct}
+use Rattle.wasi_turns.proofs.Below.{changed_err, changed_ok}
+use Rattle.wasi_turns.proofs.Setting.{set_ok, set_err, not_wanted}
+use Rattle.wasi_turns.proofs.Taking.{refused, unchanged, on_err}
+use Rattle.wasi_turns.specs.Rows.Times.{fd_filestat_set_times}
 use Rattle.wasi_p1.proofs.Viewing.{lowered_err, lowered_ok, on_refusal}
 use Rattle.wasi_p1.proofs.context.WasiP1Ctx.fd_filestat_set_times.Goals as goal
 

@@ -1,10 +1,10 @@
 use Rattle.std.proofs.Common.{refl}
 use Rattle.wasi_host.specs.HostCall.{Pread}
-use Rattle.wasi_p1.specs.Request.{Direct}
-use Rattle.wasi_p1.specs.CallParts.{filled_at}
-use Rattle.wasi_p1.specs.Rows.{fd_pread}
-use Rattle.wasi_p1.proofs.Taking.{refused_at, makes_err, makes_ok, on_err}
-use Rattle.wasi_p1.proofs.RowEnds.{with_text}
+use Rattle.wasi_turns.specs.Request.{Direct}
+use Rattle.wasi_turns.specs.CallParts.{filled_at}
+use Rattle.wasi_turns.specs.Rows.ReadingAndWriting.{fd_pread}
+use Rattle.wasi_turns.proofs.Taking.{refused_at, makes_err, makes_ok, on_err}
+use Rattle.wasi_turns.proofs.RowEnds.{with_text}
 use Rattle.wasi_p1.proofs.context.WasiP1Ctx.fd_pread.Goals as goal
 
 pub returns-in_err-count-clause-turn : goal.returns-in_err-count-clause-turn

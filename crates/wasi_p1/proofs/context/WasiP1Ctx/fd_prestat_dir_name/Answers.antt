@@ -1,7 +1,7 @@
 use Rattle.std.proofs.Common.{refl}
-use Rattle.wasi_p1.specs.Rows.{fd_prestat_dir_name}
-use Rattle.wasi_p1.proofs.Taking.{refused, on_err}
-use Rattle.wasi_p1.proofs.Texts.{unit_refused}
+use Rattle.wasi_turns.specs.Rows.Descriptors.{fd_prestat_dir_name}
+use Rattle.wasi_turns.proofs.Taking.{refused, on_err}
+use Rattle.wasi_turns.proofs.Texts.{unit_refused}
 use Rattle.wasi_p1.proofs.context.WasiP1Ctx.fd_prestat_dir_name.Goals as goal
 
 pub returns-in_err-put_name-clause-turn : goal.returns-in_err-put_name-clause-turn

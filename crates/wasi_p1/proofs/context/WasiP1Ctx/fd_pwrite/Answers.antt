@@ -1,10 +1,10 @@
 use Rattle.std.proofs.Common.{refl}
-use Rattle.wasi_p1.specs.Putting.{put_call, count_in}
-use Rattle.wasi_p1.specs.Request.{Direct}
-use Rattle.wasi_p1.specs.Row.{give}
-use Rattle.wasi_p1.specs.Rows.{fd_pwrite}
-use Rattle.wasi_p1.proofs.RowEnds.{with_number}
-use Rattle.wasi_p1.proofs.Taking.{refused_at, makes_err, makes_ok, on_err, unchanged}
+use Rattle.wasi_turns.specs.Putting.{put_call, count_in}
+use Rattle.wasi_turns.specs.Request.{Direct}
+use Rattle.wasi_turns.specs.Row.{give}
+use Rattle.wasi_turns.specs.Rows.ReadingAndWriting.{fd_pwrite}
+use Rattle.wasi_turns.proofs.RowEnds.{with_number}
+use Rattle.wasi_turns.proofs.Taking.{refused_at, makes_err, makes_ok, on_err, unchanged}
 use Rattle.wasi_p1.proofs.context.WasiP1Ctx.fd_pwrite.Goals as goal
 
 pub returns-in_err-slot-clause-turn : goal.returns-in_err-slot-clause-turn

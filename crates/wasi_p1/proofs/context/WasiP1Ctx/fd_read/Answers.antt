@@ -1,9 +1,9 @@
-use Rattle.wasi_p1.specs.Rows.{fd_read}
+use Rattle.wasi_turns.specs.Rows.ReadingAndWriting.{fd_read}
 use Rattle.std.proofs.Common.{refl, []}
 use Rattle.wasi_host.proofs.Leaving.{Contains-here}
-use Rattle.wasi_p1.specs.CallParts.{filled_at, open_file_of}
-use Rattle.wasi_p1.proofs.Taking.{refused_at, makes_err, put_ok, on_err}
-use Rattle.wasi_p1.proofs.RowEnds.{with_memory}
+use Rattle.wasi_turns.specs.CallParts.{filled_at, open_file_of}
+use Rattle.wasi_turns.proofs.Taking.{refused_at, makes_err, put_ok, on_err}
+use Rattle.wasi_turns.proofs.RowEnds.{with_memory}
 use Rattle.wasi_p1.proofs.context.WasiP1Ctx.fd_read.Goals as goal
 
 pub returns-in_err-count-clause-turn : goal.returns-in_err-count-clause-turn

@@ -1,12 +1,12 @@
 use Rattle.std.proofs.Common.{◌≡◌, inl, inr, Err, refl, sym, ap}
-use Rattle.wasi_p1.specs.EntriesSeen.{entries_seen}
-use Rattle.wasi_p1.specs.Pages.{page}
-use Rattle.wasi_p1.specs.Parts.{text_to}
-use Rattle.wasi_p1.specs.Request.{ListDirectory}
-use Rattle.wasi_p1.specs.Rows.{fd_readdir}
-use Rattle.wasi_p1.proofs.Resolving.{resolved_ok, resolved_err}
-use Rattle.wasi_p1.proofs.RowEnds.{with_text}
-use Rattle.wasi_p1.proofs.Taking.{makes_err, makes_ok, on_err, refused_at, unchanged}
+use Rattle.wasi_turns.specs.EntriesSeen.{entries_seen}
+use Rattle.wasi_turns.specs.Pages.{page}
+use Rattle.wasi_turns.specs.Parts.{text_to}
+use Rattle.wasi_turns.specs.Request.{ListDirectory}
+use Rattle.wasi_turns.specs.Rows.Listing.{fd_readdir}
+use Rattle.wasi_turns.proofs.Resolving.{resolved_ok, resolved_err}
+use Rattle.wasi_turns.proofs.RowEnds.{with_text}
+use Rattle.wasi_turns.proofs.Taking.{makes_err, makes_ok, on_err, refused_at, unchanged}
 use Rattle.wasi_p1.proofs.context.WasiP1Ctx.fd_readdir.Goals as goal
 
 pub returns-in_err-room_at-clause-turn : goal.returns-in_err-room_at-clause-turn

@@ -1,9 +1,9 @@
 use Rattle.std.proofs.Common.{refl, [], ◌∷◌}
 use Rattle.wasi_host.proofs.Leaving.{Contains-here}
 use Rattle.std.proofs.lemmas.List.Elements.{Contains-push}
-use Rattle.wasi_p1.specs.Rows.{fd_renumber}
-use Rattle.wasi_p1.proofs.Renumbering.{renumber_stays, renumbered-map}
-use Rattle.wasi_p1.proofs.Taking.{answered}
+use Rattle.wasi_turns.specs.Rows.Descriptors.{fd_renumber}
+use Rattle.wasi_turns.proofs.Renumbering.{renumber_stays, renumbered-map}
+use Rattle.wasi_turns.proofs.Taking.{answered}
 use Rattle.wasi_p1.proofs.context.WasiP1Ctx.fd_renumber.Goals as goal
 
 pub returns-clause-turn : goal.returns-clause-turn

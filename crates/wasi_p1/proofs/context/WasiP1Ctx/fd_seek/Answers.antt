@@ -1,15 +1,15 @@
-use Rattle.wasi_p1.specs.Row.{Row}
+use Rattle.wasi_turns.specs.Row.{Row}
 use Rattle.std.proofs.Common.{refl, ℕ, [], to_z, of_z, w64}
 use Rattle.std.proofs.lemmas.Int.{to_z-of_z}
 use Rattle.wasi_host.proofs.Leaving.{Contains-here}
 use Rattle.wasi_host.specs.HostCall.{Stat}
-use Rattle.wasi_p1.specs.CallParts.{open_file_of}
-use Rattle.wasi_p1.specs.Files.{position_from}
-use Rattle.wasi_p1.specs.Request.{Direct}
-use Rattle.wasi_p1.specs.Rows.{fd_seek}
-use Rattle.wasi_p1.proofs.Knowing.{known_err, known_put}
-use Rattle.wasi_p1.proofs.RowEnds.{with_sought}
-use Rattle.wasi_p1.proofs.Taking.{refused, unchanged, on_err}
+use Rattle.wasi_turns.specs.CallParts.{open_file_of}
+use Rattle.wasi_turns.specs.Files.{position_from}
+use Rattle.wasi_turns.specs.Request.{Direct}
+use Rattle.wasi_turns.specs.Rows.PositionsAndSizes.{fd_seek}
+use Rattle.wasi_turns.proofs.Knowing.{known_err, known_put}
+use Rattle.wasi_turns.proofs.RowEnds.{with_sought}
+use Rattle.wasi_turns.proofs.Taking.{refused, unchanged, on_err}
 use Rattle.wasi_p1.proofs.context.WasiP1Ctx.fd_seek.Goals as goal
 
 pub returns-in_err-file-clause-turn : goal.returns-in_err-file-clause-turn

@@ -1,12 +1,12 @@
 use Rattle.std.proofs.Common.{refl, []}
 use Rattle.wasi_host.proofs.Leaving.{Contains-here}
-use Rattle.wasi_p1.specs.CallParts.{open_file_of}
-use Rattle.wasi_p1.specs.Putting.{put_request, put_in}
-use Rattle.wasi_p1.specs.Row.{give}
-use Rattle.wasi_p1.specs.Rows.{fd_write}
-use Rattle.wasi_p1.proofs.Taking.{refused_at, makes_err, put_ok, unchanged, on_err}
-use Rattle.wasi_p1.proofs.RowEnds.{with_position}
-use Rattle.wasi_p1.proofs.Writing.{writes_whole, output_whole}
+use Rattle.wasi_turns.specs.CallParts.{open_file_of}
+use Rattle.wasi_turns.specs.Putting.{put_request, put_in}
+use Rattle.wasi_turns.specs.Row.{give}
+use Rattle.wasi_turns.specs.Rows.ReadingAndWriting.{fd_write}
+use Rattle.wasi_turns.proofs.Taking.{refused_at, makes_err, put_ok, unchanged, on_err}
+use Rattle.wasi_turns.proofs.RowEnds.{with_position}
+use Rattle.wasi_turns.proofs.Writing.{writes_whole, output_whole}
 use Rattle.wasi_p1.proofs.context.WasiP1Ctx.fd_write.Goals as goal
 
 pub returns-in_err-count-clause-turn : goal.returns-in_err-count-clause-turn

@@ -1,4 +1,4 @@
-use Rattle.wasi_p1.proofs.Owning.{owned_apart}
+use Rattle.wasi_turns.proofs.Owning.{owned_apart}
 use Rattle.wasi_p1.proofs.context.WasiP1Ctx.handles_are_owned.Goals as goal
 
 pub returns : goal.returns

@@ -1,5 +1,4 @@
-use Rattle.std.proofs.Common.{refl}
-use Rattle.wasi_p1.proofs.Owning.{first_owned}
+use Rattle.wasi_turns.proofs.Owning.{first_owned}
 use Rattle.wasi_p1.proofs.context.WasiP1Ctx.new.Goals as goal
 
 pub invariant_of-result-2 : goal.invariant_of-result-2

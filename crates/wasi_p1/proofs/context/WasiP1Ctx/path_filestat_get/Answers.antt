@@ -1,12 +1,12 @@
-use Rattle.std.proofs.Common.{Err, inl, inr, refl, ap, sym}
+use Rattle.std.proofs.Common.{Err, inl, inr, refl, ap}
 use Rattle.wasi_resolve.specs.PathRequest.{LookPath}
-use Rattle.wasi_p1.specs.Request.{Path}
-use Rattle.wasi_p1.specs.Filestats.{stat_both, filestat_in}
-use Rattle.wasi_p1.proofs.RowEnds.{with_filestat}
-use Rattle.wasi_p1.proofs.Resolving.{made_ok, made_not}
-use Rattle.wasi_p1.proofs.Stating.{stated_reply, stated_again}
-use Rattle.wasi_p1.proofs.Taking.{makes_err, makes_ok, unchanged, on_err}
-use Rattle.wasi_p1.specs.Rows.{path_filestat_get}
+use Rattle.wasi_turns.specs.Request.{Path}
+use Rattle.wasi_turns.specs.Filestats.{stat_both, filestat_in}
+use Rattle.wasi_turns.proofs.RowEnds.{with_filestat}
+use Rattle.wasi_turns.proofs.Resolving.{made_ok, made_not}
+use Rattle.wasi_turns.proofs.Stating.{stated_reply, stated_again}
+use Rattle.wasi_turns.proofs.Taking.{makes_err, makes_ok, unchanged, on_err}
+use Rattle.wasi_turns.specs.Rows.Places.{path_filestat_get}
 use Rattle.wasi_p1.proofs.ViewedStats.{shown_row}
 use Rattle.wasi_p1.proofs.Viewing.{lowered_err, lowered_shown, on_refusal}
 use Rattle.wasi_p1.proofs.context.WasiP1Ctx.path_filestat_get.Goals as goal

@@ -1,9 +1,9 @@
 use Rattle.std.proofs.Common.{refl, rules}
 use Rattle.wasi_resolve.specs.AtTwo.{HardLink}
 use Rattle.wasi_resolve.specs.PathRequest.{AtTwo}
-use Rattle.wasi_p1.proofs.Below.{done_err, done_ok}
-use Rattle.wasi_p1.specs.Rows.{path_link}
-use Rattle.wasi_p1.proofs.Taking.{refusals}
+use Rattle.wasi_turns.proofs.Below.{done_err, done_ok}
+use Rattle.wasi_turns.specs.Rows.TwoPlaces.{path_link}
+use Rattle.wasi_turns.proofs.Taking.{refusals}
 use Rattle.wasi_p1.proofs.Viewing.{lowered_err, lowered_ok, on_refusal}
 use Rattle.wasi_p1.proofs.context.WasiP1Ctx.path_link.Goals as goal
 

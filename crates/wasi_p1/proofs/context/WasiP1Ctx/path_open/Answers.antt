@@ -1,13 +1,13 @@
 use Rattle.std.proofs.Common.{refl, rules}
 use Rattle.wasi_fs.specs.Calls.{opens}
 use Rattle.wasi_p2.specs.Opens.{how_named}
-use Rattle.wasi_p1.specs.Request.{Path}
-use Rattle.wasi_p1.specs.Parts.{opened_among}
-use Rattle.wasi_p1.specs.Rows.{path_open}
-use Rattle.wasi_p1.proofs.Below.{permitted_err, permitted_ok}
-use Rattle.wasi_p1.proofs.RowEnds.{with_slots}
-use Rattle.wasi_p1.proofs.Taking.{refusals, on_err}
-use Rattle.wasi_p1.proofs.Staying.{none_changes}
+use Rattle.wasi_turns.specs.Request.{Path}
+use Rattle.wasi_turns.specs.Parts.{opened_among}
+use Rattle.wasi_turns.specs.Rows.Opening.{path_open}
+use Rattle.wasi_turns.proofs.Below.{permitted_err, permitted_ok}
+use Rattle.wasi_turns.proofs.RowEnds.{with_slots}
+use Rattle.wasi_turns.proofs.Taking.{refusals, on_err}
+use Rattle.wasi_turns.proofs.Staying.{none_changes}
 use Rattle.wasi_p1.proofs.context.WasiP1Ctx.path_open.Goals as goal
 
 pub returns-in_err-number-clause-turn : goal.returns-in_err-number-clause-turn

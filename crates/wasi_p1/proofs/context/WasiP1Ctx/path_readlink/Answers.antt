@@ -2,11 +2,11 @@ use Rattle.std.proofs.Common.{◌≡◌, refl, sym, take}
 use Rattle.std.specs.String.{string_bytes}
 use Rattle.wasi_resolve.specs.AtPlace.{ReadLink}
 use Rattle.wasi_resolve.specs.PathRequest.{AtPlace}
-use Rattle.wasi_p1.specs.Parts.{text_to}
-use Rattle.wasi_p1.proofs.RowEnds.{with_text}
-use Rattle.wasi_p1.proofs.Below.{found_err, found_refused, found_ok}
-use Rattle.wasi_p1.specs.Rows.{path_readlink}
-use Rattle.wasi_p1.proofs.Taking.{unchanged, on_err}
+use Rattle.wasi_turns.specs.Parts.{text_to}
+use Rattle.wasi_turns.proofs.RowEnds.{with_text}
+use Rattle.wasi_turns.proofs.Below.{found_err, found_refused, found_ok}
+use Rattle.wasi_turns.specs.Rows.Places.{path_readlink}
+use Rattle.wasi_turns.proofs.Taking.{unchanged, on_err}
 use Rattle.wasi_p1.proofs.Viewing.{lowered_err, lowered_ok, on_refusal}
 use Rattle.wasi_p1.proofs.context.WasiP1Ctx.path_readlink.Goals as goal
 

@@ -1,8 +1,8 @@
 use Rattle.std.proofs.Common.{refl}
 use Rattle.wasi_resolve.specs.AtPlace.{RemoveDir}
 use Rattle.wasi_resolve.specs.PathRequest.{AtPlace}
-use Rattle.wasi_p1.proofs.Below.{done_err, done_ok}
-use Rattle.wasi_p1.specs.Rows.{path_remove_directory}
+use Rattle.wasi_turns.proofs.Below.{done_err, done_ok}
+use Rattle.wasi_turns.specs.Rows.Places.{path_remove_directory}
 use Rattle.wasi_p1.proofs.Viewing.{lowered_err, lowered_ok, on_refusal}
 use Rattle.wasi_p1.proofs.context.WasiP1Ctx.path_remove_directory.Goals as goal
 

@@ -1,14 +1,14 @@
 use Rattle.std.proofs.Common.{◌∙◌, inl, inr, map, refl, sym}
 use Rattle.wasi_guest.specs.declared.call.Call.TheVariants.{PollOneoff}
-use Rattle.wasi_p1.specs.Polling.{waited_by}
-use Rattle.wasi_p1.specs.Request.{Sizes}
-use Rattle.wasi_p1.specs.Row.{give}
-use Rattle.wasi_p1.specs.Rows.{poll_oneoff, tell_ready}
-use Rattle.wasi_p1.proofs.Judging.{judged_err, judged_ok}
-use Rattle.wasi_p1.proofs.Staying.{all_stay}
-use Rattle.wasi_p1.proofs.Taking.{answered, makes_err, makes_ok, on_err, refused_at, unchanged, wanted_late}
-use Rattle.wasi_p1.proofs.Telling.{events_by}
-use Rattle.wasi_p1.proofs.Waiting.{wanted_front, answer_front, ask_front, none_of, some_of}
+use Rattle.wasi_turns.specs.Polling.{waited_by}
+use Rattle.wasi_turns.specs.Request.{Sizes}
+use Rattle.wasi_turns.specs.Row.{give}
+use Rattle.wasi_turns.specs.Rows.Polling.{poll_oneoff, tell_ready}
+use Rattle.wasi_turns.proofs.Judging.{judged_err, judged_ok}
+use Rattle.wasi_turns.proofs.Staying.{all_stay}
+use Rattle.wasi_turns.proofs.Taking.{answered, makes_err, makes_ok, on_err, refused_at, unchanged, wanted_late}
+use Rattle.wasi_turns.proofs.Telling.{events_by}
+use Rattle.wasi_turns.proofs.Waiting.{wanted_front, answer_front, ask_front, none_of, some_of}
 use Rattle.wasi_p1.proofs.context.WasiP1Ctx.poll_oneoff.Goals as goal
 
 pub returns-in_err-judged-clause-turn : goal.returns-in_err-judged-clause-turn

@@ -1,6 +1,6 @@
 use Rattle.std.proofs.Common.{refl}
-use Rattle.wasi_p1.specs.Rows.{proc_raise}
-use Rattle.wasi_p1.proofs.Taking.{refused, on_err}
+use Rattle.wasi_turns.specs.Rows.Services.{proc_raise}
+use Rattle.wasi_turns.proofs.Taking.{refused, on_err}
 use Rattle.wasi_p1.proofs.context.WasiP1Ctx.proc_raise.Goals as goal
 
 pub returns-in_err-known_signal-clause-turn : goal.returns-in_err-known_signal-clause-turn

@@ -1,7 +1,7 @@
 use Rattle.std.proofs.Common.{refl}
-use Rattle.wasi_p1.specs.Rows.{random_get}
-use Rattle.wasi_p1.proofs.Staying.{all_stay}
-use Rattle.wasi_p1.proofs.Taking.{answered}
+use Rattle.wasi_turns.specs.Rows.Services.{random_get}
+use Rattle.wasi_turns.proofs.Staying.{all_stay}
+use Rattle.wasi_turns.proofs.Taking.{answered}
 use Rattle.wasi_p1.proofs.context.WasiP1Ctx.random_get.Goals as goal
 
 pub returns-clause-turn : goal.returns-clause-turn

@@ -1,4 +1,4 @@
-use Rattle.std.proofs.Common.{refl, rules}
+use Rattle.std.proofs.Common.{rules}
 use Rattle.wasi_p1.proofs.Viewing.{entry_under, file_stands, kept_owned, lowered, open_under}
 use Rattle.wasi_p1.proofs.view_parts.nodes.advise.Goals as goal
 

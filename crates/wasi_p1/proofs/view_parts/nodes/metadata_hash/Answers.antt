@@ -1,4 +1,4 @@
-use Rattle.std.proofs.Common.{refl, rules}
+use Rattle.std.proofs.Common.{rules}
 use Rattle.wasi_p1.proofs.Viewing.{descriptor_stands, entry_under, kept_owned, lowered, open_under}
 use Rattle.wasi_p1.proofs.view_parts.nodes.metadata_hash.Goals as goal
 

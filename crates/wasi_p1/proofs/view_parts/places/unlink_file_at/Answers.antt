@@ -1,4 +1,4 @@
-use Rattle.std.proofs.Common.{refl, rules}
+use Rattle.std.proofs.Common.{rules}
 use Rattle.wasi_p1.proofs.Viewing.{directory_stands, entry_under, kept_owned, lowered, open_under, traced_only}
 use Rattle.wasi_p1.proofs.view_parts.places.unlink_file_at.Goals as goal
 

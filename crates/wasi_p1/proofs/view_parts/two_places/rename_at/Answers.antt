@@ -1,4 +1,4 @@
-use Rattle.std.proofs.Common.{ap, refl, rules}
+use Rattle.std.proofs.Common.{ap, rules}
 use Rattle.wasi_p2.specs.Resources.{entry_handle}
 use Rattle.wasi_p1.proofs.Viewing.{directories_stand, entry_under, kept_owned, lowered, open_under, traced_either}
 use Rattle.wasi_p1.proofs.view_parts.two_places.rename_at.Goals as goal

@@ -1,5 +1,0 @@
-use Rattle.wasi_p1.proofs.ErrorNumbers.{run_errnos}
-use Rattle.wasi_p1.proofs.laws.other_errors_never_come.Goals as goal
-
-pub returns : goal.returns
-returns c = record { errnos = λ k old new calls turns run. run_errnos calls turns k old new run }

@@ -1,5 +1,0 @@
-use Rattle.wasi_p1.proofs.Validity.{run_valid}
-use Rattle.wasi_p1.proofs.laws.runs_stay_valid.Goals as goal
-
-pub returns : goal.returns
-returns c = record { valid = λ k old new calls turns run. run_valid calls turns k old new run }

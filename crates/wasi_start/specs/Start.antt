@@ -1,0 +1,76 @@
+-- The state in which the calls of a script begin.
+use Rattle.std.specs.Prelude.{◌≡◌, ◌≢◌, ℕ, suc, List, [], ◌∷◌, map, replicate, true, All, AllPairs, Some}
+use Rattle.std.specs.FinSet.{empty, contains}
+use Rattle.std.specs.String.{string_bytes}
+use Rattle.wasi_host.specs.Tree.{Tree}
+use Rattle.wasi_host.specs.Meaning.{World}
+use Rattle.wasi_tree.specs.Given.{tree_of}
+use Rattle.wasi_faults.specs.Faults.{Failing}
+use Rattle.wasi_tree.specs.MemState.{MemState, HeldMap, live_of, held_in, world_of}
+use Rattle.wasi_guest.specs.Range.{with_bytes}
+use Rattle.wasi_guest.specs.Services.{Handed}
+use Rattle.wasi_form.specs.Plan.{Plan, PlannedPiece, PlannedPreopen}
+use Rattle.wasi_turns.specs.Slots.{View, given_mode, given_slots}
+use Rattle.wasi_turns.specs.Guest.{State, GuestSlot, stream, directory, guest_slot, state_of}
+use Rattle.wasi_turns.specs.Stock.{first_stock}
+use Rattle.wasi_turns.specs.declared.slots.P1Preopen.{P1Preopen}
+use Rattle.wasi_turns.specs.declared.slots.Stream.TheVariants.{Input, Output, Error}
+
+-- the descriptor of a directory that the guest is given, by its place among them
+abbrev pub given_guest_slot : ℕ → PlannedPreopen → GuestSlot
+given_guest_slot place preopen = directory (record {
+  node = preopen.node;
+  perms = preopen.perms;
+  open_mode = given_mode preopen.perms;
+  preopen = Some place;
+})
+
+-- those of directories of which the first has this place
+abbrev pub given_guest_slots : ℕ → List PlannedPreopen → List GuestSlot
+given_guest_slots place [] = []
+given_guest_slots place (preopen ∷ preopens) =
+    given_guest_slot place preopen ∷ given_guest_slots (suc place) preopens
+
+-- the three streams, then the directories that the guest is given
+abbrev pub first_guest_slots : List PlannedPreopen → List GuestSlot
+first_guest_slots preopens = stream Input ∷ stream Output ∷ stream Error ∷ given_guest_slots 0 preopens
+
+-- a memory with the pieces written into it, one after another
+abbrev pub with_pieces : List ℕ → List PlannedPiece → List ℕ
+with_pieces memory [] = memory
+with_pieces memory (piece ∷ pieces) = with_pieces (with_bytes memory piece.offset piece.bytes) pieces
+
+-- over a tree, with these directories, all that is handed in, and so many descriptors that may be live; nothing is written
+-- out yet
+abbrev pub begun : Tree → List PlannedPreopen → Handed → ℕ → List ℕ → State
+begun tree preopens services table memory = record {
+  tree = tree;
+  guest = record {
+    slots = first_guest_slots preopens;
+    table_max = table;
+    memory = memory;
+    holdings = first_stock services (map (λ preopen. preopen.name) preopens);
+  };
+}
+
+-- a plan's tree, directories, services and table, and its pieces over zeros
+abbrev pub start : Plan → State
+start plan = begun (tree_of plan.nodes plan.limits) plan.preopens plan.services plan.table
+    (with_pieces (replicate plan.size 0) plan.pieces)
+
+-- the world of a tree in memory behind calls that fail
+abbrev pub world_behind : Failing MemState → World
+world_behind host = world_of host.inner
+
+-- a context in which nothing was done yet, and no node touched
+pub record IsBegun {H : Type 0} (world : H → World) (context : View H) (tree : Tree)
+    (preopens : List PlannedPreopen) (services : Handed) (table : ℕ) : Type 0 where
+  pub state : (memory : List ℕ) → state_of world context memory ≡ begun tree preopens services table memory
+  pub untouched : (world context.host).touched ≡ empty
+
+-- handles of these directories in their order, each live and another, with their permissions and names
+pub record AreGiven (handles : HeldMap) (preopens : List PlannedPreopen) (given : List P1Preopen) : Type 0 where
+  pub live : All (λ preopen. contains (live_of handles) preopen.handle ≡ true) given
+  pub once : AllPairs (λ one other. one.handle ≢ other.handle) given
+  pub slots : map (guest_slot (held_in handles)) (given_slots 0 given) ≡ given_guest_slots 0 preopens
+  pub names : map (λ preopen. string_bytes preopen.name) given ≡ map (λ preopen. preopen.name) preopens

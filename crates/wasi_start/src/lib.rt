@@ -1,0 +1,7 @@
+//! How a script begins: the context and the memory in which its calls are made, and what of the memory is shown after
+//! them.
+#![tactic(auto)]
+
+mod start;
+
+pub use start::{first_context, first_memory, shown};

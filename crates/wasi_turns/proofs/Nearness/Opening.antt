@@ -1,0 +1,28 @@
+-- What holds of the row of the call that opens a path.
+use Rattle.std.proofs.Common.{ℕ, [], slice_get}
+use Rattle.wasi_fs.specs.OpenHow.{mode_of}
+use Rattle.wasi_guest.specs.declared.call.Call.TheVariants as calls
+use Rattle.wasi_turns.specs.Guest.{Guest}
+use Rattle.wasi_turns.specs.RawFlags.{modes_in}
+use Rattle.wasi_turns.specs.Rows.{path_open}
+use Rattle.wasi_host.proofs.Leaving.{Contains-here}
+use Rattle.wasi_turns.proofs.Changing.{named_directory, directory_perms, put_opened}
+use Rattle.wasi_turns.proofs.Keeping.{open_keeps, read_only_kept}
+use Rattle.wasi_turns.proofs.Nearness.Parts.{RowNear, then, then_text, asks_near, read_only, only_named}
+use Rattle.wasi_turns.proofs.Wanting.{how_never, directory_never, room_never, open_known, permit_never}
+
+pub path_open_near : {g : Guest} {fd dirflags path len oflags base inheriting fdflags : ℕ}
+    → RowNear g (calls.PathOpen fd dirflags path len oflags base inheriting fdflags)
+unfolding path_open
+path_open_near {g} {fd} {fdflags = fdflags} = then _ (how_never _ _ _ _ _) (λ how _. then_text g _ _ (λ text read.
+    then _ (directory_never (slice_get g.slots fd)) (λ d is. then _ (room_never g.slots g.table_max 1) (λ _ _.
+    then _ (permit_never _ (open_known how d.perms)) (λ _ may.
+    let perms = directory_perms (slice_get g.slots fd) is in asks_near (record {
+      starts = λ n has. named_directory g fd n (Contains-here fd []) is has;
+      slots = λ found. put_opened g fd d.perms (mode_of how) (modes_in fdflags) found perms;
+      ends = λ t found answered. tt;
+      permits = λ names t found answered. open_keeps t d.node text how
+          (read_only_kept how may (read_only (only_named g fd names.fd names.named names.perms) perms)) answered;
+      asked = λ _. read;
+      bytes = λ are found _. are;
+    }))))))

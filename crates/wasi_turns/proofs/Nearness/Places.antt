@@ -1,0 +1,56 @@
+-- What holds of the rows of the calls at the place that a path names.
+use Rattle.std.proofs.Common.{ℕ, ◌≡◌, List, length, [], ◌∷◌, refl, take, slice_get}
+use Rattle.wasi_guest.specs.declared.call.Call.{Call}
+use Rattle.wasi_guest.specs.declared.call.Call.TheVariants as calls
+use Rattle.wasi_resolve.specs.AtPlace.{PlaceCall, Symlink}
+use Rattle.wasi_resolve.specs.PathRequest.{AtPlace}
+use Rattle.wasi_turns.specs.Filestats.{stat_both, filestat_in}
+use Rattle.wasi_turns.specs.Guest.{Guest}
+use Rattle.wasi_turns.specs.Parts.{range}
+use Rattle.wasi_turns.specs.Row.{Row}
+use Rattle.wasi_turns.specs.Rows.{done_at, path_filestat_get, path_readlink, path_symlink, descriptors_named, itself, stem_in}
+use Rattle.wasi_host.proofs.Leaving.{Contains-here}
+use Rattle.wasi_resolve.proofs.Asking.{HasUtf8Target}
+use Rattle.wasi_turns.proofs.Bytes.{cut}
+use Rattle.wasi_turns.proofs.Changing.{written_slots, written_ends, written_bytes, stated_slots, stated_ends, stated_bytes}
+use Rattle.wasi_turns.proofs.Keeping.{no_change, no_link, link_leaves}
+use Rattle.wasi_turns.proofs.Nearness.Parts.{AlwaysNear, RowNear, then, then_text, then_path, asks_near, starts_near, done_if_at}
+use Rattle.wasi_turns.proofs.Wanting.{change_known, link_known, filestat_never, follow_never, range_never, start_never}
+
+-- what is done at a place by its path alone
+pub done_near : {g : Guest} {call : Call} (fd path len : ℕ) (what : PlaceCall) → stem_in call ≡ itself
+    → descriptors_named g.memory call ≡ fd ∷ [] → HasUtf8Target what → AlwaysNear g call (done_at g fd path len what)
+done_near {g} fd path len what stems named target =
+    then_path g fd path len (λ d is text read. done_if_at _ (AtPlace d.node text what) fd stems named is refl (λ _ may. no_change d.perms may) (read, target)
+    (change_known d.perms))
+
+pub path_filestat_get_near : {g : Guest} {fd flags path len : ℕ} → RowNear g (calls.PathFilestatGet fd flags path len)
+unfolding path_filestat_get
+path_filestat_get_near {g} {fd} = then _ (follow_never _) (λ follow _. then_path g fd _ _ (λ d is text read. asks_near (record {
+  starts = λ n has. starts_near g fd n (Contains-here fd []) is has;
+  slots = λ metadata. stated_slots g (filestat_in (stat_both metadata));
+  ends = λ t metadata answered. stated_ends g (filestat_in (stat_both metadata)) (filestat_never (stat_both metadata)) refl;
+  permits = λ _ _ _ _. refl;
+  asked = λ _. read;
+  bytes = λ are metadata _. stated_bytes g (filestat_in (stat_both metadata)) are;
+})))
+
+pub path_readlink_near : {g : Guest} {fd path len buf buf_len : ℕ} → RowNear g (calls.PathReadlink fd path len buf buf_len)
+unfolding path_readlink
+path_readlink_near {g} {fd} {path} {len} {buf} {buf_len} = then_path g fd path len (λ d is text read.
+    let put : List ℕ → Row (List ℕ) = λ link. range g.memory buf (length (take buf_len link)) in asks_near (record {
+      starts = λ n has. starts_near g fd n (Contains-here fd []) is has;
+      slots = λ link. written_slots g buf (take buf_len link) (put link);
+      ends = λ t link answered. written_ends g buf (take buf_len link) (put link)
+          (range_never g.memory buf (length (take buf_len link))) (link_leaves t d.node text);
+      permits = λ names t link answered. link_leaves t d.node text;
+      asked = λ _. (read, tt);
+      bytes = λ are link links. written_bytes g buf (take buf_len link) (put link) are (cut buf_len link links).0;
+    }))
+
+pub path_symlink_near : {g : Guest} {old_path old_len fd new_path new_len : ℕ}
+    → RowNear g (calls.PathSymlink old_path old_len fd new_path new_len)
+unfolding path_symlink
+path_symlink_near {g} {fd = fd} = then _ (start_never (slice_get g.slots fd)) (λ d is. then_text g _ _ (λ target told. then_text g _ _ (λ text read.
+    done_if_at _ (AtPlace d.node text (Symlink target)) fd refl refl is refl (λ _ may. no_link d.perms target may) (read, told)
+    (link_known d.perms target))))

@@ -1,0 +1,56 @@
+-- What a call does that asks the host once through a descriptor, as the request that it stands for.
+use Rattle.std.proofs.Common.{ℕ, ◌≡◌, Option, Ok, Err, refl}
+use Rattle.wasi_fs.specs.Calls.{asks_at, sets, NotMemory}
+use Rattle.wasi_host.specs.HostCall.{HostCall, SetTimes}
+use Rattle.wasi_host.specs.Answer.{HostAnswer}
+use Rattle.wasi_host.specs.Refusal.{refusal}
+use Rattle.wasi_host.specs.Meaning.{World, Handles}
+use Rattle.wasi_host.specs.declared.errors.ErrorCode.TheVariants.{Io}
+use Rattle.wasi_host.specs.declared.errors.HostError.{HostError}
+use Rattle.wasi_host.specs.declared.errors.HostError.TheVariants.{Code, Memory}
+use Rattle.wasi_host.specs.declared.system_time.SystemTime.{SystemTime}
+use Rattle.wasi_host.proofs.Touching.{no_ends}
+use Rattle.wasi_resolve.specs.Resolved.{Resolved}
+use Rattle.wasi_turns.specs.Asked.{Asked}
+use Rattle.wasi_turns.specs.Errnos.{error_of}
+use Rattle.wasi_turns.specs.Request.{Direct}
+use Rattle.wasi_turns.specs.declared.error.P1Error.TheVariants.{Memory as Wanted}
+use Rattle.wasi_turns.proofs.Resolving.{resolved_ok, resolved_err}
+
+module _ {A : Type 0} {live : Handles} {w v : World} {call : HostCall} {n : ℕ} {shown : A → HostAnswer call} {rose : Type 0} where
+  pub called_ok : {a : A} → Resolved live w v (asks_at w.tree call n) shown (Ok a)
+      → Asked rose w v (Direct call) (Ok (shown a))
+  called_ok did = resolved_ok {r = Direct call} {shown = shown} (record {
+    answer = did.answer;
+    tree = did.tree;
+    touched = no_ends did.touched;
+    keeps = did.keeps;
+  })
+
+  pub called_err : (e : HostError) → (e ≡ Code Io → rose) → Resolved live w v (asks_at w.tree call n) shown (Err e)
+      → Asked rose w v (Direct call) (Err (error_of e))
+  called_err e io did = resolved_err {r = Direct call} {shown = shown} e io (record {
+    answer = did.answer;
+    tree = did.tree;
+    touched = did.touched;
+    keeps = did.keeps;
+  })
+
+-- a part that takes no memory
+pub not_wanted : {P : Type 0} (e : HostError) → NotMemory e → error_of e ≡ Wanted → P
+not_wanted Memory never is = absurd (never refl)
+not_wanted (Code code) never is = absurd (cc)
+
+-- ---- times, which no row refuses
+
+module _ {live : Handles} {w v : World} {n : ℕ} {atime mtime : Option SystemTime} {rose : Type 0} where
+  pub set_ok : Resolved {A = Unit {0}} live w v (sets w.tree n atime mtime) (λ unit. unit) (Ok tt)
+      → Asked rose w v (Direct (SetTimes n atime mtime)) (Ok tt)
+  unfolding refusal
+  set_ok did = called_ok did
+
+  pub set_err : (e : HostError) → (e ≡ Code Io → rose)
+      → Resolved {A = Unit {0}} live w v (sets w.tree n atime mtime) (λ unit. unit) (Err e)
+      → Asked rose w v (Direct (SetTimes n atime mtime)) (Err (error_of e))
+  unfolding refusal
+  set_err e io did = called_err e io did

@@ -1,0 +1,33 @@
+-- Every refusal but `io` leaves all as before.
+use Rattle.std.proofs.Common.{ℕ, Bool, ◌≡◌, inl, inr, List, ap, Result, Ok, Err}
+use Rattle.wasi_host.specs.Meaning.{World, FaultCount}
+use Rattle.wasi_host.specs.declared.lookup.Lookup.{Lookup}
+use Rattle.wasi_guest.specs.declared.answer.Value.{Value}
+use Rattle.wasi_guest.specs.declared.call.Call.{Call}
+use Rattle.wasi_guest.specs.declared.errno.Errno.TheVariants.{Io}
+use Rattle.wasi_turns.specs.CallTurn.{FollowsRow, Turns, in_world}
+use Rattle.wasi_turns.specs.Front.{FueledCall}
+use Rattle.wasi_turns.specs.Guest.{Guest, State}
+use Rattle.wasi_turns.specs.Slots.{View}
+use Rattle.wasi_turns.specs.Unchanged.{LeavesAll}
+use Rattle.wasi_turns.specs.declared.error.P1Error.{P1Error}
+use Rattle.wasi_turns.specs.declared.error.P1Error.TheVariants.{Errno}
+
+-- the state stays
+refused_stays : {rose : Type 0} {w v : World} {g g' : Guest} {call : FueledCall} {e : P1Error}
+    → Turns rose w v g g' call (Err e) → (e ≡ Errno Io → ⊥) → in_world v g' ≡ in_world w g
+refused_stays took other = elim took.turn [
+  | inl refused ↦ refused.stays
+  | inr (inl wanted) ↦ wanted.stays
+  | inr (inr failed) ↦ absurd (other failed.io)
+]
+
+pub leaves_all : {H : Type 0} {told : Bool} {world : H → World} {faults : H → FaultCount} {lookups : H → List Lookup}
+    {old new : View H} {before after : List ℕ} {call : Call} (result : Result Value P1Error)
+    → FollowsRow told world faults lookups old new before after call result
+    → LeavesAll told world old new before after result
+leaves_all (Ok x) does = tt
+leaves_all (Err e) does = λ other. record {
+  kept = does.kept;
+  tree = λ told. ap (λ (s : State). s.tree) (refused_stays (does.turn told) other);
+}

@@ -1,0 +1,100 @@
+-- The ways in which a row reads or changes the tree.
+use Rattle.std.specs.Prelude.{◌≡◌, ℕ, ◌<◌, ◌≤◌, false, IsTrue, List, [], ◌∷◌, length, Result, Ok, map}
+use Rattle.wasi_paths.specs.Parts.{has_root}
+use Rattle.wasi_host.specs.Tree.{Tree}
+use Rattle.wasi_host.specs.HostCall.{HostCall, Stat, Pread, Pwrite, Append}
+use Rattle.wasi_host.specs.Step.{step, starts_of}
+use Rattle.wasi_host.specs.Steps.{◌>>=◌}
+use Rattle.wasi_host.specs.Answer.{HostAnswer, host_answer, metadata_of}
+use Rattle.wasi_host.specs.declared.errors.ErrorCode.{ErrorCode}
+use Rattle.wasi_host.specs.declared.held.Held.{Held}
+use Rattle.wasi_host.specs.declared.metadata.Metadata.{Metadata}
+use Rattle.wasi_host.specs.Numbers.{longest_link}
+use Rattle.wasi_resolve.specs.AtPlace.{ReadLink}
+use Rattle.wasi_resolve.specs.Resolved.{Meant}
+use Rattle.wasi_turns.specs.Listing.{Entry, HasShortNames, listing_at}
+use Rattle.wasi_resolve.specs.PathRequest.{PathRequest, OpenPath, AtPlace, PathReply, path_reply, path_after, path_starts, path_ends}
+
+pub data Request : Type 0 where
+  -- through a path: its walk, and what is done where it ends
+  Path : PathRequest → Request
+  -- one call of the host, on what a descriptor stands for
+  Direct : HostCall → Request
+  -- a piece is put behind a file's last byte, and then the file is looked at
+  Behind : Held → List ℕ → Request
+  -- a directory is listed, with the number of each node: the directory's node
+  ListDirectory : ℕ → Request
+  -- these nodes are looked at one after another, for their sizes
+  Sizes : List ℕ → Request
+
+-- what a request is answered
+abbrev pub Reply : Request → Type 0
+Reply (Path p) = PathReply p
+Reply (Direct call) = HostAnswer call
+Reply (Behind f piece) = ℕ × Metadata
+Reply (ListDirectory d) = List Entry
+Reply (Sizes ns) = List ℕ
+
+-- what a reply through a path may be, whatever the tree: what was opened is a directory where one is asked for, and a
+-- link's text has some bytes, no more than it may, and no root
+abbrev pub MayFind : (p : PathRequest) → PathReply p → Type 0
+MayFind (OpenPath s text o follow directory) found = IsTrue directory → IsTrue found.is_dir
+MayFind (AtPlace s text ReadLink) link =
+    (0 < length link) × (length link ≤ longest_link) × (has_root link ≡ false)
+MayFind p found = Unit {0}
+
+-- what a host may answer, whatever the tree: a read gives no more bytes than were asked for, and a write takes some of a
+-- piece that has any
+abbrev pub MayAnswer : (call : HostCall) → HostAnswer call → Type 0
+MayAnswer (Pread f offset n) bytes = length bytes ≤ n
+MayAnswer (Pwrite f offset piece) count = (count ≤ length piece) × (0 < length piece → 0 < count)
+MayAnswer (Append f piece) count = (count ≤ length piece) × (0 < length piece → 0 < count)
+MayAnswer call answer = Unit {0}
+
+-- what a reply may be, whatever the tree
+abbrev pub MayReply : (r : Request) → Reply r → Type 0
+MayReply (Path p) found = MayFind p found
+MayReply (Direct call) answer = MayAnswer call answer
+MayReply (Behind f piece) put = MayAnswer (Append f piece) put.0
+MayReply (ListDirectory d) listing = HasShortNames listing
+MayReply (Sizes ns) sizes = Unit {0}
+
+-- the tree after a request that is answered: at most one step
+abbrev pub after : Tree → Request → Tree
+after t (Path p) = path_after t p
+after t (Direct call) = step t call
+after t (Behind f piece) = step t (Append f piece)
+after t (ListDirectory d) = t
+after t (Sizes ns) = t
+
+-- the size that a look at a node tells
+abbrev pub size_at : Tree → ℕ → ℕ
+size_at t n = (metadata_of t n).size
+
+-- the answer: through a path that of the walk, and then by the host's table
+abbrev pub reply_of : Tree → (r : Request) → Result (Reply r) ErrorCode
+reply_of t (Path p) = path_reply t p
+reply_of t (Direct call) = host_answer t call
+reply_of t (Behind f piece) = do
+  count ← host_answer t (Append f piece)
+  metadata ← host_answer (step t (Append f piece)) (Stat f.node)
+  Ok (count, metadata)
+reply_of t (ListDirectory d) = listing_at t d
+reply_of t (Sizes ns) = Ok (map (size_at t) ns)
+
+-- the nodes from which a request starts
+abbrev pub starts_at : Request → List ℕ
+starts_at (Path p) = path_starts p
+starts_at (Direct call) = starts_of call
+starts_at (Behind f piece) = starts_of (Append f piece)
+starts_at (ListDirectory d) = d ∷ []
+starts_at (Sizes ns) = ns
+
+-- the nodes at which the paths of a request end
+abbrev pub ends_at : Tree → Request → List ℕ
+ends_at t (Path p) = path_ends t p
+ends_at t r = []
+
+-- all that a request means
+abbrev pub meant_of : Tree → (r : Request) → Meant (Reply r)
+meant_of t r = record { starts = starts_at r; answer = reply_of t r; stepped = after t r; ends = ends_at t r }

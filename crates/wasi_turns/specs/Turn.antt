@@ -1,0 +1,51 @@
+-- What a call did, against its row.
+use Rattle.std.specs.Prelude.{ℕ, List, ◌≡◌, ◌⊎◌, Result, Ok, Err}
+use Rattle.wasi_turns.specs.Guest.{State}
+use Rattle.wasi_turns.specs.Row.{Row, Asks, starts, request_ends}
+use Rattle.wasi_turns.specs.Rows.{row}
+use Rattle.wasi_turns.specs.Front.{FueledCall}
+use Rattle.wasi_guest.specs.declared.errno.Errno.TheVariants as errnos
+use Rattle.wasi_turns.specs.declared.error.P1Error.{P1Error}
+use Rattle.wasi_turns.specs.declared.error.P1Error.TheVariants.{Errno, Memory}
+use Rattle.wasi_guest.specs.declared.answer.Value.{Value}
+
+-- the answer is the row's first refusal, and the state stays
+pub record RowRefuses (before after : State) (e : P1Error) (row : Row (Value × State)) : Type 0 where
+  pub stays : after ≡ before
+  pub row_is : row ≡ Err e
+
+-- memory was wanted, and the state stays
+pub record Wants (before after : State) (e : P1Error) : Type 0 where
+  pub memory : e ≡ Memory
+  pub stays : after ≡ before
+
+-- the state before, with the one step that the row makes in the tree
+abbrev pub StepTaken : State → State → Row (Value × State) → Type 0
+StepTaken before after (Ok p) = after ≡ record before { tree = p.1.tree }
+StepTaken before after (Err e) = ⊥
+
+-- the host failed where the row comes to it: the state stays, or has the row's step alone
+pub record Faults (rose reaches : Type 0) (before after : State) (e : P1Error)
+    (row : Row (Value × State)) : Type 0 where
+  pub io : e ≡ Errno errnos.Io
+  pub count : rose
+  pub came : reaches
+  pub state : (after ≡ before) ⊎ StepTaken before after row
+
+-- the answer and the state after it are the row's; or memory was wanted; or the host failed
+abbrev pub IsTurn : Type 0 → Type 0 → State → State → Result Value P1Error → Row (Value × State) → Type 0
+IsTurn rose reaches before after (Ok x) row = row ≡ Ok (x, after)
+IsTurn rose reaches before after (Err e) row =
+    RowRefuses before after e row ⊎ (Wants before after e ⊎ Faults rose reaches before after e row)
+
+-- no refusal of the row stands before its request
+abbrev pub ReachesHost : State → FueledCall → Type 0
+ReachesHost s call = Asks (row s.guest call)
+
+-- the nodes at which the paths of a call end
+abbrev pub named_by : State → FueledCall → List ℕ
+named_by s call = request_ends s.tree (row s.guest call)
+
+-- the nodes from which a call reads or changes the tree
+abbrev pub roots_of : State → FueledCall → List ℕ
+roots_of s call = starts (row s.guest call)
