@@ -36,7 +36,8 @@ pub fn read_all<S: Source>(alloc: Global, source: &mut S) -> Result<Vec<u8>, Unf
     read_by(alloc, source, chunk.as_mut_slice())
 }
 
-// All that is left, read a chunk at a time.
+// All that is left, read a chunk at a time. Room for all that may come is asked for at once, so that no byte is copied to
+// larger room; what isn't filled of it is never touched.
 fn read_by<S: Source>(
     alloc: Global,
     source: &mut S,
@@ -47,7 +48,9 @@ fn read_by<S: Source>(
     ensures count { S.faults source.old ≤ S.faults source.new }
     ensures cause { IsErrOf result Unfinished.Fault → Risen (S.faults source.old) (S.faults source.new) }
 {
-    let mut all = Vec::new(alloc);
+    let Ok(mut all) = Vec::with_capacity(alloc, MOST + 1) else {
+        return Err(Unfinished::Memory);
+    };
     while all.len() <= MOST {
         let want = (MOST + 1 - all.len()).min(chunk.len());
         let Ok(count) = source.read(&mut chunk[..want]) else {

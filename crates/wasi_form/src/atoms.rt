@@ -14,13 +14,15 @@ use crate::shapes::{Reading, Unread};
 use crate::tokens::{number, pass_after};
 use json::{Reader, Token};
 use serde_json::Number;
+use smallvec::SmallVec;
 use std::alloc::Global;
 
 /// An item of a list: a number, a text, or any other value, which was passed.
-#[derive(Clone, Copy)]
+#[derive(Clone, Copy, Default)]
 pub enum Atom<'a> {
     Number(Number),
     Text(&'a str),
+    #[default]
     Other,
 }
 
@@ -132,15 +134,18 @@ pub fn next_u32(reader: &mut Reader<'_>, depth: usize) -> Reading<Option<u32>>
     Ok(next_atom(reader, depth)?.as_u32())
 }
 
-// How many items a list has at most of which a form is made.
+// How many items a list has at most of which a form is made. So many stand in the list itself.
 const MOST_ITEMS: usize = 9;
 
+/// The items of a list.
+pub type Atoms<'a> = SmallVec<Atom<'a>, MOST_ITEMS>;
+
 // The items that are left of a list.
-fn atoms_left<'a>(alloc: Global, reader: &mut Reader<'a>, depth: usize) -> Reading<Vec<Atom<'a>>>
+fn atoms_left<'a>(alloc: Global, reader: &mut Reader<'a>, depth: usize) -> Reading<Atoms<'a>>
     ensures { IsRead (λ v. (atoms_data v.items, reader.new)) result
         (parse_map flat_items (next_items depth reader.old)) }
 {
-    let mut found = Vec::with_capacity(alloc, MOST_ITEMS)?;
+    let mut found = SmallVec::new(alloc);
     'items: while !reader.take_end_array() {
         let item = next_atom(reader, depth)?;
         found.push(item)?;
@@ -153,7 +158,7 @@ pub fn list_atoms<'a>(
     alloc: Global,
     reader: &mut Reader<'a>,
     depth: usize,
-) -> Result<Option<Vec<Atom<'a>>>, Unread>
+) -> Result<Option<Atoms<'a>>, Unread>
     ensures { IsRead (λ found. (option_map (λ v. atoms_data v.items) found, reader.new)) result
         (parse_map (λ d. option_map flat_items (find.as_array d)) (next_value depth reader.old)) }
 {
@@ -168,7 +173,7 @@ fn list_atoms_after<'a>(
     token: Token<'a>,
     reader: &mut Reader<'a>,
     depth: usize,
-) -> Result<Option<Vec<Atom<'a>>>, Unread>
+) -> Result<Option<Atoms<'a>>, Unread>
     ensures { IsRead (λ found. (option_map (λ v. atoms_data v.items) found, reader.new)) result
         (parse_map (λ d. option_map flat_items (find.as_array d)) (next_value depth (token_of token.entry ∷ reader.old))) }
 {

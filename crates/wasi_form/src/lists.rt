@@ -9,7 +9,7 @@ ghost use Rattle.wasi_form.specs.IsRead.{IsRead};
 ghost use Rattle.wasi_form.specs.Lists.{items_all, list_of, list_seen, pushed};
 ghost use Rattle.wasi_form.specs.Tokens.{next_value, next_items};
 
-use crate::atoms::{Atom, list_atoms};
+use crate::atoms::{Atom, Atoms, list_atoms};
 use crate::shapes::{Reading, Unread};
 use crate::tokens::pass_after;
 use json::{Reader, Token};
@@ -128,7 +128,7 @@ pub fn next_listed<T: Listed>(
 }
 
 // What numbers and texts are read as, where they are a list.
-fn formed<T: Listed>(alloc: Global, atoms: Option<Vec<Atom<'_>>>) -> Result<Option<T>, AllocError>
+fn formed<T: Listed>(alloc: Global, atoms: Option<Atoms<'_>>) -> Result<Option<T>, AllocError>
     ensures { IfOk result (λ found. option_map T.see found
         ≡ option_and_then T.of (option_map (λ v. atoms_data v.items) atoms.entry)) }
 {

@@ -2,11 +2,11 @@
 ghost use Rattle.std.specs.Prelude.{◌≡◌, ◌≢◌, ◌<◌, ◌≤◌, ◌+◌, ◌↔◌, true, length, map, All, AllPairs, IfOk, IfErr, IsErrAnd};
 ghost use Rattle.std.specs.FinSet.{contains};
 
-use crate::descriptors::Descriptors;
 use std::alloc::Global;
 use std::marker::Model;
 use wasi_guest::Services;
 use wasi_host::{Host, SystemTime};
+use wasi_p1_parts::descriptors::Descriptors;
 use wasi_p2::WasiFilesystemCtx;
 use wasi_streams::ResourceTable;
 use wasi_turns::{CtxError, Holdings, P1Preopen};
@@ -24,7 +24,7 @@ pub struct WasiP1Ctx<H: Host> {
 
 impl<H: Host> Model for WasiP1Ctx<H> {
     ghost use Rattle.wasi_turns.specs.Slots.{View};
-    ghost use Rattle.wasi_p1.specs.Held.{HoldsHandles};
+    ghost use Rattle.wasi_p1_parts.specs.Held.{HoldsHandles};
     ghost use Rattle.wasi_turns.specs.Owners.{handles};
 
     ghost Value = { View H };
@@ -59,7 +59,7 @@ pub struct Ended<H: Host> {
 }
 
 impl<H: Host> WasiP1Ctx<H> {
-    ghost use Rattle.wasi_p1.specs.LiveEntries.{AreLiveDescriptors};
+    ghost use Rattle.wasi_p1_parts.specs.LiveEntries.{AreLiveDescriptors};
     ghost use Rattle.wasi_turns.specs.Numbering.{live_count};
     ghost use Rattle.wasi_turns.specs.Owners.{OwnedApart, handles};
     ghost use Rattle.wasi_turns.specs.Slots.{first_slots, given_name, is_closed_slot};

@@ -2,20 +2,9 @@
 //! them.
 #![tactic(auto)]
 
-mod call_parts;
 mod calls;
 mod context;
-mod descriptors;
-mod file_parts;
-mod filestats;
-mod items;
-mod listing_parts;
-mod look_parts;
-mod new_times;
-mod open_with;
-mod poll_parts;
 mod run;
-mod view_parts;
 
 pub use context::{CtxRefused, Ended, FUEL, WasiP1Ctx};
 pub use run::{call, run_calls};

@@ -2,11 +2,11 @@
 ghost use Rattle.wasi_guest.specs.declared.call.Call.TheVariants.{FdReaddir};
 ghost use Rattle.wasi_turns.specs.Method.{StaysInBounds, DoesItsRow};
 
-use crate::call_parts::{room_at, start_at};
 use crate::context::WasiP1Ctx;
-use crate::listing_parts::{listing_of, write_page};
 use wasi_guest::Value;
 use wasi_host::Host;
+use wasi_p1_parts::call_parts::{room_at, start_at};
+use wasi_p1_parts::listing_parts::{listing_of, write_page};
 use wasi_turns::P1Error;
 
 impl<H: Host> WasiP1Ctx<H> {

@@ -2,11 +2,11 @@
 ghost use Rattle.wasi_guest.specs.declared.call.Call.TheVariants.{PathOpen};
 ghost use Rattle.wasi_turns.specs.Method.{StaysInBounds, DoesItsRow};
 
-use crate::call_parts::{directory_at, open_into, room_at};
 use crate::context::WasiP1Ctx;
-use crate::open_with::OpenWith;
 use wasi_guest::Value;
 use wasi_host::Host;
+use wasi_p1_parts::call_parts::{directory_at, open_into, room_at};
+use wasi_p1_parts::open_with::OpenWith;
 use wasi_turns::{P1Error, text_at};
 
 impl<H: Host> WasiP1Ctx<H> {

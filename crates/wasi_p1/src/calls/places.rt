@@ -2,14 +2,14 @@
 ghost use Rattle.wasi_guest.specs.declared.call.Call.TheVariants.{PathCreateDirectory, PathFilestatGet, PathReadlink, PathRemoveDirectory, PathSymlink, PathUnlinkFile};
 ghost use Rattle.wasi_turns.specs.Method.{StaysInBounds, DoesItsRow};
 
-use crate::call_parts::{start_at, stat_both};
 use crate::context::WasiP1Ctx;
-use crate::open_with::path_flags_of;
-use crate::view_parts::places::{
-    create_directory_at, readlink_at, remove_directory_at, symlink_at, unlink_file_at,
-};
 use wasi_guest::Value;
 use wasi_host::Host;
+use wasi_p1_parts::call_parts::{start_at, stat_both};
+use wasi_p1_parts::open_with::path_flags_of;
+use wasi_p1_parts::view_parts::places::{
+    create_directory_at, readlink_at, remove_directory_at, symlink_at, unlink_file_at,
+};
 use wasi_turns::{P1Error, text_at, write_front};
 
 impl<H: Host> WasiP1Ctx<H> {

@@ -2,13 +2,13 @@
 ghost use Rattle.wasi_guest.specs.declared.call.Call.TheVariants.{PollOneoff};
 ghost use Rattle.wasi_turns.specs.Method.{StaysInBounds, DoesItsRow};
 
-use crate::call_parts::room_at;
 use crate::context::WasiP1Ctx;
-use crate::poll_parts::{
-    all_waited, judged_at, lists_within, reads_files, sizes_of, some_asked, tell_events,
-};
 use wasi_guest::Value;
 use wasi_host::Host;
+use wasi_p1_parts::call_parts::room_at;
+use wasi_p1_parts::poll_parts::{
+    all_waited, judged_at, lists_within, reads_files, sizes_of, some_asked, tell_events,
+};
 use wasi_turns::{P1Error, charge};
 
 impl<H: Host> WasiP1Ctx<H> {

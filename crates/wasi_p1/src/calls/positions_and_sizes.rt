@@ -2,12 +2,12 @@
 ghost use Rattle.wasi_guest.specs.declared.call.Call.TheVariants.{FdAdvise, FdAllocate, FdDatasync, FdFilestatSetSize, FdSeek, FdSync, FdTell};
 ghost use Rattle.wasi_turns.specs.Method.{StaysInBounds, DoesItsRow};
 
-use crate::call_parts::put_back;
 use crate::context::WasiP1Ctx;
-use crate::file_parts::{file_at, position_sought, view_advice};
-use crate::view_parts::nodes::{advise, set_size, sync, sync_data};
 use wasi_guest::{Errno, Value};
 use wasi_host::Host;
+use wasi_p1_parts::call_parts::put_back;
+use wasi_p1_parts::file_parts::{file_at, position_sought, view_advice};
+use wasi_p1_parts::view_parts::nodes::{advise, set_size, sync, sync_data};
 use wasi_turns::{FileSlot, FileUse, P1Error, advice_of, whence_of};
 
 impl<H: Host> WasiP1Ctx<H> {

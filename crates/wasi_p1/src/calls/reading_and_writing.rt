@@ -5,11 +5,11 @@ ghost use Rattle.wasi_turns.specs.Method.{StaysInBounds, DoesItsRow};
 ghost use Rattle.wasi_turns.specs.Guest.{state_of};
 ghost use Rattle.wasi_turns.specs.Writing.{WritesWhole};
 
-use crate::call_parts::{put_back, read_into, sink_at, source_at};
 use crate::context::WasiP1Ctx;
-use crate::file_parts::{file_at, put_next, put_piece, read_place};
 use wasi_guest::{Iovec, Value};
 use wasi_host::Host;
+use wasi_p1_parts::call_parts::{put_back, read_into, sink_at, source_at};
+use wasi_p1_parts::file_parts::{file_at, put_next, put_piece, read_place};
 use wasi_turns::{FileSlot, FileUse, P1Error, Put, Sink, Source, buffer_at, bytes_at, check_write};
 
 /// How many bytes a read at an offset fills at most.

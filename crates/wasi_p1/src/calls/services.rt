@@ -2,10 +2,10 @@
 ghost use Rattle.wasi_guest.specs.declared.call.Call.TheVariants.{ArgsGet, ArgsSizesGet, ClockResGet, ClockTimeGet, EnvironGet, EnvironSizesGet, ProcExit, ProcRaise, RandomGet, SchedYield, SockAccept, SockRecv, SockSend, SockShutdown};
 ghost use Rattle.wasi_turns.specs.Method.{StaysInBounds, DoesItsRow};
 
-use crate::call_parts::live_at;
 use crate::context::WasiP1Ctx;
 use wasi_guest::{Errno, FdFlags, RiFlags, SdFlags, Value};
 use wasi_host::Host;
+use wasi_p1_parts::call_parts::live_at;
 use wasi_turns::{INVALID, P1Error, bytes_at, exit_with, known_signal};
 
 impl<H: Host> WasiP1Ctx<H> {

@@ -2,13 +2,13 @@
 ghost use Rattle.wasi_guest.specs.declared.call.Call.TheVariants.{FdFilestatSetTimes, PathFilestatSetTimes};
 ghost use Rattle.wasi_turns.specs.Method.{StaysInBounds, DoesItsRow};
 
-use crate::call_parts::{descriptor_at, start_at};
 use crate::context::WasiP1Ctx;
-use crate::open_with::path_flags_of;
-use crate::view_parts::nodes::set_times;
-use crate::view_parts::places::set_times_at;
 use wasi_guest::Value;
 use wasi_host::Host;
+use wasi_p1_parts::call_parts::{descriptor_at, start_at};
+use wasi_p1_parts::open_with::path_flags_of;
+use wasi_p1_parts::view_parts::nodes::set_times;
+use wasi_p1_parts::view_parts::places::set_times_at;
 use wasi_turns::{NewTimes, P1Error, text_at};
 
 impl<H: Host> WasiP1Ctx<H> {

@@ -2,12 +2,12 @@
 ghost use Rattle.wasi_guest.specs.declared.call.Call.TheVariants.{PathLink, PathRename};
 ghost use Rattle.wasi_turns.specs.Method.{StaysInBounds, DoesItsRow};
 
-use crate::call_parts::start_at;
 use crate::context::WasiP1Ctx;
-use crate::open_with::path_flags_of;
-use crate::view_parts::two_places::{link_at, rename_at};
 use wasi_guest::Value;
 use wasi_host::Host;
+use wasi_p1_parts::call_parts::start_at;
+use wasi_p1_parts::open_with::path_flags_of;
+use wasi_p1_parts::view_parts::two_places::{link_at, rename_at};
 use wasi_turns::{P1Error, text_at};
 
 impl<H: Host> WasiP1Ctx<H> {

@@ -11,5 +11,5 @@ returns-clause-bytes g c told =
 
 pub returns-then-is_err-clause-bytes : goal.returns-then-is_err-clause-bytes
 returns-then-is_err-clause-bytes g c told =
-    let fits : c.in-Ok.count ≤ c.min-want.result = grind (arith, common_steps) in
-    read_on c.loop-all.all.items (c.loop-all.invariant.left told) (c.in-Ok.ensures.bytes told) (omega arith)
+    let fits : c.in-Ok-read.count ≤ c.min-want.result = grind (arith, common_steps) in
+    read_on c.loop-all.all.items (c.loop-all.invariant.left told) (c.in-Ok-read.ensures.bytes told) (omega arith)

@@ -7,7 +7,7 @@ use Rattle.wasi_form.proofs.Unreads.{passed_on, unread_part}
 use Rattle.wasi_form.proofs.atoms.atoms_left.Goals as goal
 
 pub items-init : goal.items-init
-items-init c = all_left (λ ds. ap (λ list. items_before atom_data list (flat_items ds)) (sym c.in_ok-found.ensures.items))
+items-init c = all_left (λ ds. ap (λ list. items_before atom_data list (flat_items ds)) (sym c.new-found.ensures.items))
 
 pub items-smaller : goal.items-smaller
 items-smaller c =
@@ -21,12 +21,12 @@ items-preserved c =
     let goes_on : (after_end_array c.items.reader ≡ None) × (c.take_end_array.new.self ≡ c.items.reader) = grind arith in
     let item = made_of flat _ _ _ (rw goes_on.1 at c.in_ok-item.ensures) in
     one_less {d = item.0} c.items.invariant goes_on.0 item.1
-    (atom_more c.items.found.items c.push.new.self.items c.in_ok-item.item item.0 c.in_ok-push.ensures.items item.2)
+    (atom_more c.items.found.items c.push.new.self.items c.in_ok-item.item item.0 c.in_ok-push.ensures.ok item.2)
 
 pub returns-in_err-item : goal.returns-in_err-item
 returns-in_err-item c =
     let goes_on : (after_end_array c.items.reader ≡ None) × (c.take_end_array.new.self ≡ c.items.reader) = grind arith in
-    passed_on _ c.from_residual-in_err-item.result _ _ c.from_residual-in_err-item.ensures.1
+    passed_on _ c.from_residual.result _ _ c.from_residual.ensures.1
     (unread_part _ _ _ (λ none. left_unread c.items.invariant goes_on.0 (none_made flat _ none)) (rw goes_on.1 at c.in_err-item.ensures))
 
 pub returns : goal.returns

@@ -5,7 +5,7 @@ use Rattle.wasi_turns.specs.Rows.PositionsAndSizes.{fd_datasync}
 use Rattle.wasi_turns.proofs.Below.{changed_err, changed_ok}
 use Rattle.wasi_turns.proofs.Setting.{called_ok, called_err, not_wanted}
 use Rattle.wasi_turns.proofs.Taking.{unchanged}
-use Rattle.wasi_p1.proofs.Viewing.{lowered_err, lowered_ok, on_refusal}
+use Rattle.wasi_p1_parts.proofs.Viewing.{lowered_err, lowered_ok, on_refusal}
 use Rattle.wasi_p1.proofs.context.WasiP1Ctx.fd_datasync.Goals as goal
 
 pub returns-in_err-sync_data-clause-turn : goal.returns-in_err-sync_data-clause-turn

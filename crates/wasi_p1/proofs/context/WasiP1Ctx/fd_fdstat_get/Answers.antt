@@ -5,7 +5,7 @@ use Rattle.wasi_turns.specs.Fdstats.{directory_fdstat, file_told}
 use Rattle.wasi_turns.specs.Request.{Direct}
 use Rattle.wasi_turns.specs.Row.{give}
 use Rattle.wasi_turns.specs.Rows.Descriptors.{fd_fdstat_get}
-use Rattle.wasi_p1.specs.Viewed.{descriptor_under}
+use Rattle.wasi_p1_parts.specs.Viewed.{descriptor_under}
 use Rattle.wasi_turns.proofs.RowEnds.{with_fdstat}
 use Rattle.wasi_turns.proofs.Taking.{makes_err, makes_ok, unchanged, on_err}
 use Rattle.wasi_p1.proofs.context.WasiP1Ctx.fd_fdstat_get.Goals as goal

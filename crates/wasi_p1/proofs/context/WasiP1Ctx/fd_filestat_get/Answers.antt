@@ -3,7 +3,7 @@ use Rattle.wasi_host.specs.HostCall.{Stat}
 use Rattle.wasi_turns.specs.Filestats.{filestat_in, stat_both}
 use Rattle.wasi_turns.specs.Request.{Direct}
 use Rattle.wasi_turns.specs.Rows.Descriptors.{fd_filestat_get}
-use Rattle.wasi_p1.specs.Viewed.{descriptor_under}
+use Rattle.wasi_p1_parts.specs.Viewed.{descriptor_under}
 use Rattle.wasi_turns.proofs.RowEnds.{with_filestat}
 use Rattle.wasi_turns.proofs.Taking.{makes_err, makes_ok, unchanged, on_err}
 use Rattle.wasi_p1.proofs.context.WasiP1Ctx.fd_filestat_get.Goals as goal

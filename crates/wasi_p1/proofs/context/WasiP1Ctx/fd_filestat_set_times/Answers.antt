@@ -6,7 +6,7 @@ use Rattle.wasi_turns.proofs.Below.{changed_err, changed_ok}
 use Rattle.wasi_turns.proofs.Setting.{set_ok, set_err, not_wanted}
 use Rattle.wasi_turns.proofs.Taking.{refused, unchanged, on_err}
 use Rattle.wasi_turns.specs.Rows.Times.{fd_filestat_set_times}
-use Rattle.wasi_p1.proofs.Viewing.{lowered_err, lowered_ok, on_refusal}
+use Rattle.wasi_p1_parts.proofs.Viewing.{lowered_err, lowered_ok, on_refusal}
 use Rattle.wasi_p1.proofs.context.WasiP1Ctx.fd_filestat_set_times.Goals as goal
 
 pub returns-in_err-set_times-clause-turn : goal.returns-in_err-set_times-clause-turn

@@ -7,8 +7,8 @@ use Rattle.wasi_turns.proofs.Resolving.{made_ok, made_not}
 use Rattle.wasi_turns.proofs.Stating.{stated_reply, stated_again}
 use Rattle.wasi_turns.proofs.Taking.{makes_err, makes_ok, unchanged, on_err}
 use Rattle.wasi_turns.specs.Rows.Places.{path_filestat_get}
-use Rattle.wasi_p1.proofs.ViewedStats.{shown_row}
-use Rattle.wasi_p1.proofs.Viewing.{lowered_err, lowered_shown, on_refusal}
+use Rattle.wasi_p1_parts.proofs.ViewedStats.{shown_row}
+use Rattle.wasi_p1_parts.proofs.Viewing.{lowered_err, lowered_shown, on_refusal}
 use Rattle.wasi_p1.proofs.context.WasiP1Ctx.path_filestat_get.Goals as goal
 
 pub returns-in_err-both-clause-turn : goal.returns-in_err-both-clause-turn

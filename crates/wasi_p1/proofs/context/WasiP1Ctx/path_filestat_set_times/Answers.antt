@@ -2,7 +2,7 @@ use Rattle.std.proofs.Common.{refl}
 use Rattle.wasi_resolve.specs.PathRequest.{TimesPath}
 use Rattle.wasi_turns.proofs.Below.{done_err, done_ok}
 use Rattle.wasi_turns.specs.Rows.Times.{path_filestat_set_times}
-use Rattle.wasi_p1.proofs.Viewing.{lowered_err, lowered_ok, on_refusal}
+use Rattle.wasi_p1_parts.proofs.Viewing.{lowered_err, lowered_ok, on_refusal}
 use Rattle.wasi_p1.proofs.context.WasiP1Ctx.path_filestat_set_times.Goals as goal
 
 pub returns-in_err-set_times_at-clause-turn : goal.returns-in_err-set_times_at-clause-turn

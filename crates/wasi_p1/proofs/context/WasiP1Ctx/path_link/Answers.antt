@@ -4,7 +4,7 @@ use Rattle.wasi_resolve.specs.PathRequest.{AtTwo}
 use Rattle.wasi_turns.proofs.Below.{done_err, done_ok}
 use Rattle.wasi_turns.specs.Rows.TwoPlaces.{path_link}
 use Rattle.wasi_turns.proofs.Taking.{refusals}
-use Rattle.wasi_p1.proofs.Viewing.{lowered_err, lowered_ok, on_refusal}
+use Rattle.wasi_p1_parts.proofs.Viewing.{lowered_err, lowered_ok, on_refusal}
 use Rattle.wasi_p1.proofs.context.WasiP1Ctx.path_link.Goals as goal
 
 pub returns-in_err-link_at-clause-turn : goal.returns-in_err-link_at-clause-turn

@@ -7,7 +7,7 @@ use Rattle.wasi_turns.proofs.RowEnds.{with_text}
 use Rattle.wasi_turns.proofs.Below.{found_err, found_refused, found_ok}
 use Rattle.wasi_turns.specs.Rows.Places.{path_readlink}
 use Rattle.wasi_turns.proofs.Taking.{unchanged, on_err}
-use Rattle.wasi_p1.proofs.Viewing.{lowered_err, lowered_ok, on_refusal}
+use Rattle.wasi_p1_parts.proofs.Viewing.{lowered_err, lowered_ok, on_refusal}
 use Rattle.wasi_p1.proofs.context.WasiP1Ctx.path_readlink.Goals as goal
 
 pub returns-in_err-link-clause-turn : goal.returns-in_err-link-clause-turn

@@ -3,7 +3,7 @@ use Rattle.wasi_resolve.specs.AtPlace.{Symlink}
 use Rattle.wasi_resolve.specs.PathRequest.{AtPlace}
 use Rattle.wasi_turns.proofs.Below.{done_err, done_ok}
 use Rattle.wasi_turns.specs.Rows.Places.{path_symlink}
-use Rattle.wasi_p1.proofs.Viewing.{lowered_err, lowered_ok, on_refusal}
+use Rattle.wasi_p1_parts.proofs.Viewing.{lowered_err, lowered_ok, on_refusal}
 use Rattle.wasi_p1.proofs.context.WasiP1Ctx.path_symlink.Goals as goal
 
 pub returns-in_err-symlink_at-clause-turn : goal.returns-in_err-symlink_at-clause-turn

@@ -1,9 +1,0 @@
-mod ClosedHeap
-mod Naming
-mod Tabled
-mod Exchanging
-mod Viewing
-mod WallTimes
-mod NamedFlags
-mod OpeningThrough
-mod ViewedStats

@@ -1,0 +1,9 @@
+pub mod ClosedHeap
+pub mod Naming
+pub mod Tabled
+pub mod Exchanging
+pub mod Viewing
+pub mod WallTimes
+pub mod NamedFlags
+pub mod OpeningThrough
+pub mod ViewedStats

@@ -1,0 +1,354 @@
+//! What the calls on files and on preopens do with a host and a guest's memory, a part at a time.
+ghost use Rattle.std.specs.Prelude.{◌≡◌, ◌≢◌, true, false, IsTrue, length, slice_get, option_map, Some, None, IfOk, IfErr, OnErr};
+ghost use Rattle.std.specs.FinSet.{contains};
+ghost use Rattle.std.specs.Result.{result_map_both};
+ghost use Rattle.wasi_guest.specs.FlagSets.{fdflag_bits};
+ghost use Rattle.wasi_host.specs.HostCall.{Append, Stat};
+ghost use Rattle.wasi_host.specs.Meaning.{Rose};
+ghost use Rattle.wasi_turns.specs.CallParts.{IsReplied, Knows, Makes, WantsNoMemory, is_failure, open_file_of};
+ghost use Rattle.wasi_turns.specs.CallTurn.{Causes};
+ghost use Rattle.wasi_turns.specs.Files.{base_in, file_in, host_advice, name_at, name_into, not_synchronized, or_refused, position_from, read_place_in, stream_refused};
+ghost use Rattle.wasi_turns.specs.Guest.{guest_slots};
+ghost use Rattle.wasi_turns.specs.Owners.{handles, Owned};
+ghost use Rattle.wasi_turns.specs.Putting.{appended_in, count_in, put_call, put_in, put_request};
+ghost use Rattle.wasi_turns.specs.Request.{Direct, Behind};
+ghost use Rattle.wasi_turns.specs.Row.{give};
+ghost use Rattle.wasi_turns.specs.Services.{with_unit};
+ghost use Rattle.wasi_p1_parts.specs.Viewed.{descriptor_under};
+ghost use Rattle.wasi_p2_types.specs.Advices.{advice_named};
+ghost use Rattle.wasi_turns.specs.CallParts.{with_after};
+ghost use Rattle.wasi_guest.specs.declared.errno.Errno.TheVariants as errnos;
+ghost use Rattle.wasi_turns.specs.declared.error.P1Error.TheVariants as errors;
+ghost use Rattle.wasi_turns.specs.declared.usage.FileUse.TheVariants.{ReadAt};
+
+use crate::call_parts::{room_at, write_piece};
+use crate::descriptors::Descriptors;
+use bitflags::Flags;
+use wasi_fs::Descriptor;
+use wasi_guest::{Advice, Errno, FdFlags, Whence, write_bytes};
+use wasi_host::{Handle, Host};
+use wasi_p2::types;
+use wasi_turns::{
+    FileModes, FileSlot, FileUse, Holdings, INVALID, P1Error, Put, Slot, Stream, bytes_at,
+};
+
+/// How a standard stream is refused where a file is asked for.
+fn stream_refusal(wanted: FileUse, stream: Stream) -> P1Error
+    ensures row { result ≡ errors.Errno (stream_refused wanted stream) }
+    ensures refusal { is_failure result ≡ false }
+{
+    let errno = match wanted {
+        FileUse::Itself => Errno::Badf,
+        FileUse::Position => Errno::Spipe,
+        FileUse::ReadAt => match stream {
+            Stream::Input => Errno::Spipe,
+            Stream::Output | Stream::Error => Errno::Badf,
+        },
+        FileUse::WriteAt => match stream {
+            Stream::Input => Errno::Badf,
+            Stream::Output | Stream::Error => Errno::Spipe,
+        },
+    };
+    P1Error::Errno(errno)
+}
+
+/// The file of a number: Badf where that isn't a file's, and Spipe of a standard stream where a place in a file is
+/// named that could be read or written there.
+#[tactic(auto, using(wasi_turns::proofs::SlotRules::slots))]
+pub fn file_at<H: Host>(
+    host: &H,
+    descriptors: &Descriptors,
+    fd: u32,
+    wanted: FileUse,
+) -> Result<FileSlot, P1Error>
+    requires owned { Owned (H.live host.now) (handles descriptors.now.slots) }
+    ensures live { IfOk result (λ f. contains (H.live host.now) f.file.file ≡ true) }
+    ensures is { IfOk result (λ f. slice_get descriptors.now.slots fd ≡ Some (Slot.File f)) }
+    ensures stands { IfOk result (λ f. descriptor_under (slice_get descriptors.now.slots fd)
+        ≡ Some (Descriptor.File f.file)) }
+    ensures refusal { IfErr result (λ e. is_failure e ≡ false) }
+    ensures row { result_map_both (open_file_of (H.world host.now).held) (λ e. e) result
+        ≡ file_in wanted (slice_get (guest_slots (H.world host.now).held descriptors.now.slots) fd) }
+{
+    let Some(slot) = descriptors.get(fd) else {
+        return Err(P1Error::Errno(Errno::Badf));
+    };
+    match slot {
+        Slot::File(file) => Ok(file),
+        Slot::Stream(stream) => Err(stream_refusal(wanted, stream)),
+        Slot::Directory(_) => Err(P1Error::Errno(Errno::Badf)),
+        Slot::Closed => Err(P1Error::Errno(Errno::Badf)),
+    }
+}
+
+/// The file of a number that is read at an offset: as such a number is refused, and trap TableFull where no descriptor
+/// more may be live, since the crate reads through a stream.
+pub fn read_place<H: Host>(
+    host: &H,
+    descriptors: &Descriptors,
+    fd: u32,
+) -> Result<FileSlot, P1Error>
+    requires owned { Owned (H.live host.now) (handles descriptors.now.slots) }
+    ensures live { IfOk result (λ f. contains (H.live host.now) f.file.file ≡ true) }
+    ensures is { IfOk result (λ f. slice_get descriptors.now.slots fd ≡ Some (Slot.File f)) }
+    ensures refusal { IfErr result (λ e. is_failure e ≡ false) }
+    ensures row { result_map_both (open_file_of (H.world host.now).held) (λ e. e) result
+        ≡ read_place_in (guest_slots (H.world host.now).held descriptors.now.slots) descriptors.now.max
+        (slice_get (guest_slots (H.world host.now).held descriptors.now.slots) fd) }
+{
+    let file = file_at(host, descriptors, fd, FileUse::ReadAt)?;
+    room_at(host, descriptors, 1)?;
+    Ok(file)
+}
+
+/// From where a position is counted, but for the end of the file.
+fn base_of(position: u64, whence: Whence) -> Option<u64>
+    ensures { result ≡ base_in position whence }
+{
+    match whence {
+        Whence::Set => Some(0),
+        Whence::Cur => Some(position),
+        Whence::End => None,
+    }
+}
+
+/// A position so far from another one: Inval where that is below 0, or 64 bits don't hold it.
+#[tactic(auto, unfolding(wasi_turns::specs::Files::position_from))]
+fn position_from(base: u64, offset: i64) -> Result<u64, P1Error>
+    ensures row { result ≡ position_from base offset }
+    ensures refusal { IfErr result (λ e. is_failure e ≡ false) }
+    ensures never_wants { IfErr result WantsNoMemory }
+{
+    base.checked_add_signed(offset).ok_or(INVALID)
+}
+
+/// A position so far from the end of a file, whose size the host tells: Inval as of `position_from`.
+fn position_from_end<H: Host>(host: &mut H, file: Handle, offset: i64) -> Result<u64, P1Error>
+    requires live { contains (H.live host.old) file ≡ true }
+    ensures cause { Causes (H.faults host.old) (H.faults host.new) result }
+    ensures live { H.live host.new ≡ H.live host.old }
+    ensures logged { H.lookups host.new ≡ H.lookups host.old }
+    ensures never_wants { IfErr result WantsNoMemory }
+
+    // The row, over every host and over one that tells its world.
+    ensures front { IsReplied (Direct (Stat ((H.world host.old).held file).node))
+        (λ metadata. position_from metadata.size offset) result }
+    ensures told { IsTrue H.told → Makes (Rose (H.faults host.old) (H.faults host.new)) (H.live host.old)
+        (H.world host.old) (H.world host.new) (Direct (Stat ((H.world host.old).held file).node))
+        (λ metadata. position_from metadata.size offset) result }
+{
+    let metadata = host.stat(file)?;
+    let position = position_from(metadata.size, offset)?;
+    Ok(position)
+}
+
+/// A position so far from the place that `whence` names, of a file at another one: Inval as of `position_from`. The
+/// host is asked for the file's size where the place is its end.
+pub fn position_sought<H: Host>(
+    host: &mut H,
+    file: Handle,
+    position: u64,
+    whence: Whence,
+    offset: i64,
+) -> Result<u64, P1Error>
+    requires live { contains (H.live host.old) file ≡ true }
+    ensures cause { Causes (H.faults host.old) (H.faults host.new) result }
+    ensures live { H.live host.new ≡ H.live host.old }
+    ensures logged { H.lookups host.new ≡ H.lookups host.old }
+    ensures never_wants { IfErr result WantsNoMemory }
+
+    // The row, over every host and over one that tells its world.
+    ensures known { Knows (base_in position whence) (λ base. position_from base offset) result host.old host.new }
+    ensures front { base_in position whence ≡ None → IsReplied (Direct (Stat ((H.world host.old).held file).node))
+        (λ metadata. position_from metadata.size offset) result }
+    ensures told { IsTrue H.told → base_in position whence ≡ None
+        → Makes (Rose (H.faults host.old) (H.faults host.new)) (H.live host.old) (H.world host.old)
+        (H.world host.new) (Direct (Stat ((H.world host.old).held file).node))
+        (λ metadata. position_from metadata.size offset) result }
+{
+    let Some(base) = base_of(position, whence) else {
+        return position_from_end(host, file, offset);
+    };
+    position_from(base, offset)
+}
+
+/// Puts a piece behind a file's last byte, and gives how many bytes the file took. A host that takes nothing of a piece
+/// that isn't empty has failed.
+#[tactic(auto, using(wasi_host::proofs::Chain::live_rules))]
+fn append_piece<H: Host>(host: &mut H, file: Handle, piece: &[u8]) -> Result<u64, P1Error>
+    requires live { contains (H.live host.old) file ≡ true }
+    ensures cause { Causes (H.faults host.old) (H.faults host.new) result }
+    ensures live { H.live host.new ≡ H.live host.old }
+    ensures logged { H.lookups host.new ≡ H.lookups host.old }
+
+    // The row, over every host and over one that tells its world.
+    ensures front { IsReplied (Direct (Append ((H.world host.old).held file) piece.now)) give result }
+    ensures told { IsTrue H.told → Makes (Rose (H.faults host.old) (H.faults host.new)) (H.live host.old)
+        (H.world host.old) (H.world host.new) (Direct (Append ((H.world host.old).held file) piece.now)) give result }
+{
+    let count = host.append(file, piece)?;
+    if count == 0 && !piece.is_empty() {
+        return Err(P1Error::Errno(Errno::Io));
+    }
+    Ok(count as u64)
+}
+
+/// Puts a piece behind a file's last byte, as `append_piece` does; the position is the file's size after that.
+fn put_behind<H: Host>(host: &mut H, file: Handle, piece: &[u8]) -> Result<Put, P1Error>
+    requires live { contains (H.live host.old) file ≡ true }
+    ensures cause { Causes (H.faults host.old) (H.faults host.new) result }
+    ensures live { H.live host.new ≡ H.live host.old }
+    ensures logged { H.lookups host.new ≡ H.lookups host.old }
+
+    // The row, over every host and over one that tells its world.
+    ensures front { IsReplied (Behind ((H.world host.old).held file) piece.now) (λ put. give (appended_in put)) result }
+    ensures told { IsTrue H.told → Makes (Rose (H.faults host.old) (H.faults host.new)) (H.live host.old)
+        (H.world host.old) (H.world host.new) (Behind ((H.world host.old).held file) piece.now)
+        (λ put. give (appended_in put)) result }
+{
+    let count = append_piece(host, file, piece)?;
+    let metadata = host.stat(file)?;
+    Ok(Put {
+        count,
+        position: metadata.size,
+    })
+}
+
+/// Puts a piece into a file, in append mode behind its last byte and else from an offset on, and gives how many bytes
+/// the file took.
+pub fn put_piece<H: Host>(
+    host: &mut H,
+    file: Handle,
+    modes: FileModes,
+    offset: u64,
+    piece: &[u8],
+) -> Result<u64, P1Error>
+    requires live { contains (H.live host.old) file ≡ true }
+    ensures cause { Causes (H.faults host.old) (H.faults host.new) result }
+    ensures live { H.live host.new ≡ H.live host.old }
+    ensures logged { H.lookups host.new ≡ H.lookups host.old }
+
+    // The row, over every host and over one that tells its world.
+    ensures front { IsReplied (Direct (put_call modes.append ((H.world host.old).held file) offset piece.now))
+        (λ answer. give (count_in modes.append ((H.world host.old).held file) offset piece.now answer)) result }
+    ensures told { IsTrue H.told → Makes (Rose (H.faults host.old) (H.faults host.new)) (H.live host.old)
+        (H.world host.old) (H.world host.new)
+        (Direct (put_call modes.append ((H.world host.old).held file) offset piece.now))
+        (λ answer. give (count_in modes.append ((H.world host.old).held file) offset piece.now answer)) result }
+{
+    if modes.append {
+        return append_piece(host, file, piece);
+    }
+    write_piece(host, file, offset, piece)
+}
+
+/// Puts a piece into a file, in append mode behind its last byte and else from its position on, and gives where its
+/// position is then: in append mode the file's size, and else behind what the file took.
+pub fn put_next<H: Host>(
+    host: &mut H,
+    file: Handle,
+    modes: FileModes,
+    position: u64,
+    piece: &[u8],
+) -> Result<Put, P1Error>
+    requires live { contains (H.live host.old) file ≡ true }
+    ensures cause { Causes (H.faults host.old) (H.faults host.new) result }
+    ensures live { H.live host.new ≡ H.live host.old }
+    ensures logged { H.lookups host.new ≡ H.lookups host.old }
+
+    // The row, over every host and over one that tells its world.
+    ensures front { IsReplied (put_request modes.append ((H.world host.old).held file) position piece.now)
+        (λ reply. give (put_in modes.append ((H.world host.old).held file) position piece.now reply)) result }
+    ensures told { IsTrue H.told → Makes (Rose (H.faults host.old) (H.faults host.new)) (H.live host.old)
+        (H.world host.old) (H.world host.new)
+        (put_request modes.append ((H.world host.old).held file) position piece.now)
+        (λ reply. give (put_in modes.append ((H.world host.old).held file) position piece.now reply)) result }
+{
+    if modes.append {
+        return put_behind(host, file, piece);
+    }
+    let count = write_piece(host, file, position, piece)?;
+    Ok(Put {
+        count,
+        position: position + count,
+    })
+}
+
+/// The advice of the same name.
+pub fn view_advice(advice: Advice) -> types::Advice
+    ensures { advice_named result ≡ host_advice advice }
+{
+    match advice {
+        Advice::Normal => types::Advice::Normal,
+        Advice::Sequential => types::Advice::Sequential,
+        Advice::Random => types::Advice::Random,
+        Advice::WillNeed => types::Advice::WillNeed,
+        Advice::DontNeed => types::Advice::DontNeed,
+        Advice::NoReuse => types::Advice::NoReuse,
+    }
+}
+
+/// Inval of a flag of integrity.
+#[tactic(auto, unfolding(wasi_turns::specs::Files::not_synchronized))]
+pub fn not_synchronized(fdflags: FdFlags) -> Result<(), P1Error>
+    ensures row { result ≡ not_synchronized (fdflag_bits fdflags) }
+    ensures refusal { IfErr result (λ e. is_failure e ≡ false) }
+{
+    if fdflags.contains(FdFlags::DSYNC)
+        || fdflags.contains(FdFlags::RSYNC)
+        || fdflags.contains(FdFlags::SYNC)
+    {
+        return Err(INVALID);
+    }
+    Ok(())
+}
+
+/// The name of the directory of a number, if the guest was given it.
+fn preopen_name<'h, H: Host>(
+    host: &H,
+    descriptors: &Descriptors,
+    holdings: &'h Holdings,
+    fd: u32,
+) -> Option<&'h str>
+    ensures name { option_map (λ name. name.now) result ≡ name_at holdings.now.preopens
+        (slice_get (guest_slots (H.world host.now).held descriptors.now.slots) fd) }
+{
+    match descriptors.get(fd)? {
+        Slot::Directory(directory) => holdings.preopen_name(directory.preopen?),
+        Slot::File(_) | Slot::Stream(_) | Slot::Closed => None,
+    }
+}
+
+/// The name of the directory of a number that the guest was given; another number is refused.
+pub fn preopen_at<'h, H: Host>(
+    host: &H,
+    descriptors: &Descriptors,
+    holdings: &'h Holdings,
+    fd: u32,
+    refusal: Errno,
+) -> Result<&'h str, P1Error>
+    requires code { refusal ≢ errnos.Io }
+    ensures refusal { IfErr result (λ e. is_failure e ≡ false) }
+    ensures row { result_map_both (λ name. name.now) (λ e. e) result ≡ or_refused refusal
+        (name_at holdings.now.preopens (slice_get (guest_slots (H.world host.now).held descriptors.now.slots) fd)) }
+{
+    preopen_name(host, descriptors, holdings, fd).ok_or(P1Error::Errno(refusal))
+}
+
+/// Puts a name into a range of memory: Nametoolong where it is longer than the range may be, and trap Pointer where the
+/// memory doesn't hold it there.
+#[tactic(auto, unfolding(wasi_turns::specs::Files::name_into, wasi_turns::specs::Files::name_within))]
+pub fn put_name(memory: &mut [u8], path: u32, path_len: u32, name: &str) -> Result<(), P1Error>
+    ensures size { length memory.new ≡ length memory.old }
+    ensures same { OnErr result (memory.new ≡ memory.old) }
+    ensures refusal { IfErr result (λ e. is_failure e ≡ false) }
+    ensures row { with_after result memory.new ≡ with_unit (name_into memory.old path name.now path_len) }
+{
+    let bytes = name.as_bytes();
+    if (path_len as usize) < bytes.len() {
+        return Err(P1Error::Errno(Errno::Nametoolong));
+    }
+    bytes_at(memory, path, bytes.len() as u32)?;
+    write_bytes(memory, path as usize, bytes);
+    Ok(())
+}

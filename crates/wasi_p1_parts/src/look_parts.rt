@@ -1,0 +1,133 @@
+//! What the calls that look at a descriptor do with a host, a part at a time.
+ghost use Rattle.std.specs.Prelude.{◌≡◌, slice_get, IsTrue, IfOk, IfErr, None, Some};
+ghost use Rattle.wasi_fs.specs.Calls.{handle_of, meant_as, stats, NotMemory};
+ghost use Rattle.wasi_host.specs.HostCall.{Flags, Stat};
+ghost use Rattle.wasi_host.specs.Meaning.{Rose};
+ghost use Rattle.wasi_turns.specs.CallParts.{IsReplied, Makes, WantsNoMemory, open_file_of};
+ghost use Rattle.wasi_turns.specs.CallTurn.{Causes};
+ghost use Rattle.wasi_turns.specs.Fdstats.{directory_fdstat, file_told};
+ghost use Rattle.wasi_turns.specs.Filestats.{filestat_in, stat_both, IsStated};
+ghost use Rattle.wasi_p1_parts.specs.Held.{HoldsHandles};
+ghost use Rattle.wasi_turns.specs.Owners.{handles};
+ghost use Rattle.wasi_turns.specs.Request.{Direct};
+ghost use Rattle.wasi_turns.specs.Row.{give};
+ghost use Rattle.wasi_p1_parts.specs.Viewed.{descriptor_under, Lowered};
+ghost use Rattle.wasi_p1_parts.specs.ViewedStats.{viewed};
+ghost use Rattle.wasi_p2_types.specs.FsErrors.{FsCause};
+ghost use Rattle.wasi_p2.specs.Views.{Performs};
+
+use crate::descriptors::Descriptors;
+use crate::filestats::{ViewedStat, filetype_named};
+use crate::view_parts::nodes::{get_flags, get_type, metadata_hash, stat};
+use wasi_fs::{Descriptor, Dir};
+use wasi_guest::{Fdstat, Filestat};
+use wasi_host::Host;
+use wasi_p2::{FsResult, WasiFilesystemCtx};
+use wasi_turns::{FileSlot, P1Error, directory_fdstat, file_fdstat};
+
+/// What is told of a descriptor's node: its two answers, which make one record.
+pub fn looked_at<H: Host>(
+    fs: &mut WasiFilesystemCtx<H>,
+    descriptors: &mut Descriptors,
+    fd: u32,
+    descriptor: &Descriptor,
+) -> FsResult<ViewedStat>
+    requires holds { HoldsHandles (H.live fs.old.host) (handles descriptors.old.slots) fs.old.preopens.items }
+    requires stands { descriptor_under (slice_get descriptors.old.slots fd) ≡ Some descriptor.now }
+    ensures ctx { fs.new ≡ record fs.old { host = fs.new.host } }
+    ensures same { descriptors.new ≡ descriptors.old }
+    ensures cause { FsCause (H.faults fs.old.host) (H.faults fs.new.host) result }
+    ensures live { H.live fs.new.host ≡ H.live fs.old.host }
+    ensures logged { H.lookups fs.new.host ≡ H.lookups fs.old.host }
+    ensures did { Lowered viewed (λ answer. IfErr answer NotMemory × IfOk answer IsStated
+        × Performs H.Host fs.old.host fs.new.host None (meant_as stat_both
+        (stats (H.world fs.old.host).tree ((H.world fs.old.host).held (handle_of descriptor.now)).node))
+        (λ both. both) answer) result }
+{
+    let stat = stat(fs, descriptors, fd, descriptor)?;
+    let hash = metadata_hash(fs, descriptors, fd, descriptor)?;
+    Ok(ViewedStat { stat, hash })
+}
+
+/// The record of a descriptor's node. Refusal: Overflow of a time that 64 bits of nanoseconds don't hold.
+pub fn node_filestat<H: Host>(
+    fs: &mut WasiFilesystemCtx<H>,
+    descriptors: &mut Descriptors,
+    fd: u32,
+    descriptor: &Descriptor,
+) -> Result<Filestat, P1Error>
+    requires holds { HoldsHandles (H.live fs.old.host) (handles descriptors.old.slots) fs.old.preopens.items }
+    requires stands { descriptor_under (slice_get descriptors.old.slots fd) ≡ Some descriptor.now }
+    ensures ctx { fs.new ≡ record fs.old { host = fs.new.host } }
+    ensures same { descriptors.new ≡ descriptors.old }
+    ensures cause { Causes (H.faults fs.old.host) (H.faults fs.new.host) result }
+    ensures live { H.live fs.new.host ≡ H.live fs.old.host }
+    ensures logged { H.lookups fs.new.host ≡ H.lookups fs.old.host }
+    ensures never_wants { IfErr result WantsNoMemory }
+    ensures front { IsReplied (Direct (Stat ((H.world fs.old.host).held (handle_of descriptor.now)).node))
+        (λ metadata. filestat_in (stat_both metadata)) result }
+    ensures told { IsTrue H.told → Makes (Rose (H.faults fs.old.host) (H.faults fs.new.host)) (H.live fs.old.host)
+        (H.world fs.old.host) (H.world fs.new.host)
+        (Direct (Stat ((H.world fs.old.host).held (handle_of descriptor.now)).node))
+        (λ metadata. filestat_in (stat_both metadata)) result }
+{
+    let both = looked_at(fs, descriptors, fd, descriptor)?;
+    let filestat = both.filestat()?;
+    Ok(filestat)
+}
+
+/// What is told of a directory's descriptor that isn't one of those that the guest was given. The host's answer tells
+/// nothing.
+pub fn dir_fdstat<H: Host>(
+    fs: &mut WasiFilesystemCtx<H>,
+    descriptors: &mut Descriptors,
+    fd: u32,
+    dir: Dir,
+) -> Result<Fdstat, P1Error>
+    requires holds { HoldsHandles (H.live fs.old.host) (handles descriptors.old.slots) fs.old.preopens.items }
+    requires stands { descriptor_under (slice_get descriptors.old.slots fd) ≡ Some (Descriptor.Dir dir) }
+    ensures ctx { fs.new ≡ record fs.old { host = fs.new.host } }
+    ensures same { descriptors.new ≡ descriptors.old }
+    ensures cause { Causes (H.faults fs.old.host) (H.faults fs.new.host) result }
+    ensures live { H.live fs.new.host ≡ H.live fs.old.host }
+    ensures logged { H.lookups fs.new.host ≡ H.lookups fs.old.host }
+    ensures never_wants { IfErr result WantsNoMemory }
+    ensures front { IsReplied (Direct (Flags ((H.world fs.old.host).held dir.dir).node))
+        (λ _. give directory_fdstat) result }
+    ensures told { IsTrue H.told → Makes (Rose (H.faults fs.old.host) (H.faults fs.new.host)) (H.live fs.old.host)
+        (H.world fs.old.host) (H.world fs.new.host) (Direct (Flags ((H.world fs.old.host).held dir.dir).node))
+        (λ _. give directory_fdstat) result }
+{
+    let dir = Descriptor::Dir(dir);
+    get_flags(fs, descriptors, fd, &dir)?;
+    Ok(directory_fdstat())
+}
+
+/// What is told of a file's descriptor: its type as the host says it, whose answer on its flags tells nothing.
+pub fn open_file_fdstat<H: Host>(
+    fs: &mut WasiFilesystemCtx<H>,
+    descriptors: &mut Descriptors,
+    fd: u32,
+    slot: FileSlot,
+) -> Result<Fdstat, P1Error>
+    requires holds { HoldsHandles (H.live fs.old.host) (handles descriptors.old.slots) fs.old.preopens.items }
+    requires stands { descriptor_under (slice_get descriptors.old.slots fd) ≡ Some (Descriptor.File slot.file) }
+    ensures ctx { fs.new ≡ record fs.old { host = fs.new.host } }
+    ensures same { descriptors.new ≡ descriptors.old }
+    ensures cause { Causes (H.faults fs.old.host) (H.faults fs.new.host) result }
+    ensures live { H.live fs.new.host ≡ H.live fs.old.host }
+    ensures logged { H.lookups fs.new.host ≡ H.lookups fs.old.host }
+    ensures never_wants { IfErr result WantsNoMemory }
+    ensures front { IsReplied (Direct (Stat ((H.world fs.old.host).held slot.file.file).node))
+        (λ metadata. give (file_told (open_file_of (H.world fs.old.host).held slot) metadata)) result }
+    ensures told { IsTrue H.told → Makes (Rose (H.faults fs.old.host) (H.faults fs.new.host)) (H.live fs.old.host)
+        (H.world fs.old.host) (H.world fs.new.host) (Direct (Stat ((H.world fs.old.host).held slot.file.file).node))
+        (λ metadata. give (file_told (open_file_of (H.world fs.old.host).held slot) metadata)) result }
+{
+    let FileSlot { file, modes, .. } = slot;
+    let mode = file.open_mode;
+    let file = Descriptor::File(file);
+    get_flags(fs, descriptors, fd, &file)?;
+    let kind = get_type(fs, descriptors, fd, &file)?;
+    Ok(file_fdstat(mode, modes, filetype_named(kind)))
+}
