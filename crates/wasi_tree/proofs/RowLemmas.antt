@@ -27,17 +27,17 @@ next-rows rows m limits worked t is =
     subst (λ u. next_of u ≡ length rows) is (length-named m 0 (map stored_node rows) ∙ length-map rows stored_node)
 
 -- a node has a row
-pub row_within : (rows : List Row) (m : AllNames) (limits : Limits) (worked : Nodes) (t : Tree) (n : ℕ)
+pub row_within : (rows : List Row) (m : AllNames) {limits : Limits} {worked : Nodes} {t : Tree} {n : ℕ}
     → stored_tree rows m limits worked ≡ t → n < next_of t → n < length rows
-row_within rows m limits worked t n stands within = omega (arith, within, next-rows rows m limits worked t stands)
+row_within rows m stands within = omega (arith, within, next-rows rows m _ _ _ stands)
 
 -- as many rows are as many nodes
-pub count_same : (rows rows' : List Row) (m m' : AllNames) (limits : Limits) (worked : Nodes) (t : Tree)
+pub count_same : (rows rows' : List Row) (m m' : AllNames) {limits : Limits} {worked : Nodes} {t : Tree}
     → length rows' ≡ length rows → stored_tree rows m limits worked ≡ t
     → length (named_from m' 0 (map stored_node rows')) ≡ next_of t
-count_same rows rows' m m' limits worked t same stands =
+count_same rows rows' m m' same stands =
     length-named m' 0 (map stored_node rows') ∙ length-map rows' stored_node ∙ same
-    ∙ sym (next-rows rows m limits worked t stands)
+    ∙ sym (next-rows rows m _ _ _ stands)
 
 row_at : (rows : List Row) (k : ℕ) (d : Row) → k < length rows
     → slice_index_or (map stored_node rows) k stray ≡ stored_node (slice_index_or rows k d)
@@ -153,6 +153,16 @@ module _ {rows : List Row} {m : AllNames} {limits : Limits} {worked : Nodes} {t 
         → IsStored (slice_set rows n new) m limits now count
     sound_written now same_seen stored same =
         sound_row change node_unnamed new node_written now (λ node. same_seen node.content) stored same
+
+-- what a row says without a look at its names, its node says
+pub said_at : (rows : List Row) (m : AllNames) {limits : Limits} {worked : Nodes} {t : Tree} {n : ℕ} {row : Row}
+    {B : Type 0} (f : Content → B)
+    → ((names old : Names) (gone : Bool) → f (Directory names gone) ≡ f (Directory old gone))
+    → stored_tree rows m limits worked ≡ t → n < next_of t → row ≡ slice_index_or rows n row
+    → f (stored_content row.content) ≡ f (node_at t n).content
+said_at rows m {limits} {worked} {t} {n} {row} f same stands within read =
+    let is : IsRow rows m limits worked t n row = record { stands = stands; within = within; read = read } in
+    sym (row_says is f same)
 
 -- ---- names
 

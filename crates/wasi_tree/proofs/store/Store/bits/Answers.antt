@@ -1,4 +1,3 @@
-use Rattle.std.proofs.lemmas.Grind.{common_steps}
 use Rattle.std.proofs.Common.{sym, ap, arith}
 use Rattle.wasi_host.specs.Tree.{Node}
 use Rattle.wasi_tree.proofs.RowLemmas.{IsRow, row_node, row_within}
@@ -12,6 +11,4 @@ returns c =
     sym (ap (λ (node : Node). node.bits) (row_node row))
 
 pub index-requires : goal.index-requires
-index-requires c =
-    let within = row_within _ _ _ _ _ c.args.n c.self.view_is c.requires in
-    grind (arith, common_steps)
+index-requires c = omega (arith, row_within _ _ c.self.view_is c.requires)

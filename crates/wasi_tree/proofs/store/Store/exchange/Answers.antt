@@ -66,4 +66,4 @@ returns-clause-stays c =
     rw (now at.After-mark-2 (held at.After-as_str)) (exchange_stays c.requires)
 
 pub returns-clause-count : goal.returns-clause-count
-returns-clause-count c = count_same _ _ _ _ _ _ _ refl c.self.view_is
+returns-clause-count c = count_same _ _ _ _ refl c.self.view_is

@@ -1,4 +1,3 @@
-use Rattle.std.proofs.lemmas.Grind.{common_steps}
 use Rattle.std.proofs.lemmas.List.{length-set}
 use Rattle.std.proofs.Common.{◌<◌, ◌-◌, ◌^◌, refl, subst, arith}
 use Rattle.wasi_host.specs.Tree.{node_at, links_of}
@@ -35,9 +34,7 @@ returns-clause-stays c =
     (stays_seen _ _ _ _ c.requires.within (seen-one_name_more (node_at c.args.self.now c.args.node).content))
 
 pub returns-clause-count : goal.returns-clause-count
-returns-clause-count c = count_same _ _ _ _ _ _ _ (length-set c.self.inside.rows.items _ _) c.self.view_is
+returns-clause-count c = count_same _ _ _ _ (length-set c.self.inside.rows.items _ _) c.self.view_is
 
 pub index_mut-requires : goal.index_mut-requires
-index_mut-requires c =
-    let within = row_within _ _ _ _ _ c.args.node c.self.view_is c.requires.within in
-    grind (arith, common_steps)
+index_mut-requires c = omega (arith, row_within _ _ c.self.view_is c.requires.within)

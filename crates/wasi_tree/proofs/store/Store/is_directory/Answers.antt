@@ -1,17 +1,14 @@
-use Rattle.std.proofs.lemmas.Grind.{common_steps}
-use Rattle.std.proofs.Common.{◌∙◌, refl, sym, arith}
+use Rattle.std.proofs.Common.{◌∙◌, refl, arith}
 use Rattle.wasi_host.specs.Tree.{is_directory}
-use Rattle.wasi_tree.proofs.RowLemmas.{IsRow, row_says, row_within}
+use Rattle.wasi_tree.proofs.RowLemmas.{row_within, said_at}
 use Rattle.wasi_tree.proofs.store.Store.is_directory.Goals as goal
 
 pub returns : goal.returns
 returns c =
-    let row : IsRow c.self.inside.rows.items c.self.inside.names.names c.self.inside.limits c.self.inside.worked.nodes
-    c.args.self.now c.args.n c.index.result.now =
-    record { stands = c.self.view_is; within = omega (arith, c.if-n-count.false, c.count.ensures); read = c.index.ensures } in
-    c.is_directory.ensures ∙ sym (row_says row is_directory (λ _ _ _. refl))
+    c.is_directory.ensures ∙ said_at _ _ is_directory (λ _ _ _. refl) c.self.view_is
+    (omega (arith, c.if-n-count.false, c.count.ensures)) c.index.ensures
 
 pub index-requires : goal.index-requires
 index-requires c =
-    let within = row_within _ _ _ _ _ c.args.n c.self.view_is (omega (arith, c.if-n-count.false, c.count.ensures)) in
-    grind (arith, common_steps)
+    omega (arith, row_within _ _ {n = c.args.n} c.self.view_is
+    (omega (arith, c.if-n-count.false, c.count.ensures)))

@@ -1,17 +1,10 @@
-use Rattle.std.proofs.lemmas.Grind.{common_steps}
-use Rattle.std.proofs.Common.{◌∙◌, refl, sym, arith}
+use Rattle.std.proofs.Common.{◌∙◌, refl, arith}
 use Rattle.wasi_host.specs.Tree.{is_gone}
-use Rattle.wasi_tree.proofs.RowLemmas.{IsRow, row_says, row_within}
+use Rattle.wasi_tree.proofs.RowLemmas.{row_within, said_at}
 use Rattle.wasi_tree.proofs.store.Store.is_gone.Goals as goal
 
 pub returns : goal.returns
-returns c =
-    let row : IsRow c.self.inside.rows.items c.self.inside.names.names c.self.inside.limits c.self.inside.worked.nodes
-    c.args.self.now c.args.n c.index.result.now =
-    record { stands = c.self.view_is; within = c.requires; read = c.index.ensures } in
-    c.is_gone.ensures ∙ sym (row_says row is_gone (λ _ _ _. refl))
+returns c = c.is_gone.ensures ∙ said_at _ _ is_gone (λ _ _ _. refl) c.self.view_is c.requires c.index.ensures
 
 pub index-requires : goal.index-requires
-index-requires c =
-    let within = row_within _ _ _ _ _ c.args.n c.self.view_is c.requires in
-    grind (arith, common_steps)
+index-requires c = omega (arith, row_within _ _ c.self.view_is c.requires)

@@ -1,4 +1,3 @@
-use Rattle.std.proofs.lemmas.Grind.{common_steps}
 use Rattle.std.proofs.Common.{◌∙◌, sym, ap, arith}
 use Rattle.wasi_names.specs.NameRows.{names_at}
 use Rattle.wasi_tree.specs.Given.{given_of}
@@ -13,6 +12,4 @@ returns c =
     c.lend.ensures (names_at c.self.inside.names.names c.args.n) (sym c.names.ensures) ∙ ap given_of (sym (row_node row))
 
 pub index-requires : goal.index-requires
-index-requires c =
-    let within = row_within _ _ _ _ _ c.args.n c.self.view_is c.requires in
-    grind (arith, common_steps)
+index-requires c = omega (arith, row_within _ _ c.self.view_is c.requires)

@@ -1,4 +1,3 @@
-use Rattle.std.proofs.lemmas.Grind.{common_steps}
 use Rattle.std.proofs.Common.{◌∙◌, sym, arith}
 use Rattle.wasi_tree.proofs.RowLemmas.{IsRow, row_metadata, row_within}
 use Rattle.wasi_tree.proofs.store.Store.metadata.Goals as goal
@@ -11,6 +10,4 @@ returns-clause-metadata c =
     c.metadata.ensures ∙ sym (row_metadata row)
 
 pub index-requires : goal.index-requires
-index-requires c =
-    let within = row_within _ _ _ _ _ c.args.node c.self.view_is c.requires in
-    grind (arith, common_steps)
+index-requires c = omega (arith, row_within _ _ c.self.view_is c.requires)

@@ -50,4 +50,4 @@ returns-clause-stays c =
     (sym (no_file (node_at c.args.self.now c.args.directory).content c.requires.directory)))
 
 pub returns-clause-count : goal.returns-clause-count
-returns-clause-count c = count_same _ _ _ _ _ _ _ refl c.self.view_is
+returns-clause-count c = count_same _ _ _ _ refl c.self.view_is

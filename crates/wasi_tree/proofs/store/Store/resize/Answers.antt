@@ -1,4 +1,3 @@
-use Rattle.std.proofs.lemmas.Grind.{common_steps}
 use Rattle.std.proofs.lemmas.List.{length-set}
 use Rattle.std.proofs.Common.{◌∙◌, arith}
 use Rattle.std.proofs.lemmas.Result.{err_from_is_err_and}
@@ -57,12 +56,10 @@ returns-clause-stays c =
     (node_at c.args.self.now c.args.file).content))
 
 pub returns-clause-count : goal.returns-clause-count
-returns-clause-count c = count_same _ _ _ _ _ _ _ (length-set c.self.inside.rows.items _ _) c.self.view_is
+returns-clause-count c = count_same _ _ _ _ (length-set c.self.inside.rows.items _ _) c.self.view_is
 
 pub index_mut-requires : goal.index_mut-requires
-index_mut-requires c =
-    let within = row_within _ _ _ _ _ c.args.file c.self.view_is c.requires in
-    grind (arith, common_steps)
+index_mut-requires c = omega (arith, row_within _ _ c.self.view_is c.requires)
 
 pub returns-in_err-resize-clause-count : goal.returns-in_err-resize-clause-count
-returns-in_err-resize-clause-count c = count_same _ _ _ _ _ _ _ (length-set c.self.inside.rows.items _ _) c.self.view_is
+returns-in_err-resize-clause-count c = count_same _ _ _ _ (length-set c.self.inside.rows.items _ _) c.self.view_is

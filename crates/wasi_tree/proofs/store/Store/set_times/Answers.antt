@@ -1,4 +1,3 @@
-use Rattle.std.proofs.lemmas.Grind.{common_steps}
 use Rattle.std.proofs.lemmas.List.{length-set}
 use Rattle.std.proofs.Common.{◌∙◌, refl, ap, arith}
 use Rattle.std.specs.FinSet.{insert}
@@ -34,9 +33,7 @@ returns-clause-stays c =
     (stays_changed _ _ _ _ c.requires refl)
 
 pub returns-clause-count : goal.returns-clause-count
-returns-clause-count c = count_same _ _ _ _ _ _ _ (length-set c.self.inside.rows.items _ _) c.self.view_is
+returns-clause-count c = count_same _ _ _ _ (length-set c.self.inside.rows.items _ _) c.self.view_is
 
 pub index_mut-requires : goal.index_mut-requires
-index_mut-requires c =
-    let within = row_within _ _ _ _ _ c.args.node c.self.view_is c.requires in
-    grind (arith, common_steps)
+index_mut-requires c = omega (arith, row_within _ _ c.self.view_is c.requires)

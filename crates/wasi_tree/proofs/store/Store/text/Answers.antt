@@ -1,4 +1,3 @@
-use Rattle.std.proofs.lemmas.Grind.{common_steps}
 use Rattle.std.proofs.Common.{◌∙◌, refl, sym, subst, arith}
 use Rattle.wasi_host.specs.Tree.{text_of}
 use Rattle.wasi_tree.specs.Sound.{IsSoundText}
@@ -18,6 +17,4 @@ returns-clause-sound c = λ link.
     (((sound_at c.self.view_is c.self.invariant).nodes c.args.n).text link)
 
 pub index-requires : goal.index-requires
-index-requires c =
-    let within = row_within _ _ _ _ _ c.args.n c.self.view_is c.requires in
-    grind (arith, common_steps)
+index-requires c = omega (arith, row_within _ _ c.self.view_is c.requires)
