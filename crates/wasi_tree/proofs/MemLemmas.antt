@@ -1,5 +1,5 @@
 -- Lemmas on the host in memory: what its live handles stand for, and that it has no faults.
-use Rattle.std.proofs.Common.{◌≡◌, ◌≢◌, ◌<◌, inl, inr, ℕ, Bool, true, false, cond, List, [], Option, Some, Result, Ok, Err, refl, sym, ap, ◌∙◌, arith}
+use Rattle.std.proofs.Common.{◌≡◌, ◌≢◌, ◌<◌, inl, inr, ℕ, Bool, true, false, cond, List, [], Option, Some, Result, Ok, Err, IsErrAnd, refl, sym, ap, ◌∙◌, arith}
 use Rattle.std.proofs.lemmas.Bool.{true≢false}
 use Rattle.std.specs.Ordering.{nat_cmp}
 use Rattle.std.specs.FinSet.{contains, empty, contains-empty}
@@ -116,6 +116,12 @@ cause_of {s = s} call (Code code) is =
     no_fault (Err (Code code)) (λ io.
     let same : code ≡ Io = (cc) in
     never_io s.tree call (refusal_of s.tree call (is.meant ∙ ap Err same)))
+
+-- of a call whose refusal is passed on
+pub cause_passed : {A : Type 0} {s u : Touched} {call : HostCall} {error : HostError} (result : Result A HostError)
+    → IsErrAnd result (λ e. e ≡ error) → RefusedByTable s u call error → HasCause never_fails never_fails result
+cause_passed (Ok a) is refused = absurd is
+cause_passed {call = call} {error = error} (Err passed) is refused = rw is (cause_of call error refused)
 
 pub cause_done : {A : Type 0} (s u : Touched) (call : HostCall) (shown : A → HostAnswer call)
     (result : Result A HostError) → FollowsTable s u call shown result → HasCause never_fails never_fails result
