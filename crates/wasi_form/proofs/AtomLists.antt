@@ -11,7 +11,7 @@ use Rattle.wasi_form.specs.MemoryForm.{piece_bytes, piece_of_items, shown_of_ite
 use Rattle.wasi_form.specs.FaultsForm.{is_after, fault_of_items}
 use Rattle.wasi_form.specs.NodeForm.{moment_of_items}
 use Rattle.wasi_form.specs.ServicesForm.{env_pair_of_items, wall_of_items}
-use Rattle.wasi_form.specs.Shapes.{u64_of, i64_of, u32_of, is_text}
+use Rattle.wasi_form.specs.Shapes.{u64_of, i64_of, u32_of, is_text, two_in}
 use Rattle.wasi_form.proofs.Grammar.{items_before, items_before-push}
 use Rattle.wasi_form.specs.declared.atoms.Atom.{Atom}
 
@@ -69,38 +69,31 @@ piece_sees (item d (item e no_items)) = refl
 piece_sees (item d (item e (item f no_items))) = rw (number_flat U32 d, bytes_flat e f) refl
 piece_sees (item d (item e (item f (item g ds)))) = refl
 
+-- a form of two items sees no more, where what it makes of the two does not
+two_sees : {A : Type 0} (of : Data × Data → Option A) → ((d e : Data) → of (flat d, flat e) ≡ of (d, e)) → (ds : Items)
+    → option_and_then {T = Data × Data} of (two_in (flat_items ds)) ≡ option_and_then {T = Data × Data} of (two_in ds)
+two_sees of same no_items = refl
+two_sees of same (item d no_items) = refl
+two_sees of same (item d (item e no_items)) = same d e
+two_sees of same (item d (item e (item f ds))) = refl
+
 pub shown_sees : SeesAtoms shown_of_items
-shown_sees no_items = refl
-shown_sees (item d no_items) = refl
-shown_sees (item d (item e no_items)) = rw (number_flat U32 d, number_flat U32 e) refl
-shown_sees (item d (item e (item f ds))) = refl
+shown_sees ds = two_sees _ (λ d e. rw (number_flat U32 d, number_flat U32 e) refl) ds
 
 pub env_pair_sees : SeesAtoms env_pair_of_items
-env_pair_sees no_items = refl
-env_pair_sees (item d no_items) = refl
-env_pair_sees (item d (item e no_items)) = rw (str_flat d, str_flat e) refl
-env_pair_sees (item d (item e (item f ds))) = refl
+env_pair_sees ds = two_sees _ (λ d e. rw (str_flat d, str_flat e) refl) ds
 
 after_flat : (d : Data) → is_after (flat d) ≡ is_after d
 after_flat d = rw (is_text_flat _ d, is_text_flat _ d) refl
 
 pub fault_sees : SeesAtoms fault_of_items
-fault_sees no_items = refl
-fault_sees (item d no_items) = refl
-fault_sees (item d (item e no_items)) = rw (number_flat U64 d, after_flat e) refl
-fault_sees (item d (item e (item f ds))) = refl
+fault_sees ds = two_sees _ (λ d e. rw (number_flat U64 d, after_flat e) refl) ds
 
 pub wall_sees : SeesAtoms wall_of_items
-wall_sees no_items = refl
-wall_sees (item d no_items) = refl
-wall_sees (item d (item e no_items)) = rw (number_flat U64 d, number_flat U32 e) refl
-wall_sees (item d (item e (item f ds))) = refl
+wall_sees ds = two_sees _ (λ d e. rw (number_flat U64 d, number_flat U32 e) refl) ds
 
 pub moment_sees : SeesAtoms moment_of_items
-moment_sees no_items = refl
-moment_sees (item d no_items) = refl
-moment_sees (item d (item e no_items)) = rw (number_flat I64 d, number_flat U64 e) refl
-moment_sees (item d (item e (item f ds))) = refl
+moment_sees ds = two_sees _ (λ d e. rw (number_flat I64 d, number_flat U64 e) refl) ds
 
 before_same : {A : Type 0} (o : Option A) (ds es : Items) (make : A → Items → Option Call) → ((x : A) → make x ds ≡ make x es)
     → option_and_then {T = A × Items} (λ first. make first.0 first.1) (option_map (λ x. (x, ds)) o)
