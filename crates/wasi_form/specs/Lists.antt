@@ -36,6 +36,14 @@ at_name (row ∷ rows) name = if bytes_eq name row.0 then Some row.1 else at_nam
 abbrev pub names : {A : Type 0} → List (List ℕ × A) → List (List ℕ)
 names rows = map (λ row. row.0) rows
 
+-- the elements of a list of three
+abbrev pub three_of : {A : Type 0} → List A → Option (A × A × A)
+three_of [] = None
+three_of (x ∷ []) = None
+three_of (x ∷ y ∷ []) = None
+three_of (x ∷ y ∷ z ∷ []) = Some (x, y, z)
+three_of (x ∷ y ∷ z ∷ more ∷ xs) = None
+
 -- each item of the shape
 unfoldable pub items_all : {A : Type 0} → (Data → Option A) → Items → Option (List A)
 items_all of no_items = Some []

@@ -9,7 +9,7 @@ use Rattle.wasi_host.specs.declared.bits.Bits.{Bits}
 use Rattle.wasi_host.specs.declared.system_time.SystemTime.{SystemTime}
 use Rattle.wasi_tree.specs.Given.{Given, GivenContent, file, directory, link, new_given}
 use Rattle.wasi_form.specs.declared.nodes.NodeTimes.{NodeTimes}
-use Rattle.wasi_form.specs.Lists.{◌>>=◌, only_if, optional, list_of}
+use Rattle.wasi_form.specs.Lists.{◌>>=◌, only_if, optional, list_of, three_of}
 use Rattle.wasi_form.specs.Shapes.{u64_of, i64_of, hex_of, two_in, is_object}
 
 -- the keys that a node may have
@@ -44,15 +44,12 @@ bit_of letter c = if nat_eq c letter then Some true else (if nat_eq c 45 then So
 
 -- `r`, `w` and `x`, each of them or a dash
 abbrev pub bits_in : List ℕ → Option Bits
-bits_in [] = None
-bits_in (r ∷ []) = None
-bits_in (r ∷ w ∷ []) = None
-bits_in (r ∷ w ∷ x ∷ []) = do
-  read ← bit_of 114 r
-  write ← bit_of 119 w
-  search ← bit_of 120 x
+bits_in text = do
+  three ← three_of text
+  read ← bit_of 114 three.0
+  write ← bit_of 119 three.1
+  search ← bit_of 120 three.2
   Some (record { r = read; w = write; x = search })
-bits_in (r ∷ w ∷ x ∷ c ∷ cs) = None
 
 abbrev pub bits_of : Data → Option Bits
 bits_of d = find.as_str d >>= bits_in
@@ -80,12 +77,9 @@ moment_in d = find.as_array d >>= moment_of_items
 
 -- when it was accessed, modified and created
 abbrev pub three_times : List SystemTime → Option NodeTimes
-three_times [] = None
-three_times (accessed ∷ []) = None
-three_times (accessed ∷ modified ∷ []) = None
-three_times (accessed ∷ modified ∷ created ∷ []) =
-    Some (record { accessed = accessed; modified = modified; created = created })
-three_times (accessed ∷ modified ∷ created ∷ more ∷ times) = None
+three_times times = do
+  three ← three_of times
+  Some (record { accessed = three.0; modified = three.1; created = three.2 })
 
 -- a list of these three
 abbrev pub times_of : Data → Option NodeTimes
