@@ -1,4 +1,4 @@
--- The members of a script, and of the objects at its keys, found one after another.
+-- The members of a script, of the objects at its keys, and of those in its lists, found one after another.
 use Rattle.std.proofs.Common.{◌≡◌, ℕ, List, [], ◌∷◌, ◌++◌, false, Option, Some, None, refl, codes}
 use Rattle.std.specs.Str.{bytes_eq}
 use Rattle.std.proofs.lemmas.Bool.{or_parts}
@@ -12,6 +12,8 @@ use Rattle.wasi_form.specs.MemoryForm.{memory_rows, memory_in}
 use Rattle.wasi_form.specs.ScriptForm.{part_rows, script_keys, found_in}
 use Rattle.wasi_form.specs.LimitsForm.{limits_rows, limits_in}
 use Rattle.wasi_form.specs.PreopenForm.{preopen_rows, preopen_in}
+use Rattle.wasi_form.specs.NodeForm.{node_rows, node_parts_in}
+use Rattle.wasi_form.specs.FoundNodes.{with_node_member}
 use Rattle.wasi_form.specs.FoundParts.{with_service, with_beside, with_member, with_memory_member, with_limits_member, with_preopen_member}
 use Rattle.wasi_form.proofs.Members.{all_keys-put, puts, stays, by_rows}
 use Rattle.wasi_form.proofs.ServiceMembers.{name_of, at_service, in_no_row}
@@ -89,3 +91,12 @@ preopen_in-put k d ms =
     (simp puts, (simp puts, (simp puts, tt)))
     (λ none. let still = stays (names preopen_rows) k d ms none in
     rw (all_keys-put, none, still (codes "node") refl, still (codes "name") refl, still (codes "perms") refl) refl)
+
+pub node_parts_in-put : (k : List ℕ) (d : Data) (ms : Members)
+    → node_parts_in (put k d ms) ≡ with_node_member k d (node_parts_in ms)
+unfolding with_node_member
+node_parts_in-put k d ms =
+    by_rows (λ key. node_parts_in (put key d ms)) node_rows (λ _ all. record all { known = false }) d (node_parts_in ms) k
+    (simp puts, (simp puts, (simp puts, (simp puts, (simp puts, tt)))))
+    (λ none. let still = stays (names node_rows) k d ms none in
+    rw (all_keys-put, none, still (codes "dir") refl, still (codes "file") refl, still (codes "link") refl, still (codes "bits") refl, still (codes "times") refl) refl)

@@ -4,7 +4,6 @@ pub mod Unreads
 pub mod Members
 pub mod ServiceMembers
 pub mod FoundMembers
-pub mod NodeMembers
 pub mod Items
 pub mod AtomLists
 pub mod Digits

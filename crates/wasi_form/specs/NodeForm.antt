@@ -4,17 +4,14 @@ use Rattle.std.specs.Prelude.{◌≡◌, refl, ℕ, ℤ, List, [], ◌∷◌, Bo
 use Rattle.std.proofs.lemmas.Bool.{ltb-true}
 use Rattle.serde_json.specs.Data.{Data, Items, Members, no_members, member}
 use Rattle.serde_json.specs.Find as find
+use Rattle.serde_json.specs.Find.{get_member}
 use Rattle.wasi_host.specs.Time.{zero_time}
 use Rattle.wasi_host.specs.declared.bits.Bits.{Bits}
 use Rattle.wasi_host.specs.declared.system_time.SystemTime.{SystemTime}
 use Rattle.wasi_tree.specs.Given.{Given, GivenContent, file, directory, link, new_given}
 use Rattle.wasi_form.specs.declared.nodes.NodeTimes.{NodeTimes}
-use Rattle.wasi_form.specs.Lists.{◌>>=◌, only_if, optional, list_of, three_of}
-use Rattle.wasi_form.specs.Shapes.{u64_of, i64_of, hex_of, two_in, is_object}
-
--- the keys that a node may have
-abbrev pub node_keys : List (List ℕ)
-node_keys = codes "dir" ∷ codes "file" ∷ codes "link" ∷ codes "bits" ∷ codes "times" ∷ []
+use Rattle.wasi_form.specs.Lists.{◌>>=◌, only_if, names, list_of, three_of}
+use Rattle.wasi_form.specs.Shapes.{u64_of, i64_of, hex_of, two_in, all_keys}
 
 -- names with the numbers of their nodes
 unfoldable pub entries_all : Members → Option (List (List ℕ × ℕ))
@@ -27,16 +24,6 @@ entries_all (member name d ms) = do
 -- an object from names to numbers
 abbrev pub script_entries : Data → Option (List (List ℕ × ℕ))
 script_entries d = find.as_object d >>= entries_all
-
--- of the values at `dir`, `file` and `link`: exactly one of them is there
-abbrev pub script_content : Option Data → Option Data → Option Data → Option GivenContent
-script_content None None None = None
-script_content (Some names) None None = option_map directory (script_entries names)
-script_content None (Some bytes) None = option_map file (hex_of bytes)
-script_content None None (Some text) = option_map link (find.as_str text)
-script_content (Some names) (Some bytes) other = None
-script_content (Some names) None (Some text) = None
-script_content None (Some bytes) (Some text) = None
 
 -- a bit is set by its letter, and not by a dash
 abbrev pub bit_of : ℕ → ℕ → Option Bool
@@ -99,11 +86,62 @@ given_at content bits times = record {
   btime = times.created;
 }
 
--- its bits and times are those of a new node where none are given
-abbrev pub script_node : Data → Option Given
-script_node d = do
-  _ ← only_if (is_object node_keys d)
-  content ← script_content (find.get (codes "dir") d) (find.get (codes "file") d) (find.get (codes "link") d)
-  bits ← optional bits_of (new_given content).bits (find.get (codes "bits") d)
-  times ← optional times_of no_times (find.get (codes "times") d)
+-- Whether all keys are those of a node, and what stands at them: nothing, or what it is read as, which is `None` where
+-- it is of another shape.
+pub record NodeFound : Type 0 where
+  pub known : Bool
+  pub dir : Option (Option (List (List ℕ × ℕ)))
+  pub file : Option (Option (List ℕ))
+  pub link : Option (Option (List ℕ))
+  pub bits : Option (Option Bits)
+  pub times : Option (Option NodeTimes)
+
+-- the keys, each with what a member adds there
+abbrev pub node_rows : List (List ℕ × (Data → NodeFound → NodeFound))
+node_rows =
+    (codes "dir", λ d found. record found { dir = Some (script_entries d) })
+    ∷ (codes "file", λ d found. record found { file = Some (hex_of d) })
+    ∷ (codes "link", λ d found. record found { link = Some (find.as_str d) })
+    ∷ (codes "bits", λ d found. record found { bits = Some (bits_of d) })
+    ∷ (codes "times", λ d found. record found { times = Some (times_of d) })
+    ∷ []
+
+-- exactly one of the three is there
+abbrev pub content_found : Option (Option (List (List ℕ × ℕ))) → Option (Option (List ℕ)) → Option (Option (List ℕ))
+    → Option GivenContent
+content_found None None None = None
+content_found (Some entries) None None = option_map directory entries
+content_found None (Some bytes) None = option_map file bytes
+content_found None None (Some text) = option_map link text
+content_found (Some entries) (Some bytes) other = None
+content_found (Some entries) None (Some text) = None
+content_found None (Some bytes) (Some text) = None
+
+-- a part that may be left out
+abbrev pub or_absent : {A : Type 0} → A → Option (Option A) → Option A
+or_absent absent None = Some absent
+or_absent absent (Some part) = part
+
+-- the node of what was found: its bits and times are those of a new node where none are given
+unfoldable pub node_found : NodeFound → Option Given
+node_found found = do
+  _ ← only_if found.known
+  content ← content_found found.dir found.file found.link
+  bits ← or_absent (new_given content).bits found.bits
+  times ← or_absent no_times found.times
   Some (given_at content bits times)
+
+-- what stands at the keys, of all members
+abbrev pub node_parts_in : Members → NodeFound
+node_parts_in ms = record {
+  known = all_keys (names node_rows) ms;
+  dir = option_map script_entries (get_member (codes "dir") ms);
+  file = option_map hex_of (get_member (codes "file") ms);
+  link = option_map find.as_str (get_member (codes "link") ms);
+  bits = option_map bits_of (get_member (codes "bits") ms);
+  times = option_map times_of (get_member (codes "times") ms);
+}
+
+-- an object with one of `"dir"`, `"file"` and `"link"`, and no other keys than `"bits"` and `"times"`
+abbrev pub script_node : Data → Option Given
+script_node d = find.as_object d >>= (λ ms. node_found (node_parts_in ms))

@@ -66,12 +66,3 @@ has_key keys key = list_any (bytes_eq key) keys
 abbrev pub all_keys : List (List ℕ) → Members → Bool
 all_keys keys no_members = true
 all_keys keys (member k d ms) = has_key keys k && all_keys keys ms
-
--- it is an object with these keys and no others
-abbrev pub is_object : List (List ℕ) → Data → Bool
-is_object keys null = false
-is_object keys (boolean b) = false
-is_object keys (number n) = false
-is_object keys (string s) = false
-is_object keys (array ds) = false
-is_object keys (object ms) = all_keys keys ms
