@@ -30,7 +30,8 @@ ghost use Rattle.wasi_p2.specs.Views.{Performs};
 use crate::descriptors::Descriptors;
 use crate::filestats::ViewedStat;
 use crate::open_with::OpenWith;
-use crate::view_parts::places::{metadata_hash_at, stat_at};
+use crate::view_parts::below;
+use crate::view_parts::places::{MetadataHashAt, StatAt};
 use wasi_fs::{Descriptor, Dir};
 use wasi_guest::{Errno, Iovec, TrapKind};
 use wasi_host::{Handle, Host};
@@ -320,8 +321,14 @@ pub fn stat_both<H: Host>(
         (looks ((H.world fs.old.host).held dir.now.dir).node text.now (path_flags_named flags))))
         (λ both. both) answer) result }
 {
-    let stat = stat_at(fs, descriptors, fd, dir, flags, text)?;
-    let hash = metadata_hash_at(fs, descriptors, fd, dir, flags, text)?;
+    let stat = below(fs, descriptors, fd, dir, StatAt { flags, path: text })?;
+    let hash = below(
+        fs,
+        descriptors,
+        fd,
+        dir,
+        MetadataHashAt { flags, path: text },
+    )?;
     Ok(ViewedStat { stat, hash })
 }
 

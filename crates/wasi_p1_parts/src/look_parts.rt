@@ -18,7 +18,8 @@ ghost use Rattle.wasi_p2.specs.Views.{Performs};
 
 use crate::descriptors::Descriptors;
 use crate::filestats::{ViewedStat, filetype_named};
-use crate::view_parts::nodes::{get_flags, get_type, metadata_hash, stat};
+use crate::view_parts::about;
+use crate::view_parts::nodes::{FlagsOf, MetadataHashOf, StatOf, TypeOf};
 use wasi_fs::{Descriptor, Dir};
 use wasi_guest::{Fdstat, Filestat};
 use wasi_host::Host;
@@ -44,8 +45,8 @@ pub fn looked_at<H: Host>(
         (stats (H.world fs.old.host).tree ((H.world fs.old.host).held (handle_of descriptor.now)).node))
         (λ both. both) answer) result }
 {
-    let stat = stat(fs, descriptors, fd, descriptor)?;
-    let hash = metadata_hash(fs, descriptors, fd, descriptor)?;
+    let stat = about(fs, descriptors, fd, descriptor, StatOf)?;
+    let hash = about(fs, descriptors, fd, descriptor, MetadataHashOf)?;
     Ok(ViewedStat { stat, hash })
 }
 
@@ -99,7 +100,7 @@ pub fn dir_fdstat<H: Host>(
         (λ _. give directory_fdstat) result }
 {
     let dir = Descriptor::Dir(dir);
-    get_flags(fs, descriptors, fd, &dir)?;
+    about(fs, descriptors, fd, &dir, FlagsOf)?;
     Ok(directory_fdstat())
 }
 
@@ -127,7 +128,7 @@ pub fn open_file_fdstat<H: Host>(
     let FileSlot { file, modes, .. } = slot;
     let mode = file.open_mode;
     let file = Descriptor::File(file);
-    get_flags(fs, descriptors, fd, &file)?;
-    let kind = get_type(fs, descriptors, fd, &file)?;
+    about(fs, descriptors, fd, &file, FlagsOf)?;
+    let kind = about(fs, descriptors, fd, &file, TypeOf)?;
     Ok(file_fdstat(mode, modes, filetype_named(kind)))
 }

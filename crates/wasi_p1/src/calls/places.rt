@@ -7,8 +7,9 @@ use wasi_guest::Value;
 use wasi_host::Host;
 use wasi_p1_parts::call_parts::{start_at, stat_both};
 use wasi_p1_parts::open_with::path_flags_of;
+use wasi_p1_parts::view_parts::below;
 use wasi_p1_parts::view_parts::places::{
-    create_directory_at, readlink_at, remove_directory_at, symlink_at, unlink_file_at,
+    CreateDirectoryAt, ReadlinkAt, RemoveDirectoryAt, SymlinkAt, UnlinkFileAt,
 };
 use wasi_turns::{P1Error, text_at, write_front};
 
@@ -36,7 +37,8 @@ impl<H: Host> WasiP1Ctx<H> {
     {
         let dir = start_at(&self.fs.host, &self.descriptors, fd)?;
         let text = text_at(memory, &mut self.fuel, path, path_len)?;
-        create_directory_at(&mut self.fs, &mut self.descriptors, fd, &dir, text)?;
+        let call = CreateDirectoryAt { path: text };
+        below(&mut self.fs, &mut self.descriptors, fd, &dir, call)?;
         Ok(Value::Unit)
     }
 
@@ -60,7 +62,8 @@ impl<H: Host> WasiP1Ctx<H> {
     {
         let dir = start_at(&self.fs.host, &self.descriptors, fd)?;
         let text = text_at(memory, &mut self.fuel, path, path_len)?;
-        remove_directory_at(&mut self.fs, &mut self.descriptors, fd, &dir, text)?;
+        let call = RemoveDirectoryAt { path: text };
+        below(&mut self.fs, &mut self.descriptors, fd, &dir, call)?;
         Ok(Value::Unit)
     }
 
@@ -82,7 +85,8 @@ impl<H: Host> WasiP1Ctx<H> {
     {
         let dir = start_at(&self.fs.host, &self.descriptors, fd)?;
         let text = text_at(memory, &mut self.fuel, path, path_len)?;
-        unlink_file_at(&mut self.fs, &mut self.descriptors, fd, &dir, text)?;
+        let call = UnlinkFileAt { path: text };
+        below(&mut self.fs, &mut self.descriptors, fd, &dir, call)?;
         Ok(Value::Unit)
     }
 
@@ -110,7 +114,8 @@ impl<H: Host> WasiP1Ctx<H> {
         let dir = start_at(&self.fs.host, &self.descriptors, fd)?;
         let target = text_at(memory, &mut self.fuel, old_path, old_path_len)?;
         let text = text_at(memory, &mut self.fuel, new_path, new_path_len)?;
-        symlink_at(&mut self.fs, &mut self.descriptors, fd, &dir, target, text)?;
+        let call = SymlinkAt { target, path: text };
+        below(&mut self.fs, &mut self.descriptors, fd, &dir, call)?;
         Ok(Value::Unit)
     }
 
@@ -138,7 +143,8 @@ impl<H: Host> WasiP1Ctx<H> {
     {
         let dir = start_at(&self.fs.host, &self.descriptors, fd)?;
         let text = text_at(memory, &mut self.fuel, path, path_len)?;
-        let link = readlink_at(&mut self.fs, &mut self.descriptors, fd, &dir, text)?;
+        let call = ReadlinkAt { path: text };
+        let link = below(&mut self.fs, &mut self.descriptors, fd, &dir, call)?;
         let count = write_front(memory, buf, buf_len, link.as_bytes())?;
         Ok(Value::Number(count as u64))
     }

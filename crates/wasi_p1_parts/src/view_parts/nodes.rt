@@ -17,11 +17,12 @@ ghost use Rattle.wasi_p2.specs.Views.{Performs};
 
 use crate::descriptors::Descriptors;
 use crate::new_times::timestamp_of;
-use crate::view_parts::resource_under;
+use crate::view_parts::{NodeCall, resource_under};
 use wasi_fs::{Descriptor, File};
 use wasi_host::Host;
 use wasi_p2::types::{Advice, DescriptorFlags, DescriptorStat, DescriptorType, MetadataHashValue};
 use wasi_p2::{FsResult, WasiFilesystemCtx, WasiFilesystemCtxView};
+use wasi_streams::Resource;
 use wasi_turns::NewTimes;
 
 /// Tells the host how a file's bytes will be used.
@@ -167,108 +168,95 @@ pub fn set_times<H: Host>(
 }
 
 /// What is said of a node.
-pub fn stat<H: Host>(
-    fs: &mut WasiFilesystemCtx<H>,
-    descriptors: &mut Descriptors,
-    fd: u32,
-    descriptor: &Descriptor,
-) -> FsResult<DescriptorStat>
-    requires holds { HoldsHandles (H.live fs.old.host) (handles descriptors.old.slots) fs.old.preopens.items }
-    requires stands { descriptor_under (slice_get descriptors.old.slots fd) ≡ Some descriptor.now }
-    ensures ctx { fs.new ≡ record fs.old { host = fs.new.host } }
-    ensures same { descriptors.new ≡ descriptors.old }
-    ensures cause { FsCause (H.faults fs.old.host) (H.faults fs.new.host) result }
-    ensures live { H.live fs.new.host ≡ H.live fs.old.host }
-    ensures logged { H.lookups fs.new.host ≡ H.lookups fs.old.host }
-    ensures did { Lowered stat_named (λ answer. IfErr answer NotMemory
-        × IfOk answer IsStat × Performs H.Host fs.old.host fs.new.host None
-        (meant_as descriptor_stat (stats (H.world fs.old.host).tree ((H.world fs.old.host).held (handle_of descriptor.now)).node))
-        (λ stat. stat) answer) result }
-{
-    let resource = resource_under(&descriptors.items, fd);
-    let mut view = WasiFilesystemCtxView {
-        ctx: fs,
-        table: &mut descriptors.table,
-    };
-    view.stat(resource)
+#[derive(Clone, Copy)]
+pub struct StatOf;
+
+impl<H: Host> NodeCall<H> for StatOf {
+    type Gives = DescriptorStat;
+
+    type Lower = wasi_fs::DescriptorStat;
+
+    ghost shown = { stat_named };
+
+    ghost Did = { λ _ old new d answer. IfErr answer NotMemory × IfOk answer IsStat × Performs H.Host old new None
+        (meant_as descriptor_stat (stats (H.world old).tree ((H.world old).held (handle_of d)).node))
+        (λ stat. stat) answer };
+
+    fn made(
+        self,
+        view: &mut WasiFilesystemCtxView<'_, H>,
+        fd: Resource,
+    ) -> FsResult<DescriptorStat> {
+        view.stat(fd)
+    }
 }
 
 /// The hash of a node.
-pub fn metadata_hash<H: Host>(
-    fs: &mut WasiFilesystemCtx<H>,
-    descriptors: &mut Descriptors,
-    fd: u32,
-    descriptor: &Descriptor,
-) -> FsResult<MetadataHashValue>
-    requires holds { HoldsHandles (H.live fs.old.host) (handles descriptors.old.slots) fs.old.preopens.items }
-    requires stands { descriptor_under (slice_get descriptors.old.slots fd) ≡ Some descriptor.now }
-    ensures ctx { fs.new ≡ record fs.old { host = fs.new.host } }
-    ensures same { descriptors.new ≡ descriptors.old }
-    ensures cause { FsCause (H.faults fs.old.host) (H.faults fs.new.host) result }
-    ensures live { H.live fs.new.host ≡ H.live fs.old.host }
-    ensures logged { H.lookups fs.new.host ≡ H.lookups fs.old.host }
-    ensures did { Lowered hash_named (λ answer. IfErr answer NotMemory
-        × IfOk answer IsHash × Performs H.Host fs.old.host fs.new.host None
-        (meant_as metadata_hash (stats (H.world fs.old.host).tree ((H.world fs.old.host).held (handle_of descriptor.now)).node))
-        (λ hash. hash) answer) result }
-{
-    let resource = resource_under(&descriptors.items, fd);
-    let mut view = WasiFilesystemCtxView {
-        ctx: fs,
-        table: &mut descriptors.table,
-    };
-    view.metadata_hash(resource)
+#[derive(Clone, Copy)]
+pub struct MetadataHashOf;
+
+impl<H: Host> NodeCall<H> for MetadataHashOf {
+    type Gives = MetadataHashValue;
+
+    type Lower = wasi_fs::MetadataHashValue;
+
+    ghost shown = { hash_named };
+
+    ghost Did = { λ _ old new d answer. IfErr answer NotMemory × IfOk answer IsHash × Performs H.Host old new None
+        (meant_as metadata_hash (stats (H.world old).tree ((H.world old).held (handle_of d)).node))
+        (λ hash. hash) answer };
+
+    fn made(
+        self,
+        view: &mut WasiFilesystemCtxView<'_, H>,
+        fd: Resource,
+    ) -> FsResult<MetadataHashValue> {
+        view.metadata_hash(fd)
+    }
 }
 
 /// What a descriptor is for.
-pub fn get_flags<H: Host>(
-    fs: &mut WasiFilesystemCtx<H>,
-    descriptors: &mut Descriptors,
-    fd: u32,
-    descriptor: &Descriptor,
-) -> FsResult<DescriptorFlags>
-    requires holds { HoldsHandles (H.live fs.old.host) (handles descriptors.old.slots) fs.old.preopens.items }
-    requires stands { descriptor_under (slice_get descriptors.old.slots fd) ≡ Some descriptor.now }
-    ensures ctx { fs.new ≡ record fs.old { host = fs.new.host } }
-    ensures same { descriptors.new ≡ descriptors.old }
-    ensures cause { FsCause (H.faults fs.old.host) (H.faults fs.new.host) result }
-    ensures live { H.live fs.new.host ≡ H.live fs.old.host }
-    ensures logged { H.lookups fs.new.host ≡ H.lookups fs.old.host }
-    ensures did { Lowered descriptor_flags_told (λ answer. IfErr answer NotMemory
-        × IfOk answer (IsFlags descriptor.now) × Performs H.Host fs.old.host fs.new.host None
-        (tells_flags (H.world fs.old.host).tree ((H.world fs.old.host).held (handle_of descriptor.now)).node descriptor.now)
-        descriptor_flag_bits answer) result }
-{
-    let resource = resource_under(&descriptors.items, fd);
-    let mut view = WasiFilesystemCtxView {
-        ctx: fs,
-        table: &mut descriptors.table,
-    };
-    view.get_flags(resource)
+#[derive(Clone, Copy)]
+pub struct FlagsOf;
+
+impl<H: Host> NodeCall<H> for FlagsOf {
+    type Gives = DescriptorFlags;
+
+    type Lower = wasi_fs::DescriptorFlags;
+
+    ghost shown = { descriptor_flags_told };
+
+    ghost Did = { λ _ old new d answer. IfErr answer NotMemory × IfOk answer (IsFlags d) × Performs H.Host old new None
+        (tells_flags (H.world old).tree ((H.world old).held (handle_of d)).node d) descriptor_flag_bits answer };
+
+    fn made(
+        self,
+        view: &mut WasiFilesystemCtxView<'_, H>,
+        fd: Resource,
+    ) -> FsResult<DescriptorFlags> {
+        view.get_flags(fd)
+    }
 }
 
 /// What kind of node a descriptor stands for.
-pub fn get_type<H: Host>(
-    fs: &mut WasiFilesystemCtx<H>,
-    descriptors: &mut Descriptors,
-    fd: u32,
-    descriptor: &Descriptor,
-) -> FsResult<DescriptorType>
-    requires holds { HoldsHandles (H.live fs.old.host) (handles descriptors.old.slots) fs.old.preopens.items }
-    requires stands { descriptor_under (slice_get descriptors.old.slots fd) ≡ Some descriptor.now }
-    ensures ctx { fs.new ≡ record fs.old { host = fs.new.host } }
-    ensures same { descriptors.new ≡ descriptors.old }
-    ensures cause { FsCause (H.faults fs.old.host) (H.faults fs.new.host) result }
-    ensures live { H.live fs.new.host ≡ H.live fs.old.host }
-    ensures logged { H.lookups fs.new.host ≡ H.lookups fs.old.host }
-    ensures did { Lowered type_named (λ answer. IfErr answer NotMemory
-        × AnswersKnown descriptor.now answer fs.old.host fs.new.host
-        × (IsTrue H.told → IsTyped (H.live fs.old.host) (H.world fs.old.host) (H.world fs.new.host) descriptor.now answer)) result }
-{
-    let resource = resource_under(&descriptors.items, fd);
-    let mut view = WasiFilesystemCtxView {
-        ctx: fs,
-        table: &mut descriptors.table,
-    };
-    view.get_type(resource)
+#[derive(Clone, Copy)]
+pub struct TypeOf;
+
+impl<H: Host> NodeCall<H> for TypeOf {
+    type Gives = DescriptorType;
+
+    type Lower = wasi_fs::DescriptorType;
+
+    ghost shown = { type_named };
+
+    ghost Did = { λ _ old new d answer. IfErr answer NotMemory × AnswersKnown d answer old new
+        × (IsTrue H.told → IsTyped (H.live old) (H.world old) (H.world new) d answer) };
+
+    fn made(
+        self,
+        view: &mut WasiFilesystemCtxView<'_, H>,
+        fd: Resource,
+    ) -> FsResult<DescriptorType> {
+        view.get_type(fd)
+    }
 }

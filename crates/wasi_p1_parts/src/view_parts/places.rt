@@ -19,148 +19,177 @@ ghost use Rattle.wasi_resolve.specs.PathRequest.{AtPlace, meant_by};
 
 use crate::descriptors::Descriptors;
 use crate::new_times::timestamp_of;
-use crate::view_parts::resource_under;
+use crate::view_parts::{PlaceCall, resource_under};
 use wasi_fs::{Descriptor, Dir};
 use wasi_host::Host;
 use wasi_p2::types::{DescriptorStat, MetadataHashValue, PathFlags};
 use wasi_p2::{FsResult, WasiFilesystemCtx, WasiFilesystemCtxView};
+use wasi_streams::Resource;
 use wasi_turns::NewTimes;
 
 /// Makes an empty directory.
-pub fn create_directory_at<H: Host>(
-    fs: &mut WasiFilesystemCtx<H>,
-    descriptors: &mut Descriptors,
-    fd: u32,
-    dir: &Dir,
-    path: &str,
-) -> FsResult<()>
-    requires holds { HoldsHandles (H.live fs.old.host) (handles descriptors.old.slots) fs.old.preopens.items }
-    requires stands { descriptor_under (slice_get descriptors.old.slots fd) ≡ Some (Descriptor.Dir dir.now) }
-    ensures ctx { fs.new ≡ record fs.old { host = fs.new.host } }
-    ensures same { descriptors.new ≡ descriptors.old }
-    ensures cause { FsCause (H.faults fs.old.host) (H.faults fs.new.host) result }
-    ensures live { H.live fs.new.host ≡ H.live fs.old.host }
-    ensures lineage { Traced (Only dir.now.dir) Nothing Nothing (H.lookups fs.old.host) (H.lookups fs.new.host) }
-    ensures did { Lowered (λ unit. unit) (Performs H.Host fs.old.host fs.new.host (may_change dir.now.perms)
-        (meant_by (H.world fs.old.host).tree (AtPlace ((H.world fs.old.host).held dir.now.dir).node path.now CreateDir))
-        (λ unit. unit)) result }
-{
-    let resource = resource_under(&descriptors.items, fd);
-    let mut view = WasiFilesystemCtxView {
-        ctx: fs,
-        table: &mut descriptors.table,
-    };
-    view.create_directory_at(resource, path)
+#[derive(Clone, Copy)]
+pub struct CreateDirectoryAt<'p> {
+    pub path: &'p str,
+}
+
+impl<'p, H: Host> PlaceCall<H> for CreateDirectoryAt<'p> {
+    type Gives = ();
+
+    type Lower = ();
+
+    ghost shown = { λ unit. unit };
+
+    ghost Did = { λ call old new dir. Performs H.Host old new (may_change dir.perms)
+        (meant_by (H.world old).tree (AtPlace ((H.world old).held dir.dir).node call.path.now CreateDir))
+        (λ unit. unit) };
+
+    fn made(self, view: &mut WasiFilesystemCtxView<'_, H>, fd: Resource) -> FsResult<()> {
+        view.create_directory_at(fd, self.path)
+    }
 }
 
 /// Drops an empty directory.
-pub fn remove_directory_at<H: Host>(
-    fs: &mut WasiFilesystemCtx<H>,
-    descriptors: &mut Descriptors,
-    fd: u32,
-    dir: &Dir,
-    path: &str,
-) -> FsResult<()>
-    requires holds { HoldsHandles (H.live fs.old.host) (handles descriptors.old.slots) fs.old.preopens.items }
-    requires stands { descriptor_under (slice_get descriptors.old.slots fd) ≡ Some (Descriptor.Dir dir.now) }
-    ensures ctx { fs.new ≡ record fs.old { host = fs.new.host } }
-    ensures same { descriptors.new ≡ descriptors.old }
-    ensures cause { FsCause (H.faults fs.old.host) (H.faults fs.new.host) result }
-    ensures live { H.live fs.new.host ≡ H.live fs.old.host }
-    ensures lineage { Traced (Only dir.now.dir) Nothing Nothing (H.lookups fs.old.host) (H.lookups fs.new.host) }
-    ensures did { Lowered (λ unit. unit) (Performs H.Host fs.old.host fs.new.host (may_change dir.now.perms)
-        (meant_by (H.world fs.old.host).tree (AtPlace ((H.world fs.old.host).held dir.now.dir).node path.now RemoveDir))
-        (λ unit. unit)) result }
-{
-    let resource = resource_under(&descriptors.items, fd);
-    let mut view = WasiFilesystemCtxView {
-        ctx: fs,
-        table: &mut descriptors.table,
-    };
-    view.remove_directory_at(resource, path)
+#[derive(Clone, Copy)]
+pub struct RemoveDirectoryAt<'p> {
+    pub path: &'p str,
+}
+
+impl<'p, H: Host> PlaceCall<H> for RemoveDirectoryAt<'p> {
+    type Gives = ();
+
+    type Lower = ();
+
+    ghost shown = { λ unit. unit };
+
+    ghost Did = { λ call old new dir. Performs H.Host old new (may_change dir.perms)
+        (meant_by (H.world old).tree (AtPlace ((H.world old).held dir.dir).node call.path.now RemoveDir))
+        (λ unit. unit) };
+
+    fn made(self, view: &mut WasiFilesystemCtxView<'_, H>, fd: Resource) -> FsResult<()> {
+        view.remove_directory_at(fd, self.path)
+    }
 }
 
 /// Drops the name of a file or link.
-pub fn unlink_file_at<H: Host>(
-    fs: &mut WasiFilesystemCtx<H>,
-    descriptors: &mut Descriptors,
-    fd: u32,
-    dir: &Dir,
-    path: &str,
-) -> FsResult<()>
-    requires holds { HoldsHandles (H.live fs.old.host) (handles descriptors.old.slots) fs.old.preopens.items }
-    requires stands { descriptor_under (slice_get descriptors.old.slots fd) ≡ Some (Descriptor.Dir dir.now) }
-    ensures ctx { fs.new ≡ record fs.old { host = fs.new.host } }
-    ensures same { descriptors.new ≡ descriptors.old }
-    ensures cause { FsCause (H.faults fs.old.host) (H.faults fs.new.host) result }
-    ensures live { H.live fs.new.host ≡ H.live fs.old.host }
-    ensures lineage { Traced (Only dir.now.dir) Nothing Nothing (H.lookups fs.old.host) (H.lookups fs.new.host) }
-    ensures did { Lowered (λ unit. unit) (Performs H.Host fs.old.host fs.new.host (may_change dir.now.perms)
-        (meant_by (H.world fs.old.host).tree (AtPlace ((H.world fs.old.host).held dir.now.dir).node path.now RemoveFile))
-        (λ unit. unit)) result }
-{
-    let resource = resource_under(&descriptors.items, fd);
-    let mut view = WasiFilesystemCtxView {
-        ctx: fs,
-        table: &mut descriptors.table,
-    };
-    view.unlink_file_at(resource, path)
+#[derive(Clone, Copy)]
+pub struct UnlinkFileAt<'p> {
+    pub path: &'p str,
+}
+
+impl<'p, H: Host> PlaceCall<H> for UnlinkFileAt<'p> {
+    type Gives = ();
+
+    type Lower = ();
+
+    ghost shown = { λ unit. unit };
+
+    ghost Did = { λ call old new dir. Performs H.Host old new (may_change dir.perms)
+        (meant_by (H.world old).tree (AtPlace ((H.world old).held dir.dir).node call.path.now RemoveFile))
+        (λ unit. unit) };
+
+    fn made(self, view: &mut WasiFilesystemCtxView<'_, H>, fd: Resource) -> FsResult<()> {
+        view.unlink_file_at(fd, self.path)
+    }
 }
 
 /// Makes a link with the text `target`.
-pub fn symlink_at<H: Host>(
-    fs: &mut WasiFilesystemCtx<H>,
-    descriptors: &mut Descriptors,
-    fd: u32,
-    dir: &Dir,
-    target: &str,
-    path: &str,
-) -> FsResult<()>
-    requires holds { HoldsHandles (H.live fs.old.host) (handles descriptors.old.slots) fs.old.preopens.items }
-    requires stands { descriptor_under (slice_get descriptors.old.slots fd) ≡ Some (Descriptor.Dir dir.now) }
-    ensures ctx { fs.new ≡ record fs.old { host = fs.new.host } }
-    ensures same { descriptors.new ≡ descriptors.old }
-    ensures cause { FsCause (H.faults fs.old.host) (H.faults fs.new.host) result }
-    ensures live { H.live fs.new.host ≡ H.live fs.old.host }
-    ensures lineage { Traced (Only dir.now.dir) Nothing Nothing (H.lookups fs.old.host) (H.lookups fs.new.host) }
-    ensures did { Lowered (λ unit. unit) (Performs H.Host fs.old.host fs.new.host (may_link dir.now.perms target.now)
-        (meant_by (H.world fs.old.host).tree (AtPlace ((H.world fs.old.host).held dir.now.dir).node path.now (Symlink target.now)))
-        (λ unit. unit)) result }
-{
-    let resource = resource_under(&descriptors.items, fd);
-    let mut view = WasiFilesystemCtxView {
-        ctx: fs,
-        table: &mut descriptors.table,
-    };
-    view.symlink_at(resource, target, path)
+#[derive(Clone, Copy)]
+pub struct SymlinkAt<'p> {
+    pub target: &'p str,
+    pub path: &'p str,
+}
+
+impl<'p, H: Host> PlaceCall<H> for SymlinkAt<'p> {
+    type Gives = ();
+
+    type Lower = ();
+
+    ghost shown = { λ unit. unit };
+
+    ghost Did = { λ call old new dir. Performs H.Host old new (may_link dir.perms call.target.now)
+        (meant_by (H.world old).tree
+        (AtPlace ((H.world old).held dir.dir).node call.path.now (Symlink call.target.now))) (λ unit. unit) };
+
+    fn made(self, view: &mut WasiFilesystemCtxView<'_, H>, fd: Resource) -> FsResult<()> {
+        view.symlink_at(fd, self.target, self.path)
+    }
 }
 
 /// The text of the link that a path names.
-pub fn readlink_at<H: Host>(
-    fs: &mut WasiFilesystemCtx<H>,
-    descriptors: &mut Descriptors,
-    fd: u32,
-    dir: &Dir,
-    path: &str,
-) -> FsResult<String>
-    requires holds { HoldsHandles (H.live fs.old.host) (handles descriptors.old.slots) fs.old.preopens.items }
-    requires stands { descriptor_under (slice_get descriptors.old.slots fd) ≡ Some (Descriptor.Dir dir.now) }
-    ensures ctx { fs.new ≡ record fs.old { host = fs.new.host } }
-    ensures same { descriptors.new ≡ descriptors.old }
-    ensures cause { FsCause (H.faults fs.old.host) (H.faults fs.new.host) result }
-    ensures live { H.live fs.new.host ≡ H.live fs.old.host }
-    ensures lineage { Traced (Only dir.now.dir) Nothing Nothing (H.lookups fs.old.host) (H.lookups fs.new.host) }
-    ensures did { Lowered (λ text. text) (λ answer. IfOk answer IsReadText
-        × Performs H.Host fs.old.host fs.new.host None
-        (meant_by (H.world fs.old.host).tree (AtPlace ((H.world fs.old.host).held dir.now.dir).node path.now ReadLink))
-        string_bytes answer) result }
-{
-    let resource = resource_under(&descriptors.items, fd);
-    let mut view = WasiFilesystemCtxView {
-        ctx: fs,
-        table: &mut descriptors.table,
-    };
-    view.readlink_at(resource, path)
+#[derive(Clone, Copy)]
+pub struct ReadlinkAt<'p> {
+    pub path: &'p str,
+}
+
+impl<'p, H: Host> PlaceCall<H> for ReadlinkAt<'p> {
+    type Gives = String;
+
+    type Lower = String;
+
+    ghost shown = { λ text. text };
+
+    ghost Did = { λ call old new dir answer. IfOk answer IsReadText × Performs H.Host old new None
+        (meant_by (H.world old).tree (AtPlace ((H.world old).held dir.dir).node call.path.now ReadLink))
+        string_bytes answer };
+
+    fn made(self, view: &mut WasiFilesystemCtxView<'_, H>, fd: Resource) -> FsResult<String> {
+        view.readlink_at(fd, self.path)
+    }
+}
+
+/// What is said of the node that a path names.
+#[derive(Clone, Copy)]
+pub struct StatAt<'p> {
+    pub flags: PathFlags,
+    pub path: &'p str,
+}
+
+impl<'p, H: Host> PlaceCall<H> for StatAt<'p> {
+    type Gives = DescriptorStat;
+
+    type Lower = wasi_fs::DescriptorStat;
+
+    ghost shown = { stat_named };
+
+    ghost Did = { λ call old new dir answer. IfOk answer IsStat × Performs H.Host old new None
+        (meant_as descriptor_stat (meant_by (H.world old).tree
+        (looks ((H.world old).held dir.dir).node call.path.now (path_flags_named call.flags)))) (λ stat. stat) answer };
+
+    fn made(
+        self,
+        view: &mut WasiFilesystemCtxView<'_, H>,
+        fd: Resource,
+    ) -> FsResult<DescriptorStat> {
+        view.stat_at(fd, self.flags, self.path)
+    }
+}
+
+/// The hash of the node that a path names.
+#[derive(Clone, Copy)]
+pub struct MetadataHashAt<'p> {
+    pub flags: PathFlags,
+    pub path: &'p str,
+}
+
+impl<'p, H: Host> PlaceCall<H> for MetadataHashAt<'p> {
+    type Gives = MetadataHashValue;
+
+    type Lower = wasi_fs::MetadataHashValue;
+
+    ghost shown = { hash_named };
+
+    ghost Did = { λ call old new dir answer. IfOk answer IsHash × Performs H.Host old new None
+        (meant_as metadata_hash (meant_by (H.world old).tree
+        (looks ((H.world old).held dir.dir).node call.path.now (path_flags_named call.flags)))) (λ hash. hash) answer };
+
+    fn made(
+        self,
+        view: &mut WasiFilesystemCtxView<'_, H>,
+        fd: Resource,
+    ) -> FsResult<MetadataHashValue> {
+        view.metadata_hash_at(fd, self.flags, self.path)
+    }
 }
 
 /// Sets the times of the node that a path names.
@@ -193,62 +222,4 @@ pub fn set_times_at<H: Host>(
         table: &mut descriptors.table,
     };
     view.set_times_at(resource, path_flags, path, atim, mtim)
-}
-
-/// What is said of the node that a path names.
-pub fn stat_at<H: Host>(
-    fs: &mut WasiFilesystemCtx<H>,
-    descriptors: &mut Descriptors,
-    fd: u32,
-    dir: &Dir,
-    path_flags: PathFlags,
-    path: &str,
-) -> FsResult<DescriptorStat>
-    requires holds { HoldsHandles (H.live fs.old.host) (handles descriptors.old.slots) fs.old.preopens.items }
-    requires stands { descriptor_under (slice_get descriptors.old.slots fd) ≡ Some (Descriptor.Dir dir.now) }
-    ensures ctx { fs.new ≡ record fs.old { host = fs.new.host } }
-    ensures same { descriptors.new ≡ descriptors.old }
-    ensures cause { FsCause (H.faults fs.old.host) (H.faults fs.new.host) result }
-    ensures live { H.live fs.new.host ≡ H.live fs.old.host }
-    ensures lineage { Traced (Only dir.now.dir) Nothing Nothing (H.lookups fs.old.host) (H.lookups fs.new.host) }
-    ensures did { Lowered stat_named (λ answer. IfOk answer IsStat
-        × Performs H.Host fs.old.host fs.new.host None
-        (meant_as descriptor_stat (meant_by (H.world fs.old.host).tree (looks ((H.world fs.old.host).held dir.now.dir).node path.now (path_flags_named path_flags))))
-        (λ stat. stat) answer) result }
-{
-    let resource = resource_under(&descriptors.items, fd);
-    let mut view = WasiFilesystemCtxView {
-        ctx: fs,
-        table: &mut descriptors.table,
-    };
-    view.stat_at(resource, path_flags, path)
-}
-
-/// The hash of the node that a path names.
-pub fn metadata_hash_at<H: Host>(
-    fs: &mut WasiFilesystemCtx<H>,
-    descriptors: &mut Descriptors,
-    fd: u32,
-    dir: &Dir,
-    path_flags: PathFlags,
-    path: &str,
-) -> FsResult<MetadataHashValue>
-    requires holds { HoldsHandles (H.live fs.old.host) (handles descriptors.old.slots) fs.old.preopens.items }
-    requires stands { descriptor_under (slice_get descriptors.old.slots fd) ≡ Some (Descriptor.Dir dir.now) }
-    ensures ctx { fs.new ≡ record fs.old { host = fs.new.host } }
-    ensures same { descriptors.new ≡ descriptors.old }
-    ensures cause { FsCause (H.faults fs.old.host) (H.faults fs.new.host) result }
-    ensures live { H.live fs.new.host ≡ H.live fs.old.host }
-    ensures lineage { Traced (Only dir.now.dir) Nothing Nothing (H.lookups fs.old.host) (H.lookups fs.new.host) }
-    ensures did { Lowered hash_named (λ answer. IfOk answer IsHash
-        × Performs H.Host fs.old.host fs.new.host None
-        (meant_as metadata_hash (meant_by (H.world fs.old.host).tree (looks ((H.world fs.old.host).held dir.now.dir).node path.now (path_flags_named path_flags))))
-        (λ hash. hash) answer) result }
-{
-    let resource = resource_under(&descriptors.items, fd);
-    let mut view = WasiFilesystemCtxView {
-        ctx: fs,
-        table: &mut descriptors.table,
-    };
-    view.metadata_hash_at(resource, path_flags, path)
 }

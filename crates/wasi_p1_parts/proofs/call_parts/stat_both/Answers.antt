@@ -48,7 +48,7 @@ returns-in_err-hash-clause-did g c =
         record {
           permit = tt;
           does = λ told none. unlooked c.args.text.now _ metadata_hash stat_both _ (looked_through metadata_hash c.args.text.now _
-              live c.stat_at.ensures.live (looked_looks c.args.text.now _ descriptor_stat (Ok _) (first.2.1.does told none))
+              live c.below.ensures.live (looked_looks c.args.text.now _ descriptor_stat (Ok _) (first.2.1.does told none))
               (lower.did.1.does told none));
         },
       ),
@@ -66,7 +66,7 @@ returns-clause-did g c =
         record {
           permit = tt;
           does = λ told none. both_looked c.args.text.now _ (first.2.1.does told none) (looked_through metadata_hash
-              c.args.text.now _ live c.stat_at.ensures.live (looked_looks c.args.text.now _ descriptor_stat (Ok _)
+              c.args.text.now _ live c.below.ensures.live (looked_looks c.args.text.now _ descriptor_stat (Ok _)
               (first.2.1.does told none)) (second.2.1.does told none));
         },
       ),

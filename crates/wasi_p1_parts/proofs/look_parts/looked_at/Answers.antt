@@ -42,7 +42,7 @@ returns-in_err-hash-clause-did g c =
         tt,
         record {
           permit = tt;
-          does = λ told none. unseen metadata_hash stat_both _ (seen_through metadata_hash live c.stat.ensures.live
+          does = λ told none. unseen metadata_hash stat_both _ (seen_through metadata_hash live c.about.ensures.live
               (seen_looks descriptor_stat (Ok _) (first.2.2.does told none)) (lower.did.2.does told none));
         },
       ),
@@ -60,7 +60,7 @@ returns-clause-did g c =
         stated first.2.1 second.2.1,
         record {
           permit = tt;
-          does = λ told none. both_seen (first.2.2.does told none) (seen_through metadata_hash live c.stat.ensures.live
+          does = λ told none. both_seen (first.2.2.does told none) (seen_through metadata_hash live c.about.ensures.live
               (seen_looks descriptor_stat (Ok _) (first.2.2.does told none)) (second.2.2.does told none));
         },
       ),
