@@ -295,6 +295,14 @@ lowered_err {A} {B} {before = before} {now = now} {e = e} Did cause (Err error, 
     why : {f : HostError} → (let r : Result A HostError = Err error in r) ≡ Err f → error ≡ f
     why is = cc
 
+-- what is made of several calls is refused as one of them, as the exit of a `?` gives it
+pub lowered_again : {A B C : Type 0} {shown : A → B} {before now : FaultCount} {Did : Result C HostError → Type 0}
+    {Did' : Result A HostError → Type 0} {e : FsError} {result : Result B FsError}
+    (lower : LowerRefusal before now Did e) → IsErrAnd result (λ f. f ≡ e) → Did' (Err lower.error)
+    → Lowered shown Did' result
+lowered_again {result = result} lower is did =
+    let error = err_from_is_err_and result is in rw (error.1, error.2) (Err lower.error, ap Err lower.same, did)
+
 -- an answer that is shown as it is
 pub lowered_ok : {A : Type 0} {a : A} (Did : Result A HostError → Type 0) → Lowered (λ (x : A). x) Did (Ok a) → Did (Ok a)
 lowered_ok {A} {a} Did (Ok x, is, did) =

@@ -1,11 +1,10 @@
-use Rattle.std.proofs.Common.{Ok, Err, ap}
-use Rattle.std.proofs.lemmas.Result.{err_from_is_err_and}
+use Rattle.std.proofs.Common.{Ok}
 use Rattle.wasi_fs.specs.DescriptorStat.{descriptor_stat}
 use Rattle.wasi_fs.specs.MetadataHash.{metadata_hash}
 use Rattle.wasi_turns.specs.Filestats.{stat_both}
 use Rattle.wasi_turns.proofs.LookingTwice.{both_looked, looked_looks, looked_through, unlooked}
 use Rattle.wasi_turns.proofs.Stating.{stated}
-use Rattle.wasi_p1_parts.proofs.Viewing.{lowered_err, lowered_shown, stands_live}
+use Rattle.wasi_p1_parts.proofs.Viewing.{lowered_again, lowered_err, lowered_shown, stands_live}
 use Rattle.wasi_host.proofs.Tracing.{traced_twice}
 use Rattle.wasi_p1_parts.proofs.call_parts.stat_both.Goals as goal
 
@@ -19,17 +18,12 @@ pub returns-in_err-stat-clause-did : goal.returns-in_err-stat-clause-did
 returns-in_err-stat-clause-did g c =
     let given = c.in_err-stat.ensures in
     let lower = lowered_err _ given.cause given.did in
-    let error = err_from_is_err_and c.from_residual.result c.from_residual.ensures.1 in
-    rw (error.1, error.2) (
-      Err lower.error,
-      ap Err lower.same,
-      (
-        tt,
-        record {
-          permit = tt;
-          does = λ told none. unlooked c.args.text.now _ descriptor_stat stat_both _ (lower.did.1.does told none);
-        },
-      ),
+    lowered_again lower c.from_residual.ensures.1 (
+      tt,
+      record {
+        permit = tt;
+        does = λ told none. unlooked c.args.text.now _ descriptor_stat stat_both _ (lower.did.1.does told none);
+      },
     )
 
 pub returns-in_err-hash-clause-did : goal.returns-in_err-hash-clause-did
@@ -38,20 +32,14 @@ returns-in_err-hash-clause-did g c =
     let given = c.in_err-hash.ensures in
     let lower = lowered_err _ given.cause given.did in
     let live = stands_live _ _ c.requires.holds c.requires.stands in
-    let residual = c.from_residual-in_err-hash in
-    let error = err_from_is_err_and residual.result residual.ensures.1 in
-    rw (error.1, error.2) (
-      Err lower.error,
-      ap Err lower.same,
-      (
-        tt,
-        record {
-          permit = tt;
-          does = λ told none. unlooked c.args.text.now _ metadata_hash stat_both _ (looked_through metadata_hash c.args.text.now _
-              live c.below.ensures.live (looked_looks c.args.text.now _ descriptor_stat (Ok _) (first.2.1.does told none))
-              (lower.did.1.does told none));
-        },
-      ),
+    lowered_again lower c.from_residual-in_err-hash.ensures.1 (
+      tt,
+      record {
+        permit = tt;
+        does = λ told none. unlooked c.args.text.now _ metadata_hash stat_both _ (looked_through metadata_hash
+            c.args.text.now _ live c.below.ensures.live (looked_looks c.args.text.now _ descriptor_stat (Ok _)
+            (first.2.1.does told none)) (lower.did.1.does told none));
+      },
     )
 
 pub returns-clause-did : goal.returns-clause-did
