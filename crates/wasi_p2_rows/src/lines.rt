@@ -25,23 +25,22 @@ use wasi_tree::MemTree;
 pub struct ViewRows;
 
 impl Answering for ViewRows {
-    fn answer(&mut self, alloc: Global, line: &str) -> Told {
-        let asked = Asked::of(alloc, line);
+    fn answer(&mut self, asked: &Asked<'_>) -> Told {
         match asked.what {
             "view" => {
-                let mut guest = guest(alloc, &[(0, "/")], 16)?;
-                lent(&mut guest, &asked)
+                let mut guest = guest(asked.alloc, &[(0, "/")], 16)?;
+                lent(&mut guest, asked)
             }
             "within" => {
-                let mut guest = guest(alloc, &[(0, "/")], 16)?;
-                within(&mut guest, &asked)
+                let mut guest = guest(asked.alloc, &[(0, "/")], 16)?;
+                within(&mut guest, asked)
             }
             "few" => {
-                let mut guest = guest(alloc, &[(0, "/"), (1, "d")], 3)?;
-                lent(&mut guest, &asked)
+                let mut guest = guest(asked.alloc, &[(0, "/"), (1, "d")], 3)?;
+                lent(&mut guest, asked)
             }
-            "named" => several(&asked),
-            _ => unknown(alloc),
+            "named" => several(asked),
+            _ => unknown(asked.alloc),
         }
     }
 }

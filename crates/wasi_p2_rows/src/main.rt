@@ -10,12 +10,8 @@ mod trees;
 
 use lines::ViewRows;
 use std::process::ExitCode;
-use wasi_ends::{StdinSource, StdoutSink};
 use wasi_table::try_table;
 
 fn main(rt: HostRuntime) -> ExitCode {
-    let mut source = StdinSource::new(rt.stdin());
-    let mut sink = StdoutSink::new(rt.stdout());
-    let tried = try_table(rt.alloc(), &mut ViewRows, &mut source, &mut sink);
-    ExitCode::from(tried.exit_code())
+    try_table(rt.alloc(), rt.stdin(), rt.stdout(), &mut ViewRows)
 }

@@ -9,15 +9,11 @@ mod trees;
 
 use std::process::ExitCode;
 use trees::PathRows;
-use wasi_ends::{StdinSource, StdoutSink};
 use wasi_table::try_table;
 
 fn main(rt: HostRuntime) -> ExitCode {
     let Ok(mut rows) = PathRows::new(rt.alloc()) else {
         return ExitCode::FAILURE;
     };
-    let mut source = StdinSource::new(rt.stdin());
-    let mut sink = StdoutSink::new(rt.stdout());
-    let tried = try_table(rt.alloc(), &mut rows, &mut source, &mut sink);
-    ExitCode::from(tried.exit_code())
+    try_table(rt.alloc(), rt.stdin(), rt.stdout(), &mut rows)
 }

@@ -46,11 +46,10 @@ impl PathRows {
 }
 
 impl Answering for PathRows {
-    fn answer(&mut self, alloc: Global, line: &str) -> Told {
-        let asked = Asked::of(alloc, line);
+    fn answer(&mut self, asked: &Asked<'_>) -> Told {
         match asked.what {
-            "new" => self.begin(alloc, asked.rest.parse::<u16>().unwrap_or(0)),
-            _ => ask_root(&mut self.tree, &asked),
+            "new" => self.begin(asked.alloc, asked.rest.parse::<u16>().unwrap_or(0)),
+            _ => ask_root(&mut self.tree, asked),
         }
     }
 }

@@ -9,12 +9,8 @@ mod walks;
 
 use std::process::ExitCode;
 use walks::WalkRows;
-use wasi_ends::{StdinSource, StdoutSink};
 use wasi_table::try_table;
 
 fn main(rt: HostRuntime) -> ExitCode {
-    let mut source = StdinSource::new(rt.stdin());
-    let mut sink = StdoutSink::new(rt.stdout());
-    let tried = try_table(rt.alloc(), &mut WalkRows, &mut source, &mut sink);
-    ExitCode::from(tried.exit_code())
+    try_table(rt.alloc(), rt.stdin(), rt.stdout(), &mut WalkRows)
 }

@@ -18,11 +18,10 @@ use wasi_tree::{MemTree, TreeError};
 pub struct WalkRows;
 
 impl Answering for WalkRows {
-    fn answer(&mut self, alloc: Global, line: &str) -> Told {
-        let asked = Asked::of(alloc, line);
+    fn answer(&mut self, asked: &Asked<'_>) -> Told {
         match asked.what {
-            "lineage" => walk_in(walked_tree(alloc), &asked),
-            _ => walk_in(small_tree(alloc), &asked),
+            "lineage" => walk_in(walked_tree(asked.alloc), asked),
+            _ => walk_in(small_tree(asked.alloc), asked),
         }
     }
 }

@@ -19,13 +19,12 @@ use wasi_tree::{Limits, MemTree, NewContent, NewEntry, NewNode, TreeError};
 pub struct StreamRows;
 
 impl Answering for StreamRows {
-    fn answer(&mut self, alloc: Global, line: &str) -> Told {
-        let asked = Asked::of(alloc, line);
+    fn answer(&mut self, asked: &Asked<'_>) -> Told {
         match asked.what {
-            "table" => table_line(&asked),
-            "turns" => turns_line(&asked),
-            "copy" => copy_line(&asked),
-            _ => with_tree(&asked),
+            "table" => table_line(asked),
+            "turns" => turns_line(asked),
+            "copy" => copy_line(asked),
+            _ => with_tree(asked),
         }
     }
 }

@@ -11,4 +11,4 @@ mod table;
 
 pub use hosts::{answered, coded, done, refused, time_of, told_node, told_times};
 pub use line::{Asked, Told, list_of, number, told, unknown, word};
-pub use table::{Answering, Tried, try_table};
+pub use table::{Answering, try_table};

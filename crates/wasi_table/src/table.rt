@@ -1,16 +1,18 @@
 //! Trying a table.
-use crate::line::Told;
+use crate::line::{Asked, Told};
 use std::alloc::{AllocError, Global};
-use wasi_ends::{Sink, Source, read_all, write_all};
+use std::io::{Stdin, Stdout};
+use std::process::ExitCode;
+use wasi_ends::{Sink, Source, StdinSource, StdoutSink, read_all, write_all};
 
 /// What answers the lines of a table, one after another.
 pub trait Answering {
-    fn answer(&mut self, alloc: Global, asked: &str) -> Told;
+    fn answer(&mut self, asked: &Asked<'_>) -> Told;
 }
 
 /// What a table came to.
 #[derive(Clone, Copy)]
-pub enum Tried {
+enum Tried {
     /// Each line is so.
     Agrees,
     /// Some lines aren't so.
@@ -21,7 +23,7 @@ pub enum Tried {
 
 impl Tried {
     /// The exit status of a program: 0 where each line is so, 1 where some aren't, and else 2.
-    pub fn exit_code(self) -> u8 {
+    fn exit_code(self) -> u8 {
         match self {
             Tried::Agrees => 0,
             Tried::Differs => 1,
@@ -30,13 +32,26 @@ impl Tried {
     }
 }
 
-/// Tries the table that a source gives. Of each line that isn't so what came is written into the sink, with its number and
-/// the line, and then how many are so.
-pub fn try_table<A: Answering, S: Source, K: Sink>(
+/// Tries the table on a program's standard input. Of each line that isn't so what came goes to its standard output, with
+/// the line and its number, and then how many are so.
+pub fn try_table<A: Answering>(
     alloc: Global,
+    stdin: Stdin,
+    stdout: Stdout,
     answers: &mut A,
+) -> ExitCode {
+    let mut source = StdinSource::new(stdin);
+    let mut sink = StdoutSink::new(stdout);
+    let tried = try_source(alloc, &mut source, &mut sink, answers);
+    ExitCode::from(tried.exit_code())
+}
+
+// The same of the table that a source gives.
+fn try_source<A: Answering, S: Source, K: Sink>(
+    alloc: Global,
     source: &mut S,
     sink: &mut K,
+    answers: &mut A,
 ) -> Tried {
     let Ok(bytes) = read_all(alloc, source) else {
         return Tried::Unfinished;
@@ -107,7 +122,7 @@ fn is_answered<A: Answering>(
     wanted: &str,
     text: &mut String,
 ) -> Result<bool, AllocError> {
-    let answer = answers.answer(alloc, asked)?;
+    let answer = answers.answer(&Asked::of(alloc, asked))?;
     if answer.as_str() == wanted {
         return Ok(true);
     }

@@ -10,15 +10,11 @@ mod trees;
 
 use std::process::ExitCode;
 use trees::TreeRows;
-use wasi_ends::{StdinSource, StdoutSink};
 use wasi_table::try_table;
 
 fn main(rt: HostRuntime) -> ExitCode {
     let Ok(mut rows) = TreeRows::new(rt.alloc()) else {
         return ExitCode::FAILURE;
     };
-    let mut source = StdinSource::new(rt.stdin());
-    let mut sink = StdoutSink::new(rt.stdout());
-    let tried = try_table(rt.alloc(), &mut rows, &mut source, &mut sink);
-    ExitCode::from(tried.exit_code())
+    try_table(rt.alloc(), rt.stdin(), rt.stdout(), &mut rows)
 }

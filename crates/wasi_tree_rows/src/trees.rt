@@ -26,13 +26,12 @@ impl TreeRows {
 }
 
 impl Answering for TreeRows {
-    fn answer(&mut self, alloc: Global, line: &str) -> Told {
-        let asked = Asked::of(alloc, line);
+    fn answer(&mut self, asked: &Asked<'_>) -> Told {
         match asked.what {
-            "tree" => self.begin(alloc, asked.rest),
-            "fit" => fit(alloc, asked.rest),
-            "chain" => chained(alloc, asked.rest),
-            _ => ask(&mut self.tree, &asked),
+            "tree" => self.begin(asked.alloc, asked.rest),
+            "fit" => fit(asked.alloc, asked.rest),
+            "chain" => chained(asked.alloc, asked.rest),
+            _ => ask(&mut self.tree, asked),
         }
     }
 }

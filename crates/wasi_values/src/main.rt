@@ -11,20 +11,18 @@ mod numbers;
 mod paths;
 mod records;
 
-use std::alloc::{AllocError, Global};
 use std::process::ExitCode;
-use wasi_ends::{StdinSource, StdoutSink};
-use wasi_table::{Answering, try_table, unknown, word};
+use wasi_table::{Answering, Asked, Told, try_table, unknown, word};
 
 /// What answers the lines.
 #[derive(Drop)]
 struct Values;
 
 impl Answering for Values {
-    fn answer(&mut self, alloc: Global, asked: &str) -> Result<String, AllocError> {
-        let (family, asked) = word(asked);
-        let (what, rest) = word(asked);
-        match family {
+    fn answer(&mut self, asked: &Asked<'_>) -> Told {
+        let alloc = asked.alloc;
+        let (what, rest) = word(asked.rest);
+        match asked.what {
             "path" => paths::answer(alloc, what, rest),
             "name" => paths::name_answer(alloc, what, rest),
             "host" => host::answer(alloc, what, rest),
@@ -41,8 +39,5 @@ impl Answering for Values {
 }
 
 fn main(rt: HostRuntime) -> ExitCode {
-    let mut source = StdinSource::new(rt.stdin());
-    let mut sink = StdoutSink::new(rt.stdout());
-    let tried = try_table(rt.alloc(), &mut Values, &mut source, &mut sink);
-    ExitCode::from(tried.exit_code())
+    try_table(rt.alloc(), rt.stdin(), rt.stdout(), &mut Values)
 }
