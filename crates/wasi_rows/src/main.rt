@@ -7,13 +7,11 @@
 mod line;
 mod repeats;
 mod row;
-mod tally;
 
 use line::{Asked, Line};
+use std::io;
 use std::process::ExitCode;
-use std::{io, str};
-use tally::Tally;
-use wasi_ends::{StdinSource, read_all};
+use wasi_table::{Tally, input_text};
 
 // A row's first line, and its number.
 #[derive(Clone, Copy)]
@@ -26,6 +24,28 @@ const NO_SECOND: &str = "its line `EXIT TEXT` isn't there";
 
 const NO_FIRST: &str = "the line `WORD SCRIPT` before it isn't there";
 
+// Counts a row that doesn't agree, and prints why, with the number of its line.
+fn broken(rt: &HostRuntime, tally: &mut Tally, number: usize, why: &str) -> io::Result<()> {
+    *tally = tally.with(false);
+    println!(rt; "line {number}: {why}")
+}
+
+// Counts a row, and prints in what the run of its script differs from it.
+fn count(
+    rt: &HostRuntime,
+    tally: &mut Tally,
+    number: usize,
+    difference: Option<String>,
+) -> io::Result<()> {
+    match difference {
+        None => {
+            *tally = tally.with(true);
+            Ok(())
+        }
+        Some(difference) => broken(rt, tally, number, difference.as_str()),
+    }
+}
+
 // Takes a line behind those before it, of which a row may be open: the row that is open then.
 fn next_line<'a>(
     rt: &HostRuntime,
@@ -37,16 +57,16 @@ fn next_line<'a>(
     match (open, line) {
         (Some(Open { number, asked }), Line::Wanted(wanted)) => {
             let difference = row::difference(rt.alloc(), asked, wanted)?;
-            tally.count(rt, number, difference)?;
+            count(rt, tally, number, difference)?;
             Ok(None)
         }
         (None, Line::Wanted(_)) => {
-            tally.broken(rt, number, NO_FIRST)?;
+            broken(rt, tally, number, NO_FIRST)?;
             Ok(None)
         }
         (open, line) => {
             if let Some(Open { number, .. }) = open {
-                tally.broken(rt, number, NO_SECOND)?;
+                broken(rt, tally, number, NO_SECOND)?;
             }
             Ok(line.asked().map(|asked| Open { number, asked }))
         }
@@ -66,14 +86,8 @@ fn run_rows(rt: &HostRuntime, text: &str) -> io::Result<Tally> {
 }
 
 fn main(rt: HostRuntime) -> io::Result<ExitCode> {
-    let mut source = StdinSource::new(rt.stdin());
-    let Ok(bytes) = read_all(rt.alloc(), &mut source) else {
-        eprintln!(rt; "wasi_rows: standard input couldn't be read")?;
+    let Some(text) = input_text(&rt, rt.stdin(), "wasi_rows")? else {
         return Ok(ExitCode::FAILURE);
     };
-    let Ok(text) = str::from_utf8(bytes.as_slice()) else {
-        eprintln!(rt; "wasi_rows: standard input isn't UTF-8")?;
-        return Ok(ExitCode::FAILURE);
-    };
-    run_rows(&rt, text)?.end(&rt)
+    run_rows(&rt, text.as_str())?.end(&rt, "rows")
 }

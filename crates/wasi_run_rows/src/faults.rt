@@ -1,9 +1,9 @@
 //! Scripts with a fault.
 use crate::by_calls::report_by_calls;
 use crate::by_script::report_by_script;
-use crate::tally::Tally;
 use std::alloc::{AllocError, Global};
 use std::io;
+use wasi_table::Tally;
 
 // How many host calls of a script are to fail, each in turn.
 const CALLS: u64 = 12;

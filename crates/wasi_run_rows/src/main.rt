@@ -20,15 +20,13 @@ mod by_calls;
 mod by_script;
 mod faults;
 mod refused;
-mod tally;
 
 use faults::try_faults;
 use refused::try_refused;
 use std::process::ExitCode;
-use std::{env, io, str};
-use tally::Tally;
-use wasi_ends::{StdinSource, read_all};
+use std::{env, io};
 use wasi_gen::gen_script;
+use wasi_table::{Tally, input_text};
 
 const WANTED_ELSEWHERE: u8 = 3;
 
@@ -85,16 +83,10 @@ fn run(rt: &HostRuntime) -> io::Result<ExitCode> {
     if way == Way::Made {
         return make(rt);
     }
-    let mut source = StdinSource::new(rt.stdin());
-    let Ok(bytes) = read_all(rt.alloc(), &mut source) else {
-        eprintln!(rt; "wasi_run_rows: standard input couldn't be read")?;
+    let Some(text) = input_text(rt, rt.stdin(), "wasi_run_rows")? else {
         return Ok(ExitCode::FAILURE);
     };
-    let Ok(text) = str::from_utf8(bytes.as_slice()) else {
-        eprintln!(rt; "wasi_run_rows: standard input isn't UTF-8")?;
-        return Ok(ExitCode::FAILURE);
-    };
-    try_all(rt, text, way)?.end(rt)
+    try_all(rt, text.as_str(), way)?.end(rt, "reports")
 }
 
 fn main(rt: HostRuntime) -> ExitCode {

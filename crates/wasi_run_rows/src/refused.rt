@@ -1,9 +1,9 @@
 //! Scripts in which memory may be refused.
 use crate::begun::Begun;
-use crate::tally::Tally;
 use std::alloc::{AllocError, Global};
 use std::io;
 use wasi_p1::RunError;
+use wasi_table::Tally;
 
 // Makes the calls that weren't answered, and says whether all is as in a run in which nothing was refused.
 fn goes_on(

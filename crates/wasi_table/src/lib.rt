@@ -6,9 +6,13 @@
 #![tactic(auto)]
 
 mod hosts;
+mod input;
 mod line;
 mod table;
+mod tally;
 
 pub use hosts::{answered, coded, done, refused, time_of, told_node, told_times};
+pub use input::input_text;
 pub use line::{Asked, Told, list_of, number, told, unknown, word};
 pub use table::{Answering, try_table};
+pub use tally::Tally;

@@ -1,5 +1,6 @@
 //! Trying a table.
 use crate::line::{Asked, Told};
+use crate::tally::Tally;
 use std::alloc::{AllocError, Global};
 use std::io::{Stdin, Stdout};
 use std::process::ExitCode;
@@ -75,23 +76,19 @@ fn try_lines<A: Answering>(
     table: &str,
     text: &mut String,
 ) -> Result<Tried, AllocError> {
-    let mut agree = 0u64;
-    let mut differ = 0u64;
+    let mut tally = Tally::new();
     for (before, line) in table.lines().enumerate() {
         if line.is_empty() || line.starts_with('#') {
             continue;
         }
-        if try_line(alloc, answers, before, line, text)? {
-            agree = agree.saturating_add(1);
-        } else {
-            differ = differ.saturating_add(1);
-        }
+        tally = tally.with(try_line(alloc, answers, before, line, text)?);
     }
-    if differ == 0 {
+    let Tally { agree, others } = tally;
+    if others == 0 {
         write!(text, "{agree} lines agree\n")?;
         return Ok(Tried::Agrees);
     }
-    write!(text, "{agree} lines agree, and {differ} don't\n")?;
+    write!(text, "{agree} lines agree, and {others} don't\n")?;
     Ok(Tried::Differs)
 }
 

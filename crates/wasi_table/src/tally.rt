@@ -1,12 +1,12 @@
-//! How many reports agree.
+//! How many things agree with what is wanted of them.
 use std::io;
 use std::process::ExitCode;
 
 /// How many agree, and how many don't.
 #[derive(Clone, Copy)]
 pub struct Tally {
-    agree: u64,
-    others: u64,
+    pub agree: u64,
+    pub others: u64,
 }
 
 impl Tally {
@@ -33,14 +33,14 @@ impl Tally {
         }
     }
 
-    /// Prints how many agree, and how many don't, where there are any. The exit status is 0 where all do.
-    pub fn end(self, rt: &HostRuntime) -> io::Result<ExitCode> {
+    /// Prints how many of these things agree, and how many don't, where there are any. The exit status is 0 where all do.
+    pub fn end(self, rt: &impl Print, things: &str) -> io::Result<ExitCode> {
         let Tally { agree, others } = self;
-        println!(rt; "{agree} reports agree")?;
+        println!(rt; "{agree} {things} agree")?;
         if others == 0 {
             return Ok(ExitCode::SUCCESS);
         }
-        println!(rt; "{others} reports don't")?;
+        println!(rt; "{others} {things} don't")?;
         Ok(ExitCode::FAILURE)
     }
 }
