@@ -2,6 +2,7 @@
 ghost use Rattle.std.specs.Prelude.{◌≡◌, true};
 ghost use Rattle.std.specs.FinSet.{contains};
 
+use crate::along::{Calls, along};
 use bytes::Bytes;
 use std::alloc::{AllocError, Global};
 use wasi_fs::File;
@@ -21,55 +22,29 @@ pub fn input_line<H: Host>(host: &mut H, file: &File, asked: &Asked<'_>) -> Told
     }
 }
 
-fn along<H: Host>(host: &mut H, mut stream: FileInputStream, alloc: Global, calls: &str) -> Told
-    requires { contains (H.live host.old) stream.file ≡ true }
-{
-    let mut text = String::new(alloc);
-    push_answers(host, &mut stream, alloc, calls, &mut text)?;
-    stream.close(host);
-    Ok(text)
-}
+impl<H: Host> Calls<H> for FileInputStream {
+    ghost handle = { λ s. s.file };
 
-fn push_answers<H: Host>(
-    host: &mut H,
-    stream: &mut FileInputStream,
-    alloc: Global,
-    calls: &str,
-    text: &mut String,
-) -> Result<(), AllocError>
-    requires { contains (H.live host.old) stream.old.file ≡ true }
-    ensures live { H.live host.new ≡ H.live host.old }
-    ensures file { stream.new.file ≡ stream.old.file }
-{
-    for (before, one) in calls.split("; ").enumerate() {
-        if before > 0 {
-            text.push_str("; ")?;
+    fn call(&mut self, host: &mut H, asked: &Asked<'_>) -> Told {
+        let alloc = asked.alloc;
+        let size = number(asked.rest) as usize;
+        match asked.what {
+            "read" => told_bytes(alloc, self.read(size)),
+            "blocking_read" => told_bytes(alloc, self.blocking_read(host, size)),
+            "ready" => {
+                self.ready(host)?;
+                String::from_str(alloc, "ok")
+            }
+            "cancel" => {
+                self.cancel();
+                String::from_str(alloc, "ok")
+            }
+            _ => unknown(alloc),
         }
-        let answer = input_call(host, stream, &Asked::of(alloc, one))?;
-        text.push_str(answer.as_str())?;
     }
-    Ok(())
-}
 
-fn input_call<H: Host>(host: &mut H, stream: &mut FileInputStream, asked: &Asked<'_>) -> Told
-    requires { contains (H.live host.old) stream.old.file ≡ true }
-    ensures live { H.live host.new ≡ H.live host.old }
-    ensures file { stream.new.file ≡ stream.old.file }
-{
-    let alloc = asked.alloc;
-    let size = number(asked.rest) as usize;
-    match asked.what {
-        "read" => told_bytes(alloc, stream.read(size)),
-        "blocking_read" => told_bytes(alloc, stream.blocking_read(host, size)),
-        "ready" => {
-            stream.ready(host)?;
-            String::from_str(alloc, "ok")
-        }
-        "cancel" => {
-            stream.cancel();
-            String::from_str(alloc, "ok")
-        }
-        _ => unknown(alloc),
+    fn end(self, host: &mut H) {
+        self.close(host)
     }
 }
 

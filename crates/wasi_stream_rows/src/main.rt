@@ -2,6 +2,7 @@
 //! resources. Its standard input is the tables, which say what their lines are.
 #![tactic(auto)]
 
+mod along;
 mod amounts;
 mod files;
 mod inputs;

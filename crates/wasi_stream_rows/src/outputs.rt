@@ -1,9 +1,10 @@
 //! Calls of an output stream.
-ghost use Rattle.std.specs.Prelude.{◌≡◌, true, OnOk};
-ghost use Rattle.std.specs.FinSet.{contains, remove};
+ghost use Rattle.std.specs.Prelude.{◌≡◌, true};
+ghost use Rattle.std.specs.FinSet.{contains};
 ghost use Rattle.std.specs.Result.{result_map_both};
 ghost use Rattle.wasi_host.specs.Meaning.{LiveGot};
 
+use crate::along::{Calls, along};
 use bytes::Bytes;
 use std::alloc::{AllocError, Global};
 use std::fmt::Debug;
@@ -23,6 +24,7 @@ pub fn output_line<H: Host>(host: &mut H, file: &File, asked: &Asked<'_>) -> Tol
     match stream_at(host, file, alloc, offset) {
         Ok(stream) => {
             let mut text = along(host, stream, alloc, calls)?;
+            text.push_str("; ")?;
             push_file(host, file.file, alloc, &mut text)?;
             Ok(text)
         }
@@ -45,60 +47,34 @@ fn stream_at<H: Host>(
     FileOutputStream::write_at(alloc, host, file, number(offset))
 }
 
-/// The answers of the calls, after which the stream is closed.
-fn along<H: Host>(host: &mut H, mut stream: FileOutputStream, alloc: Global, calls: &str) -> Told
-    requires { contains (H.live host.old) stream.file ≡ true }
-    ensures { OnOk result (H.live host.new ≡ remove (H.live host.old) stream.file) }
-{
-    let mut text = String::new(alloc);
-    push_answers(host, &mut stream, alloc, calls, &mut text)?;
-    stream.close(host);
-    Ok(text)
-}
+impl<H: Host> Calls<H> for FileOutputStream {
+    ghost handle = { λ s. s.file };
 
-fn push_answers<H: Host>(
-    host: &mut H,
-    stream: &mut FileOutputStream,
-    alloc: Global,
-    calls: &str,
-    text: &mut String,
-) -> Result<(), AllocError>
-    requires { contains (H.live host.old) stream.old.file ≡ true }
-    ensures live { H.live host.new ≡ H.live host.old }
-    ensures file { stream.new.file ≡ stream.old.file }
-{
-    for one in calls.split("; ") {
-        let answer = output_call(host, stream, &Asked::of(alloc, one))?;
-        text.push_str(answer.as_str())?;
-        text.push_str("; ")?;
+    fn call(&mut self, host: &mut H, asked: &Asked<'_>) -> Told {
+        let alloc = asked.alloc;
+        let bytes = Bytes::copy_from_slice(alloc, asked.rest.as_bytes())?;
+        match asked.what {
+            "write" => told_done(alloc, self.write(bytes)),
+            "blocking_write_and_flush" => {
+                let done = self.blocking_write_and_flush(host, bytes);
+                told_done(alloc, done)
+            }
+            "flush" => told_done(alloc, self.flush()),
+            "check_write" => told_done(alloc, self.check_write()),
+            "ready" => {
+                self.ready(host)?;
+                String::from_str(alloc, "()")
+            }
+            "cancel" => {
+                self.cancel();
+                String::from_str(alloc, "()")
+            }
+            _ => unknown(alloc),
+        }
     }
-    Ok(())
-}
 
-fn output_call<H: Host>(host: &mut H, stream: &mut FileOutputStream, asked: &Asked<'_>) -> Told
-    requires { contains (H.live host.old) stream.old.file ≡ true }
-    ensures live { H.live host.new ≡ H.live host.old }
-    ensures file { stream.new.file ≡ stream.old.file }
-{
-    let alloc = asked.alloc;
-    let bytes = Bytes::copy_from_slice(alloc, asked.rest.as_bytes())?;
-    match asked.what {
-        "write" => told_done(alloc, stream.write(bytes)),
-        "blocking_write_and_flush" => {
-            let done = stream.blocking_write_and_flush(host, bytes);
-            told_done(alloc, done)
-        }
-        "flush" => told_done(alloc, stream.flush()),
-        "check_write" => told_done(alloc, stream.check_write()),
-        "ready" => {
-            stream.ready(host)?;
-            String::from_str(alloc, "()")
-        }
-        "cancel" => {
-            stream.cancel();
-            String::from_str(alloc, "()")
-        }
-        _ => unknown(alloc),
+    fn end(self, host: &mut H) {
+        self.close(host)
     }
 }
 
