@@ -1,5 +1,5 @@
 -- Lists of numbers and texts, in which any other value is as good as another.
-use Rattle.std.specs.Prelude.{◌≡◌, List, map}
+use Rattle.std.specs.Prelude.{◌≡◌, Bool, if◌then◌else◌, List, map, Option, Some, None}
 use Rattle.serde_json.specs.Data.{Data, null, boolean, number, string, array, object, Items, no_items, item}
 use Rattle.serde_json.specs.View.{number_view, items_of}
 use Rattle.wasi_form.specs.declared.atoms.Atom.{Atom}
@@ -27,6 +27,10 @@ atom_data atoms.Other = null
 
 abbrev pub atoms_data : List Atom → Items
 atoms_data list = items_of (map atom_data list)
+
+-- what is known of a value of which the items were read where it is a list
+abbrev pub atoms_if : Bool → List Atom → Option Items
+atoms_if is_list list = if is_list then Some (atoms_data list) else None
 
 -- what is known of the arguments of a call that weren't read yet
 abbrev pub values_left : Arguments → Items

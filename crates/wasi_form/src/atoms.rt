@@ -1,10 +1,10 @@
 //! Lists of numbers and texts: any other value in them is passed, and nothing of it is kept.
-ghost use Rattle.std.specs.Prelude.{◌≡◌, ◌∷◌, option_map};
+ghost use Rattle.std.specs.Prelude.{◌≡◌, [], ◌∷◌, option_map};
 ghost use Rattle.json.specs.Json.{parse_map};
 ghost use Rattle.json.specs.Reads.{token_of};
 ghost use Rattle.serde_json.specs.Find as find;
 ghost use Rattle.serde_json.specs.View.{number_view};
-ghost use Rattle.wasi_form.specs.Atoms.{flat, flat_items, atom_data, atoms_data};
+ghost use Rattle.wasi_form.specs.Atoms.{flat, flat_items, atom_data, atoms_data, atoms_if};
 ghost use Rattle.wasi_form.specs.IsRead.{IsRead};
 ghost use Rattle.wasi_form.specs.Lists.{same};
 ghost use Rattle.wasi_form.specs.Shapes as shapes;
@@ -141,40 +141,38 @@ const MOST_ITEMS: usize = 9;
 pub type Atoms<'a> = SmallVec<Atom<'a>, MOST_ITEMS>;
 
 // The items that are left of a list.
-fn atoms_left<'a>(alloc: Global, reader: &mut Reader<'a>, depth: usize) -> Reading<Atoms<'a>>
-    ensures { IsRead (λ v. (atoms_data v.items, reader.new)) result
+fn atoms_left<'a>(reader: &mut Reader<'a>, depth: usize, atoms: &mut Atoms<'a>) -> Reading<()>
+    requires { atoms.old.items ≡ [] }
+    ensures { IsRead (λ _. (atoms_data atoms.new.items, reader.new)) result
         (parse_map flat_items (next_items depth reader.old)) }
 {
-    let mut found = SmallVec::new(alloc);
     'items: while !reader.take_end_array() {
         let item = next_atom(reader, depth)?;
-        found.push(item)?;
+        atoms.push(item)?;
     }
-    Ok(found)
+    Ok(())
 }
 
-/// The items of the next value of a text. `None` where that is no list.
-pub fn list_atoms<'a>(
-    alloc: Global,
-    reader: &mut Reader<'a>,
-    depth: usize,
-) -> Result<Option<Atoms<'a>>, Unread>
-    ensures { IsRead (λ found. (option_map (λ v. atoms_data v.items) found, reader.new)) result
+/// Whether the next value of a text is a list, whose items are put into `atoms` then.
+pub fn list_atoms<'a>(reader: &mut Reader<'a>, depth: usize, atoms: &mut Atoms<'a>) -> Reading<bool>
+    requires { atoms.old.items ≡ [] }
+    ensures { IsRead (λ is_list. (atoms_if is_list atoms.new.items, reader.new)) result
         (parse_map (λ d. option_map flat_items (find.as_array d)) (next_value depth reader.old)) }
 {
     match reader.next() {
-        Some(token) => list_atoms_after(alloc, token, reader, depth),
+        Some(token) => list_atoms_after(token, reader, depth, atoms),
         None => Err(Unread::Shape),
     }
 }
 
 fn list_atoms_after<'a>(
-    alloc: Global,
     token: Token<'a>,
     reader: &mut Reader<'a>,
     depth: usize,
-) -> Result<Option<Atoms<'a>>, Unread>
-    ensures { IsRead (λ found. (option_map (λ v. atoms_data v.items) found, reader.new)) result
+    atoms: &mut Atoms<'a>,
+) -> Reading<bool>
+    requires { atoms.old.items ≡ [] }
+    ensures { IsRead (λ is_list. (atoms_if is_list atoms.new.items, reader.new)) result
         (parse_map (λ d. option_map flat_items (find.as_array d)) (next_value depth (token_of token.entry ∷ reader.old))) }
 {
     match token {
@@ -182,11 +180,12 @@ fn list_atoms_after<'a>(
             if depth == 0 {
                 return Err(Unread::Shape);
             }
-            Ok(Some(atoms_left(alloc, reader, depth - 1)?))
+            atoms_left(reader, depth - 1, atoms)?;
+            Ok(true)
         }
         _ => {
             pass_after(token, reader, depth)?;
-            Ok(None)
+            Ok(false)
         }
     }
 }

@@ -4,15 +4,16 @@ ghost use Rattle.json.specs.Json.{parse_map};
 ghost use Rattle.json.specs.Reads.{token_of};
 ghost use Rattle.serde_json.specs.Data.{Data, Items};
 ghost use Rattle.serde_json.specs.Find as find;
-ghost use Rattle.wasi_form.specs.Atoms.{atoms_data, SeesAtoms};
+ghost use Rattle.wasi_form.specs.Atoms.{atoms_data, atoms_if, SeesAtoms};
 ghost use Rattle.wasi_form.specs.IsRead.{IsRead};
 ghost use Rattle.wasi_form.specs.Lists.{items_all, list_of, list_seen, pushed};
 ghost use Rattle.wasi_form.specs.Tokens.{next_value, next_items};
 
-use crate::atoms::{Atom, Atoms, list_atoms};
+use crate::atoms::{Atom, list_atoms};
 use crate::shapes::{Reading, Unread};
 use crate::tokens::pass_after;
 use json::{Reader, Token};
+use smallvec::SmallVec;
 use std::alloc::{AllocError, Global};
 
 /// An item of a list of a script.
@@ -123,19 +124,24 @@ pub fn next_listed<T: Listed>(
     ensures { IsRead (λ found. (option_map T.see found, reader.new)) result
         (parse_map (λ d. option_and_then T.of (find.as_array d)) (next_value depth reader.old)) }
 {
-    let atoms = list_atoms(alloc, reader, depth)?;
-    Ok(formed(alloc, atoms)?)
+    let mut atoms = SmallVec::new(alloc);
+    let is_list = list_atoms(reader, depth, &mut atoms)?;
+    Ok(formed(alloc, is_list, atoms.as_slice())?)
 }
 
-// What numbers and texts are read as, where they are a list.
-fn formed<T: Listed>(alloc: Global, atoms: Option<Atoms<'_>>) -> Result<Option<T>, AllocError>
+// What numbers and texts are read as, where they are those of a list.
+fn formed<T: Listed>(
+    alloc: Global,
+    is_list: bool,
+    atoms: &[Atom<'_>],
+) -> Result<Option<T>, AllocError>
     ensures { IfOk result (λ found. option_map T.see found
-        ≡ option_and_then T.of (option_map (λ v. atoms_data v.items) atoms.entry)) }
+        ≡ option_and_then T.of (atoms_if is_list atoms.now)) }
 {
-    let Some(atoms) = atoms else {
+    if !is_list {
         return Ok(None);
-    };
-    match T::read(alloc, atoms.as_slice()) {
+    }
+    match T::read(alloc, atoms) {
         Ok(found) => Ok(Some(found)),
         Err(Unread::Shape) => Ok(None),
         Err(Unread::Memory) => Err(AllocError),

@@ -7,7 +7,7 @@ use Rattle.wasi_form.proofs.Unreads.{passed_on, unread_part}
 use Rattle.wasi_form.proofs.atoms.atoms_left.Goals as goal
 
 pub items-init : goal.items-init
-items-init c = all_left (λ ds. ap (λ list. items_before atom_data list (flat_items ds)) (sym c.new-found.ensures.items))
+items-init c = all_left (λ ds. ap (λ list. items_before atom_data list (flat_items ds)) (sym c.requires))
 
 pub items-smaller : goal.items-smaller
 items-smaller c =
@@ -21,7 +21,7 @@ items-preserved c =
     let goes_on : (after_end_array c.items.reader ≡ None) × (c.take_end_array.new.self ≡ c.items.reader) = grind arith in
     let item = made_of flat _ _ _ (rw goes_on.1 at c.in_ok-item.ensures) in
     one_less {d = item.0} c.items.invariant goes_on.0 item.1
-    (atom_more c.items.found.items c.push.new.self.items c.in_ok-item.item item.0 c.in_ok-push.ensures.ok item.2)
+    (atom_more c.items.atoms.items c.push.new.self.items c.in_ok-item.item item.0 c.in_ok-push.ensures.ok item.2)
 
 pub returns-in_err-item : goal.returns-in_err-item
 returns-in_err-item c =
@@ -33,4 +33,4 @@ pub returns : goal.returns
 returns c =
     let ends : after_end_array c.items.reader ≡ Some c.take_end_array.new.self = grind arith in
     none_left c.items.invariant ends
-    ∙ ap (λ ds. Some (ds, c.take_end_array.new.self)) (items_before-no_items atom_data c.items.found.items)
+    ∙ ap (λ ds. Some (ds, c.take_end_array.new.self)) (items_before-no_items atom_data c.items.atoms.items)

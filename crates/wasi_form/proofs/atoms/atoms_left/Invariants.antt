@@ -5,7 +5,7 @@ use Rattle.wasi_form.proofs.atoms.atoms_left.Given as goal
 
 abbrev pub invariant-items : goal.invariant-items
 invariant-items l =
-    ItemsLeft l.depth flat_items (λ ds. items_before atom_data l.found.items (flat_items ds)) l.initial.reader l.reader
+    ItemsLeft l.depth flat_items (λ ds. items_before atom_data l.atoms.items (flat_items ds)) l.initial.reader l.reader
 
 abbrev pub decreases-items : goal.decreases-items
 decreases-items l = length l.reader
