@@ -1,27 +1,18 @@
 //! A script that has begun.
-ghost use Rattle.std.specs.Prelude.{◌≡◌, true, IsTrue};
-ghost use Rattle.wasi_faults.specs.Faults.{numbers_rise};
-ghost use Rattle.wasi_form.specs.Plan.{plan};
-ghost use Rattle.wasi_form.specs.Within.{is_within_limits};
-
 use std::alloc::{AllocError, Global};
 use wasi_faults::FailAt;
-use wasi_form::{Script, Shown, read_script};
+use wasi_form::read_script;
 use wasi_guest::{Answers, Call, GuestMemory, slice_at};
 use wasi_p1::{RunError, WasiP1Ctx, run_calls};
 use wasi_report::{Outcome, report};
-use wasi_start::{first_context, first_memory};
+use wasi_start::{Beginning, begin};
 use wasi_tree::MemTree;
 
 /// A script that has begun, and the calls that are left to be made.
 #[derive(Drop)]
 pub struct Begun {
     alloc: Global,
-    memory: GuestMemory,
-    context: WasiP1Ctx<FailAt<MemTree>>,
-    fuel: u64,
-    calls: Vec<Call>,
-    show: Vec<Shown>,
+    begun: Beginning,
 }
 
 /// What became of a script: its answers; its report, with no answers, nothing shown of the memory and no nodes touched; and
@@ -55,27 +46,10 @@ fn ends(whole: &Answers, place: usize, last: &Answers) -> bool {
     true
 }
 
-fn begin(alloc: Global, script: Script) -> Result<Begun, AllocError>
-    requires within { is_within_limits (plan script) ≡ true }
-    requires rising { IsTrue (numbers_rise script.faults.items) }
-{
-    let memory = first_memory(alloc, script.size, script.pieces.as_slice())?;
-    let context = first_context(
-        alloc,
-        script.nodes,
-        script.services,
-        script.faults,
-        script.preopens.as_slice(),
-        script.table,
-    )?;
-    Ok(Begun {
-        alloc,
-        memory,
-        context,
-        fuel: script.fuel,
-        calls: script.calls,
-        show: script.show,
-    })
+// The calls behind the first ones.
+fn without_first(alloc: Global, calls: &Vec<Call>, count: usize) -> Result<Vec<Call>, AllocError> {
+    let left = calls.as_slice().get(count..).unwrap_or(&[]);
+    left.to_vec(alloc)
 }
 
 // The report of what a context came to.
@@ -102,30 +76,38 @@ impl Begun {
     /// A script in which nothing was called yet, if it can be run.
     pub fn of(alloc: Global, script: &[u8]) -> Result<Option<Begun>, AllocError> {
         match read_script(alloc, script) {
-            Ok(script) => Ok(Some(begin(alloc, script)?)),
+            Ok(script) => {
+                let begun = begin(alloc, script)?;
+                Ok(Some(Begun { alloc, begun }))
+            }
             Err(_) => Ok(None),
         }
     }
 
     /// Makes the calls that are left.
     pub fn run(&mut self) -> Result<Answers, RunError> {
-        let bytes = self.memory.bytes_mut();
-        run_calls(self.alloc, &mut self.context, bytes, self.fuel, &self.calls)
+        let begun = &mut self.begun;
+        let bytes = begun.memory.bytes_mut();
+        run_calls(
+            self.alloc,
+            &mut begun.context,
+            bytes,
+            begun.fuel,
+            &begun.calls,
+        )
     }
 
     /// Lets go of the first calls that are left.
     pub fn skip(&mut self, count: usize) -> Result<(), AllocError> {
-        let left = self.calls.as_slice().get(count..).unwrap_or(&[]);
-        let left = left.to_vec(self.alloc)?;
-        self.calls = left;
+        self.begun.calls = without_first(self.alloc, &self.begun.calls, count)?;
         Ok(())
     }
 
     // The bytes of each range that is to be shown. A script has none outside of its memory.
     fn shown(&self) -> Result<Vec<Vec<u8>>, AllocError> {
         let mut list = Vec::new(self.alloc);
-        for range in &self.show {
-            if let Some(bytes) = slice_at(self.memory.bytes(), range.ptr, range.len) {
+        for range in &self.begun.show {
+            if let Some(bytes) = slice_at(self.begun.memory.bytes(), range.ptr, range.len) {
                 list.push(bytes.to_vec(self.alloc)?)?;
             }
         }
@@ -138,18 +120,19 @@ impl Begun {
             return Err(AllocError);
         };
         let shown = self.shown()?;
-        let touched = self.context.host().inner().touched(self.alloc)?;
-        told(self.alloc, self.context, answers, shown, touched)
+        let Begun { alloc, begun } = self;
+        let touched = begun.context.host().inner().touched(alloc)?;
+        told(alloc, begun.context, answers, shown, touched)
     }
 
     // What became of it, of which these are the answers.
     fn ended(self, answers: Answers) -> Result<Ended, AllocError> {
-        let none = Answers::with_room(self.alloc, 0)?;
-        let alloc = self.alloc;
+        let Begun { alloc, begun } = self;
+        let none = Answers::with_room(alloc, 0)?;
         Ok(Ended {
             answers,
-            report: told(alloc, self.context, none, Vec::new(alloc), Vec::new(alloc))?,
-            memory: self.memory,
+            report: told(alloc, begun.context, none, Vec::new(alloc), Vec::new(alloc))?,
+            memory: begun.memory,
         })
     }
 

@@ -10,5 +10,5 @@ mod words;
 
 pub use status::Status;
 pub use top::run_script;
-pub use wasi_start::{first_context, first_memory, shown};
+pub use wasi_start::{Beginning, begin, shown};
 pub use words::{Task, task_of, words_after_name};

@@ -10,7 +10,7 @@ use wasi_faults::FailAt;
 use wasi_form::{Script, Shown};
 use wasi_guest::{Answers, Call, GuestMemory};
 use wasi_p1::{WasiP1Ctx, run_calls};
-use wasi_start::{first_context, first_memory};
+use wasi_start::begin;
 use wasi_tree::MemTree;
 
 /// A script whose calls were made: what they were answered, the memory and the context after them, the ranges of the
@@ -30,25 +30,17 @@ pub fn run(alloc: Global, script: Script) -> Result<Ran, AllocError>
     requires rising { IsTrue (numbers_rise script.faults.items) }
     ensures { IfOk result (IsRanOf (plan script)) }
 {
-    let mut memory = first_memory(alloc, script.size, script.pieces.as_slice())?;
-    let mut context = first_context(
-        alloc,
-        script.nodes,
-        script.services,
-        script.faults,
-        script.preopens.as_slice(),
-        script.table,
-    )?;
-    let bytes = memory.bytes_mut();
-    let ran = run_calls(alloc, &mut context, bytes, script.fuel, &script.calls);
+    let mut begun = begin(alloc, script)?;
+    let bytes = begun.memory.bytes_mut();
+    let ran = run_calls(alloc, &mut begun.context, bytes, begun.fuel, &begun.calls);
     let Ok(answers) = ran else {
         return Err(AllocError);
     };
     Ok(Ran {
         answers,
-        memory,
-        context,
-        show: script.show,
-        calls: script.calls,
+        memory: begun.memory,
+        context: begun.context,
+        show: begun.show,
+        calls: begun.calls,
     })
 }

@@ -1,5 +1,5 @@
 -- The state in which the calls of a script begin.
-use Rattle.std.specs.Prelude.{◌≡◌, ◌≢◌, ℕ, suc, List, [], ◌∷◌, map, replicate, true, All, AllPairs, Some}
+use Rattle.std.specs.Prelude.{◌≡◌, ◌≢◌, ℕ, suc, List, [], ◌∷◌, length, map, replicate, true, All, AllPairs, Some}
 use Rattle.std.specs.FinSet.{empty, contains}
 use Rattle.std.specs.String.{string_bytes}
 use Rattle.wasi_host.specs.Tree.{Tree}
@@ -13,6 +13,7 @@ use Rattle.wasi_form.specs.Plan.{Plan, PlannedPiece, PlannedPreopen}
 use Rattle.wasi_turns.specs.Slots.{View, given_mode, given_slots}
 use Rattle.wasi_turns.specs.Guest.{State, GuestSlot, stream, directory, guest_slot, state_of}
 use Rattle.wasi_turns.specs.Stock.{first_stock}
+use Rattle.wasi_start.specs.declared.start.Beginning.{Beginning}
 use Rattle.wasi_turns.specs.declared.slots.P1Preopen.{P1Preopen}
 use Rattle.wasi_turns.specs.declared.slots.Stream.TheVariants.{Input, Output, Error}
 
@@ -67,6 +68,16 @@ pub record IsBegun {H : Type 0} (world : H → World) (context : View H) (tree :
     (preopens : List PlannedPreopen) (services : Handed) (table : ℕ) : Type 0 where
   pub state : (memory : List ℕ) → state_of world context memory ≡ begun tree preopens services table memory
   pub untouched : (world context.host).touched ≡ empty
+
+-- a plan's beginning: nothing was called yet
+pub record Begins (plan : Plan) (b : Beginning) : Type 0 where
+  pub begun : IsBegun world_behind b.context (tree_of plan.nodes plan.limits) plan.preopens plan.services plan.table
+  pub faults : b.context.host.calls ≡ record { faults = plan.faults; calls = 0 }
+  pub written : b.memory ≡ with_pieces (replicate plan.size 0) plan.pieces
+  pub size : length b.memory ≡ plan.size
+  pub fuel : b.fuel ≡ plan.fuel
+  pub calls : b.calls.items ≡ plan.calls
+  pub show : b.show.items ≡ plan.show
 
 -- handles of these directories in their order, each live and another, with their permissions and names
 pub record AreGiven (handles : HeldMap) (preopens : List PlannedPreopen) (given : List P1Preopen) : Type 0 where

@@ -4,4 +4,4 @@
 
 mod start;
 
-pub use start::{first_context, first_memory, shown};
+pub use start::{Beginning, begin, shown};

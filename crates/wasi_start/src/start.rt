@@ -5,17 +5,27 @@ ghost use Rattle.wasi_host.specs.Tree.{node_at, is_directory};
 ghost use Rattle.wasi_tree.specs.Given.{tree_of};
 ghost use Rattle.wasi_faults.specs.Faults.{numbers_rise};
 ghost use Rattle.wasi_guest.specs.Services.{handed};
-ghost use Rattle.wasi_form.specs.Plan.{planned_piece, planned_preopen};
-ghost use Rattle.wasi_form.specs.Within.{are_preopens_directories, is_piece_within, is_shown_within};
-ghost use Rattle.wasi_start.specs.Start.{with_pieces, world_behind, IsBegun, AreGiven};
+ghost use Rattle.wasi_form.specs.Plan.{plan, planned_piece, planned_preopen};
+ghost use Rattle.wasi_form.specs.Within.{are_preopens_directories, is_piece_within, is_shown_within, is_within_limits};
+ghost use Rattle.wasi_start.specs.Start.{with_pieces, world_behind, AreGiven, Begins, IsBegun};
 ghost use Rattle.wasi_start.specs.ReportAfter.{bytes_shown};
 
 use std::alloc::{AllocError, Global};
 use wasi_faults::{FailAt, Fault};
-use wasi_form::{Piece, ScriptPreopen, Shown};
-use wasi_guest::{GuestMemory, Services, slice_at};
+use wasi_form::{Piece, Script, ScriptPreopen, Shown};
+use wasi_guest::{Call, GuestMemory, Services, slice_at};
 use wasi_p1::{CtxError, P1Preopen, WasiP1Ctx};
 use wasi_tree::{FitNodes, HandleError, MemTree};
+
+/// Where the calls of a script begin: the memory and the context, and what of the script is left to be done.
+#[derive(Drop)]
+pub struct Beginning {
+    pub memory: GuestMemory,
+    pub context: WasiP1Ctx<FailAt<MemTree>>,
+    pub fuel: u64,
+    pub calls: Vec<Call>,
+    pub show: Vec<Shown>,
+}
 
 /// A handle of each directory that the guest is given, in order.
 fn given_handles(
@@ -46,9 +56,9 @@ fn given_handles(
     Ok(given)
 }
 
-/// A context over the tree of these nodes, in which the guest is handed in these services and given these directories, as
-/// many descriptors may be live as its table has room for, and these calls of the host fail.
-pub fn first_context(
+// A context over the tree of these nodes, in which the guest is handed in these services and given these directories, as
+// many descriptors may be live as its table has room for, and these calls of the host fail.
+fn first_context(
     alloc: Global,
     nodes: FitNodes,
     services: Services,
@@ -75,8 +85,8 @@ pub fn first_context(
     }
 }
 
-/// A memory of this size that has the pieces written into it, one after another.
-pub fn first_memory(alloc: Global, size: u32, pieces: &[Piece]) -> Result<GuestMemory, AllocError>
+// A memory of this size that has the pieces written into it, one after another.
+fn first_memory(alloc: Global, size: u32, pieces: &[Piece]) -> Result<GuestMemory, AllocError>
     requires { list_all (is_piece_within size) (map planned_piece pieces.now) ≡ true }
     ensures written { IfOk result (λ memory. memory ≡ with_pieces (replicate size 0) (map planned_piece pieces.now)) }
     ensures size { IfOk result (λ memory. length memory ≡ size) }
@@ -86,6 +96,31 @@ pub fn first_memory(alloc: Global, size: u32, pieces: &[Piece]) -> Result<GuestM
         memory.write(piece.offset, piece.bytes.as_slice());
     }
     Ok(memory)
+}
+
+/// Begins a script: the pieces of its memory are written, and its directories have handles. The only refusal is want of
+/// memory.
+pub fn begin(alloc: Global, script: Script) -> Result<Beginning, AllocError>
+    requires within { is_within_limits (plan script) ≡ true }
+    requires rising { IsTrue (numbers_rise script.faults.items) }
+    ensures begins { IfOk result (Begins (plan script)) }
+{
+    let memory = first_memory(alloc, script.size, script.pieces.as_slice())?;
+    let context = first_context(
+        alloc,
+        script.nodes,
+        script.services,
+        script.faults,
+        script.preopens.as_slice(),
+        script.table,
+    )?;
+    Ok(Beginning {
+        memory,
+        context,
+        fuel: script.fuel,
+        calls: script.calls,
+        show: script.show,
+    })
 }
 
 /// The bytes of each range.

@@ -1,4 +1,4 @@
-use Rattle.std.proofs.Common.{sym, ◌∙◌}
+use Rattle.std.proofs.Common.{refl, sym, ◌∙◌}
 use Rattle.std.proofs.lemmas.Result.{err_from_is_err_and}
 use Rattle.wasi_form.specs.Plan.{plan}
 use Rattle.wasi_form.proofs.Accepted.{accepted}
@@ -21,17 +21,19 @@ returns-then-not-has_no_guest c = record {
   starts = (plan c.in_ok-script.script, c.in_ok-script.ensures.verdict, sym c.has_no_guest.ensures ∙ c.if-not-has_no_guest.true);
 }
 
-pub returns-in_err-begin : goal.returns-in_err-begin
-returns-in_err-begin c =
-    let error = err_from_is_err_and c.from_residual-in_err-begin.result c.from_residual-in_err-begin.ensures.1 in
+pub returns-in_err-begun : goal.returns-in_err-begun
+returns-in_err-begun c =
+    let error = err_from_is_err_and c.from_residual-in_err-begun.result c.from_residual-in_err-begun.ensures.1 in
     rw (error.1, error.2) (record { starts = tt })
 
 pub returns : goal.returns
-returns c = record {
-  starts = (
-    plan c.in_ok-script.script,
-    c.in_ok-script.ensures.verdict,
-    sym c.has_no_guest.ensures ∙ c.if-not-has_no_guest.false,
-    c.in_ok-begin.ensures.begun,
-  );
-}
+returns c =
+    let begins = c.in_ok-begun.ensures.begins in
+    record {
+      starts = (
+        plan c.in_ok-script.script,
+        c.in_ok-script.ensures.verdict,
+        sym c.has_no_guest.ensures ∙ c.if-not-has_no_guest.false,
+        record { begun = begins.begun; faults = begins.faults; fuel = begins.fuel; answered = refl },
+      );
+    }
