@@ -14,6 +14,20 @@ use wasi_paths::Name;
 
 const FAILED: HostError = HostError::Code(ErrorCode::Io);
 
+/// What becomes of a call: it is made of the inner host, or it fails with this error, made first or not.
+macro_rules! by_fate {
+    ($host:ident, $call:ident($($argument:expr),*), $error:expr) => {
+        match $host.schedule.next() {
+            Fate::Passes => $host.inner.$call($($argument),*),
+            Fate::FailsBefore => Err($error),
+            Fate::FailsAfter => {
+                let _ = $host.inner.$call($($argument),*);
+                Err($error)
+            }
+        }
+    };
+}
+
 /// A host over another one, which fails at listed calls. Each call but `dup` and `close` has a number, from 1 on; one
 /// after that of number 2^64 - 1 has none. A listed call answers `Io`, and the count of faults rises by one; it isn't made,
 /// or it is made first and its answer lost: no byte that it read is kept, and a handle that it gave is closed. All other
@@ -98,14 +112,7 @@ impl<H: Host> Host for FailAt<H> {
     }
 
     fn stat_at(&mut self, start: Handle, name: Name<'_>) -> Result<Metadata, HostError> {
-        match self.schedule.next() {
-            Fate::Passes => self.inner.stat_at(start, name),
-            Fate::FailsBefore => Err(FAILED),
-            Fate::FailsAfter => {
-                let _ = self.inner.stat_at(start, name);
-                Err(FAILED)
-            }
-        }
+        by_fate!(self, stat_at(start, name), FAILED)
     }
 
     fn read_link_at(
@@ -114,36 +121,15 @@ impl<H: Host> Host for FailAt<H> {
         start: Handle,
         name: Name<'_>,
     ) -> Result<String, HostError> {
-        match self.schedule.next() {
-            Fate::Passes => self.inner.read_link_at(alloc, start, name),
-            Fate::FailsBefore => Err(FAILED),
-            Fate::FailsAfter => {
-                let _ = self.inner.read_link_at(alloc, start, name);
-                Err(FAILED)
-            }
-        }
+        by_fate!(self, read_link_at(alloc, start, name), FAILED)
     }
 
     fn make_dir_at(&mut self, start: Handle, name: Name<'_>) -> Result<(), HostError> {
-        match self.schedule.next() {
-            Fate::Passes => self.inner.make_dir_at(start, name),
-            Fate::FailsBefore => Err(FAILED),
-            Fate::FailsAfter => {
-                let _ = self.inner.make_dir_at(start, name);
-                Err(FAILED)
-            }
-        }
+        by_fate!(self, make_dir_at(start, name), FAILED)
     }
 
     fn symlink_at(&mut self, target: &str, start: Handle, name: Name<'_>) -> Result<(), HostError> {
-        match self.schedule.next() {
-            Fate::Passes => self.inner.symlink_at(target, start, name),
-            Fate::FailsBefore => Err(FAILED),
-            Fate::FailsAfter => {
-                let _ = self.inner.symlink_at(target, start, name);
-                Err(FAILED)
-            }
-        }
+        by_fate!(self, symlink_at(target, start, name), FAILED)
     }
 
     fn link_at(
@@ -153,14 +139,7 @@ impl<H: Host> Host for FailAt<H> {
         new: Handle,
         new_name: Name<'_>,
     ) -> Result<(), HostError> {
-        match self.schedule.next() {
-            Fate::Passes => self.inner.link_at(old, old_name, new, new_name),
-            Fate::FailsBefore => Err(FAILED),
-            Fate::FailsAfter => {
-                let _ = self.inner.link_at(old, old_name, new, new_name);
-                Err(FAILED)
-            }
-        }
+        by_fate!(self, link_at(old, old_name, new, new_name), FAILED)
     }
 
     fn rename_at(
@@ -171,40 +150,19 @@ impl<H: Host> Host for FailAt<H> {
         new_name: Name<'_>,
         requires_dir: bool,
     ) -> Result<(), HostError> {
-        match self.schedule.next() {
-            Fate::Passes => self
-                .inner
-                .rename_at(old, old_name, new, new_name, requires_dir),
-            Fate::FailsBefore => Err(FAILED),
-            Fate::FailsAfter => {
-                let _ = self
-                    .inner
-                    .rename_at(old, old_name, new, new_name, requires_dir);
-                Err(FAILED)
-            }
-        }
+        by_fate!(
+            self,
+            rename_at(old, old_name, new, new_name, requires_dir),
+            FAILED
+        )
     }
 
     fn unlink_at(&mut self, start: Handle, name: Name<'_>) -> Result<(), HostError> {
-        match self.schedule.next() {
-            Fate::Passes => self.inner.unlink_at(start, name),
-            Fate::FailsBefore => Err(FAILED),
-            Fate::FailsAfter => {
-                let _ = self.inner.unlink_at(start, name);
-                Err(FAILED)
-            }
-        }
+        by_fate!(self, unlink_at(start, name), FAILED)
     }
 
     fn remove_dir_at(&mut self, start: Handle, name: Name<'_>) -> Result<(), HostError> {
-        match self.schedule.next() {
-            Fate::Passes => self.inner.remove_dir_at(start, name),
-            Fate::FailsBefore => Err(FAILED),
-            Fate::FailsAfter => {
-                let _ = self.inner.remove_dir_at(start, name);
-                Err(FAILED)
-            }
-        }
+        by_fate!(self, remove_dir_at(start, name), FAILED)
     }
 
     fn times_at(
@@ -214,25 +172,11 @@ impl<H: Host> Host for FailAt<H> {
         atime: Option<SystemTime>,
         mtime: Option<SystemTime>,
     ) -> Result<(), HostError> {
-        match self.schedule.next() {
-            Fate::Passes => self.inner.times_at(start, name, atime, mtime),
-            Fate::FailsBefore => Err(FAILED),
-            Fate::FailsAfter => {
-                let _ = self.inner.times_at(start, name, atime, mtime);
-                Err(FAILED)
-            }
-        }
+        by_fate!(self, times_at(start, name, atime, mtime), FAILED)
     }
 
     fn list(&mut self, alloc: Global, directory: Handle) -> Result<Vec<DirEntry>, HostError> {
-        match self.schedule.next() {
-            Fate::Passes => self.inner.list(alloc, directory),
-            Fate::FailsBefore => Err(FAILED),
-            Fate::FailsAfter => {
-                let _ = self.inner.list(alloc, directory);
-                Err(FAILED)
-            }
-        }
+        by_fate!(self, list(alloc, directory), FAILED)
     }
 
     fn dup(&mut self, handle: Handle) -> Result<Handle, HostError> {
@@ -240,25 +184,11 @@ impl<H: Host> Host for FailAt<H> {
     }
 
     fn access(&mut self, directory: Handle) -> Result<(), ErrorCode> {
-        match self.schedule.next() {
-            Fate::Passes => self.inner.access(directory),
-            Fate::FailsBefore => Err(ErrorCode::Io),
-            Fate::FailsAfter => {
-                let _ = self.inner.access(directory);
-                Err(ErrorCode::Io)
-            }
-        }
+        by_fate!(self, access(directory), ErrorCode::Io)
     }
 
     fn stat(&mut self, handle: Handle) -> Result<Metadata, ErrorCode> {
-        match self.schedule.next() {
-            Fate::Passes => self.inner.stat(handle),
-            Fate::FailsBefore => Err(ErrorCode::Io),
-            Fate::FailsAfter => {
-                let _ = self.inner.stat(handle);
-                Err(ErrorCode::Io)
-            }
-        }
+        by_fate!(self, stat(handle), ErrorCode::Io)
     }
 
     fn set_times(
@@ -267,14 +197,7 @@ impl<H: Host> Host for FailAt<H> {
         atime: Option<SystemTime>,
         mtime: Option<SystemTime>,
     ) -> Result<(), ErrorCode> {
-        match self.schedule.next() {
-            Fate::Passes => self.inner.set_times(handle, atime, mtime),
-            Fate::FailsBefore => Err(ErrorCode::Io),
-            Fate::FailsAfter => {
-                let _ = self.inner.set_times(handle, atime, mtime);
-                Err(ErrorCode::Io)
-            }
-        }
+        by_fate!(self, set_times(handle, atime, mtime), ErrorCode::Io)
     }
 
     fn pread(&mut self, file: Handle, buf: &mut [u8], offset: u64) -> Result<usize, ErrorCode> {
@@ -289,47 +212,19 @@ impl<H: Host> Host for FailAt<H> {
     }
 
     fn pwrite(&mut self, file: Handle, piece: &[u8], offset: u64) -> Result<usize, HostError> {
-        match self.schedule.next() {
-            Fate::Passes => self.inner.pwrite(file, piece, offset),
-            Fate::FailsBefore => Err(FAILED),
-            Fate::FailsAfter => {
-                let _ = self.inner.pwrite(file, piece, offset);
-                Err(FAILED)
-            }
-        }
+        by_fate!(self, pwrite(file, piece, offset), FAILED)
     }
 
     fn append(&mut self, file: Handle, piece: &[u8]) -> Result<usize, HostError> {
-        match self.schedule.next() {
-            Fate::Passes => self.inner.append(file, piece),
-            Fate::FailsBefore => Err(FAILED),
-            Fate::FailsAfter => {
-                let _ = self.inner.append(file, piece);
-                Err(FAILED)
-            }
-        }
+        by_fate!(self, append(file, piece), FAILED)
     }
 
     fn set_size(&mut self, file: Handle, size: u64) -> Result<(), HostError> {
-        match self.schedule.next() {
-            Fate::Passes => self.inner.set_size(file, size),
-            Fate::FailsBefore => Err(FAILED),
-            Fate::FailsAfter => {
-                let _ = self.inner.set_size(file, size);
-                Err(FAILED)
-            }
-        }
+        by_fate!(self, set_size(file, size), FAILED)
     }
 
     fn sync(&mut self, handle: Handle) -> Result<(), ErrorCode> {
-        match self.schedule.next() {
-            Fate::Passes => self.inner.sync(handle),
-            Fate::FailsBefore => Err(ErrorCode::Io),
-            Fate::FailsAfter => {
-                let _ = self.inner.sync(handle);
-                Err(ErrorCode::Io)
-            }
-        }
+        by_fate!(self, sync(handle), ErrorCode::Io)
     }
 
     fn advise(
@@ -339,25 +234,11 @@ impl<H: Host> Host for FailAt<H> {
         len: u64,
         advice: Advice,
     ) -> Result<(), ErrorCode> {
-        match self.schedule.next() {
-            Fate::Passes => self.inner.advise(file, offset, len, advice),
-            Fate::FailsBefore => Err(ErrorCode::Io),
-            Fate::FailsAfter => {
-                let _ = self.inner.advise(file, offset, len, advice);
-                Err(ErrorCode::Io)
-            }
-        }
+        by_fate!(self, advise(file, offset, len, advice), ErrorCode::Io)
     }
 
     fn flags(&mut self, handle: Handle) -> Result<SyncFlags, ErrorCode> {
-        match self.schedule.next() {
-            Fate::Passes => self.inner.flags(handle),
-            Fate::FailsBefore => Err(ErrorCode::Io),
-            Fate::FailsAfter => {
-                let _ = self.inner.flags(handle);
-                Err(ErrorCode::Io)
-            }
-        }
+        by_fate!(self, flags(handle), ErrorCode::Io)
     }
 
     fn close(&mut self, handle: Handle) {
