@@ -32,6 +32,12 @@ module _ {Y : Type 0} where
     pub rises : IsTrue (is_sorted key_cmp (all_entries blocks))
     pub each : All IsBlock blocks
 
+  -- a place of a block, at which a row may be put where there is room for it
+  pub record IsPlace (blocks : List (Vec NameRow Y)) (k row : ℕ) : Type 0 where
+    pub within : k < length blocks
+    pub at : row ≤ length (list_at block_entries blocks k)
+    pub each : All IsBlock blocks
+
   -- a block that has room for a row
   pub record HasSpace (blocks : List (Vec NameRow Y)) (k : ℕ) : Type 0 where
     pub within : k < length blocks

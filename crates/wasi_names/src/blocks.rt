@@ -11,7 +11,7 @@ ghost use Rattle.wasi_names.specs.NameRows.{key_cmp, row_key, row_entry};
 ghost use Rattle.wasi_names.specs.NameRows.{run_of};
 ghost use Rattle.wasi_names.specs.Runs.{entries_from, IsRun};
 ghost use Rattle.std.specs.String.{string_bytes};
-ghost use Rattle.wasi_names.specs.Blocks.{block_entries, all_entries, with_row, has_block, IsBlock, AreBlocks, HasSpace};
+ghost use Rattle.wasi_names.specs.Blocks.{block_entries, all_entries, with_row, has_block, IsBlock, AreBlocks, IsPlace, HasSpace};
 
 use crate::name_row::NameRow;
 use crate::near::Near;
@@ -267,9 +267,7 @@ fn insert_at(
     at: usize,
     row: NameRow,
 )
-    requires within { k < length blocks.old.items }
-    requires at { at ≤ length (list_at block_entries blocks.old.items k) }
-    requires each { All IsBlock blocks.old.items }
+    requires place { IsPlace blocks.old.items k at }
     requires empty { spare.old.items ≡ [] }
     requires room { MatchOption free (has_block blocks.old spare.old ≡ true) (HasSpace blocks.old.items) }
     ensures each { All IsBlock blocks.new.items }

@@ -2,8 +2,7 @@
 ghost use Rattle.std.specs.Prelude.{◌≡◌, ◌<◌, ◌≤◌, [], ◌∷◌, ◌++◌, length, All};
 ghost use Rattle.std.specs.List.{insert};
 ghost use Rattle.std.specs.Vec.{vec_capacity};
-ghost use Rattle.wasi_names.specs.Fronts.{list_at};
-ghost use Rattle.wasi_names.specs.Blocks.{block_entries, all_entries, with_row, IsBlock, HasSpace};
+ghost use Rattle.wasi_names.specs.Blocks.{all_entries, with_row, IsBlock, IsPlace, HasSpace};
 
 use crate::name_row::NameRow;
 
@@ -21,8 +20,7 @@ pub fn insert_row(block: &mut Vec<NameRow>, at: usize, row: NameRow)
 
 /// Puts a row at a place of one of the blocks, which has room for it.
 pub fn insert_into(blocks: &mut Vec<Vec<NameRow>>, k: usize, at: usize, row: NameRow)
-    requires at { at ≤ length (list_at block_entries blocks.old.items k) }
-    requires each { All IsBlock blocks.old.items }
+    requires place { IsPlace blocks.old.items k at }
     requires room { HasSpace blocks.old.items k }
     ensures each { All IsBlock blocks.new.items }
     ensures rows { all_entries blocks.new.items ≡ with_row blocks.old.items k at row }
@@ -69,8 +67,7 @@ fn move_on(
     mut row: NameRow,
 )
     requires order { k ≤ free }
-    requires at { at ≤ length (list_at block_entries blocks.old.items k) }
-    requires each { All IsBlock blocks.old.items }
+    requires place { IsPlace blocks.old.items k at }
     requires room { HasSpace blocks.old.items free }
     ensures each { All IsBlock blocks.new.items }
     ensures rows { all_entries blocks.new.items ≡ with_row blocks.old.items k at row }
@@ -92,9 +89,7 @@ fn move_back(
     mut row: NameRow,
 )
     requires order { free ≤ k }
-    requires within { k < length blocks.old.items }
-    requires at { at ≤ length (list_at block_entries blocks.old.items k) }
-    requires each { All IsBlock blocks.old.items }
+    requires place { IsPlace blocks.old.items k at }
     requires room { HasSpace blocks.old.items free }
     ensures each { All IsBlock blocks.new.items }
     ensures rows { all_entries blocks.new.items ≡ with_row blocks.old.items k at row }
@@ -115,9 +110,7 @@ pub fn insert_through(
     free: usize,
     row: NameRow,
 )
-    requires within { k < length blocks.old.items }
-    requires at { at ≤ length (list_at block_entries blocks.old.items k) }
-    requires each { All IsBlock blocks.old.items }
+    requires place { IsPlace blocks.old.items k at }
     requires room { HasSpace blocks.old.items free }
     ensures each { All IsBlock blocks.new.items }
     ensures rows { all_entries blocks.new.items ≡ with_row blocks.old.items k at row }

@@ -1,14 +1,11 @@
-use Rattle.std.proofs.Common.{◌≡◌, ◌-◌, ◌<◌, ◌≤◌, length, All}
-use Rattle.wasi_names.specs.Fronts.{list_at}
-use Rattle.wasi_names.specs.Blocks.{block_entries, with_row, IsBlock, HasSpace}
+use Rattle.std.proofs.Common.{◌≡◌, ◌-◌, ◌≤◌}
+use Rattle.wasi_names.specs.Blocks.{with_row, IsPlace, HasSpace}
 use Rattle.wasi_names.proofs.shift.move_back.Given as goal
 
 abbrev pub invariant-loop-k : goal.invariant-loop-k
 invariant-loop-k l = record {
   order : l.free ≤ l.k;
-  within : l.k < length l.blocks.items;
-  at : l.at ≤ length (list_at block_entries l.blocks.items l.k);
-  each : All IsBlock l.blocks.items;
+  place : IsPlace l.blocks.items l.k l.at;
   room : HasSpace l.blocks.items l.free;
   rows : with_row l.blocks.items l.k l.at l.row ≡ with_row l.fn.blocks.items l.fn.k l.fn.at l.fn.row;
 }
