@@ -1,5 +1,5 @@
 //! What is read from a guest's memory at an address, or why it isn't.
-ghost use Rattle.std.specs.Prelude.{◌≡◌, ◌+◌, ◌^◌, ◌<◌, ◌≤◌, length, IfOk, OnOk};
+ghost use Rattle.std.specs.Prelude.{◌≡◌, ◌+◌, ◌^◌, ◌<◌, ◌≤◌, length, slice_range, IfOk, OnOk};
 ghost use Rattle.std.specs.Result.{result_map_both};
 ghost use Rattle.wasi_guest.specs.Iovec.{iovec_in, first_buffer};
 ghost use Rattle.wasi_guest.specs.Records.{bytes_in, record_in, text_from, text_in, u32_in, u16_at, u32_at, u64_at};
@@ -109,15 +109,23 @@ pub fn first_buffer(memory: &[u8], iovs: u32, n: u32) -> Result<Iovec, GuestErro
     Ok(Iovec { buf: 0, buf_len: 0 })
 }
 
+/// The N bytes at a place of a record.
+fn chunk_at<const N: usize>(bytes: &[u8], at: usize) -> [u8; N]
+    requires { at + N ≤ length bytes.now }
+    ensures { result ≡ slice_range bytes.now at (at + N) }
+{
+    match bytes[at..at + N].first_chunk() {
+        Some(chunk) => *chunk,
+        None => [0; N],
+    }
+}
+
 /// The little-endian number of two bytes at a place of a record.
 pub(crate) fn u16_at(bytes: &[u8], at: usize) -> u16
     requires { at + 2 ≤ length bytes.now }
     ensures { result ≡ u16_at bytes.now at }
 {
-    match bytes[at..at + 2].first_chunk() {
-        Some(chunk) => u16::from_le_bytes(*chunk),
-        None => 0,
-    }
+    u16::from_le_bytes(chunk_at(bytes, at))
 }
 
 /// That of eight bytes.
@@ -125,10 +133,7 @@ pub(crate) fn u64_at(bytes: &[u8], at: usize) -> u64
     requires { at + 8 ≤ length bytes.now }
     ensures { result ≡ u64_at bytes.now at }
 {
-    match bytes[at..at + 8].first_chunk() {
-        Some(chunk) => u64::from_le_bytes(*chunk),
-        None => 0,
-    }
+    u64::from_le_bytes(chunk_at(bytes, at))
 }
 
 /// That of four bytes.
@@ -136,8 +141,5 @@ pub(crate) fn u32_at(bytes: &[u8], at: usize) -> u32
     requires { at + 4 ≤ length bytes.now }
     ensures { result ≡ u32_at bytes.now at }
 {
-    match bytes[at..at + 4].first_chunk() {
-        Some(chunk) => u32::from_le_bytes(*chunk),
-        None => 0,
-    }
+    u32::from_le_bytes(chunk_at(bytes, at))
 }
