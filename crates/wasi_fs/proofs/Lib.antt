@@ -1,4 +1,4 @@
-mod Flagging
+pub mod Flagging
 mod Looking
 mod Once
 mod Opening

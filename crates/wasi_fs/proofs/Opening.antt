@@ -274,27 +274,23 @@ module _ {live : Handles} {w v : World} {s : ℕ} {text : List ℕ} {how : OpenH
 -- ---- the new handle's metadata
 
 -- h is the new handle, u the world after the open
-pub record NewHandle (old mid : Handles) (w u : World) (s : ℕ) (text : List ℕ) (how : OpenHow) (h : ℕ) : Type 0 where
-  pub fresh : contains old h ≡ false
-  pub live : mid ≡ insert old h
-  pub did : Resolved {A = ℕ} old w u (opens_at w.tree s text (options_of how)) u.held (Ok h)
-
-module _ (how : OpenHow) {old mid new : Handles} {w u : World} {s : ℕ} {text : List ℕ} {h : ℕ}
-    (is : NewHandle old mid w u s text how h) (same : new ≡ mid) where
+module _ (text : List ℕ) (how : OpenHow) {old mid new : Handles} {w u : World} {s h : ℕ}
+    (fresh : (contains old h ≡ false) × (mid ≡ insert old h))
+    (did : Resolved {A = ℕ} old w u (opens_at w.tree s text (options_of how)) u.held (Ok h)) (same : new ≡ mid) where
   opens_first : HasOpened old w u s text how (opened_in u.tree (u.held h))
-  opens_first = has_opened how is.did
+  opens_first = has_opened how did
 
   kept : (q : ℕ) → contains old q ≡ true → (contains mid q ≡ true) × (contains new q ≡ true)
-  kept q live = let at = still_live old h is.live q live in (at, same_live same q at)
+  kept q live = let at = still_live old h fresh.1 q live in (at, same_live same q at)
 
   got : contains mid h ≡ true
-  got = subst (λ s. contains s h ≡ true) (sym is.live) (grind (arith, members, nat_tests))
+  got = subst (λ s. contains s h ≡ true) (sym fresh.1) (grind (arith, members, nat_tests))
 
   -- it is closed again
   closed : {last : Handles} {v z : World} → last ≡ remove new h
       → Told {A = Unit {0}} new last v z Close (λ unit. unit) answered → WorldStays old v z
   closed ended told =
-      let again = ended ∙ ap (λ s. remove s h) (same ∙ is.live) ∙ remove-insert old h is.fresh in
+      let again = ended ∙ ap (λ s. remove s h) (same ∙ fresh.1) ∙ remove-insert old h fresh.0 in
       close_stays told (λ q live. ((kept q live).1, subst (λ s. contains s q ≡ true) (sym again) live))
 
   -- they were given

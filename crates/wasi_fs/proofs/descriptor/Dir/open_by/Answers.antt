@@ -10,29 +10,22 @@ returns-in_err-handle-clause-told g c = λ told.
 
 pub returns-in-Err-clause-told : goal.returns-in-Err-clause-told
 returns-in-Err-clause-told g c = λ told.
-    opening_failed c.args.how (record {
-      fresh = c.in_ok-handle.ensures.live.0;
-      live = c.in_ok-handle.ensures.live.1;
-      did = rw c.options.ensures.options at (c.in_ok-handle.ensures.told told);
-    }) c.stat.ensures.live c.args.self.now.perms _ c.requires.may (c.in-Err.ensures.told told) c.close.ensures.live
+    opening_failed c.args.path.now c.args.how c.in_ok-handle.ensures.live
+    (rw c.options.ensures.options at (c.in_ok-handle.ensures.told told)) c.stat.ensures.live
+    c.args.self.now.perms _ c.requires.may (c.in-Err.ensures.told told) c.close.ensures.live
     (c.close.ensures.told told)
 
 pub returns-in-Ok-descriptor_for-clause-told : goal.returns-in-Ok-descriptor_for-clause-told
 returns-in-Ok-descriptor_for-clause-told g c = λ told.
-    opening_ok c.args.how (record {
-      fresh = c.in_ok-handle.ensures.live.0;
-      live = c.in_ok-handle.ensures.live.1;
-      did = rw c.options.ensures.options at (c.in_ok-handle.ensures.told told);
-    }) c.stat.ensures.live (c.in-Ok.ensures.told told)
+    opening_ok c.args.path.now c.args.how c.in_ok-handle.ensures.live
+    (rw c.options.ensures.options at (c.in_ok-handle.ensures.told told)) c.stat.ensures.live (c.in-Ok.ensures.told told)
     (c.in-Ok-descriptor_for.ensures.asked (g.H.Host.world c.stat.new.self).held)
 
 pub returns-in-Err-descriptor_for-clause-told : goal.returns-in-Err-descriptor_for-clause-told
 returns-in-Err-descriptor_for-clause-told g c = λ told.
-    opening_refused c.args.how (record {
-      fresh = c.in_ok-handle.ensures.live.0;
-      live = c.in_ok-handle.ensures.live.1;
-      did = rw c.options.ensures.options at (c.in_ok-handle.ensures.told told);
-    }) c.stat.ensures.live (c.in-Ok.ensures.told told) c.args.self.now.perms c.requires.may
+    opening_refused c.args.path.now c.args.how c.in_ok-handle.ensures.live
+    (rw c.options.ensures.options at (c.in_ok-handle.ensures.told told)) c.stat.ensures.live
+    (c.in-Ok.ensures.told told) c.args.self.now.perms c.requires.may
     c.close-in-Err-descriptor_for.ensures.live (c.close-in-Err-descriptor_for.ensures.told told)
     c.in-Err-descriptor_for.ensures.refusal
     (c.in-Err-descriptor_for.ensures.asked (g.H.Host.world c.stat.new.self).held)
