@@ -5,7 +5,7 @@ use Rattle.wasi_host.specs.Answer.{Listed}
 use Rattle.wasi_streams.specs.Input as inputs
 use Rattle.wasi_streams.specs.Output as outputs
 use Rattle.wasi_streams.specs.declared.entry.Entry.{Entry}
-use Rattle.wasi_streams.specs.declared.entry.Entry.TheVariants.{Descriptor, Input, Output, Readdir, Stdin, Stdout, Stderr}
+use Rattle.wasi_streams.specs.declared.entry.Entry.TheVariants.{Descriptor, Input, Output, Readdir}
 use Rattle.wasi_streams.specs.declared.errors.TableError.{TableError}
 use Rattle.wasi_streams.specs.declared.errors.TableError.TheVariants.{NotPresent, WrongKind}
 
@@ -14,49 +14,29 @@ abbrev pub entry_found : Option Entry → Result Entry TableError
 entry_found None = Err NotPresent
 entry_found (Some entry) = Ok entry
 
--- the same of a descriptor's number
+-- the same of a descriptor's number, where an entry of any other kind is refused
 abbrev pub descriptor_found : Option Entry → Result Opened TableError
 descriptor_found None = Err NotPresent
 descriptor_found (Some (Descriptor descriptor)) = Ok descriptor
-descriptor_found (Some (Input stream)) = Err WrongKind
-descriptor_found (Some (Output stream)) = Err WrongKind
-descriptor_found (Some (Readdir entries)) = Err WrongKind
-descriptor_found (Some Stdin) = Err WrongKind
-descriptor_found (Some Stdout) = Err WrongKind
-descriptor_found (Some Stderr) = Err WrongKind
+descriptor_found (Some other) = Err WrongKind
 
 -- the same of an input stream's number
 abbrev pub input_found : Option Entry → Result inputs.Input TableError
 input_found None = Err NotPresent
-input_found (Some (Descriptor descriptor)) = Err WrongKind
 input_found (Some (Input stream)) = Ok stream
-input_found (Some (Output stream)) = Err WrongKind
-input_found (Some (Readdir entries)) = Err WrongKind
-input_found (Some Stdin) = Err WrongKind
-input_found (Some Stdout) = Err WrongKind
-input_found (Some Stderr) = Err WrongKind
+input_found (Some other) = Err WrongKind
 
 -- the same of an output stream's number
 abbrev pub output_found : Option Entry → Result outputs.Output TableError
 output_found None = Err NotPresent
-output_found (Some (Descriptor descriptor)) = Err WrongKind
-output_found (Some (Input stream)) = Err WrongKind
 output_found (Some (Output stream)) = Ok stream
-output_found (Some (Readdir entries)) = Err WrongKind
-output_found (Some Stdin) = Err WrongKind
-output_found (Some Stdout) = Err WrongKind
-output_found (Some Stderr) = Err WrongKind
+output_found (Some other) = Err WrongKind
 
 -- the same of a listing's number
 abbrev pub readdir_found : Option Entry → Result (List Listed) TableError
 readdir_found None = Err NotPresent
-readdir_found (Some (Descriptor descriptor)) = Err WrongKind
-readdir_found (Some (Input stream)) = Err WrongKind
-readdir_found (Some (Output stream)) = Err WrongKind
 readdir_found (Some (Readdir entries)) = Ok entries
-readdir_found (Some Stdin) = Err WrongKind
-readdir_found (Some Stdout) = Err WrongKind
-readdir_found (Some Stderr) = Err WrongKind
+readdir_found (Some other) = Err WrongKind
 
 -- the first of a list
 abbrev pub first_of : {A : Type 0} → List A → Option A

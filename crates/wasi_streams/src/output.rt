@@ -213,7 +213,8 @@ impl FileOutputStream {
         FileOutputStream::over(host, file, FileOutputMode::Append)
     }
 
-    fn over<H: Host>(
+    /// The same where the mode says: a stream that `write_at` or `append` makes. Refusals: those of a host's `dup`.
+    pub fn over<H: Host>(
         host: &mut H,
         file: &File,
         mode: FileOutputMode,
