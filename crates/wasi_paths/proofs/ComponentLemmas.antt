@@ -1,12 +1,13 @@
 -- The components of a text, and what it begins and ends with.
-use Rattle.std.proofs.Common.{ℕ, ◌+◌, ◌≡◌, Bool, true, false, List, [], ◌∷◌, ◌++◌, map, refl, ap, ◌∙◌, cond, length, arith}
+use Rattle.std.proofs.Common.{ℕ, ◌+◌, ◌≡◌, Bool, true, false, List, [], ◌∷◌, ◌++◌, map, refl, sym, ap, ◌∙◌, subst, cond, length, arith}
 use Rattle.std.specs.Prelude.{nat_eq, ◌&&◌, ◌||◌, codes, Option, Some, None, reverse}
 use Rattle.std.specs.Iterator.{YieldsLastBy}
-use Rattle.std.specs.List.{filter, starts_with, onto_first}
+use Rattle.std.specs.List.{All, filter, starts_with, onto_first}
 use Rattle.std.specs.Option.{option_eq}
 use Rattle.std.specs.Str.{bytes_eq}
 use Rattle.std.proofs.lemmas.Bool.Decides.{nat_tests}
 use Rattle.std.proofs.lemmas.List.{map-append, reverse-append}
+use Rattle.std.proofs.lemmas.List.Elements.{All-nil, All-cons, All-append, All-map}
 use Rattle.wasi_paths.specs.Text.{is_dot_text}
 use Rattle.wasi_paths.specs.Parts.{Component, RootDir, CurDir, ParentDir, Normal, has_root, is_slash, segments, first_segment, with_ends, lead, is_kept, component_of, components, begins_with_parent, ends_with_parent}
 use Rattle.wasi_paths.specs.Part.{component}
@@ -42,6 +43,23 @@ pub components_are : (text : List ℕ)
 unfolding components
 components_are text =
     map-append alone (lead text) _ ∙ ap (λ kept. map alone (lead text) ++ kept) (kept_alone 0 (segments text))
+
+-- what holds of the root, of `.` and of each segment that is kept holds of all components
+pub components_all : (P : Component → Type 0) → P RootDir → P CurDir → (text : List ℕ)
+    → All (λ segment. P (component_of segment)) (filter is_kept (segments text)) → All P (components text)
+components_all P root current text each =
+    subst (All P) (sym (components_are text))
+    (All-append P _ _ (by (has_root text) (is_dot_text (first_segment (segments text))))
+    (All-map P component_of (filter is_kept (segments text)) each))
+  where
+    dot : (d : Bool) → All P (map alone (cond d ((CurDir, 1) ∷ []) []))
+    dot true = All-cons P CurDir [] current (All-nil P)
+    dot false = All-nil P
+
+    by : (rooted d : Bool)
+        → All P (map alone (cond rooted ((RootDir, 1) ∷ []) [] ++ cond d ((CurDir, 1) ∷ []) []))
+    by true d = All-cons P RootDir _ root (dot d)
+    by false d = dot d
 
 -- ---- what a text begins with
 

@@ -1,15 +1,15 @@
 -- The names among the components are plain.
-use Rattle.std.proofs.Common.{ℕ, ◌≡◌, Bool, true, false, List, [], ◌∷◌, ◌++◌, map, refl, sym, subst, cond, get_or}
+use Rattle.std.proofs.Common.{ℕ, ◌≡◌, Bool, true, false, List, [], ◌∷◌, refl, sym, subst, cond, get_or}
 use Rattle.std.specs.Prelude.{not, codes, ◌&&◌, ◌||◌, IsTrue}
 use Rattle.std.specs.Str.{bytes_eq}
 use Rattle.std.specs.List.{All, filter, onto_first}
 use Rattle.std.proofs.lemmas.Bool.{and_parts, not-true}
-use Rattle.std.proofs.lemmas.List.Elements.{All-nil, All-cons, All-head, All-tail, All-append, All-map, All-filter, filter_passes}
+use Rattle.std.proofs.lemmas.List.Elements.{All-nil, All-cons, All-head, All-tail, All-filter, filter_passes}
 use Rattle.wasi_paths.specs.Text.{has_slash, is_dot_text, is_plain, is_name_text}
-use Rattle.wasi_paths.specs.Parts.{RootDir, CurDir, ParentDir, Normal, has_root, is_slash, is_empty, segments, first_segment, lead, is_kept, component_of}
+use Rattle.wasi_paths.specs.Parts.{ParentDir, Normal, is_slash, is_empty, segments, is_kept, component_of}
 use Rattle.wasi_paths.specs.TextLaws.{HasPlainName, HasPlainNames}
 use Rattle.wasi_paths.proofs.Segments.{HasFirst, first_of, IsOne, tail_is_one}
-use Rattle.wasi_paths.proofs.ComponentLemmas.{alone, components_are}
+use Rattle.wasi_paths.proofs.ComponentLemmas.{components_all}
 
 -- the text of a name is plain, but where it is `.`
 pub plain_unless_dot : (text : List ℕ) → IsTrue (is_name_text text) → is_plain text ≡ not (is_dot_text text)
@@ -54,27 +54,8 @@ plain_segment segment lacks kept = by (bytes_eq segment (codes "..")) refl
         let named : is_dot_text segment ≡ false = not-true _ parts.1 in
         rw (some, named, is, lacks) refl
 
-lead_plain : (text : List ℕ) → All HasPlainName (map alone (lead text))
-lead_plain text = by (has_root text) (is_dot_text (first_segment (segments text)))
-  where
-    dot : (d : Bool) → All HasPlainName (map alone (cond d ((CurDir, 1) ∷ []) []))
-    dot true = All-cons HasPlainName CurDir [] tt (All-nil HasPlainName)
-    dot false = All-nil HasPlainName
-
-    by : (root d : Bool)
-        → All HasPlainName (map alone (cond root ((RootDir, 1) ∷ []) [] ++ cond d ((CurDir, 1) ∷ []) []))
-    by true d = All-cons HasPlainName RootDir _ tt (dot d)
-    by false d = dot d
-
 pub names_plain : (text : List ℕ) → HasPlainNames text
-names_plain text =
-    subst (All HasPlainName) (sym (components_are text)) (All-append HasPlainName _ _ (lead_plain text) behind)
-  where
-    each : All (λ segment. HasPlainName (component_of segment)) (filter is_kept (segments text))
-    each k d below =
-        let lacks = All-filter is_kept Lacks (segments text) (segments_lack text) k d below in
-        let kept = filter_passes is_kept (segments text) k d below in
-        plain_segment (get_or (filter is_kept (segments text)) k d) lacks kept
-
-    behind : All HasPlainName (map component_of (filter is_kept (segments text)))
-    behind = All-map HasPlainName component_of (filter is_kept (segments text)) each
+names_plain text = components_all HasPlainName tt tt text (λ k d below.
+    plain_segment (get_or (filter is_kept (segments text)) k d)
+    (All-filter is_kept Lacks (segments text) (segments_lack text) k d below)
+    (filter_passes is_kept (segments text) k d below))
