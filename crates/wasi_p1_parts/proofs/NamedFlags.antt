@@ -1,28 +1,13 @@
 -- What the flag sets of preview2 ask for, by the flags of the same names.
-use Rattle.std.proofs.Common.{◌≡◌, ℕ, Bool, true, false, not, ◌&&◌, ◌||◌, [], ◌∷◌, refl}
+use Rattle.std.proofs.Common.{◌≡◌, ℕ, Bool, true, false, not, ◌||◌, [], ◌∷◌, refl}
 use Rattle.wasi_fs.specs.Calls.{bits_set}
 use Rattle.wasi_fs.specs.OpenFlags.{includes}
+use Rattle.wasi_fs.proofs.Flagging.{of_both, each, of_four, each_of_four}
 use Rattle.wasi_p2.specs.Opens.{how_named}
 use Rattle.wasi_p2_types.specs.declared.flags.PathFlags.{PathFlags}
 use Rattle.wasi_p2_types.specs.declared.flags.OpenFlags.{OpenFlags}
 use Rattle.wasi_p2_types.specs.declared.flags.DescriptorFlags.{DescriptorFlags}
 use Rattle.wasi_p1_parts.specs.ViewFlags.{path_set, open_set, descriptor_set}
-
--- a test that both truth values pass, and so each does
-abbrev of_both : (Bool → Bool) → Bool
-of_both p = p true && p false
-
-each : (p : Bool → Bool) → of_both p ≡ true → (b : Bool) → p b ≡ true
-each p both true = left (p true) (p false) both
-  where
-    left : (x y : Bool) → (x && y) ≡ true → x ≡ true
-    left true y is = refl
-    left false y is = absurd (cc)
-each p both false = right (p true) (p false) both
-  where
-    right : (x y : Bool) → (x && y) ≡ true → y ≡ true
-    right true y is = is
-    right false y is = absurd (cc)
 
 abbrev same : Bool → Bool → Bool
 same true b = b
@@ -38,14 +23,6 @@ same_is false false is = refl
 path_bit : (a : Bool) → includes (bits_set ((a, 1) ∷ [])) 1 ≡ a
 path_bit true = refl
 path_bit false = refl
-
-abbrev of_four : (Bool → Bool → Bool → Bool → Bool) → Bool
-of_four p = of_both (λ a. of_both (λ b. of_both (λ c. of_both (λ d. p a b c d))))
-
-each_of_four : (p : Bool → Bool → Bool → Bool → Bool) → of_four p ≡ true → (a b c d : Bool) → p a b c d ≡ true
-each_of_four p all a b c d =
-    each (p a b c) (each (λ c. of_both (p a b c)) (each (λ b. of_both (λ c. of_both (p a b c)))
-    (each (λ a. of_both (λ b. of_both (λ c. of_both (p a b c)))) all a) b) c) d
 
 abbrev four : Bool → Bool → Bool → Bool → ℕ
 four a b c d = bits_set ((a, 1) ∷ (b, 2) ∷ (c, 4) ∷ (d, 8) ∷ [])
