@@ -1,17 +1,17 @@
 -- The names that a walk along a text in UTF-8 comes to are names.
-use Rattle.std.proofs.Common.{ℕ, zero, suc, ◌≡◌, ◌<◌, ◌+◌, Bool, true, false, cond, List, [], ◌∷◌, ◌++◌, map, length, take, drop, ◌⊎◌, inl, inr, refl, sym, ap, ◌∙◌, subst, arith, get_or, eqb-true}
+use Rattle.std.proofs.Common.{ℕ, zero, suc, ◌≡◌, ◌<◌, ◌+◌, Bool, true, false, cond, List, [], ◌∷◌, ◌++◌, length, take, drop, ◌⊎◌, inl, inr, refl, sym, ap, ◌∙◌, subst, arith, get_or, eqb-true}
 use Rattle.std.specs.Prelude.{codes, nat_eq, ◌&&◌, ◌||◌}
 use Rattle.std.specs.Str.{bytes_eq, IsUtf8}
 use Rattle.std.specs.List.{All, filter}
 use Rattle.std.proofs.Math.Seq.{take-append_seam, drop-append_seam, get_or-append_seam}
 use Rattle.std.proofs.lemmas.List.{length-append}
-use Rattle.std.proofs.lemmas.List.Elements.{All-nil, All-cons, All-append, All-map, All-filter}
+use Rattle.std.proofs.lemmas.List.Elements.{All-nil, All-cons, All-append, All-filter}
 use Rattle.std.proofs.lemmas.Str.{IsUtf8-take, IsUtf8-drop, IsCharBoundary-before_ascii, IsCharBoundary-after_ascii}
 use Rattle.wasi_paths.specs.Text.{IsName, is_plain, is_dot_text}
-use Rattle.wasi_paths.specs.Parts.{Component, RootDir, CurDir, ParentDir, Normal, has_root, is_slash, is_empty, segments, first_segment, lead, is_kept, component_of, components, parts, trailing_dot, without_end_slashes, strip_dir_suffix}
+use Rattle.wasi_paths.specs.Parts.{Component, RootDir, CurDir, ParentDir, Normal, is_slash, is_empty, segments, is_kept, component_of, components, parts, trailing_dot, without_end_slashes, strip_dir_suffix}
 use Rattle.wasi_paths.specs.TextLaws.{HasPlainName}
 use Rattle.wasi_paths.proofs.Segments.{last_of, segments_of_last}
-use Rattle.wasi_paths.proofs.ComponentLemmas.{alone, components_are}
+use Rattle.wasi_paths.proofs.ComponentLemmas.{components_all}
 use Rattle.wasi_paths.proofs.PlainNames.{names_plain}
 
 -- ---- segments
@@ -124,29 +124,10 @@ segment_utf8 segment is = by (bytes_eq segment (codes ".."))
     by true = tt
     by false = is
 
-lead_utf8 : (text : List ℕ) → All HasUtf8Name (map alone (lead text))
-lead_utf8 text = by (has_root text) (is_dot_text (first_segment (segments text)))
-  where
-    dot : (d : Bool) → All HasUtf8Name (map alone (cond d ((CurDir, 1) ∷ []) []))
-    dot true = All-cons HasUtf8Name CurDir [] tt (All-nil HasUtf8Name)
-    dot false = All-nil HasUtf8Name
-
-    by : (root d : Bool)
-        → All HasUtf8Name (map alone (cond root ((RootDir, 1) ∷ []) [] ++ cond d ((CurDir, 1) ∷ []) []))
-    by true d = All-cons HasUtf8Name RootDir _ tt (dot d)
-    by false d = dot d
-
 components_utf8 : (text : List ℕ) → IsUtf8 text → All HasUtf8Name (components text)
-components_utf8 text is =
-    subst (All HasUtf8Name) (sym (components_are text)) (All-append HasUtf8Name _ _ (lead_utf8 text) behind)
-  where
-    each : All (λ segment. HasUtf8Name (component_of segment)) (filter is_kept (segments text))
-    each k d below =
-        segment_utf8 (get_or (filter is_kept (segments text)) k d)
-        (All-filter is_kept IsUtf8 (segments text) (segments_utf8 text is) k d below)
-
-    behind : All HasUtf8Name (map component_of (filter is_kept (segments text)))
-    behind = All-map HasUtf8Name component_of (filter is_kept (segments text)) each
+components_utf8 text is = components_all HasUtf8Name tt tt text (λ k d below.
+    segment_utf8 (get_or (filter is_kept (segments text)) k d)
+    (All-filter is_kept IsUtf8 (segments text) (segments_utf8 text is) k d below))
 
 named : (part : Component) → HasPlainName part → HasUtf8Name part → HasName part
 named (Normal name) plain utf8 = record { name = or_right (is_dot_text name) (is_plain name) plain; utf8 = utf8 }
