@@ -10,6 +10,7 @@ ghost use Rattle.wasi_resolve.specs.Meanings.{follows, opens_at, looks_at};
 
 use crate::found::{Aim, Found};
 use crate::walk::walk;
+use bumpalo::Bump;
 use std::alloc::Global;
 use wasi_host::{FollowSymlinks, Handle, Host, HostError, Metadata, OpenOptions, dir_options};
 
@@ -40,7 +41,8 @@ pub fn open<H: Host>(
         + walk_looks (walk (H.world host.old).tree ((H.world host.old).held start).node path.now (Open options.now)
         (follows options.now.follow)) }
 {
-    let found = walk(alloc, host, start, path, &Aim::Open(*options))?;
+    let texts = Bump::new(alloc);
+    let found = walk(&texts, alloc, host, start, path, &Aim::Open(*options))?;
     match found {
         Found::Handle(handle) => Ok(handle),
         Found::Metadata(_) => unreachable!(),
@@ -94,7 +96,8 @@ pub fn stat<H: Host>(
         + walk_looks (walk (H.world host.old).tree ((H.world host.old).held start).node path.now Look
         (follows follow)) }
 {
-    let found = walk(alloc, host, start, path, &Aim::Look(follow))?;
+    let texts = Bump::new(alloc);
+    let found = walk(&texts, alloc, host, start, path, &Aim::Look(follow))?;
     match found {
         Found::Metadata(metadata) => Ok(metadata),
         Found::Handle(_) => unreachable!(),

@@ -234,7 +234,7 @@ pub(crate) fn is_empty(path: &str) -> bool
 }
 
 /// The walk of a path from a start, which keeps the texts of its links in an arena.
-fn walk_among<'p, H: Host>(
+pub(crate) fn walk<'p, H: Host>(
     texts: &'p Bump,
     alloc: Global,
     host: &mut H,
@@ -269,32 +269,4 @@ fn walk_among<'p, H: Host>(
     let found = along(texts, alloc, host, start, &mut way, aim, slash);
     close_all(host, start, &mut way.stack);
     found
-}
-
-/// The walk of a path from a start.
-pub(crate) fn walk<H: Host>(
-    alloc: Global,
-    host: &mut H,
-    start: Handle,
-    path: &str,
-    aim: &Aim,
-) -> Result<Found, HostError>
-    requires { contains (H.live host.old) start ≡ true }
-    ensures cause { HasCause (H.faults host.old) (H.faults host.new) result }
-    ensures live { LiveWith (H.live host.old) (handle_found result) (H.live host.new) }
-    ensures for_aim { FoundOf aim.now result }
-    ensures lineage { Traced (Only start) Nothing (IsGot (handle_found result)) (H.lookups host.old) (H.lookups host.new) }
-    ensures last { IsLast (handle_found result) (H.lookups host.new) }
-    ensures links { links_read (H.lookups host.new) ≤ links_read (H.lookups host.old) + 40 }
-    ensures told { IsTrue H.told → Resolved (H.live host.old) (H.world host.old) (H.world host.new)
-        (meant_at (H.world host.old).tree (aim_of aim.now) ((H.world host.old).held start).node
-        (walk (H.world host.old).tree ((H.world host.old).held start).node path.now (aim_of aim.now)
-        (aim_follows aim.now)).outcome)
-        (shown_found (H.world host.new).held) result }
-    ensures bound { IsTrue H.told → length (H.lookups host.new) ≤ length (H.lookups host.old)
-        + walk_looks (walk (H.world host.old).tree ((H.world host.old).held start).node path.now (aim_of aim.now)
-        (aim_follows aim.now)) }
-{
-    let texts = Bump::new(alloc);
-    walk_among(&texts, alloc, host, start, path, aim)
 }

@@ -11,7 +11,7 @@ use Rattle.wasi_resolve.proofs.Reaching.{stop_resolved, fault_resolved}
 use Rattle.wasi_resolve.proofs.Coming.{walk_empty, comes_resolved, comes_bound, walks_start}
 use Rattle.wasi_resolve.proofs.Putting.{put_first}
 use Rattle.wasi_resolve.proofs.Answering.{with_got, stands_all, live_after, closed_resolved, from_start}
-use Rattle.wasi_resolve.proofs.walk.walk_among.Goals as goal
+use Rattle.wasi_resolve.proofs.walk.walk.Goals as goal
 
 pub returns-then-is_empty-clause-told : goal.returns-then-is_empty-clause-told
 returns-then-is_empty-clause-told g c told =
