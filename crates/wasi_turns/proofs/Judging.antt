@@ -16,19 +16,13 @@ use Rattle.wasi_turns.specs.declared.awaited.Waited.{Waited}
 -- ---- one subscription
 
 -- what a handle stands for is the same in these
-pub files_by : (held : ℕ → Held) (what : Awaited) → files_in (awaited_by held what) ≡ files_in what
-files_by held (awaiteds.FileToRead file position) = refl
-files_by held (awaiteds.Clock end) = refl
-files_by held awaiteds.Input = refl
-files_by held awaiteds.Output = refl
-files_by held awaiteds.FileToWrite = refl
-
-pub comes_by : (held : ℕ → Held) (what : Awaited) → comes_at (awaited_by held what) ≡ comes_at what
-comes_by held (awaiteds.FileToRead file position) = refl
-comes_by held (awaiteds.Clock end) = refl
-comes_by held awaiteds.Input = refl
-comes_by held awaiteds.Output = refl
-comes_by held awaiteds.FileToWrite = refl
+judged_by : (held : ℕ → Held) (what : Awaited)
+    → (files_in (awaited_by held what) ≡ files_in what) × (comes_at (awaited_by held what) ≡ comes_at what)
+judged_by held (awaiteds.FileToRead file position) = (refl, refl)
+judged_by held (awaiteds.Clock end) = (refl, refl)
+judged_by held awaiteds.Input = (refl, refl)
+judged_by held awaiteds.Output = (refl, refl)
+judged_by held awaiteds.FileToWrite = (refl, refl)
 
 -- ---- those that are left
 
@@ -124,11 +118,12 @@ pub one_judged : {whole : Row Judged} {stock : Stock} {slots : List GuestSlot} {
 unfolding earliest files_named
 one_judged {stock = stock} {slots} {memory} {start} {count} {i} held before now w within is files first left =
     let less = one_less {onto = judged_with before} within is left in
+    let (same_files, same_time) = judged_by held w.what in
     record {
       gives = onto_same (judged_with now) (λ ws. judged_with before (waited_by held w ∷ ws))
           (all_waited stock slots memory (start + 48 * (i + 1)) (count - (i + 1)))
           (λ ws. judged_same {j = judged_with now ws} {k = judged_with before (waited_by held w ∷ ws)}
-          (omega (arith, files, files_by held w.what)) (omega (arith, first, comes_by held w.what)))
+          (omega (arith, files, same_files)) (omega (arith, first, same_time)))
           ∙ less.gives;
     }
 

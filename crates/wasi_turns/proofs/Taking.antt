@@ -103,50 +103,42 @@ pub on_err : {H : Type 0} {told : Bool} {world : H → World} {faults : H → Fa
     → FollowsRow told world faults lookups old new before after call result
 on_err {result = result} is follows = let error = err_from_is_err_and result is in rw (error.1, error.2) follows
 
--- memory was wanted in the place of an error number, before anything was asked
+-- memory was wanted before anything was asked, where the row's front gives this
+wanted_by : {H : Type 0} {told : Bool} {world : H → World} {faults : H → FaultCount} {lookups : H → List Lookup}
+    {view : View H} {memory : List ℕ} {call : Call} {left : ℕ} (m : Row (Program (Value × Guest))) → IsTrue (may_want call)
+    → (m, left) ≡ front (guest_of world view memory) call view.fuel
+    → (let new : View H = record view { fuel = left } in
+    AtFront (Same view new memory memory) (Quiet faults lookups view new) (guest_of world view memory) (Err Memory) m)
+    → FollowsRow told world faults lookups view (record view { fuel = left }) memory memory call (Err Memory)
+wanted_by {H} {told} {world} {faults} {lookups} {view} {memory} {call} {left} m may at wants = record {
+  size = refl;
+  kept = record { slots = refl; table_max = refl; holdings = refl; memory = refl };
+  wants = λ _. may;
+  slots = all_stay refl;
+  fuel = left_same at;
+  front = subst (AtFront (Same view new memory memory) (Quiet faults lookups view new) (guest_of world view memory)
+      (Err Memory)) (row_same at) wants;
+  turn = λ told. turns.wants_memory;
+  permits = λ told names. refl;
+}
+  where
+    new : View H
+    new = record view { fuel = left }
+
+-- in the place of an error number
 pub wanted : {H : Type 0} {told : Bool} {world : H → World} {faults : H → FaultCount} {lookups : H → List Lookup}
     {view : View H} {memory : List ℕ} {call : Call} {number : ErrorNumber} {left : ℕ} → IsTrue (may_want call)
     → (Err (Errno number), left) ≡ front (guest_of world view memory) call view.fuel
     → FollowsRow told world faults lookups view (record view { fuel = left }) memory memory call (Err Memory)
-wanted {H} {told} {world} {faults} {lookups} {view} {memory} {call} {number} {left} may at = record {
-  size = refl;
-  kept = record { slots = refl; table_max = refl; holdings = refl; memory = refl };
-  wants = λ _. may;
-  slots = all_stay refl;
-  fuel = left_same at;
-  front = subst (AtFront (Same view new memory memory) (Quiet faults lookups view new) (guest_of world view memory)
-      (Err Memory)) (row_same at) (inr (refl, refl), (refl, refl));
-  turn = λ told. turns.wants_memory;
-  permits = λ told names. refl;
-}
-  where
-    new : View H
-    new = record view { fuel = left }
+wanted {number = number} may at = wanted_by (Err (Errno number)) may at (inr (refl, refl), (refl, refl))
 
--- memory was wanted where no refusal is left, before anything was asked
+-- where no refusal is left
 pub wanted_late : {H : Type 0} {told : Bool} {world : H → World} {faults : H → FaultCount} {lookups : H → List Lookup}
     {view : View H} {memory : List ℕ} {call : Call} {left : ℕ} (program : Program (Value × Guest)) → IsTrue (may_want call)
     → (Ok program, left) ≡ front (guest_of world view memory) call view.fuel
     → FollowsRow told world faults lookups view (record view { fuel = left }) memory memory call (Err Memory)
-wanted_late {H} {told} {world} {faults} {lookups} {view} {memory} {call} {left} program may at = record {
-  size = refl;
-  kept = record { slots = refl; table_max = refl; holdings = refl; memory = refl };
-  wants = λ _. may;
-  slots = all_stay refl;
-  fuel = left_same at;
-  front = subst (AtFront (Same view new memory memory) (Quiet faults lookups view new) (guest_of world view memory)
-      (Err Memory)) (row_same at) (by program);
-  turn = λ told. turns.wants_memory;
-  permits = λ told names. refl;
-}
-  where
-    new : View H
-    new = record view { fuel = left }
-
-    by : (program : Program (Value × Guest)) → AtFront (Same view new memory memory) (Quiet faults lookups view new)
-        (guest_of world view memory) (Err Memory) (Ok program)
-    by (done p) = (refl, (refl, refl))
-    by (asking r next) = inl (NoMemory, refl)
+wanted_late (done p) may at = wanted_by (Ok (done p)) may at (refl, (refl, refl))
+wanted_late (asking r next) may at = wanted_by (Ok (asking r next)) may at (inl (NoMemory, refl))
 
 -- the guest's slots stay: for a host that is told, where the handles stand for the same afterwards
 abbrev pub GuestSlotsStay : {H : Type 0} → Bool → (H → World) → View H → View H → Type 0
