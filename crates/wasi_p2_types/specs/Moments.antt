@@ -10,16 +10,19 @@ use Rattle.wasi_p2_types.specs.declared.times.DatetimeError.{DatetimeError}
 use Rattle.wasi_p2_types.specs.declared.times.NewTimestamp.{NewTimestamp}
 use Rattle.wasi_p2_types.specs.declared.times.NewTimestamp.TheVariants.{NoChange, Now, Timestamp}
 
--- whole seconds are carried out of the nanoseconds; then an i64 has to hold the seconds
-abbrev pub time_at : WallDatetime → Result SystemTime DatetimeError
-time_at t =
+-- whole seconds are carried out of the nanoseconds; then an i64 has to hold the seconds, or the time is refused so
+abbrev pub time_or : {E : Type 0} → E → WallDatetime → Result SystemTime E
+time_or e t =
     if nat_lt (t.seconds + t.nanoseconds / 10 ^ 9) (2 ^ 63)
     then Ok (record {
       seconds = pos (t.seconds + t.nanoseconds / 10 ^ 9);
       nanoseconds = t.nanoseconds % 10 ^ 9;
       is_time = mod-lt t.nanoseconds (lit< tt);
     })
-    else Err (record {})
+    else Err e
+
+abbrev pub time_at : WallDatetime → Result SystemTime DatetimeError
+time_at t = time_or (record {}) t
 
 abbrev pub or_overflowed : Result SystemTime DatetimeError → Result (Option SystemTime) ErrorCode
 or_overflowed (Ok time) = Ok (Some time)

@@ -1,5 +1,5 @@
 -- The times that a call which sets some is given.
-use Rattle.std.specs.Prelude.{ℕ, ◌+◌, ◌/◌, ◌%◌, ◌^◌, nat_lt, if◌then◌else◌, pos, Bool, true, false, Option, Some, None, Ok, Err}
+use Rattle.std.specs.Prelude.{ℕ, ◌/◌, ◌%◌, ◌^◌, pos, Bool, true, false, Option, Some, None, Err}
 use Rattle.std.proofs.Common.{lit<}
 use Rattle.std.proofs.Math.Nat.{mod-lt}
 use Rattle.wasi_host.specs.declared.system_time.SystemTime.{SystemTime}
@@ -8,6 +8,7 @@ use Rattle.wasi_guest.specs.Flags.{has, flags_in, known_fstflags}
 use Rattle.wasi_host.specs.Steps.{◌>>=◌}
 use Rattle.wasi_guest.specs.declared.errno.Errno.TheVariants as errnos
 use Rattle.wasi_guest.specs.declared.services.WallDatetime.{WallDatetime}
+use Rattle.wasi_p2_types.specs.Moments.{time_or}
 use Rattle.wasi_turns.specs.RawFlags.{or_inval}
 use Rattle.wasi_turns.specs.Row.{Row, give}
 use Rattle.wasi_turns.specs.declared.error.P1Error.TheVariants.{Errno}
@@ -20,14 +21,7 @@ time_after n = record { seconds = pos (n / 10 ^ 9); nanoseconds = n % 10 ^ 9; is
 -- so many seconds after it, and so many nanoseconds, out of which whole seconds are carried; seconds that an i64 doesn't
 -- hold are refused `overflow`
 abbrev pub time_of : WallDatetime → Row SystemTime
-time_of wall =
-    if nat_lt (wall.seconds + wall.nanoseconds / 10 ^ 9) (2 ^ 63)
-    then Ok (record {
-      seconds = pos (wall.seconds + wall.nanoseconds / 10 ^ 9);
-      nanoseconds = wall.nanoseconds % 10 ^ 9;
-      is_time = mod-lt wall.nanoseconds (lit< tt);
-    })
-    else Err (Errno errnos.Overflow)
+time_of wall = time_or (Errno errnos.Overflow) wall
 
 -- a time that is given, or what the wall clock stands at, or none; both at once are refused `inval`
 abbrev pub new_time : WallDatetime → ℕ → Bool → Bool → Row (Option SystemTime)

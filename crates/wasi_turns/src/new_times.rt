@@ -10,6 +10,7 @@ use crate::raw_numbers::INVALID;
 use bitflags::Flags;
 use wasi_guest::{Errno, FstFlags, WallDatetime};
 use wasi_host::{NANOSECONDS, SystemTime};
+use wasi_p2_types::systemtime_from;
 
 /// The times that are to be set: of the last read, and of the last change. One that isn't given stays.
 #[derive(Clone, Copy, Debug, PartialEq, Eq)]
@@ -64,14 +65,9 @@ fn time_of(wall: WallDatetime) -> Result<SystemTime, P1Error>
     ensures since { IfOk result (λ time. pos 0 ≤ℤ time.seconds) }
     ensures refusal { IfErr result (λ e. is_failure e ≡ false) }
 {
-    let carried = (wall.nanoseconds / NANOSECONDS) as u64;
-    if wall.seconds > i64::MAX as u64 - carried {
-        return Err(P1Error::Errno(Errno::Overflow));
-    }
-    Ok(SystemTime {
-        seconds: (wall.seconds + carried) as i64,
-        nanoseconds: wall.nanoseconds % NANOSECONDS,
-    })
+    systemtime_from(wall)
+        .ok()
+        .ok_or(P1Error::Errno(Errno::Overflow))
 }
 
 /// A time that is given, or what the wall clock stands at, or none.
