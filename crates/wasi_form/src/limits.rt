@@ -56,20 +56,20 @@ impl Fields for LimitsParts {
     }
 
     #[tactic(auto, unfolding(crate::specs::FoundParts::with_limits_member))]
-    fn with_member(self, key: &str, reader: &mut Reader<'_>, depth: usize) -> Reading<Self> {
+    fn with_member(mut self, key: &str, reader: &mut Reader<'_>, depth: usize) -> Reading<Self> {
         match key {
             "nodes" => {
-                let nodes = next_u64(reader, depth)?;
-                Ok(LimitsParts { nodes, ..self })
+                self.nodes = next_u64(reader, depth)?;
+                Ok(self)
             }
             "links" => {
-                let links = next_u64(reader, depth)?;
-                Ok(LimitsParts { links, ..self })
+                self.links = next_u64(reader, depth)?;
+                Ok(self)
             }
             _ => {
                 pass(reader, depth)?;
-                let known = false;
-                Ok(LimitsParts { known, ..self })
+                self.known = false;
+                Ok(self)
             }
         }
     }

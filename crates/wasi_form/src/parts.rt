@@ -81,43 +81,43 @@ impl Fields for Parts {
     }
 
     #[tactic(auto, unfolding(crate::specs::FoundParts::with_member))]
-    fn with_member(self, key: &str, reader: &mut Reader<'_>, depth: usize) -> Reading<Self> {
+    fn with_member(mut self, key: &str, reader: &mut Reader<'_>, depth: usize) -> Reading<Self> {
         match key {
             "nodes" => {
-                let nodes = list(self.alloc, reader, depth)?;
-                Ok(Parts { nodes, ..self })
+                self.nodes = list(self.alloc, reader, depth)?;
+                Ok(self)
             }
             "preopens" => {
-                let preopens = list(self.alloc, reader, depth)?;
-                Ok(Parts { preopens, ..self })
+                self.preopens = list(self.alloc, reader, depth)?;
+                Ok(self)
             }
             "calls" => {
-                let calls = list(self.alloc, reader, depth)?;
-                Ok(Parts { calls, ..self })
+                self.calls = list(self.alloc, reader, depth)?;
+                Ok(self)
             }
             "memory" => {
-                let memory = memory(self.alloc, reader, depth)?;
-                Ok(Parts { memory, ..self })
+                self.memory = memory(self.alloc, reader, depth)?;
+                Ok(self)
             }
             "show" => {
-                let show = list(self.alloc, reader, depth)?;
-                Ok(Parts { show, ..self })
+                self.show = list(self.alloc, reader, depth)?;
+                Ok(self)
             }
             "limits" => {
-                let limits = limits(self.alloc, reader, depth)?;
-                Ok(Parts { limits, ..self })
+                self.limits = limits(self.alloc, reader, depth)?;
+                Ok(self)
             }
             "fuel" => {
-                let fuel = next_u64(reader, depth)?;
-                Ok(Parts { fuel, ..self })
+                self.fuel = next_u64(reader, depth)?;
+                Ok(self)
             }
             "table" => {
-                let table = next_u32(reader, depth)?;
-                Ok(Parts { table, ..self })
+                self.table = next_u32(reader, depth)?;
+                Ok(self)
             }
             "faults" => {
-                let faults = faults(self.alloc, reader, depth)?;
-                Ok(Parts { faults, ..self })
+                self.faults = faults(self.alloc, reader, depth)?;
+                Ok(self)
             }
             _ => self.with_other(key, reader, depth),
         }
@@ -126,21 +126,21 @@ impl Fields for Parts {
 
 impl Parts {
     // With the member of a key that is no part of its own.
-    fn with_other(self, key: &str, reader: &mut Reader<'_>, depth: usize) -> Reading<Parts>
+    fn with_other(mut self, key: &str, reader: &mut Reader<'_>, depth: usize) -> Reading<Parts>
         ensures { IsRead (λ parts. (found_of parts, reader.new)) result
             (parse_map (λ d. with_beside (service_key key.now) d (found_of self)) (next_value depth reader.old)) }
     {
         match ServiceKey::of(key) {
             Some(service) => {
-                let services = self
+                self.services = self
                     .services
                     .with_member(self.alloc, service, reader, depth)?;
-                Ok(Parts { services, ..self })
+                Ok(self)
             }
             None => {
                 pass(reader, depth)?;
-                let known = false;
-                Ok(Parts { known, ..self })
+                self.known = false;
+                Ok(self)
             }
         }
     }

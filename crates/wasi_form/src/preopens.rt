@@ -75,24 +75,24 @@ impl Fields for PreopenParts {
     }
 
     #[tactic(auto, unfolding(crate::specs::FoundParts::with_preopen_member))]
-    fn with_member(self, key: &str, reader: &mut Reader<'_>, depth: usize) -> Reading<Self> {
+    fn with_member(mut self, key: &str, reader: &mut Reader<'_>, depth: usize) -> Reading<Self> {
         match key {
             "node" => {
-                let node = next_u64(reader, depth)?;
-                Ok(PreopenParts { node, ..self })
+                self.node = next_u64(reader, depth)?;
+                Ok(self)
             }
             "name" => {
-                let name = text(self.alloc, reader, depth)?;
-                Ok(PreopenParts { name, ..self })
+                self.name = text(self.alloc, reader, depth)?;
+                Ok(self)
             }
             "perms" => {
-                let perms = perms(reader, depth)?;
-                Ok(PreopenParts { perms, ..self })
+                self.perms = perms(reader, depth)?;
+                Ok(self)
             }
             _ => {
                 pass(reader, depth)?;
-                let known = false;
-                Ok(PreopenParts { known, ..self })
+                self.known = false;
+                Ok(self)
             }
         }
     }

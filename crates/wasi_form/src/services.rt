@@ -185,7 +185,7 @@ impl ServiceParts {
 
     /// With the member of a key, whose value is next in the text.
     pub fn with_member(
-        self,
+        mut self,
         alloc: Global,
         key: ServiceKey,
         reader: &mut Reader<'_>,
@@ -196,42 +196,36 @@ impl ServiceParts {
     {
         match key {
             ServiceKey::Args => {
-                let args = list(alloc, reader, depth)?;
-                Ok(ServiceParts { args, ..self })
+                self.args = list(alloc, reader, depth)?;
+                Ok(self)
             }
             ServiceKey::Env => {
-                let env = list(alloc, reader, depth)?;
-                Ok(ServiceParts { env, ..self })
+                self.env = list(alloc, reader, depth)?;
+                Ok(self)
             }
             ServiceKey::Stdin => {
-                let stdin = hex(alloc, reader, depth)?;
-                Ok(ServiceParts { stdin, ..self })
+                self.stdin = hex(alloc, reader, depth)?;
+                Ok(self)
             }
             ServiceKey::Wall => {
-                let wall = wall(alloc, reader, depth)?;
-                Ok(ServiceParts { wall, ..self })
+                self.wall = wall(alloc, reader, depth)?;
+                Ok(self)
             }
             ServiceKey::WallResolution => {
-                let wall_resolution = wall(alloc, reader, depth)?;
-                Ok(ServiceParts {
-                    wall_resolution,
-                    ..self
-                })
+                self.wall_resolution = wall(alloc, reader, depth)?;
+                Ok(self)
             }
             ServiceKey::Monotonic => {
-                let monotonic = next_u64(reader, depth)?;
-                Ok(ServiceParts { monotonic, ..self })
+                self.monotonic = next_u64(reader, depth)?;
+                Ok(self)
             }
             ServiceKey::MonotonicResolution => {
-                let monotonic_resolution = next_u64(reader, depth)?;
-                Ok(ServiceParts {
-                    monotonic_resolution,
-                    ..self
-                })
+                self.monotonic_resolution = next_u64(reader, depth)?;
+                Ok(self)
             }
             ServiceKey::Random => {
-                let random = hex(alloc, reader, depth)?;
-                Ok(ServiceParts { random, ..self })
+                self.random = hex(alloc, reader, depth)?;
+                Ok(self)
             }
         }
     }
