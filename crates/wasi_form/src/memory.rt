@@ -1,5 +1,5 @@
 //! The guest's memory of a script, what stands in it, and what is shown of it.
-ghost use Rattle.std.specs.Prelude.{◌≡◌, option_map};
+ghost use Rattle.std.specs.Prelude.{◌≡◌, option_map, IfOk};
 ghost use Rattle.json.specs.Json.{parse_map};
 ghost use Rattle.wasi_form.specs.Atoms.{atom_data};
 ghost use Rattle.wasi_form.specs.IsRead.{IsRead};
@@ -7,27 +7,46 @@ ghost use Rattle.wasi_form.specs.Lists.{same};
 ghost use Rattle.wasi_form.specs.MemoryForm as specs;
 ghost use Rattle.wasi_form.specs.FoundParts.{memory_found_of};
 ghost use Rattle.wasi_form.specs.Plan as plans;
+ghost use Rattle.wasi_form.specs.Shapes.{hex_in};
 ghost use Rattle.wasi_form.specs.Tokens.{next_value};
 
 use crate::atoms::{Atom, next_u32};
 use crate::lists::{Item, Listed, list, next_listed};
 use crate::objects::{Fields, object};
-use crate::script::{Piece, Shown};
+use crate::script::{BYTES_IN_PLACE, Piece, PieceBytes, Shown};
 use crate::shapes::{Reading, Unread, hex_of_text};
 use crate::tokens::pass;
 use json::Reader;
-use std::alloc::Global;
+use std::alloc::{AllocError, Global};
 
-fn piece_bytes(alloc: Global, kind: Atom<'_>, text: Atom<'_>) -> Reading<Vec<u8>>
+// The bytes of a hex text. `None` where it is none.
+fn bytes_of_hex(alloc: Global, text: &str) -> Result<Option<PieceBytes>, AllocError>
+    ensures { IfOk result (λ found. option_map (λ v. v.items) found ≡ hex_in text.now) }
+{
+    let count = text.len() / 2;
+    if count > BYTES_IN_PLACE {
+        let Some(bytes) = hex_of_text(alloc, text)? else {
+            return Ok(None);
+        };
+        return Ok(Some(PieceBytes::from_vec(bytes)));
+    }
+    let mut bytes = PieceBytes::from_elem(alloc, 0, count)?;
+    match hex::decode_to_slice(text, bytes.as_mut_slice()) {
+        Ok(()) => Ok(Some(bytes)),
+        Err(_) => Ok(None),
+    }
+}
+
+fn piece_bytes(alloc: Global, kind: Atom<'_>, text: Atom<'_>) -> Reading<PieceBytes>
     ensures { IsRead (λ v. v.items) result (specs.piece_bytes (atom_data kind.entry) (atom_data text.entry)) }
 {
     let Some(text) = text.as_str() else {
         return Err(Unread::Shape);
     };
     if kind.is_text("hex") {
-        hex_of_text(alloc, text)?.ok_or(Unread::Shape)
+        bytes_of_hex(alloc, text)?.ok_or(Unread::Shape)
     } else if kind.is_text("text") {
-        Ok(String::from_str(alloc, text)?.into_bytes())
+        Ok(PieceBytes::from_slice(alloc, text.as_bytes())?)
     } else {
         Err(Unread::Shape)
     }
@@ -106,20 +125,20 @@ impl Fields for MemoryParts {
     }
 
     #[tactic(auto, unfolding(crate::specs::FoundParts::with_memory_member))]
-    fn with_member(self, key: &str, reader: &mut Reader<'_>, depth: usize) -> Reading<Self> {
+    fn with_member(mut self, key: &str, reader: &mut Reader<'_>, depth: usize) -> Reading<Self> {
         match key {
             "size" => {
-                let size = next_u32(reader, depth)?;
-                Ok(MemoryParts { size, ..self })
+                self.size = next_u32(reader, depth)?;
+                Ok(self)
             }
             "pieces" => {
-                let pieces = list(self.alloc, reader, depth)?;
-                Ok(MemoryParts { pieces, ..self })
+                self.pieces = list(self.alloc, reader, depth)?;
+                Ok(self)
             }
             _ => {
                 pass(reader, depth)?;
-                let known = false;
-                Ok(MemoryParts { known, ..self })
+                self.known = false;
+                Ok(self)
             }
         }
     }

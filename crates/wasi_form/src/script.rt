@@ -1,5 +1,6 @@
 //! A script: a tree of files, what the guest is given of it, its memory, and its calls.
 
+use smallvec::SmallVec;
 use wasi_faults::Fault;
 use wasi_fs::FsPerms;
 use wasi_guest::{Call, Services};
@@ -15,11 +16,17 @@ pub struct ScriptPreopen {
     pub perms: FsPerms,
 }
 
+// How many bytes of a piece stand in the piece itself, so that small ones take no memory of their own.
+pub(crate) const BYTES_IN_PLACE: usize = 16;
+
+/// The bytes of a piece.
+pub type PieceBytes = SmallVec<u8, BYTES_IN_PLACE>;
+
 /// Bytes that stand in the guest's memory from an offset on.
 #[derive(Debug, Drop)]
 pub struct Piece {
     pub offset: u32,
-    pub bytes: Vec<u8>,
+    pub bytes: PieceBytes,
 }
 
 /// A range of the guest's memory that is to be shown after the run.

@@ -49,7 +49,7 @@ fn is_table_fit(table: u32, preopens: &[ScriptPreopen]) -> bool
 fn is_piece_within(size: u32, piece: &Piece) -> bool
     ensures { result ≡ specs.is_piece_within size (planned_piece piece.now) }
 {
-    let end = piece.offset as usize + piece.bytes.len();
+    let end = piece.offset as usize + piece.bytes.as_slice().len();
     end <= size as usize
 }
 

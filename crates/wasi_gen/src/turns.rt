@@ -5,7 +5,7 @@ ghost use Rattle.wasi_form.specs.Plan.{planned_piece};
 ghost use Rattle.wasi_gen.specs.GenScript as specs;
 
 use std::alloc::{AllocError, Global};
-use wasi_form::Piece;
+use wasi_form::{Piece, PieceBytes};
 use wasi_guest::Call;
 
 /// The calls of a script, and the pieces of its memory.
@@ -16,10 +16,10 @@ pub struct Turns {
 }
 
 // The buffer that is read into, as an iovec: 16 bytes at 64.
-fn iovec_bytes(alloc: Global) -> Result<Vec<u8>, AllocError>
+fn iovec_bytes(alloc: Global) -> Result<PieceBytes, AllocError>
     ensures { IfOk result (λ bytes. bytes.items ≡ specs.iovec_bytes) }
 {
-    Ok(vec![in alloc; 64, 0, 0, 0, 16, 0, 0, 0]?)
+    PieceBytes::from_slice(alloc, &[64, 0, 0, 0, 16, 0, 0, 0])
 }
 
 // The path of a link, `di/up`.
@@ -70,11 +70,11 @@ fn push_turn(alloc: Global, turns: &mut Turns, i: u64) -> Result<(), AllocError>
     })?;
     turns.pieces.push(Piece {
         offset: link_at,
-        bytes: link.into_bytes(),
+        bytes: PieceBytes::from_vec(link.into_bytes()),
     })?;
     turns.pieces.push(Piece {
         offset: made_at,
-        bytes: made.into_bytes(),
+        bytes: PieceBytes::from_vec(made.into_bytes()),
     })?;
     Ok(())
 }
