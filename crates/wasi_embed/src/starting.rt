@@ -12,7 +12,8 @@ use wasi_start::begin;
 fn has_no_guest(script: &Script) -> bool
     ensures { result ≡ has_no_guest (plan script.now) }
 {
-    script.calls.is_empty() && script.show.is_empty() && script.size == 0
+    let session = &script.session;
+    session.calls.is_empty() && session.show.is_empty() && session.size == 0
 }
 
 /// A sandbox that stands as a script begins: over the tree of its nodes, with its preopens, all that its guest is handed

@@ -9,6 +9,7 @@ use Rattle.wasi_guest.specs.Services.{Handed, handed}
 use Rattle.wasi_guest.specs.declared.call.Call.{Call}
 use Rattle.wasi_form.specs.declared.script.Script.{Script}
 use Rattle.wasi_form.specs.declared.script.Draft.{Draft}
+use Rattle.wasi_form.specs.declared.script.Session.{Session}
 use Rattle.wasi_form.specs.declared.script.ScriptPreopen.{ScriptPreopen}
 use Rattle.wasi_form.specs.declared.script.Piece.{Piece}
 use Rattle.wasi_form.specs.declared.memory.ScriptMemory.{ScriptMemory}
@@ -53,11 +54,11 @@ planned_piece piece = record { offset = piece.offset; bytes = piece.bytes.items 
 abbrev pub planned_memory : ScriptMemory → PlannedMemory
 planned_memory memory = record { size = memory.size; pieces = map planned_piece memory.pieces.items }
 
--- what a script in Rust stands for
-abbrev pub plan : Script → Plan
-plan s = record {
-  nodes = s.nodes.nodes;
-  limits = s.nodes.limits;
+-- what is run on a tree of these nodes, as plain data
+abbrev pub planned : List Given → Limits → Session → Plan
+planned nodes limits s = record {
+  nodes = nodes;
+  limits = limits;
   preopens = map planned_preopen s.preopens.items;
   size = s.size;
   pieces = map planned_piece s.pieces.items;
@@ -69,18 +70,10 @@ plan s = record {
   services = handed s.services;
 }
 
+-- what a script in Rust stands for
+abbrev pub plan : Script → Plan
+plan s = planned s.nodes.nodes s.nodes.limits s.session
+
 -- the same, before its nodes were tested
 abbrev pub drafted : Draft → Plan
-drafted s = record {
-  nodes = map given s.nodes.items;
-  limits = s.limits;
-  preopens = map planned_preopen s.preopens.items;
-  size = s.size;
-  pieces = map planned_piece s.pieces.items;
-  show = s.show.items;
-  calls = s.calls.items;
-  fuel = s.fuel;
-  table = s.table;
-  faults = s.faults.items;
-  services = handed s.services;
-}
+drafted s = planned (map given s.nodes.items) s.limits s.session

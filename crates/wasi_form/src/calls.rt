@@ -2,13 +2,13 @@
 ghost use Rattle.std.specs.Prelude.{◌≡◌};
 ghost use Rattle.wasi_form.specs.Atoms.{atoms_data, values_left};
 ghost use Rattle.wasi_form.specs.CallForm as specs;
+ghost use Rattle.wasi_form.specs.ListedLaws as laws;
 ghost use Rattle.wasi_form.specs.Lists.{same};
 
 use crate::arguments::Arguments;
 use crate::atoms::Atom;
-use crate::lists::{Item, Listed, next_listed};
+use crate::lists::Listed;
 use crate::shapes::{Reading, Unread};
-use json::Reader;
 use std::alloc::Global;
 use wasi_guest::Call;
 
@@ -99,21 +99,9 @@ impl Listed for Call {
 
     ghost of = { specs.call_in };
 
+    ghost sees = { laws.call_sees };
+
     fn read(_alloc: Global, atoms: &[Atom<'_>]) -> Reading<Call> {
         call_in(atoms).ok_or(Unread::Shape)
-    }
-}
-
-impl Item for Call {
-    ghost use Rattle.wasi_guest.specs.declared.call.Call.{Call};
-
-    ghost Seen = { Call };
-
-    ghost see = { same };
-
-    ghost of = { specs.call_of };
-
-    fn next(alloc: Global, reader: &mut Reader<'_>, depth: usize) -> Reading<Option<Call>> {
-        next_listed(alloc, reader, depth)
     }
 }

@@ -5,11 +5,12 @@ ghost use Rattle.wasi_faults.specs.Faults.{numbers_rise};
 ghost use Rattle.wasi_form.specs.Atoms.{atom_data};
 ghost use Rattle.wasi_form.specs.FaultsForm as specs;
 ghost use Rattle.wasi_form.specs.IsRead.{IsRead};
+ghost use Rattle.wasi_form.specs.ListedLaws as laws;
 ghost use Rattle.wasi_form.specs.Lists.{same};
 ghost use Rattle.wasi_form.specs.Tokens.{next_value};
 
 use crate::atoms::Atom;
-use crate::lists::{Item, Listed, list, next_listed};
+use crate::lists::{Listed, list};
 use crate::shapes::{Reading, Unread};
 use json::Reader;
 use std::alloc::Global;
@@ -37,6 +38,8 @@ impl Listed for Fault {
 
     ghost of = { specs.fault_of_items };
 
+    ghost sees = { laws.fault_sees };
+
     #[tactic(auto, using(crate::proofs::Lengths::short_is_no_two, crate::proofs::Lengths::long_is_no_two))]
     fn read(_alloc: Global, atoms: &[Atom<'_>]) -> Reading<Fault> {
         let [number, when] = atoms else {
@@ -45,20 +48,6 @@ impl Listed for Fault {
         let number = number.as_u64().ok_or(Unread::Shape)?;
         let after = is_after(*when).ok_or(Unread::Shape)?;
         Ok(Fault { number, after })
-    }
-}
-
-impl Item for Fault {
-    ghost use Rattle.wasi_faults.specs.declared.fault.Fault.{Fault};
-
-    ghost Seen = { Fault };
-
-    ghost see = { same };
-
-    ghost of = { specs.fault_of };
-
-    fn next(alloc: Global, reader: &mut Reader<'_>, depth: usize) -> Reading<Option<Fault>> {
-        next_listed(alloc, reader, depth)
     }
 }
 

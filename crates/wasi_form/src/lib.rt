@@ -21,5 +21,5 @@ mod verdict;
 mod within;
 
 pub use limits::DEFAULT_LIMITS;
-pub use script::{Piece, PieceBytes, Script, ScriptPreopen, Shown};
+pub use script::{Piece, PieceBytes, Script, ScriptPreopen, Session, Shown};
 pub use verdict::{Refusal, ScriptError, read_script, verdicts_are_one};

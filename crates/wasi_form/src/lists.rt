@@ -112,21 +112,23 @@ pub trait Listed: Drop + Sized {
 
     fn read(alloc: Global, atoms: &[Atom<'_>]) -> Reading<Self>
         ensures { IsRead Self.see result (of (atoms_data atoms.now)) };
+
+    /// Of its items no more is seen than numbers and texts.
+    ghost sees: { SeesAtoms of };
 }
 
-/// The next value of a text, read as a list of numbers and texts.
-pub fn next_listed<T: Listed>(
-    alloc: Global,
-    reader: &mut Reader<'_>,
-    depth: usize,
-) -> Reading<Option<T>>
-    requires { SeesAtoms T.of }
-    ensures { IsRead (λ found. (option_map T.see found, reader.new)) result
-        (parse_map (λ d. option_and_then T.of (find.as_array d)) (next_value depth reader.old)) }
-{
-    let mut atoms = SmallVec::new(alloc);
-    let is_list = list_atoms(reader, depth, &mut atoms)?;
-    Ok(formed(alloc, is_list, atoms.as_slice())?)
+impl<T: Listed> Item for T {
+    ghost Seen = { T.Seen };
+
+    ghost see = { T.see };
+
+    ghost of = { λ d. option_and_then T.of (find.as_array d) };
+
+    fn next(alloc: Global, reader: &mut Reader<'_>, depth: usize) -> Reading<Option<T>> {
+        let mut atoms = SmallVec::new(alloc);
+        let is_list = list_atoms(reader, depth, &mut atoms)?;
+        Ok(formed(alloc, is_list, atoms.as_slice())?)
+    }
 }
 
 // What numbers and texts are read as, where they are those of a list.

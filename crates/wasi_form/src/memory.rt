@@ -6,12 +6,13 @@ ghost use Rattle.wasi_form.specs.IsRead.{IsRead};
 ghost use Rattle.wasi_form.specs.Lists.{same};
 ghost use Rattle.wasi_form.specs.MemoryForm as specs;
 ghost use Rattle.wasi_form.specs.FoundParts.{memory_found_of};
+ghost use Rattle.wasi_form.specs.ListedLaws as laws;
 ghost use Rattle.wasi_form.specs.Plan as plans;
 ghost use Rattle.wasi_form.specs.Shapes.{hex_in};
 ghost use Rattle.wasi_form.specs.Tokens.{next_value};
 
 use crate::atoms::{Atom, next_u32};
-use crate::lists::{Item, Listed, list, next_listed};
+use crate::lists::{Listed, list};
 use crate::objects::{Fields, object};
 use crate::script::{BYTES_IN_PLACE, Piece, PieceBytes, Shown};
 use crate::shapes::{Reading, Unread, hex_of_text};
@@ -61,6 +62,8 @@ impl Listed for Piece {
 
     ghost of = { specs.piece_of_items };
 
+    ghost sees = { laws.piece_sees };
+
     #[tactic(auto, using(crate::proofs::Lengths::short_is_no_three, crate::proofs::Lengths::long_is_no_three))]
     fn read(alloc: Global, atoms: &[Atom<'_>]) -> Reading<Piece> {
         let [offset, kind, text] = atoms else {
@@ -70,20 +73,6 @@ impl Listed for Piece {
             offset: offset.as_u32().ok_or(Unread::Shape)?,
             bytes: piece_bytes(alloc, *kind, *text)?,
         })
-    }
-}
-
-impl Item for Piece {
-    ghost use Rattle.wasi_form.specs.Plan.{PlannedPiece};
-
-    ghost Seen = { PlannedPiece };
-
-    ghost see = { plans.planned_piece };
-
-    ghost of = { specs.piece_of };
-
-    fn next(alloc: Global, reader: &mut Reader<'_>, depth: usize) -> Reading<Option<Piece>> {
-        next_listed(alloc, reader, depth)
     }
 }
 
@@ -180,6 +169,8 @@ impl Listed for Shown {
 
     ghost of = { specs.shown_of_items };
 
+    ghost sees = { laws.shown_sees };
+
     #[tactic(auto, using(crate::proofs::Lengths::short_is_no_two, crate::proofs::Lengths::long_is_no_two))]
     fn read(_alloc: Global, atoms: &[Atom<'_>]) -> Reading<Shown> {
         let [ptr, len] = atoms else {
@@ -189,20 +180,6 @@ impl Listed for Shown {
             ptr: ptr.as_u32().ok_or(Unread::Shape)?,
             len: len.as_u32().ok_or(Unread::Shape)?,
         })
-    }
-}
-
-impl Item for Shown {
-    ghost use Rattle.wasi_form.specs.declared.script.Shown.{Shown};
-
-    ghost Seen = { Shown };
-
-    ghost see = { same };
-
-    ghost of = { specs.shown_of };
-
-    fn next(alloc: Global, reader: &mut Reader<'_>, depth: usize) -> Reading<Option<Shown>> {
-        next_listed(alloc, reader, depth)
     }
 }
 

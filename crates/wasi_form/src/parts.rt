@@ -14,7 +14,7 @@ use crate::limits::{DEFAULT_LIMITS, limits};
 use crate::lists::list;
 use crate::memory::{ScriptMemory, memory, no_memory};
 use crate::objects::{Fields, object};
-use crate::script::{Draft, ScriptPreopen, Shown};
+use crate::script::{Draft, ScriptPreopen, Session, Shown};
 use crate::services::{ServiceKey, ServiceParts};
 use crate::shapes::Reading;
 use crate::tokens::pass;
@@ -180,15 +180,17 @@ impl Parts {
         Some(Draft {
             nodes,
             limits,
-            preopens,
-            size,
-            pieces,
-            show,
-            calls,
-            fuel,
-            table,
-            faults,
-            services,
+            session: Session {
+                preopens,
+                size,
+                pieces,
+                show,
+                calls,
+                fuel,
+                table,
+                faults,
+                services,
+            },
         })
     }
 }

@@ -36,13 +36,12 @@ pub struct Shown {
     pub len: u32,
 }
 
-/// The nodes of a tree of files and how large it may grow, the directories that the guest is given, the size of its
-/// memory in bytes, the pieces that are written there before the run, the ranges that are shown after it, the calls, how
-/// much fuel each of them has, how many descriptors may be live, streams and preopens among them, which calls of the host
-/// fail, and what the guest is handed in beside the directories.
+/// What is run on a tree of files: the directories that the guest is given, the size of its memory in bytes, the pieces
+/// that are written there before the run, the ranges that are shown after it, the calls, how much fuel each of them has,
+/// how many descriptors may be live, streams and preopens among them, which calls of the host fail, and what the guest is
+/// handed in beside the directories.
 #[derive(Drop)]
-pub struct Script {
-    pub nodes: FitNodes,
+pub struct Session {
     pub preopens: Vec<ScriptPreopen>,
     pub size: u32,
     pub pieces: Vec<Piece>,
@@ -54,18 +53,17 @@ pub struct Script {
     pub services: Services,
 }
 
+/// The nodes of a tree of files and how large it may grow, and what is run on it.
+#[derive(Drop)]
+pub struct Script {
+    pub nodes: FitNodes,
+    pub session: Session,
+}
+
 /// A script whose nodes weren't tested yet.
 #[derive(Drop)]
 pub struct Draft {
     pub nodes: Vec<NewNode>,
     pub limits: Limits,
-    pub preopens: Vec<ScriptPreopen>,
-    pub size: u32,
-    pub pieces: Vec<Piece>,
-    pub show: Vec<Shown>,
-    pub calls: Vec<Call>,
-    pub fuel: u64,
-    pub table: u32,
-    pub faults: Vec<Fault>,
-    pub services: Services,
+    pub session: Session,
 }

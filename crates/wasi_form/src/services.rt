@@ -6,12 +6,13 @@ ghost use Rattle.serde_json.specs.Find as find;
 ghost use Rattle.wasi_guest.specs.Services.{env_pair, handed};
 ghost use Rattle.wasi_form.specs.FoundParts.{services_found_of, services_with};
 ghost use Rattle.wasi_form.specs.IsRead.{IsRead};
+ghost use Rattle.wasi_form.specs.ListedLaws as laws;
 ghost use Rattle.wasi_form.specs.Lists.{same};
 ghost use Rattle.wasi_form.specs.ServicesForm as specs;
 ghost use Rattle.wasi_form.specs.Tokens.{next_value};
 
 use crate::atoms::{Atom, next_u64};
-use crate::lists::{Item, Listed, list, next_listed};
+use crate::lists::{Item, Listed, list};
 use crate::shapes::{Reading, Unread, require};
 use crate::texts::{hex, text};
 use json::Reader;
@@ -84,6 +85,8 @@ impl Listed for EnvPair {
 
     ghost of = { specs.env_pair_of_items };
 
+    ghost sees = { laws.env_pair_sees };
+
     #[tactic(auto, using(crate::proofs::Lengths::short_is_no_two, crate::proofs::Lengths::long_is_no_two))]
     fn read(alloc: Global, atoms: &[Atom<'_>]) -> Reading<EnvPair> {
         let [key, value] = atoms else {
@@ -98,21 +101,6 @@ impl Listed for EnvPair {
     }
 }
 
-/// A variable of the environment.
-impl Item for EnvPair {
-    ghost use Rattle.std.specs.Prelude.{ℕ, List};
-
-    ghost Seen = { List ℕ × List ℕ };
-
-    ghost see = { env_pair };
-
-    ghost of = { specs.env_pair_of };
-
-    fn next(alloc: Global, reader: &mut Reader<'_>, depth: usize) -> Reading<Option<EnvPair>> {
-        next_listed(alloc, reader, depth)
-    }
-}
-
 impl Listed for WallDatetime {
     ghost use Rattle.wasi_guest.specs.declared.services.WallDatetime.{WallDatetime};
 
@@ -121,6 +109,8 @@ impl Listed for WallDatetime {
     ghost see = { same };
 
     ghost of = { specs.wall_of_items };
+
+    ghost sees = { laws.wall_sees };
 
     #[tactic(auto, using(crate::proofs::Lengths::short_is_no_two, crate::proofs::Lengths::long_is_no_two))]
     fn read(_alloc: Global, atoms: &[Atom<'_>]) -> Reading<WallDatetime> {
@@ -142,7 +132,7 @@ fn wall(alloc: Global, reader: &mut Reader<'_>, depth: usize) -> Reading<Option<
     ensures { IsRead (λ found. (option_map same found, reader.new)) result
         (parse_map specs.wall_of (next_value depth reader.old)) }
 {
-    next_listed(alloc, reader, depth)
+    WallDatetime::next(alloc, reader, depth)
 }
 
 /// What stands at the keys of the services, or counts where nothing does: no arguments and no environment, an empty

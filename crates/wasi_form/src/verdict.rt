@@ -79,8 +79,8 @@ impl From<AllocError> for ScriptError {
 /// More than 16,777,216 bytes are refused unread.
 pub fn read_script(alloc: Global, bytes: &[u8]) -> Result<Script, ScriptError>
     ensures verdict { Reads result (IsVerdict bytes.now) }
-    ensures services { IfOk result (λ script. AreWithin (handed script.services)) }
-    ensures rising { IfOk result (λ script. IsTrue (numbers_rise script.faults.items)) }
+    ensures services { IfOk result (λ script. AreWithin (handed script.session.services)) }
+    ensures rising { IfOk result (λ script. IsTrue (numbers_rise script.session.faults.items)) }
 {
     let draft = read_draft(alloc, bytes)?;
     let script = tested(alloc, draft)?;
@@ -97,33 +97,13 @@ fn tested(alloc: Global, draft: Draft) -> Result<Script, ScriptError>
     let Draft {
         nodes,
         limits,
-        preopens,
-        size,
-        pieces,
-        show,
-        calls,
-        fuel,
-        table,
-        faults,
-        services,
+        session,
     } = draft;
-    let nodes = match FitNodes::new(alloc, nodes, limits) {
-        Ok(nodes) => nodes,
-        Err(TreeError::Invalid(_)) => return Err(ScriptError::Refused(Refusal::Tree)),
-        Err(TreeError::Memory) => return Err(ScriptError::Memory),
-    };
-    Ok(Script {
-        nodes,
-        preopens,
-        size,
-        pieces,
-        show,
-        calls,
-        fuel,
-        table,
-        faults,
-        services,
-    })
+    match FitNodes::new(alloc, nodes, limits) {
+        Ok(nodes) => Ok(Script { nodes, session }),
+        Err(TreeError::Invalid(_)) => Err(ScriptError::Refused(Refusal::Tree)),
+        Err(TreeError::Memory) => Err(ScriptError::Memory),
+    }
 }
 
 #[tactic(auto, using(crate::proofs::Accepted::too_many, crate::proofs::Accepted::reads_within))]

@@ -96,10 +96,11 @@ fn is_shown_little(show: &[Shown]) -> bool
 pub fn is_within_limits(script: &Script) -> bool
     ensures { result ≡ specs.is_within_limits (plan script.now) }
 {
-    are_preopens_directories(script.nodes.list(), script.preopens.as_slice())
-        && is_table_fit(script.table, script.preopens.as_slice())
-        && script.size <= MOST_MEMORY
-        && are_pieces_within(script.size, script.pieces.as_slice())
-        && are_shown_within(script.size, script.show.as_slice())
-        && is_shown_little(script.show.as_slice())
+    let session = &script.session;
+    are_preopens_directories(script.nodes.list(), session.preopens.as_slice())
+        && is_table_fit(session.table, session.preopens.as_slice())
+        && session.size <= MOST_MEMORY
+        && are_pieces_within(session.size, session.pieces.as_slice())
+        && are_shown_within(session.size, session.show.as_slice())
+        && is_shown_little(session.show.as_slice())
 }

@@ -8,7 +8,7 @@ ghost use Rattle.wasi_gen.specs.GenScript as specs;
 use crate::nodes::gen_nodes;
 use crate::turns::{Turns, all_turns};
 use std::alloc::{AllocError, Global};
-use wasi_form::{DEFAULT_LIMITS, Script, ScriptPreopen};
+use wasi_form::{DEFAULT_LIMITS, Script, ScriptPreopen, Session};
 use wasi_fs::FsPerms;
 use wasi_guest::{Services, WallDatetime};
 
@@ -65,14 +65,16 @@ pub fn gen_script(alloc: Global, n: u64) -> Result<Script, AllocError>
     let Turns { pieces, calls } = all_turns(alloc, n)?;
     Ok(Script {
         nodes,
-        preopens: preopens(alloc)?,
-        size: 1024 + 32 * n as u32,
-        pieces,
-        show: Vec::new(alloc),
-        calls,
-        fuel: 134_217_728,
-        table: 1024,
-        faults: Vec::new(alloc),
-        services: services(alloc),
+        session: Session {
+            preopens: preopens(alloc)?,
+            size: 1024 + 32 * n as u32,
+            pieces,
+            show: Vec::new(alloc),
+            calls,
+            fuel: 134_217_728,
+            table: 1024,
+            faults: Vec::new(alloc),
+            services: services(alloc),
+        },
     })
 }

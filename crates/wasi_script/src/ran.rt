@@ -27,7 +27,7 @@ pub struct Ran {
 /// Makes the calls of a script, over a tree in memory whose calls fail as the script says.
 pub fn run(alloc: Global, script: Script) -> Result<Ran, AllocError>
     requires within { is_within_limits (plan script) ≡ true }
-    requires rising { IsTrue (numbers_rise script.faults.items) }
+    requires rising { IsTrue (numbers_rise script.session.faults.items) }
     ensures { IfOk result (IsRanOf (plan script)) }
 {
     let mut begun = begin(alloc, script)?;

@@ -43,7 +43,7 @@ fn read_from<S: Source>(
     ensures cause { result ≡ Err Status.ReadFault → Risen (S.faults source.old) (S.faults source.new) }
     ensures ends { IfErr result EndsReading }
     ensures within { IfOk result (λ script. is_within_limits (plan script) ≡ true) }
-    ensures rising { IfOk result (λ script. IsTrue (numbers_rise script.faults.items)) }
+    ensures rising { IfOk result (λ script. IsTrue (numbers_rise script.session.faults.items)) }
     ensures read { IsTrue S.told → ReadsScript result (S.left source.old) (S.left source.new) }
 {
     *buffer = read_all(alloc, source)?;
@@ -53,7 +53,7 @@ fn read_from<S: Source>(
 // The report of a script, in the memory of a buffer.
 fn report_of(alloc: Global, script: Script, buffer: Vec<u8>) -> Result<Vec<u8>, AllocError>
     requires within { is_within_limits (plan script) ≡ true }
-    requires rising { IsTrue (numbers_rise script.faults.items) }
+    requires rising { IsTrue (numbers_rise script.session.faults.items) }
     ensures { IfOk result (λ text. Reports (plan script) text.items) }
 {
     let ran = run(alloc, script)?;

@@ -102,24 +102,25 @@ fn first_memory(alloc: Global, size: u32, pieces: &[Piece]) -> Result<GuestMemor
 /// memory.
 pub fn begin(alloc: Global, script: Script) -> Result<Beginning, AllocError>
     requires within { is_within_limits (plan script) ≡ true }
-    requires rising { IsTrue (numbers_rise script.faults.items) }
+    requires rising { IsTrue (numbers_rise script.session.faults.items) }
     ensures begins { IfOk result (Begins (plan script)) }
 {
-    let memory = first_memory(alloc, script.size, script.pieces.as_slice())?;
+    let Script { nodes, session } = script;
+    let memory = first_memory(alloc, session.size, session.pieces.as_slice())?;
     let context = first_context(
         alloc,
-        script.nodes,
-        script.services,
-        script.faults,
-        script.preopens.as_slice(),
-        script.table,
+        nodes,
+        session.services,
+        session.faults,
+        session.preopens.as_slice(),
+        session.table,
     )?;
     Ok(Beginning {
         memory,
         context,
-        fuel: script.fuel,
-        calls: script.calls,
-        show: script.show,
+        fuel: session.fuel,
+        calls: session.calls,
+        show: session.show,
     })
 }
 

@@ -19,7 +19,7 @@ returns c =
       run = has_run (counted never_fails c.in_ok-begun.begun.context.host.calls)
           (counted never_fails c.run_calls-ran.new.context.host.calls)
           (few_listed _ c.run_calls-ran.new.context.host.calls begins.faults c.run_calls-ran.ensures.most
-          (let v = c.args.script.faults in omega (arith, v.small, v.ok.0, v.ok.1)))
+          (let v = c.args.script.session.faults in omega (arith, v.small, v.ok.0, v.ok.1)))
           (begun_at (plan c.args.script) begins.begun begins.written)
           (rw (value, begins.fuel, begins.calls) at (c.in-Ok.ensures.run refl)) c.in-Ok.ensures.ios
           (rw value at (c.in-Ok.ensures.confined refl _ (confined_at_start _ begins.begun.untouched)));
