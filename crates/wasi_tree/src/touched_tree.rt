@@ -58,6 +58,19 @@ impl Model for TouchedTree {
     ghost invariant = { λ a. IsKept a.store a.touched.count a.parents.rows.items };
 }
 
+/// Looks up a name in a directory of a tree by `find`, to which the parts of the tree are lent.
+macro_rules! look_up {
+    ($tree:ident, $directory:expr, $name:expr) => {
+        find(
+            &$tree.store,
+            &mut $tree.touched,
+            &mut $tree.near,
+            $directory,
+            $name,
+        )
+    };
+}
+
 #[tactic(auto, using(crate::proofs::TouchedLemmas::touched_rules))]
 impl TouchedTree {
     /// The tree of these nodes, none of which is touched.
@@ -103,13 +116,7 @@ impl TouchedTree {
         ensures held { IfOk result (IsHeld self.new.tree) }
         ensures stays { NodesStay self.old.tree self.new.tree }
     {
-        let looked = find(
-            &self.store,
-            &mut self.touched,
-            &mut self.near,
-            directory,
-            name,
-        );
+        let looked = look_up!(self, directory, name);
         if let Some(code) = self.store.refuse_open(&looked, options) {
             return Err(HostError::Code(code));
         }
@@ -135,13 +142,7 @@ impl TouchedTree {
         ensures times { IfOk result HasTimes }
         ensures tree { self.new.tree ≡ self.old.tree }
     {
-        let looked = find(
-            &self.store,
-            &mut self.touched,
-            &mut self.near,
-            directory,
-            name,
-        );
+        let looked = look_up!(self, directory, name);
         self.store.stat_at(&looked)
     }
 
@@ -158,13 +159,7 @@ impl TouchedTree {
         ensures text { IfOk result (λ text. IsSoundText (string_bytes text)) }
         ensures tree { self.new.tree ≡ self.old.tree }
     {
-        let looked = find(
-            &self.store,
-            &mut self.touched,
-            &mut self.near,
-            directory,
-            name,
-        );
+        let looked = look_up!(self, directory, name);
         let text = self.store.read_link_at(&looked)?;
         Ok(String::from_str(alloc, text)?)
     }
@@ -175,13 +170,7 @@ impl TouchedTree {
         ensures does { FollowsTable self.old self.new (MakeDirAt directory (name_bytes name.entry)) (λ unit. unit) result }
         ensures stays { NodesStay self.old.tree self.new.tree }
     {
-        let looked = find(
-            &self.store,
-            &mut self.touched,
-            &mut self.near,
-            directory,
-            name,
-        );
+        let looked = look_up!(self, directory, name);
         if let Some(code) = self.store.refuse_make_dir(&looked) {
             return Err(HostError::Code(code));
         }
@@ -201,13 +190,7 @@ impl TouchedTree {
             (λ unit. unit) result }
         ensures stays { NodesStay self.old.tree self.new.tree }
     {
-        let looked = find(
-            &self.store,
-            &mut self.touched,
-            &mut self.near,
-            directory,
-            name,
-        );
+        let looked = look_up!(self, directory, name);
         if let Some(code) = self.store.refuse_symlink(target, &looked) {
             return Err(HostError::Code(code));
         }
@@ -251,20 +234,8 @@ impl TouchedTree {
             (λ unit. unit) result }
         ensures stays { NodesStay self.old.tree self.new.tree }
     {
-        let from = find(
-            &self.store,
-            &mut self.touched,
-            &mut self.near,
-            old,
-            old_name,
-        );
-        let to = find(
-            &self.store,
-            &mut self.touched,
-            &mut self.near,
-            new,
-            new_name,
-        );
+        let from = look_up!(self, old, old_name);
+        let to = look_up!(self, new, new_name);
         let node = self.store.node_to_link(&from, &to)?;
         self.store.add_link(new, new_name, node)?;
         Ok(())
@@ -286,20 +257,8 @@ impl TouchedTree {
             (λ unit. unit) result }
         ensures stays { NodesStay self.old.tree self.new.tree }
     {
-        let from = find(
-            &self.store,
-            &mut self.touched,
-            &mut self.near,
-            old,
-            old_name,
-        );
-        let to = find(
-            &self.store,
-            &mut self.touched,
-            &mut self.near,
-            new,
-            new_name,
-        );
+        let from = look_up!(self, old, old_name);
+        let to = look_up!(self, new, new_name);
         let Some(node) = self.node_to_move(&from, &to, requires_dir)? else {
             return Ok(());
         };
@@ -372,13 +331,7 @@ impl TouchedTree {
             (λ unit. unit) (hosted result) }
         ensures stays { NodesStay self.old.tree self.new.tree }
     {
-        let looked = find(
-            &self.store,
-            &mut self.touched,
-            &mut self.near,
-            directory,
-            name,
-        );
+        let looked = look_up!(self, directory, name);
         self.store.unlink_at(&looked)
     }
 
@@ -389,13 +342,7 @@ impl TouchedTree {
             (λ unit. unit) (hosted result) }
         ensures stays { NodesStay self.old.tree self.new.tree }
     {
-        let looked = find(
-            &self.store,
-            &mut self.touched,
-            &mut self.near,
-            directory,
-            name,
-        );
+        let looked = look_up!(self, directory, name);
         let node = self.store.remove_dir_at(&looked)?;
         self.parents.set(node, None);
         Ok(())
@@ -414,13 +361,7 @@ impl TouchedTree {
             (λ unit. unit) (hosted result) }
         ensures stays { NodesStay self.old.tree self.new.tree }
     {
-        let looked = find(
-            &self.store,
-            &mut self.touched,
-            &mut self.near,
-            directory,
-            name,
-        );
+        let looked = look_up!(self, directory, name);
         self.store.times_at(&looked, atime, mtime)
     }
 
