@@ -158,6 +158,18 @@ impl MemTree {
     }
 }
 
+/// Makes a call of the tree, given what a handle stands for, and logs the look-up from that handle. Room for it is taken
+/// first, so that nothing has changed where memory is wanted.
+macro_rules! logged {
+    ($host:ident, $kind:ident from $start:ident, |$at:ident| $call:ident($($argument:expr),*)) => {{
+        $host.log.reserve(1)?;
+        let $at = $host.slots.held($start);
+        let answer = $host.tree.$call($($argument),*);
+        log_look(&mut $host.log, LookKind::$kind, $start);
+        answer
+    }};
+}
+
 #[tactic(auto, using(crate::proofs::MemLemmas::mem_rules))]
 impl Host for MemTree {
     ghost faults = { λ _. never_fails };
@@ -210,11 +222,7 @@ impl Host for MemTree {
     }
 
     fn stat_at(&mut self, start: Handle, name: Name<'_>) -> Result<Metadata, HostError> {
-        self.log.reserve(1)?;
-        let directory = self.slots.held(start).node;
-        let answer = self.tree.stat_at(directory, name);
-        log_look(&mut self.log, LookKind::Stat, start);
-        Ok(answer?)
+        Ok(logged!(self, Stat from start, |at| stat_at(at.node, name))?)
     }
 
     fn read_link_at(
@@ -223,27 +231,15 @@ impl Host for MemTree {
         start: Handle,
         name: Name<'_>,
     ) -> Result<String, HostError> {
-        self.log.reserve(1)?;
-        let directory = self.slots.held(start).node;
-        let answer = self.tree.read_link_at(alloc, directory, name);
-        log_look(&mut self.log, LookKind::ReadLink, start);
-        answer
+        logged!(self, ReadLink from start, |at| read_link_at(alloc, at.node, name))
     }
 
     fn make_dir_at(&mut self, start: Handle, name: Name<'_>) -> Result<(), HostError> {
-        self.log.reserve(1)?;
-        let directory = self.slots.held(start).node;
-        let answer = self.tree.make_dir_at(directory, name);
-        log_look(&mut self.log, LookKind::Make, start);
-        answer
+        logged!(self, Make from start, |at| make_dir_at(at.node, name))
     }
 
     fn symlink_at(&mut self, target: &str, start: Handle, name: Name<'_>) -> Result<(), HostError> {
-        self.log.reserve(1)?;
-        let directory = self.slots.held(start).node;
-        let answer = self.tree.symlink_at(target, directory, name);
-        log_look(&mut self.log, LookKind::MakeLink, start);
-        answer
+        logged!(self, MakeLink from start, |at| symlink_at(target, at.node, name))
     }
 
     fn link_at(
@@ -280,19 +276,11 @@ impl Host for MemTree {
     }
 
     fn unlink_at(&mut self, start: Handle, name: Name<'_>) -> Result<(), HostError> {
-        self.log.reserve(1)?;
-        let directory = self.slots.held(start).node;
-        let answer = self.tree.unlink_at(directory, name);
-        log_look(&mut self.log, LookKind::Unlink, start);
-        Ok(answer?)
+        Ok(logged!(self, Unlink from start, |at| unlink_at(at.node, name))?)
     }
 
     fn remove_dir_at(&mut self, start: Handle, name: Name<'_>) -> Result<(), HostError> {
-        self.log.reserve(1)?;
-        let directory = self.slots.held(start).node;
-        let answer = self.tree.remove_dir_at(directory, name);
-        log_look(&mut self.log, LookKind::RemoveDir, start);
-        Ok(answer?)
+        Ok(logged!(self, RemoveDir from start, |at| remove_dir_at(at.node, name))?)
     }
 
     fn times_at(
@@ -302,11 +290,7 @@ impl Host for MemTree {
         atime: Option<SystemTime>,
         mtime: Option<SystemTime>,
     ) -> Result<(), HostError> {
-        self.log.reserve(1)?;
-        let directory = self.slots.held(start).node;
-        let answer = self.tree.times_at(directory, name, atime, mtime);
-        log_look(&mut self.log, LookKind::Times, start);
-        Ok(answer?)
+        Ok(logged!(self, Times from start, |at| times_at(at.node, name, atime, mtime))?)
     }
 
     fn access(&mut self, directory: Handle) -> Result<(), ErrorCode> {
@@ -315,11 +299,7 @@ impl Host for MemTree {
     }
 
     fn list(&mut self, alloc: Global, directory: Handle) -> Result<Vec<DirEntry>, HostError> {
-        self.log.reserve(1)?;
-        let held = self.slots.held(directory);
-        let answer = self.tree.list(alloc, held);
-        log_look(&mut self.log, LookKind::List, directory);
-        answer
+        logged!(self, List from directory, |at| list(alloc, at))
     }
 
     fn dup(&mut self, handle: Handle) -> Result<Handle, HostError> {
