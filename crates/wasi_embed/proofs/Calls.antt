@@ -9,6 +9,7 @@ use Rattle.wasi_turns.specs.Guest.{state_of}
 use Rattle.wasi_turns.specs.Slots.{View}
 use Rattle.wasi_turns.specs.Unchanged.{LeavesAll}
 use Rattle.wasi_turns.specs.declared.error.P1Error.{P1Error}
+use Rattle.wasi_turns.proofs.Unchanged.{any_fuel}
 use Rattle.wasi_start.specs.Start.{world_behind}
 use Rattle.wasi_embed.specs.Calling.{SandboxHost, faults, fueled, state_with}
 use Rattle.wasi_embed.specs.declared.sandbox.Sandbox.{Sandbox}
@@ -18,17 +19,7 @@ pub leaves_all : (s : Sandbox) (given new : View SandboxHost) (before after : Li
     → given ≡ fueled s → LeavesAll true world_behind given new before after result
     → LeavesAll true world_behind s.context new before after result
 leaves_all s given new before after (Ok value) is leaves = tt
-leaves_all s given new before after (Err error) is leaves = λ other.
-    let all = rw is at (leaves other) in
-    record {
-      kept = record {
-        slots = all.kept.slots;
-        table_max = all.kept.table_max;
-        holdings = all.kept.holdings;
-        memory = all.kept.memory;
-      };
-      tree = all.tree;
-    }
+leaves_all s given new before after (Err error) is leaves = λ other. any_fuel (rw is at (leaves other))
 
 -- a call is valid with the fuel that it was given
 pub completes : (s : Sandbox) (given new : View SandboxHost) (before : List ℕ) (call : Call) (result : Result Value P1Error)

@@ -31,10 +31,11 @@ use Rattle.wasi_p2_types.specs.declared.times.NewTimestamp.{NewTimestamp}
 use Rattle.wasi_fs.specs.declared.descriptor.Dir.{Dir}
 use Rattle.wasi_fs.specs.declared.descriptor.File.{File as OpenedFile}
 use Rattle.wasi_streams.specs.Found.{descriptor_found}
-use Rattle.wasi_p2.specs.Resources.{as_directory_of, as_file_of, as_opened, both_found, directory_at, file_at, descriptor_at, AreOwned, HasIt, Holder, OneHasIt, entry_handle, handle_held, preopened, tabled}
+use Rattle.wasi_p2.specs.Resources.{as_directory_of, as_file_or, as_opened, both_found, directory_at, file_at, descriptor_at, AreOwned, HasIt, Holder, OneHasIt, entry_handle, handle_held, preopened, tabled}
 use Rattle.wasi_p2.specs.Views.{Passes}
 use Rattle.wasi_p2.specs.declared.context.Preopen.{Preopen}
 use Rattle.wasi_p2_types.specs.declared.error.FsError.{FsError}
+use Rattle.wasi_p2_types.specs.declared.error_code.ErrorCode.TheVariants.{BadDescriptor}
 use Rattle.wasi_turns.specs.CallTurn.{FollowsRow}
 use Rattle.wasi_p1_parts.specs.Descriptors.{AreKept, SlotTable}
 use Rattle.wasi_turns.specs.Errnos.{errno_of, error_of}
@@ -219,7 +220,7 @@ directory_stands table n is = ap (λ o. as_directory_of (descriptor_found o)) is
 
 pub file_stands : {file : OpenedFile} (table : Entries) (n : ℕ)
     → get table n ≡ Some (entries.Descriptor (descriptors.File file)) → file_at table n ≡ Ok file
-file_stands table n is = ap (λ o. as_file_of (descriptor_found o)) is
+file_stands table n is = ap (λ o. as_file_or BadDescriptor (descriptor_found o)) is
 
 pub descriptor_stands : {d : Descriptor} (table : Entries) (n : ℕ) → get table n ≡ Some (entries.Descriptor d)
     → descriptor_at table n ≡ Ok d

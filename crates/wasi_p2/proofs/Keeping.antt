@@ -1,6 +1,6 @@
 -- Handles stay owned, for callers: through the calls whose refusals leave all as it is, and as a context gets a
 -- directory.
-use Rattle.std.proofs.Common.{suc, zero, ◌≡◌, ◌⊎◌, ℕ, true, false, List, [], ◌∷◌, ◌++◌, length, slice_get, Option, Some, option_map, Result, Ok, Err, refl, ap, sym, subst, ◌∙◌, inl, inr, arith}
+use Rattle.std.proofs.Common.{◌≡◌, ◌⊎◌, ℕ, true, false, List, [], ◌∷◌, ◌++◌, length, Option, Some, option_map, Result, Ok, Err, ap, sym, subst, ◌∙◌, inl, inr, arith}
 use Rattle.std.proofs.lemmas.Bool.Decides.{nat_tests}
 use Rattle.std.specs.FinMap.{get}
 use Rattle.std.specs.FinSet.{contains, members, insert as with_handle}
@@ -8,6 +8,7 @@ use Rattle.wasi_host.specs.Meaning.{Handles}
 use Rattle.wasi_host.specs.declared.host.Host.{Ghosts}
 use Rattle.wasi_streams.specs.Found.{readdir_found}
 use Rattle.wasi_streams.specs.Table.{Entries}
+use Rattle.wasi_streams.proofs.OneChanged.{push_cases}
 use Rattle.wasi_p2.specs.Drops.{DropsDescriptor, DropsStream, ReadsNext, listing_found, stream_found}
 use Rattle.wasi_p2.specs.Resources.{AreOwned, Holder, descriptor_at, handle_held, preopened, tabled}
 use Rattle.wasi_p2.specs.Views.{Files, FilesOwned, OrRefused}
@@ -38,15 +39,6 @@ pub kept_next : {H : Type 0} (host : Ghosts H) (old new : Files H) (n : ℕ)
     → FilesOwned host new
 kept_next host old new n result owned did =
     kept_or host old new (listing_found (readdir_found (get old.table.entries n))) _ result owned did (λ entries done. done.owned)
-
--- one behind all
-push_cases : {A : Type 0} (xs : List A) (n : ℕ) (y : A)
-    → (slice_get (xs ++ y ∷ []) n ≡ slice_get xs n) ⊎ ((n ≡ length xs) × (slice_get (xs ++ y ∷ []) n ≡ Some y))
-push_cases [] zero y = inr (refl, refl)
-push_cases [] (suc n) y = inl refl
-push_cases (x ∷ xs) zero y = inl refl
-push_cases (x ∷ xs) (suc n) y =
-    elim (push_cases xs n y) [ inl same ↦ inl same | inr new ↦ inr (ap suc new.0, new.1) ]
 
 -- who has a handle, with one directory more
 held_more : (ps : List Preopen) (table : Entries) (p : Preopen) (o : Holder) (h : ℕ)

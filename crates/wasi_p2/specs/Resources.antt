@@ -19,6 +19,7 @@ use Rattle.wasi_p2_types.specs.FsErrors.{table_error}
 use Rattle.wasi_p2.specs.declared.context.Preopen.{Preopen}
 use Rattle.wasi_p2_types.specs.declared.error.FsError.{FsError}
 use Rattle.wasi_p2_types.specs.declared.error.FsError.TheVariants.{Code}
+use Rattle.wasi_p2_types.specs.declared.error_code.ErrorCode.{ErrorCode}
 use Rattle.wasi_p2_types.specs.declared.error_code.ErrorCode.TheVariants.{BadDescriptor, IsDirectory, NotDirectory, NotPermitted}
 
 -- ---- what a resource stands for, or the refusal
@@ -32,16 +33,11 @@ as_directory_of (Ok (opened.Dir dir)) = Ok dir
 as_directory_of (Ok (opened.File file)) = Err (Code NotDirectory)
 as_directory_of (Err e) = Err (table_error e)
 
-abbrev pub as_file_of : Result Descriptor TableError → Result File FsError
-as_file_of (Ok (opened.File file)) = Ok file
-as_file_of (Ok (opened.Dir dir)) = Err (Code BadDescriptor)
-as_file_of (Err e) = Err (table_error e)
-
--- a file that is to be read as a stream
-abbrev pub as_readable_of : Result Descriptor TableError → Result File FsError
-as_readable_of (Ok (opened.File file)) = Ok file
-as_readable_of (Ok (opened.Dir dir)) = Err (Code IsDirectory)
-as_readable_of (Err e) = Err (table_error e)
+-- a directory is refused with this code
+abbrev pub as_file_or : ErrorCode → Result Descriptor TableError → Result File FsError
+as_file_or code (Ok (opened.File file)) = Ok file
+as_file_or code (Ok (opened.Dir dir)) = Err (Code code)
+as_file_or code (Err e) = Err (table_error e)
 
 -- a file that is to be written
 abbrev pub writable_by : FsPerms → File → Result File FsError
@@ -59,11 +55,15 @@ descriptor_at table n = as_opened (descriptor_found (get table n))
 abbrev pub directory_at : Entries → ℕ → Result Dir FsError
 directory_at table n = as_directory_of (descriptor_found (get table n))
 
-abbrev pub file_at : Entries → ℕ → Result File FsError
-file_at table n = as_file_of (descriptor_found (get table n))
+abbrev pub file_or : ErrorCode → Entries → ℕ → Result File FsError
+file_or code table n = as_file_or code (descriptor_found (get table n))
 
+abbrev pub file_at : Entries → ℕ → Result File FsError
+file_at table n = file_or BadDescriptor table n
+
+-- a file that is to be read as a stream
 abbrev pub readable_at : Entries → ℕ → Result File FsError
-readable_at table n = as_readable_of (descriptor_found (get table n))
+readable_at table n = file_or IsDirectory table n
 
 abbrev pub writable_at : Entries → ℕ → Result File FsError
 writable_at table n = as_writable (file_at table n)

@@ -1,7 +1,7 @@
 //! What a resource stands for: copies, which name the same handles, since a call changes its table beside them.
 ghost use Rattle.std.specs.Prelude.{◌≡◌, IfOk};
 ghost use Rattle.wasi_fs.specs.Calls.{handle_of};
-ghost use Rattle.wasi_p2.specs.Resources.{descriptor_at, directory_at, file_at, readable_at, writable_at, HasIt};
+ghost use Rattle.wasi_p2.specs.Resources.{descriptor_at, directory_at, file_at, file_or, writable_at, HasIt};
 
 use crate::types::ErrorCode;
 use crate::{FsError, FsResult};
@@ -35,20 +35,17 @@ pub fn file_at(table: &ResourceTable, fd: Resource) -> FsResult<File>
     ensures is { result ≡ file_at table.now.entries fd.number }
     ensures has { IfOk result (λ f. HasIt table.now.entries fd.number f.file) }
 {
-    match table.descriptor(fd)? {
-        Descriptor::File(file) => Ok(copy_file(file)),
-        Descriptor::Dir(_) => Err(FsError::Code(ErrorCode::BadDescriptor)),
-    }
+    file_or(table, fd, ErrorCode::BadDescriptor)
 }
 
-/// The file of a resource, to be read as a stream. Refusals: those of its descriptor, then IsDirectory of a directory.
-pub fn readable_at(table: &ResourceTable, fd: Resource) -> FsResult<File>
-    ensures is { result ≡ readable_at table.now.entries fd.number }
+/// The file of a resource. Refusals: those of its descriptor, then this code of a directory.
+pub fn file_or(table: &ResourceTable, fd: Resource, of_directory: ErrorCode) -> FsResult<File>
+    ensures is { result ≡ file_or of_directory table.now.entries fd.number }
     ensures has { IfOk result (λ f. HasIt table.now.entries fd.number f.file) }
 {
     match table.descriptor(fd)? {
         Descriptor::File(file) => Ok(copy_file(file)),
-        Descriptor::Dir(_) => Err(FsError::Code(ErrorCode::IsDirectory)),
+        Descriptor::Dir(_) => Err(FsError::Code(of_directory)),
     }
 }
 

@@ -5,20 +5,11 @@ use Rattle.std.proofs.lemmas.List.{length-map, length-set, map-set}
 use Rattle.std.proofs.lemmas.Option.{slice_get-map, slice_get_read}
 use Rattle.wasi_host.specs.Meaning.{Handles}
 use Rattle.wasi_host.specs.declared.host.Host.{Ghosts}
+use Rattle.wasi_streams.proofs.OneChanged.{set_cases}
 use Rattle.wasi_p2.specs.Named.{AtOne, OneDoes}
 use Rattle.wasi_p2.specs.Resources.{AreOwned, Holder, entry_handle, handle_held, preopened, tabled}
 use Rattle.wasi_p2.specs.Views.{Files, FilesOwned}
 use Rattle.wasi_p2_rows.specs.AllOwned.{AllOwned, StayOwned}
-
--- one in the place of another
-set_cases : {A : Type 0} (xs : List A) (i n : ℕ) (y : A)
-    → (slice_get (slice_set xs i y) n ≡ slice_get xs n) ⊎ ((n ≡ i) × (slice_get (slice_set xs i y) n ≡ Some y))
-set_cases [] i n y = inl refl
-set_cases (x ∷ xs) zero zero y = inr (refl, refl)
-set_cases (x ∷ xs) zero (suc n) y = inl refl
-set_cases (x ∷ xs) (suc i) zero y = inl refl
-set_cases (x ∷ xs) (suc i) (suc n) y =
-    elim (set_cases xs i n y) [ inl same ↦ inl same | inr new ↦ inr (ap suc new.0, new.1) ]
 
 -- what one is
 some_is : {A : Type 0} {x y : A} → Some x ≡ Some y → x ≡ y

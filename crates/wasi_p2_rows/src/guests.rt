@@ -1,7 +1,6 @@
 //! Those that lend views: one guest, and several.
 ghost use Rattle.std.specs.Prelude.{map};
 ghost use Rattle.wasi_p2.specs.Views.{files_of};
-ghost use Rattle.wasi_p2.specs.Named.{GivesFiles, TakesFiles};
 
 use wasi_host::Host;
 use wasi_p2::{
@@ -48,11 +47,7 @@ impl<H: Host> WasiFilesystemNamedView<H> for Guests<H> {
     }
 
     fn filesystem(&mut self, id: NamedId) -> WasiFilesystemCtxView<'_, H> {
-        let guest = &mut self.guests[id.0];
-        WasiFilesystemCtxView {
-            ctx: &mut guest.ctx,
-            table: &mut guest.table,
-        }
+        self.guests[id.0].filesystem()
     }
 
     fn with_filesystem<R, F: FnOnce(&mut WasiFilesystemCtx<H>, &mut ResourceTable) -> R>(
@@ -60,18 +55,6 @@ impl<H: Host> WasiFilesystemNamedView<H> for Guests<H> {
         id: NamedId,
         f: F,
     ) -> R {
-        with_both(&mut self.guests[id.0], f)
+        self.guests[id.0].with_filesystem(f)
     }
-}
-
-/// Gives both to a function.
-fn with_both<H: Host, R, F: FnOnce(&mut WasiFilesystemCtx<H>, &mut ResourceTable) -> R>(
-    guest: &mut Guest<H>,
-    f: F,
-) -> R
-    requires callable { TakesFiles F.FnOnce f (files_of guest.old.ctx guest.old.table) }
-    ensures does { GivesFiles F.FnOnce f (files_of guest.old.ctx guest.old.table) result
-        (files_of guest.new.ctx guest.new.table) }
-{
-    f(&mut guest.ctx, &mut guest.table)
 }

@@ -8,6 +8,7 @@ use Rattle.std.proofs.lemmas.List.Elements.{Contains-append_cases, Contains-appe
 use Rattle.wasi_fs.specs.declared.open_mode.OpenMode.{OpenMode}
 use Rattle.wasi_fs.specs.declared.perms.FsPerms.{FsPerms}
 use Rattle.wasi_host.specs.Steps.{◌>>=◌}
+use Rattle.wasi_streams.proofs.OneChanged.{set_cases, push_cases}
 use Rattle.wasi_guest.specs.declared.answer.Value.{Value}
 use Rattle.wasi_guest.specs.Range.{with_bytes}
 use Rattle.wasi_guest.specs.declared.call.Call.{Call}
@@ -182,25 +183,6 @@ pub node_perms : {o : OpenNode} (p : Option GuestSlot) → open_node_in p ≡ Ok
 node_perms {o} (Some (directory d)) is = let same : d.perms ≡ o.perms = (cc) in ap Some same
 node_perms {o} (Some (file f)) is = let same : f.perms ≡ o.perms = (cc) in ap Some same
 node_perms p is = absurd (cc)
-
--- one in the place of another
-pub set_cases : {A : Type 0} (xs : List A) (i n : ℕ) (y : A)
-    → (slice_get (slice_set xs i y) n ≡ slice_get xs n) ⊎ ((n ≡ i) × (slice_get (slice_set xs i y) n ≡ Some y))
-set_cases [] i n y = inl refl
-set_cases (x ∷ xs) zero zero y = inr (refl, refl)
-set_cases (x ∷ xs) zero (suc n) y = inl refl
-set_cases (x ∷ xs) (suc i) zero y = inl refl
-set_cases (x ∷ xs) (suc i) (suc n) y =
-    elim (set_cases xs i n y) [ inl same ↦ inl same | inr new ↦ inr (ap suc new.0, new.1) ]
-
--- one behind all
-pub push_cases : {A : Type 0} (xs : List A) (n : ℕ) (y : A)
-    → (slice_get (xs ++ y ∷ []) n ≡ slice_get xs n) ⊎ ((n ≡ length xs) × (slice_get (xs ++ y ∷ []) n ≡ Some y))
-push_cases [] zero y = inr (refl, refl)
-push_cases [] (suc n) y = inl refl
-push_cases (x ∷ xs) zero y = inl refl
-push_cases (x ∷ xs) (suc n) y =
-    elim (push_cases xs n y) [ inl same ↦ inl same | inr new ↦ inr (ap suc new.0, new.1) ]
 
 -- a number's slot has these permissions
 abbrev pub PermsAt : List GuestSlot → ℕ → FsPerms → Type 0

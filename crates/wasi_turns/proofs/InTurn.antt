@@ -12,7 +12,7 @@ use Rattle.wasi_turns.specs.Slots.{View}
 use Rattle.wasi_turns.specs.Unchanged.{AsBefore}
 use Rattle.wasi_turns.specs.declared.error.P1Error.{P1Error}
 use Rattle.wasi_turns.specs.declared.error.P1Error.TheVariants.{Memory}
-use Rattle.wasi_turns.proofs.Unchanged.{leaves_all}
+use Rattle.wasi_turns.proofs.Unchanged.{any_fuel, leaves_all}
 
 -- Calls with these answers were done, and none of the answers ends the run: whatever calls are done from there on, all
 -- are done from the start
@@ -69,17 +69,7 @@ none_until {old = old} {before = before} = record {
 -- a call that wanted memory leaves all as it was
 wanting_stands : {H : Type 0} {host : Ghosts H} {fuel : ℕ} {now next : View H} {memory after : List ℕ} {call : Call}
     → DoesCall host fuel now next memory after call (Err Memory) → AsBefore host.told host.world now next memory after
-wanting_stands does =
-    let left = leaves_all (Err Memory) does.row (λ is. absurd (cc)) in
-    record {
-      kept = record {
-        slots = left.kept.slots;
-        table_max = left.kept.table_max;
-        holdings = left.kept.holdings;
-        memory = left.kept.memory;
-      };
-      tree = left.tree;
-    }
+wanting_stands does = any_fuel (leaves_all (Err Memory) does.row (λ is. absurd (cc)))
 
 -- the next call wanted it
 pub done_until : {H : Type 0} {host : Ghosts H} {fuel : ℕ} {old now next : View H} {before memory after : List ℕ}

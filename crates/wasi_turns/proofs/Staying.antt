@@ -4,13 +4,13 @@ use Rattle.std.specs.Prelude.{Contains}
 use Rattle.std.specs.Option.{option_map}
 use Rattle.std.proofs.lemmas.Option.{slice_get-map, slice_get_within}
 use Rattle.wasi_host.specs.Lineage.{Nothing}
+use Rattle.wasi_streams.proofs.OneChanged.{set_cases, push_cases}
 use Rattle.wasi_guest.specs.declared.call.Call.{Call}
 use Rattle.wasi_turns.specs.Numbering.{last_where, put_at, with_new}
 use Rattle.wasi_turns.specs.Owners.{handle_in, handles, HasHandle, SlotsStay, SlotsOfCall, SlotsOfRun}
 use Rattle.wasi_turns.specs.Slots.{is_closed_slot}
 use Rattle.wasi_turns.specs.declared.slots.Slot.{Slot}
 use Rattle.wasi_turns.specs.declared.slots.Slot.TheVariants as slots
-use Rattle.wasi_turns.proofs.Changing.{set_cases, push_cases}
 use Rattle.wasi_turns.proofs.Counting.{handle_at, handle_put}
 use Rattle.wasi_turns.proofs.Owning.{put_same, closed_at}
 

@@ -9,7 +9,7 @@ use Rattle.wasi_turns.specs.CallTurn.{FollowsRow, Turns, in_world}
 use Rattle.wasi_turns.specs.Front.{FueledCall}
 use Rattle.wasi_turns.specs.Guest.{Guest, State}
 use Rattle.wasi_turns.specs.Slots.{View}
-use Rattle.wasi_turns.specs.Unchanged.{LeavesAll}
+use Rattle.wasi_turns.specs.Unchanged.{AsBefore, LeavesAll}
 use Rattle.wasi_turns.specs.declared.error.P1Error.{P1Error}
 use Rattle.wasi_turns.specs.declared.error.P1Error.TheVariants.{Errno}
 
@@ -30,4 +30,17 @@ leaves_all (Ok x) does = tt
 leaves_all (Err e) does = λ other. record {
   kept = does.kept;
   tree = λ told. ap (λ (s : State). s.tree) (refused_stays (does.turn told) other);
+}
+
+-- the fuel isn't among what stays
+pub any_fuel : {H : Type 0} {told : Bool} {world : H → World} {old new : View H} {fuel : ℕ} {before after : List ℕ}
+    → AsBefore told world (record old { fuel = fuel }) new before after → AsBefore told world old new before after
+any_fuel all = record {
+  kept = record {
+    slots = all.kept.slots;
+    table_max = all.kept.table_max;
+    holdings = all.kept.holdings;
+    memory = all.kept.memory;
+  };
+  tree = all.tree;
 }

@@ -7,17 +7,17 @@ ghost use Rattle.wasi_resolve.specs.PathRequest.{meant_by};
 ghost use Rattle.wasi_resolve.specs.Resolved.{Resolved};
 ghost use Rattle.wasi_fs.specs.Calls.{opened_of, open_mode_of, perms_of, opens, GotOpened, IsAsked, LiveOpened, Refuses};
 ghost use Rattle.wasi_fs.specs.OpenHow.{may_open, mode_of};
-ghost use Rattle.wasi_p2.specs.Opens.{how_named, OpensAt, StreamsFrom, StreamsToOffset, StreamsToEnd, ListsIt};
+ghost use Rattle.wasi_p2.specs.Opens.{how_named, OpensAt, StreamsFrom, StreamsTo, StreamsToOffset, StreamsToEnd, ListsIt};
 ghost use Rattle.wasi_p2.specs.Views.{FilesOwned, files_of};
 
 use crate::entries::{list_names, make_room, put};
-use crate::found::{directory_at, readable_at, writable_at};
-use crate::types::{DescriptorFlags, OpenFlags, PathFlags};
+use crate::found::{directory_at, file_or, writable_at};
+use crate::types::{DescriptorFlags, ErrorCode, OpenFlags, PathFlags};
 use crate::{FsResult, WasiFilesystemCtxView};
 use std::alloc::Global;
 use wasi_fs::{Descriptor, Dir};
 use wasi_host::{Host, HostError};
-use wasi_streams::{Entry, FileInputStream, FileOutputStream, Resource};
+use wasi_streams::{Entry, FileInputStream, FileOutputMode, FileOutputStream, Resource};
 
 /// The open of `wasi_fs` below a directory, by preview2's flags.
 fn open_below<H: Host>(
@@ -86,7 +86,7 @@ impl<'a, H: Host> WasiFilesystemCtxView<'a, H> {
         ensures call { StreamsFrom H.Host (files_of self.old.ctx.now self.old.table.now)
             (files_of self.new.ctx.now self.new.table.now) fd.number offset result }
     {
-        let file = readable_at(self.table, fd)?;
+        let file = file_or(self.table, fd, ErrorCode::IsDirectory)?;
         make_room(self.table)?;
         let alloc = self.ctx.alloc;
         let stream = FileInputStream::new(alloc, &mut self.ctx.host, &file, offset)?;
@@ -96,7 +96,6 @@ impl<'a, H: Host> WasiFilesystemCtxView<'a, H> {
     /// A stream of bytes into a file from `offset` on. Refusals: a trap where the resource is missing or no descriptor,
     /// BadDescriptor of a directory, NotPermitted under read-only permissions; the full table; then those of a host's
     /// `dup`.
-    #[tactic(auto, using(crate::proofs::Owning::has_lives))]
     pub fn write_via_stream(&mut self, fd: Resource, offset: u64) -> FsResult<Resource>
         requires owned { FilesOwned H.Host (files_of self.old.ctx.now self.old.table.now) }
         ensures same_ctx { self.new.ctx.ghost_name ≡ self.old.ctx.ghost_name }
@@ -104,15 +103,10 @@ impl<'a, H: Host> WasiFilesystemCtxView<'a, H> {
         ensures call { StreamsToOffset H.Host (files_of self.old.ctx.now self.old.table.now)
             (files_of self.new.ctx.now self.new.table.now) fd.number offset result }
     {
-        let file = writable_at(self.table, fd)?;
-        make_room(self.table)?;
-        let alloc = self.ctx.alloc;
-        let stream = FileOutputStream::write_at(alloc, &mut self.ctx.host, &file, offset)?;
-        Ok(put(self.table, Entry::Output(stream)))
+        self.stream_to(fd, FileOutputMode::Position(offset))
     }
 
     /// A stream of bytes behind a file's last one. Refusals: those of `write_via_stream`.
-    #[tactic(auto, using(crate::proofs::Owning::has_lives))]
     pub fn append_via_stream(&mut self, fd: Resource) -> FsResult<Resource>
         requires owned { FilesOwned H.Host (files_of self.old.ctx.now self.old.table.now) }
         ensures same_ctx { self.new.ctx.ghost_name ≡ self.old.ctx.ghost_name }
@@ -120,10 +114,21 @@ impl<'a, H: Host> WasiFilesystemCtxView<'a, H> {
         ensures call { StreamsToEnd H.Host (files_of self.old.ctx.now self.old.table.now)
             (files_of self.new.ctx.now self.new.table.now) fd.number result }
     {
+        self.stream_to(fd, FileOutputMode::Append)
+    }
+
+    /// A stream of bytes into a file by a mode, for `write_via_stream` and `append_via_stream`.
+    #[tactic(auto, using(crate::proofs::Owning::has_lives))]
+    fn stream_to(&mut self, fd: Resource, mode: FileOutputMode) -> FsResult<Resource>
+        requires owned { FilesOwned H.Host (files_of self.old.ctx.now self.old.table.now) }
+        ensures same_ctx { self.new.ctx.ghost_name ≡ self.old.ctx.ghost_name }
+        ensures same_table { self.new.table.ghost_name ≡ self.old.table.ghost_name }
+        ensures call { StreamsTo H.Host (files_of self.old.ctx.now self.old.table.now)
+            (files_of self.new.ctx.now self.new.table.now) fd.number mode result }
+    {
         let file = writable_at(self.table, fd)?;
         make_room(self.table)?;
-        let alloc = self.ctx.alloc;
-        let stream = FileOutputStream::append(alloc, &mut self.ctx.host, &file)?;
+        let stream = FileOutputStream::over(&mut self.ctx.host, &file, mode)?;
         Ok(put(self.table, Entry::Output(stream)))
     }
 

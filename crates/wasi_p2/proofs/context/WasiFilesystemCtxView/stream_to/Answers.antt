@@ -2,7 +2,7 @@ use Rattle.std.proofs.Common.{refl, sym}
 use Rattle.std.proofs.lemmas.Result.{err_from_is_err_and}
 use Rattle.wasi_streams.specs.declared.entry.Entry.TheVariants.{Output}
 use Rattle.wasi_p2.proofs.Making.{doubled_made, no_room_made, none_made, one_made}
-use Rattle.wasi_p2.proofs.context.WasiFilesystemCtxView.append_via_stream.Goals as goal
+use Rattle.wasi_p2.proofs.context.WasiFilesystemCtxView.stream_to.Goals as goal
 
 pub returns-in_err-make_room-clause-call : goal.returns-in_err-make_room-clause-call
 returns-in_err-make_room-clause-call g c =
