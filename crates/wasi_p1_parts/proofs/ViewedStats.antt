@@ -1,12 +1,22 @@
 -- What preview2 says of a node tells what the crates below say of it.
-use Rattle.std.proofs.Common.{ℕ, ℤ, pos, negsuc, ◌≡◌, Option, Some, None, refl, ap, sym, ◌∙◌}
+use Rattle.std.proofs.Common.{ℕ, ℤ, pos, negsuc, ◌≡◌, inl, Option, Some, None, Result, Err, refl, ap, sym, ◌∙◌}
+use Rattle.std.specs.Prelude.{IsErrAnd, IsTrue}
+use Rattle.wasi_fs.specs.Calls.{NotMemory}
 use Rattle.wasi_fs.specs.declared.descriptor_stat.Datetime.{Datetime}
 use Rattle.wasi_fs.specs.declared.descriptor_stat.DescriptorType.{DescriptorType}
 use Rattle.wasi_fs.specs.declared.descriptor_stat.DescriptorType.TheVariants as lower
+use Rattle.wasi_host.specs.Meaning.{FaultCount, Rose}
+use Rattle.wasi_host.specs.declared.errors.HostError.{HostError}
+use Rattle.wasi_host.specs.declared.host.Host.{Ghosts}
 use Rattle.wasi_p2_types.specs.Stats.{after_epoch, moment_kept, type_named, wall_seconds}
 use Rattle.wasi_turns.specs.Filestats.{filestat_in, filetype_of, nanoseconds_in, or_overflow, since_epoch}
+use Rattle.wasi_p2_types.specs.declared.error.FsError.{FsError}
+use Rattle.wasi_turns.specs.CallParts.{Makes}
+use Rattle.wasi_turns.specs.Errnos.{error_of}
+use Rattle.wasi_turns.specs.Request.{Reply, Request}
 use Rattle.wasi_turns.specs.Row.{Row}
-use Rattle.wasi_p1_parts.specs.ViewedStats.{filetype_named, viewed, viewed_filestat, wall_nanoseconds}
+use Rattle.wasi_turns.specs.ViewErrors.{view_error_of}
+use Rattle.wasi_p1_parts.specs.ViewedStats.{filetype_named, viewed, viewed_filestat, wall_nanoseconds, LookMakes}
 use Rattle.wasi_fs.specs.declared.open_mode.OpenMode.{OpenMode}
 use Rattle.wasi_guest.specs.FiletypeNumber.{filetype_number}
 use Rattle.wasi_guest.specs.declared.fdstat.Fdstat.{Fdstat}
@@ -17,6 +27,8 @@ use Rattle.wasi_turns.specs.Fdstats.{file_fdstat, file_rights, modes_bits}
 use Rattle.wasi_turns.specs.declared.slots.FileModes.{FileModes}
 use Rattle.wasi_turns.specs.declared.looked.StatBoth.{StatBoth}
 use Rattle.wasi_p1_parts.specs.declared.filestats.ViewedStat.{ViewedStat}
+use Rattle.wasi_turns.proofs.Setting.{not_wanted}
+use Rattle.wasi_p1_parts.proofs.Viewing.{refusal_is, LowerRefusal}
 
 -- a time before the epoch is none
 same_seconds : (seconds : ℤ) (nanoseconds : ℕ)
@@ -65,3 +77,15 @@ told_fdstat mode modes lower_kind is named =
       base = file_rights mode;
       inheriting = file_rights mode;
     }) (is ∙ ap filetype_named named ∙ same_type lower_kind)
+
+-- a look that a lower call refused
+pub look_refused : {H A B : Type 0} {host : Ghosts H} {old new : H} {r : Request} {next : Reply r → Row A}
+    {first last : FaultCount} {Did : Result B HostError → Type 0} {e : FsError} {result : Row A}
+    (lower : LowerRefusal first last Did e) → IsErrAnd result (λ f. f ≡ view_error_of e) → NotMemory lower.error
+    → (IsTrue host.told → Makes (Rose (host.faults old) (host.faults new)) (host.live old) (host.world old)
+    (host.world new) r next (Err (error_of lower.error))) → LookMakes host old new r next result
+look_refused lower is never told = rw (refusal_is lower is) (record {
+  never_wants = not_wanted _ never;
+  front = inl (lower.error, refl);
+  told = told;
+})

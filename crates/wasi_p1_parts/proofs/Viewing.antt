@@ -3,10 +3,10 @@ use Rattle.std.proofs.Common.{ℕ, suc, zero, ◌<◌, ◌≤◌, ◌≡◌, ◌
 use Rattle.std.proofs.lemmas.List.{get_or_past}
 use Rattle.std.proofs.lemmas.Option.{slice_get-get_or}
 use Rattle.std.proofs.lemmas.Result.{err_from_is_err_and}
-use Rattle.std.specs.Prelude.{Bool, IsErrAnd}
+use Rattle.std.specs.Prelude.{Bool, IfErr, IsErrAnd}
 use Rattle.std.specs.FinMap.{get}
 use Rattle.std.specs.FinSet.{contains}
-use Rattle.wasi_fs.specs.Calls.{handle_of}
+use Rattle.wasi_fs.specs.Calls.{handle_of, syncs, NotMemory}
 use Rattle.wasi_fs.specs.declared.descriptor.Descriptor.{Descriptor}
 use Rattle.wasi_fs.specs.declared.descriptor.Descriptor.TheVariants as descriptors
 use Rattle.wasi_host.specs.Lineage.{Traced, Only, OneOf}
@@ -18,6 +18,7 @@ use Rattle.wasi_host.specs.declared.errors.HostError.TheVariants as hosts
 use Rattle.wasi_guest.specs.declared.answer.Value.{Value}
 use Rattle.wasi_guest.specs.declared.call.Call.{Call}
 use Rattle.wasi_host.specs.declared.errors.HostError.{HostError}
+use Rattle.wasi_host.specs.declared.host.Host.{Ghosts}
 use Rattle.wasi_host.specs.declared.lookup.Lookup.{Lookup}
 use Rattle.wasi_host.proofs.Tracing.{traced_given}
 use Rattle.wasi_streams.specs.Table.{Entries}
@@ -26,13 +27,14 @@ use Rattle.wasi_streams.specs.declared.entry.Entry.TheVariants as entries
 use Rattle.wasi_p2_types.specs.ErrorCodes.{code_named}
 use Rattle.wasi_p2_types.specs.FsErrors.{fs_error, FsCause}
 use Rattle.wasi_p2_types.specs.Moments.{time_wanted}
-use Rattle.wasi_p2.specs.Timed.{timed_by, with_wanted}
+use Rattle.wasi_p2.specs.Nodes.{AboutFile, SyncsIt}
+use Rattle.wasi_p2.specs.Timed.{timed_by, with_wanted, TimesWanted}
 use Rattle.wasi_p2_types.specs.declared.times.NewTimestamp.{NewTimestamp}
 use Rattle.wasi_fs.specs.declared.descriptor.Dir.{Dir}
 use Rattle.wasi_fs.specs.declared.descriptor.File.{File as OpenedFile}
 use Rattle.wasi_streams.specs.Found.{descriptor_found}
 use Rattle.wasi_p2.specs.Resources.{as_directory_of, as_file_or, as_opened, both_found, directory_at, file_at, descriptor_at, AreOwned, HasIt, Holder, OneHasIt, entry_handle, handle_held, preopened, tabled}
-use Rattle.wasi_p2.specs.Views.{Passes}
+use Rattle.wasi_p2.specs.Views.{CallsOn, Files, Passes, Performs, tree_in}
 use Rattle.wasi_p2.specs.declared.context.Preopen.{Preopen}
 use Rattle.wasi_p2_types.specs.declared.error.FsError.{FsError}
 use Rattle.wasi_p2_types.specs.declared.error_code.ErrorCode.TheVariants.{BadDescriptor}
@@ -248,13 +250,40 @@ pub lowered : {X A B : Type 0} {found : Result X FsError} {result : Result B FsE
 lowered {result = result} same shown Did x is passes =
     subst (λ o. Passes o same shown Did result) is passes
 
--- the same, of what is set beside what is found
-pub timed : {X : Type 0} {found : Result X FsError} {atime mtime : Option SystemTime} (now : SystemTime)
-    (atim mtim : NewTimestamp) (x : X) → found ≡ Ok x → time_wanted now atim ≡ Ok atime
-    → time_wanted now mtim ≡ Ok mtime → timed_by found now atim mtim ≡ Ok (x, (atime, mtime))
-timed {atime = atime} now atim mtim x is first second =
-    ap (λ o. timed_by o now atim mtim) is ∙ ap (λ o. with_wanted x o (time_wanted now mtim)) first
-    ∙ ap (with_wanted x (Ok atime)) second
+-- the same, of a file, of which no name is looked up
+pub of_file : {H : Type 0} {host : Ghosts H} {old new : Files H} {result : Result (Unit {0}) FsError}
+    {Did : OpenedFile → Result (Unit {0}) HostError → Type 0} (n : ℕ) → AboutFile host old new n Did result
+    → (file : OpenedFile) → get old.table.entries n ≡ Some (entries.Descriptor (descriptors.File file))
+    → (host.lookups new.ctx.host ≡ host.lookups old.ctx.host) × Lowered (λ unit. unit) (Did file) result
+of_file {old = old} n call file is =
+    (call.looks, lowered _ _ _ file (file_stands old.table.entries n is) call.did)
+
+-- a file isn't opened anew to be stored
+pub stored_file : {H : Type 0} {host : Ghosts H} {old new : Files H} {result : Result (Unit {0}) FsError} (n : ℕ)
+    → SyncsIt host old new n result
+    → (file : OpenedFile) → get old.table.entries n ≡ Some (entries.Descriptor (descriptors.File file))
+    → (host.lookups new.ctx.host ≡ host.lookups old.ctx.host) × Lowered (λ unit. unit) (λ answer. IfErr answer NotMemory
+    × Performs host old.ctx.host new.ctx.host None
+    (syncs (tree_in host old) (host.world old.ctx.host).held (descriptors.File file)) (λ unit. unit) answer) result
+stored_file {old = old} n call file is =
+    let (answer, shown, (never, logged, performs)) =
+    lowered _ _ _ (descriptors.File file) (descriptor_stands old.table.entries n is) call.did in
+    (logged, (answer, shown, (never, performs)))
+
+-- a call that sets times which can be set is one of what is found
+pub timed : {H X A B : Type 0} {host : Ghosts H} {old new : Files H} {Looks : List Lookup → List Lookup → Type 0}
+    {shown : A → B} {Did : X × TimesWanted → Result A HostError → Type 0} {result : Result B FsError}
+    {atime mtime : Option SystemTime} (found : Result X FsError) (atim mtim : NewTimestamp)
+    → time_wanted old.ctx.now atim ≡ Ok atime → time_wanted old.ctx.now mtim ≡ Ok mtime
+    → CallsOn host old new Looks (timed_by found old.ctx.now atim mtim) shown Did result
+    → CallsOn host old new Looks found shown (λ x. Did (x, (atime, mtime))) result
+timed (Err e) atim mtim first second call = record { asks = call.asks; looks = call.looks; did = call.did }
+timed {old = old} {atime = atime} {mtime = mtime} (Ok x) atim mtim first second call = record {
+  asks = call.asks;
+  looks = call.looks;
+  did = lowered _ _ _ (x, (atime, mtime)) (ap (λ o. with_wanted x o (time_wanted old.ctx.now mtim)) first
+      ∙ ap (with_wanted x (Ok atime)) second) call.did;
+}
 
 -- look-ups that begin from one of two
 pub traced_either : {g h : ℕ} {Kept Kept' : ℕ → Type 0} {old new : List Lookup} (table : Entries) (m n : ℕ)

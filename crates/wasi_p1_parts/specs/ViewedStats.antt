@@ -1,18 +1,31 @@
 -- What is told of a node, from what preview2 says of it.
-use Rattle.std.specs.Prelude.{ℕ, ◌+◌, ◌*◌, ◌^◌, Option, Some, None, Ok}
+use Rattle.std.specs.Prelude.{ℕ, ◌+◌, ◌*◌, ◌^◌, IsTrue, IfErr, Option, Some, None, Ok}
 use Rattle.wasi_guest.specs.FiletypeNumber.{filetype_number}
 use Rattle.wasi_guest.specs.declared.filestat.Filestat.{Filestat}
 use Rattle.wasi_guest.specs.declared.filetype.Filetype.{Filetype}
 use Rattle.wasi_guest.specs.declared.filetype.Filetype.TheVariants as filetypes
 use Rattle.wasi_guest.specs.declared.services.WallDatetime.{WallDatetime}
+use Rattle.wasi_host.specs.Meaning.{Rose}
 use Rattle.wasi_host.specs.Steps.{◌>>=◌}
+use Rattle.wasi_host.specs.declared.host.Host.{Ghosts}
+use Rattle.wasi_turns.specs.CallParts.{IsReplied, Makes, WantsNoMemory}
 use Rattle.wasi_turns.specs.Filestats.{or_overflow}
+use Rattle.wasi_turns.specs.Request.{Reply, Request}
 use Rattle.wasi_turns.specs.Row.{Row, give}
 use Rattle.wasi_turns.specs.declared.looked.StatBoth.{StatBoth}
 use Rattle.wasi_p1_parts.specs.declared.filestats.ViewedStat.{ViewedStat}
 use Rattle.wasi_p2_types.specs.Stats.{hash_named, stat_named}
 use Rattle.wasi_p2_types.specs.declared.descriptor_stat.DescriptorType.{DescriptorType}
 use Rattle.wasi_p2_types.specs.declared.descriptor_stat.DescriptorType.TheVariants as types
+
+-- What a part makes of the reply to its look, for which it takes no memory: over every host, and over one that tells its
+-- world
+pub record LookMakes {H A : Type 0} (host : Ghosts H) (old new : H) (r : Request) (next : Reply r → Row A)
+    (result : Row A) : Type 0 where
+  pub never_wants : IfErr result WantsNoMemory
+  pub front : IsReplied r next result
+  pub told : IsTrue host.told → Makes (Rose (host.faults old) (host.faults new)) (host.live old)
+      (host.world old) (host.world new) r next result
 
 -- what the crates below say of it, as preview2 does
 abbrev pub viewed : StatBoth → ViewedStat

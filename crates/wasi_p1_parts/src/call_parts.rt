@@ -15,7 +15,7 @@ ghost use Rattle.wasi_fs.specs.Calls.{opens, looks, meant_as, handle_of};
 ghost use Rattle.wasi_fs.specs.OpenHow.{may_open, mode_of};
 ghost use Rattle.wasi_p2.specs.Opens.{how_named};
 ghost use Rattle.wasi_turns.specs.Filestats.{stat_both, IsStated};
-ghost use Rattle.wasi_turns.specs.Parts.{live_in, directory_in, start_in, source_in, sink_in, open_node_in, room_for, opened_among};
+ghost use Rattle.wasi_turns.specs.Parts.{live_in, directory_or, source_in, sink_in, open_node_in, room_for, opened_among};
 ghost use Rattle.wasi_turns.specs.Numbering.{passes_at, live_count, renumbered};
 ghost use Rattle.wasi_turns.specs.Slots.{file_under, is_closed_slot};
 ghost use Rattle.wasi_guest.specs.Range.{IsInMemory};
@@ -32,12 +32,12 @@ use crate::filestats::ViewedStat;
 use crate::open_with::OpenWith;
 use crate::view_parts::below;
 use crate::view_parts::places::{MetadataHashAt, StatAt};
-use wasi_fs::{Descriptor, Dir};
+use wasi_fs::{Descriptor, Dir, File};
 use wasi_guest::{Errno, Iovec, TrapKind};
 use wasi_host::{Handle, Host};
 use wasi_p2::types::PathFlags;
 use wasi_p2::{FsResult, WasiFilesystemCtx};
-use wasi_turns::{DirectorySlot, FileSlot, Output, P1Error, Sink, Slot, Source, Stream};
+use wasi_turns::{DirectorySlot, FileModes, FileSlot, Output, P1Error, Sink, Slot, Source, Stream};
 
 /// What a live number stands for.
 #[tactic(auto, using(wasi_turns::proofs::SlotRules::slots))]
@@ -56,43 +56,27 @@ pub fn live_at<H: Host>(host: &H, descriptors: &Descriptors, fd: u32) -> Result<
     }
 }
 
-/// The directory that a path is opened from: Badf where the number isn't a directory's or file's, Notdir of a file.
+/// The directory of a number: `of_file` where that is a file's, and Badf of any other.
 #[tactic(auto, using(wasi_turns::proofs::SlotRules::slots))]
-pub fn directory_at<H: Host>(host: &H, descriptors: &Descriptors, fd: u32) -> Result<Dir, P1Error>
+pub fn directory_at<H: Host>(
+    host: &H,
+    descriptors: &Descriptors,
+    fd: u32,
+    of_file: Errno,
+) -> Result<Dir, P1Error>
     requires owned { Owned (H.live host.now) (handles descriptors.now.slots) }
     ensures live { IfOk result (λ dir. contains (H.live host.now) dir.dir ≡ true) }
     ensures is { IfOk result (λ dir. HasHandle descriptors.now.slots fd dir.dir) }
     ensures stands { IfOk result (λ dir. descriptor_under (slice_get descriptors.now.slots fd) ≡ Some (Descriptor.Dir dir)) }
     ensures row { result_map_both (open_directory_of (H.world host.now).held) (λ e. e) result
-        ≡ directory_in (slice_get (guest_slots (H.world host.now).held descriptors.now.slots) fd) }
+        ≡ directory_or of_file (slice_get (guest_slots (H.world host.now).held descriptors.now.slots) fd) }
 {
     let Some(slot) = descriptors.get(fd) else {
         return Err(P1Error::Errno(Errno::Badf));
     };
     match slot {
         Slot::Directory(DirectorySlot { dir, .. }) => Ok(dir),
-        Slot::File(_) => Err(P1Error::Errno(Errno::Notdir)),
-        Slot::Stream(_) => Err(P1Error::Errno(Errno::Badf)),
-        Slot::Closed => Err(P1Error::Errno(Errno::Badf)),
-    }
-}
-
-/// The directory from which a path starts: Badf where the number isn't a directory's.
-#[tactic(auto, using(wasi_turns::proofs::SlotRules::slots))]
-pub fn start_at<H: Host>(host: &H, descriptors: &Descriptors, fd: u32) -> Result<Dir, P1Error>
-    requires owned { Owned (H.live host.now) (handles descriptors.now.slots) }
-    ensures live { IfOk result (λ dir. contains (H.live host.now) dir.dir ≡ true) }
-    ensures is { IfOk result (λ dir. HasHandle descriptors.now.slots fd dir.dir) }
-    ensures stands { IfOk result (λ dir. descriptor_under (slice_get descriptors.now.slots fd) ≡ Some (Descriptor.Dir dir)) }
-    ensures row { result_map_both (open_directory_of (H.world host.now).held) (λ e. e) result
-        ≡ start_in (slice_get (guest_slots (H.world host.now).held descriptors.now.slots) fd) }
-{
-    let Some(slot) = descriptors.get(fd) else {
-        return Err(P1Error::Errno(Errno::Badf));
-    };
-    match slot {
-        Slot::Directory(DirectorySlot { dir, .. }) => Ok(dir),
-        Slot::File(_) => Err(P1Error::Errno(Errno::Badf)),
+        Slot::File(_) => Err(P1Error::Errno(of_file)),
         Slot::Stream(_) => Err(P1Error::Errno(Errno::Badf)),
         Slot::Closed => Err(P1Error::Errno(Errno::Badf)),
     }
@@ -240,12 +224,18 @@ pub fn write_piece<H: Host>(
 }
 
 /// Puts a file's descriptor back, at another position or with other modes.
-pub fn put_back(descriptors: &mut Descriptors, fd: u32, slot: FileSlot)
-    requires is { file_under (slice_get descriptors.old.slots fd) ≡ Some slot.file }
+pub fn put_back(descriptors: &mut Descriptors, fd: u32, file: File, position: u64, modes: FileModes)
+    requires is { file_under (slice_get descriptors.old.slots fd) ≡ Some file }
     ensures handles { handles descriptors.new.slots ≡ handles descriptors.old.slots }
-    ensures slots { descriptors.new.slots ≡ slice_set descriptors.old.slots fd (Slot.File slot) }
+    ensures slots { descriptors.new.slots ≡ slice_set descriptors.old.slots fd
+        (Slot.File (record { file = file; position = position; modes = modes })) }
     ensures max { descriptors.new.max ≡ descriptors.old.max }
 {
+    let slot = FileSlot {
+        file,
+        position,
+        modes,
+    };
     descriptors.put_back(fd, slot);
 }
 

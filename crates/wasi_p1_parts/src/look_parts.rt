@@ -1,9 +1,8 @@
 //! What the calls that look at a descriptor do with a host, a part at a time.
-ghost use Rattle.std.specs.Prelude.{◌≡◌, slice_get, IsTrue, IfOk, IfErr, None, Some};
+ghost use Rattle.std.specs.Prelude.{◌≡◌, slice_get, IfOk, IfErr, None, Some};
 ghost use Rattle.wasi_fs.specs.Calls.{handle_of, meant_as, stats, NotMemory};
 ghost use Rattle.wasi_host.specs.HostCall.{Flags, Stat};
-ghost use Rattle.wasi_host.specs.Meaning.{Rose};
-ghost use Rattle.wasi_turns.specs.CallParts.{IsReplied, Makes, WantsNoMemory, open_file_of};
+ghost use Rattle.wasi_turns.specs.CallParts.{open_file_of};
 ghost use Rattle.wasi_turns.specs.CallTurn.{Causes};
 ghost use Rattle.wasi_turns.specs.Fdstats.{directory_fdstat, file_told};
 ghost use Rattle.wasi_turns.specs.Filestats.{filestat_in, stat_both, IsStated};
@@ -12,7 +11,7 @@ ghost use Rattle.wasi_turns.specs.Owners.{handles};
 ghost use Rattle.wasi_turns.specs.Request.{Direct};
 ghost use Rattle.wasi_turns.specs.Row.{give};
 ghost use Rattle.wasi_p1_parts.specs.Viewed.{descriptor_under, Lowered};
-ghost use Rattle.wasi_p1_parts.specs.ViewedStats.{viewed};
+ghost use Rattle.wasi_p1_parts.specs.ViewedStats.{viewed, LookMakes};
 ghost use Rattle.wasi_p2_types.specs.FsErrors.{FsCause};
 ghost use Rattle.wasi_p2.specs.Views.{Performs};
 
@@ -64,11 +63,7 @@ pub fn node_filestat<H: Host>(
     ensures cause { Causes (H.faults fs.old.host) (H.faults fs.new.host) result }
     ensures live { H.live fs.new.host ≡ H.live fs.old.host }
     ensures logged { H.lookups fs.new.host ≡ H.lookups fs.old.host }
-    ensures never_wants { IfErr result WantsNoMemory }
-    ensures front { IsReplied (Direct (Stat ((H.world fs.old.host).held (handle_of descriptor.now)).node))
-        (λ metadata. filestat_in (stat_both metadata)) result }
-    ensures told { IsTrue H.told → Makes (Rose (H.faults fs.old.host) (H.faults fs.new.host)) (H.live fs.old.host)
-        (H.world fs.old.host) (H.world fs.new.host)
+    ensures makes { LookMakes H.Host fs.old.host fs.new.host
         (Direct (Stat ((H.world fs.old.host).held (handle_of descriptor.now)).node))
         (λ metadata. filestat_in (stat_both metadata)) result }
 {
@@ -92,11 +87,8 @@ pub fn dir_fdstat<H: Host>(
     ensures cause { Causes (H.faults fs.old.host) (H.faults fs.new.host) result }
     ensures live { H.live fs.new.host ≡ H.live fs.old.host }
     ensures logged { H.lookups fs.new.host ≡ H.lookups fs.old.host }
-    ensures never_wants { IfErr result WantsNoMemory }
-    ensures front { IsReplied (Direct (Flags ((H.world fs.old.host).held dir.dir).node))
-        (λ _. give directory_fdstat) result }
-    ensures told { IsTrue H.told → Makes (Rose (H.faults fs.old.host) (H.faults fs.new.host)) (H.live fs.old.host)
-        (H.world fs.old.host) (H.world fs.new.host) (Direct (Flags ((H.world fs.old.host).held dir.dir).node))
+    ensures makes { LookMakes H.Host fs.old.host fs.new.host
+        (Direct (Flags ((H.world fs.old.host).held dir.dir).node))
         (λ _. give directory_fdstat) result }
 {
     let dir = Descriptor::Dir(dir);
@@ -118,11 +110,8 @@ pub fn open_file_fdstat<H: Host>(
     ensures cause { Causes (H.faults fs.old.host) (H.faults fs.new.host) result }
     ensures live { H.live fs.new.host ≡ H.live fs.old.host }
     ensures logged { H.lookups fs.new.host ≡ H.lookups fs.old.host }
-    ensures never_wants { IfErr result WantsNoMemory }
-    ensures front { IsReplied (Direct (Stat ((H.world fs.old.host).held slot.file.file).node))
-        (λ metadata. give (file_told (open_file_of (H.world fs.old.host).held slot) metadata)) result }
-    ensures told { IsTrue H.told → Makes (Rose (H.faults fs.old.host) (H.faults fs.new.host)) (H.live fs.old.host)
-        (H.world fs.old.host) (H.world fs.new.host) (Direct (Stat ((H.world fs.old.host).held slot.file.file).node))
+    ensures makes { LookMakes H.Host fs.old.host fs.new.host
+        (Direct (Stat ((H.world fs.old.host).held slot.file.file).node))
         (λ metadata. give (file_told (open_file_of (H.world fs.old.host).held slot) metadata)) result }
 {
     let FileSlot { file, modes, .. } = slot;

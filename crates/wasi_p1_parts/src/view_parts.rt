@@ -15,6 +15,7 @@ ghost use Rattle.wasi_p2.specs.Views.{files_of, FilesOwned};
 ghost use Rattle.wasi_turns.specs.Owners.{handles};
 
 pub mod closing;
+pub mod files;
 pub mod nodes;
 pub mod opening;
 pub mod places;
@@ -55,8 +56,12 @@ pub trait PlaceCall<H: Host> {
     /// What the lower call did, of a directory.
     ghost Did: { Self → H → H → Directory → Result Self.Lower HostError → Type 0 };
 
+    /// What its arguments have to be.
+    ghost Fits: { Self → Type 0 } = { λ _. Unit {0} };
+
     /// The call, of a directory's resource.
     fn made(self, view: &mut WasiFilesystemCtxView<'_, H>, fd: Resource) -> FsResult<Self::Gives>
+        requires fits { Fits self }
         requires owned { FilesOwned H.Host (files_of view.old.ctx.now view.old.table.now) }
         ensures same_ctx { view.new.ctx.ghost_name ≡ view.old.ctx.ghost_name }
         ensures same_table { view.new.table.ghost_name ≡ view.old.table.ghost_name }
@@ -75,6 +80,7 @@ pub fn below<H: Host, C: PlaceCall<H>>(
 ) -> FsResult<C::Gives>
     requires holds { HoldsHandles (H.live fs.old.host) (handles descriptors.old.slots) fs.old.preopens.items }
     requires stands { descriptor_under (slice_get descriptors.old.slots fd) ≡ Some (Descriptor.Dir dir.now) }
+    requires fits { C.Fits call }
     ensures ctx { fs.new ≡ record fs.old { host = fs.new.host } }
     ensures same { descriptors.new ≡ descriptors.old }
     ensures cause { FsCause (H.faults fs.old.host) (H.faults fs.new.host) result }
@@ -104,8 +110,12 @@ pub trait NodeCall<H: Host> {
     /// What the lower call did, of a descriptor.
     ghost Did: { Self → H → H → Opened → Result Self.Lower HostError → Type 0 };
 
+    /// What its arguments have to be.
+    ghost Fits: { Self → Type 0 } = { λ _. Unit {0} };
+
     /// The call, of a descriptor's resource.
     fn made(self, view: &mut WasiFilesystemCtxView<'_, H>, fd: Resource) -> FsResult<Self::Gives>
+        requires fits { Fits self }
         requires owned { FilesOwned H.Host (files_of view.old.ctx.now view.old.table.now) }
         ensures same_ctx { view.new.ctx.ghost_name ≡ view.old.ctx.ghost_name }
         ensures same_table { view.new.table.ghost_name ≡ view.old.table.ghost_name }
@@ -124,6 +134,7 @@ pub fn about<H: Host, C: NodeCall<H>>(
 ) -> FsResult<C::Gives>
     requires holds { HoldsHandles (H.live fs.old.host) (handles descriptors.old.slots) fs.old.preopens.items }
     requires stands { descriptor_under (slice_get descriptors.old.slots fd) ≡ Some descriptor.now }
+    requires fits { C.Fits call }
     ensures ctx { fs.new ≡ record fs.old { host = fs.new.host } }
     ensures same { descriptors.new ≡ descriptors.old }
     ensures cause { FsCause (H.faults fs.old.host) (H.faults fs.new.host) result }

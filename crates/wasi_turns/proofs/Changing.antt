@@ -12,13 +12,14 @@ use Rattle.wasi_streams.proofs.OneChanged.{set_cases, push_cases}
 use Rattle.wasi_guest.specs.declared.answer.Value.{Value}
 use Rattle.wasi_guest.specs.Range.{with_bytes}
 use Rattle.wasi_guest.specs.declared.call.Call.{Call}
+use Rattle.wasi_guest.specs.declared.errno.Errno.{Errno as ErrorNumber}
 use Rattle.wasi_guest.specs.declared.filestat.Filestat.{Filestat}
 use Rattle.wasi_turns.specs.Guest.{Guest, GuestSlot, OpenFile, closed, stream, directory, file, is_closed, new_number, with_guest_slot, node_in, open_nodes, perms_in}
 use Rattle.wasi_turns.specs.Numbering.{last_where, free_number, put_at, with_new}
 use Rattle.wasi_resolve.specs.PathRequest.{Opened}
 use Rattle.wasi_turns.specs.Row.{Row, give}
 use Rattle.wasi_turns.specs.Files.{file_in, read_place_in}
-use Rattle.wasi_turns.specs.Parts.{OpenNode, node_of, directory_in, start_in, from, source_in, into, sink_in, open_node_in, new_guest_slot, room_for, with_file, live_in}
+use Rattle.wasi_turns.specs.Parts.{OpenNode, node_of, directory_or, from, source_in, into, sink_in, open_node_in, new_guest_slot, room_for, with_file, live_in}
 use Rattle.wasi_turns.specs.declared.slots.FileModes.{FileModes}
 use Rattle.wasi_turns.specs.declared.slots.Stream.TheVariants as streams
 use Rattle.wasi_turns.specs.declared.usage.FileUse.{FileUse}
@@ -98,20 +99,21 @@ slice_named (x ∷ xs) (suc i) n has = Contains-append_right (node_in (Some x)) 
 pub named_has : {call : Call} {g : Guest} {n : ℕ} → IsNamed g call n → Has g n
 named_has {g = g} {n = n} is = slice_named g.slots is.fd n is.node
 
-directory_named : {d : OpenNode} (p : Option GuestSlot) (n : ℕ) → directory_in p ≡ Ok d → Contains (d.node ∷ []) n
-    → Contains (node_in p) n
-directory_named {d} (Some (directory x)) n is has =
+directory_named : {d : OpenNode} (of_file : ErrorNumber) (p : Option GuestSlot) (n : ℕ) → directory_or of_file p ≡ Ok d
+    → Contains (d.node ∷ []) n → Contains (node_in p) n
+directory_named {d} of_file (Some (directory x)) n is has =
     let same : d ≡ node_of x = (cc) in subst (λ (y : OpenNode). Contains (y.node ∷ []) n) same has
-directory_named p n is has = absurd (cc)
+directory_named of_file p n is has = absurd (cc)
 
 file_named : {f : OpenFile} (p : Option GuestSlot) (n : ℕ) → p ≡ Some (file f) → Contains (f.node ∷ []) n
     → Contains (node_in p) n
 file_named p n is has = subst (λ q. Contains (node_in q) n) (sym is) has
 
-pub named_directory : {d : OpenNode} {call : Call} (g : Guest) (fd n : ℕ) → Contains (descriptors_named g.memory call) fd
-    → directory_in (slice_get g.slots fd) ≡ Ok d → Contains (d.node ∷ []) n → IsNamed g call n
-named_directory g fd n named is has =
-    record { fd = fd; named = named; node = directory_named (slice_get g.slots fd) n is has }
+pub named_directory : {d : OpenNode} {call : Call} (of_file : ErrorNumber) (g : Guest) (fd n : ℕ)
+    → Contains (descriptors_named g.memory call) fd → directory_or of_file (slice_get g.slots fd) ≡ Ok d
+    → Contains (d.node ∷ []) n → IsNamed g call n
+named_directory of_file g fd n named is has =
+    record { fd = fd; named = named; node = directory_named of_file (slice_get g.slots fd) n is has }
 
 pub named_file : {f : OpenFile} {call : Call} (g : Guest) (fd n : ℕ) → Contains (descriptors_named g.memory call) fd
     → slice_get g.slots fd ≡ Some (file f) → Contains (f.node ∷ []) n → IsNamed g call n
@@ -130,11 +132,6 @@ pub named_node : {o : OpenNode} {call : Call} (g : Guest) (fd n : ℕ) → Conta
     → open_node_in (slice_get g.slots fd) ≡ Ok o → Contains (o.node ∷ []) n → IsNamed g call n
 named_node g fd n named is has =
     record { fd = fd; named = named; node = node_named (slice_get g.slots fd) n is has }
-
--- a start is a directory
-pub start_is : {d : OpenNode} (p : Option GuestSlot) → start_in p ≡ Ok d → directory_in p ≡ Ok d
-start_is (Some (directory x)) is = is
-start_is p is = absurd (cc)
 
 -- a live number stands for what it stands for
 pub live_is : {slot : GuestSlot} (p : Option GuestSlot) → live_in p ≡ Ok slot → p ≡ Some slot
@@ -175,9 +172,11 @@ sink_is p is = absurd (cc)
 
 -- ---- their permissions
 
-pub directory_perms : {d : OpenNode} (p : Option GuestSlot) → directory_in p ≡ Ok d → perms_in p ≡ Some d.perms
-directory_perms {d} (Some (directory x)) is = let same : node_of x ≡ d = (cc) in ap (λ (y : OpenNode). Some y.perms) same
-directory_perms p is = absurd (cc)
+pub directory_perms : {d : OpenNode} (of_file : ErrorNumber) (p : Option GuestSlot) → directory_or of_file p ≡ Ok d
+    → perms_in p ≡ Some d.perms
+directory_perms {d} of_file (Some (directory x)) is =
+    let same : node_of x ≡ d = (cc) in ap (λ (y : OpenNode). Some y.perms) same
+directory_perms of_file p is = absurd (cc)
 
 pub node_perms : {o : OpenNode} (p : Option GuestSlot) → open_node_in p ≡ Ok o → perms_in p ≡ Some o.perms
 node_perms {o} (Some (directory d)) is = let same : d.perms ≡ o.perms = (cc) in ap Some same

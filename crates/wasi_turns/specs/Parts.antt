@@ -12,6 +12,7 @@ use Rattle.wasi_guest.specs.Range.{in_memory, with_bytes}
 use Rattle.wasi_guest.specs.Records.{Found}
 use Rattle.wasi_guest.specs.declared.guest_error.GuestError.{GuestError}
 use Rattle.wasi_guest.specs.declared.guest_error.GuestError.TheVariants as guests
+use Rattle.wasi_guest.specs.declared.errno.Errno.{Errno as ErrorNumber}
 use Rattle.wasi_guest.specs.declared.errno.Errno.TheVariants as errnos
 use Rattle.wasi_guest.specs.declared.answer.TrapKind.TheVariants.{Pointer, TableFull}
 use Rattle.wasi_guest.specs.declared.answer.Value.{Value}
@@ -62,13 +63,21 @@ pub record OpenNode : Type 0 where
 abbrev pub node_of : OpenDirectory → OpenNode
 node_of d = record { node = d.node; perms = d.perms }
 
--- the directory that a number stands for
+-- the directory that a number stands for, and of a file this refusal
+abbrev pub directory_or : ErrorNumber → Option GuestSlot → Row OpenNode
+directory_or of_file (Some (directory d)) = Ok (node_of d)
+directory_or of_file (Some (file f)) = Err (Errno of_file)
+directory_or of_file (Some (stream s)) = Err (Errno errnos.Badf)
+directory_or of_file (Some closed) = Err (Errno errnos.Badf)
+directory_or of_file None = Err (Errno errnos.Badf)
+
+-- the one that a path is opened from
 abbrev pub directory_in : Option GuestSlot → Row OpenNode
-directory_in (Some (directory d)) = Ok (node_of d)
-directory_in (Some (file f)) = Err (Errno errnos.Notdir)
-directory_in (Some (stream s)) = Err (Errno errnos.Badf)
-directory_in (Some closed) = Err (Errno errnos.Badf)
-directory_in None = Err (Errno errnos.Badf)
+directory_in = directory_or errnos.Notdir
+
+-- the one that any other path starts from
+abbrev pub start_in : Option GuestSlot → Row OpenNode
+start_in = directory_or errnos.Badf
 
 -- what is read by a number: the standard input, or a file
 pub data Source : Type 0 where
@@ -105,14 +114,6 @@ open_node_in (Some (file f)) = Ok (record { node = f.node; perms = f.perms })
 open_node_in (Some (stream s)) = Err (Errno errnos.Badf)
 open_node_in (Some closed) = Err (Errno errnos.Badf)
 open_node_in None = Err (Errno errnos.Badf)
-
--- the directory from which a path starts
-abbrev pub start_in : Option GuestSlot → Row OpenNode
-start_in (Some (directory d)) = Ok (node_of d)
-start_in (Some (file f)) = Err (Errno errnos.Badf)
-start_in (Some (stream s)) = Err (Errno errnos.Badf)
-start_in (Some closed) = Err (Errno errnos.Badf)
-start_in None = Err (Errno errnos.Badf)
 
 -- so many more descriptors than are live may be; else the trap
 unfoldable pub room_for : List GuestSlot → ℕ → ℕ → Row (Unit {0})

@@ -78,15 +78,7 @@ impl<H: Host> WasiP1Ctx<H> {
         )?;
         not_synchronized(fdflags)?;
         let modes = file_modes(fdflags);
-        put_back(
-            &mut self.descriptors,
-            fd,
-            FileSlot {
-                file,
-                position,
-                modes,
-            },
-        );
+        put_back(&mut self.descriptors, fd, file, position, modes);
         Ok(Value::Unit)
     }
 

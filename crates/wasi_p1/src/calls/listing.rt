@@ -3,9 +3,9 @@ ghost use Rattle.wasi_guest.specs.declared.call.Call.TheVariants.{FdReaddir};
 ghost use Rattle.wasi_turns.specs.Method.{StaysInBounds, DoesItsRow};
 
 use crate::context::WasiP1Ctx;
-use wasi_guest::Value;
+use wasi_guest::{Errno, Value};
 use wasi_host::Host;
-use wasi_p1_parts::call_parts::{room_at, start_at};
+use wasi_p1_parts::call_parts::{directory_at, room_at};
 use wasi_p1_parts::listing_parts::{listing_of, write_page};
 use wasi_turns::P1Error;
 
@@ -34,7 +34,7 @@ impl<H: Host> WasiP1Ctx<H> {
         ensures turn { DoesItsRow H.Host self.old self.new memory.old memory.new (FdReaddir fd buf buf_len cookie)
             result }
     {
-        let dir = start_at(&self.fs.host, &self.descriptors, fd)?;
+        let dir = directory_at(&self.fs.host, &self.descriptors, fd, Errno::Badf)?;
         room_at(&self.fs.host, &self.descriptors, 1)?;
         let entries = listing_of(self.fs.alloc, &mut self.fs.host, &dir)?;
         let count = write_page(memory, buf, buf_len, cookie, entries.as_slice())?;

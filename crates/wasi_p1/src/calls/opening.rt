@@ -3,7 +3,7 @@ ghost use Rattle.wasi_guest.specs.declared.call.Call.TheVariants.{PathOpen};
 ghost use Rattle.wasi_turns.specs.Method.{StaysInBounds, DoesItsRow};
 
 use crate::context::WasiP1Ctx;
-use wasi_guest::Value;
+use wasi_guest::{Errno, Value};
 use wasi_host::Host;
 use wasi_p1_parts::call_parts::{directory_at, open_into, room_at};
 use wasi_p1_parts::open_with::OpenWith;
@@ -51,7 +51,7 @@ impl<H: Host> WasiP1Ctx<H> {
     {
         let with = OpenWith::of(dirflags, oflags, base, inheriting, fdflags)?;
         let text = text_at(memory, &mut self.fuel, path, path_len)?;
-        let dir = directory_at(&self.fs.host, &self.descriptors, fd)?;
+        let dir = directory_at(&self.fs.host, &self.descriptors, fd, Errno::Notdir)?;
         room_at(&self.fs.host, &self.descriptors, 1)?;
         let number = open_into(&mut self.fs, &mut self.descriptors, fd, dir, text, with)?;
         Ok(Value::Number(number))

@@ -3,9 +3,9 @@ ghost use Rattle.wasi_guest.specs.declared.call.Call.TheVariants.{PathCreateDire
 ghost use Rattle.wasi_turns.specs.Method.{StaysInBounds, DoesItsRow};
 
 use crate::context::WasiP1Ctx;
-use wasi_guest::Value;
+use wasi_guest::{Errno, Value};
 use wasi_host::Host;
-use wasi_p1_parts::call_parts::{start_at, stat_both};
+use wasi_p1_parts::call_parts::{directory_at, stat_both};
 use wasi_p1_parts::open_with::path_flags_of;
 use wasi_p1_parts::view_parts::below;
 use wasi_p1_parts::view_parts::places::{
@@ -35,7 +35,7 @@ impl<H: Host> WasiP1Ctx<H> {
         ensures turn { DoesItsRow H.Host self.old self.new memory.old memory.new
             (PathCreateDirectory fd path path_len) result }
     {
-        let dir = start_at(&self.fs.host, &self.descriptors, fd)?;
+        let dir = directory_at(&self.fs.host, &self.descriptors, fd, Errno::Badf)?;
         let text = text_at(memory, &mut self.fuel, path, path_len)?;
         let call = CreateDirectoryAt { path: text };
         below(&mut self.fs, &mut self.descriptors, fd, &dir, call)?;
@@ -60,7 +60,7 @@ impl<H: Host> WasiP1Ctx<H> {
         ensures turn { DoesItsRow H.Host self.old self.new memory.old memory.new
             (PathRemoveDirectory fd path path_len) result }
     {
-        let dir = start_at(&self.fs.host, &self.descriptors, fd)?;
+        let dir = directory_at(&self.fs.host, &self.descriptors, fd, Errno::Badf)?;
         let text = text_at(memory, &mut self.fuel, path, path_len)?;
         let call = RemoveDirectoryAt { path: text };
         below(&mut self.fs, &mut self.descriptors, fd, &dir, call)?;
@@ -83,7 +83,7 @@ impl<H: Host> WasiP1Ctx<H> {
         ensures turn { DoesItsRow H.Host self.old self.new memory.old memory.new
             (PathUnlinkFile fd path path_len) result }
     {
-        let dir = start_at(&self.fs.host, &self.descriptors, fd)?;
+        let dir = directory_at(&self.fs.host, &self.descriptors, fd, Errno::Badf)?;
         let text = text_at(memory, &mut self.fuel, path, path_len)?;
         let call = UnlinkFileAt { path: text };
         below(&mut self.fs, &mut self.descriptors, fd, &dir, call)?;
@@ -111,7 +111,7 @@ impl<H: Host> WasiP1Ctx<H> {
         ensures turn { DoesItsRow H.Host self.old self.new memory.old memory.new
             (PathSymlink old_path old_path_len fd new_path new_path_len) result }
     {
-        let dir = start_at(&self.fs.host, &self.descriptors, fd)?;
+        let dir = directory_at(&self.fs.host, &self.descriptors, fd, Errno::Badf)?;
         let target = text_at(memory, &mut self.fuel, old_path, old_path_len)?;
         let text = text_at(memory, &mut self.fuel, new_path, new_path_len)?;
         let call = SymlinkAt { target, path: text };
@@ -141,7 +141,7 @@ impl<H: Host> WasiP1Ctx<H> {
         ensures turn { DoesItsRow H.Host self.old self.new memory.old memory.new
             (PathReadlink fd path path_len buf buf_len) result }
     {
-        let dir = start_at(&self.fs.host, &self.descriptors, fd)?;
+        let dir = directory_at(&self.fs.host, &self.descriptors, fd, Errno::Badf)?;
         let text = text_at(memory, &mut self.fuel, path, path_len)?;
         let call = ReadlinkAt { path: text };
         let link = below(&mut self.fs, &mut self.descriptors, fd, &dir, call)?;
@@ -169,7 +169,7 @@ impl<H: Host> WasiP1Ctx<H> {
             (PathFilestatGet fd flags path path_len) result }
     {
         let flags = path_flags_of(flags)?;
-        let dir = start_at(&self.fs.host, &self.descriptors, fd)?;
+        let dir = directory_at(&self.fs.host, &self.descriptors, fd, Errno::Badf)?;
         let text = text_at(memory, &mut self.fuel, path, path_len)?;
         let both = stat_both(&mut self.fs, &mut self.descriptors, fd, &dir, flags, text)?;
         Ok(Value::Filestat(both.filestat()?))

@@ -7,7 +7,7 @@ use wasi_guest::{Errno, Value};
 use wasi_host::Host;
 use wasi_p1_parts::call_parts::put_back;
 use wasi_p1_parts::file_parts::{file_at, position_sought, view_advice};
-use wasi_p1_parts::view_parts::nodes::{advise, set_size, sync, sync_data};
+use wasi_p1_parts::view_parts::files::{AdviseOf, SetSizeOf, SyncDataOf, SyncOf, about_file};
 use wasi_turns::{FileSlot, FileUse, P1Error, advice_of, whence_of};
 
 impl<H: Host> WasiP1Ctx<H> {
@@ -28,14 +28,16 @@ impl<H: Host> WasiP1Ctx<H> {
     {
         let how = advice_of(advice)?;
         let slot = file_at(&self.fs.host, &self.descriptors, fd, FileUse::Itself)?;
-        advise(
+        about_file(
             &mut self.fs,
             &mut self.descriptors,
             fd,
             &slot.file,
-            offset,
-            len,
-            view_advice(how),
+            AdviseOf {
+                offset,
+                len,
+                advice: view_advice(how),
+            },
         )?;
         Ok(Value::Unit)
     }
@@ -64,7 +66,13 @@ impl<H: Host> WasiP1Ctx<H> {
         ensures turn { DoesItsRow H.Host self.old self.new memory.old memory.new (FdDatasync fd) result }
     {
         let slot = file_at(&self.fs.host, &self.descriptors, fd, FileUse::Itself)?;
-        sync_data(&mut self.fs, &mut self.descriptors, fd, &slot.file)?;
+        about_file(
+            &mut self.fs,
+            &mut self.descriptors,
+            fd,
+            &slot.file,
+            SyncDataOf,
+        )?;
         Ok(Value::Unit)
     }
 
@@ -76,7 +84,7 @@ impl<H: Host> WasiP1Ctx<H> {
         ensures turn { DoesItsRow H.Host self.old self.new memory.old memory.new (FdSync fd) result }
     {
         let slot = file_at(&self.fs.host, &self.descriptors, fd, FileUse::Itself)?;
-        sync(&mut self.fs, &mut self.descriptors, fd, &slot.file)?;
+        about_file(&mut self.fs, &mut self.descriptors, fd, &slot.file, SyncOf)?;
         Ok(Value::Unit)
     }
 
@@ -95,7 +103,13 @@ impl<H: Host> WasiP1Ctx<H> {
         ensures turn { DoesItsRow H.Host self.old self.new memory.old memory.new (FdFilestatSetSize fd size) result }
     {
         let slot = file_at(&self.fs.host, &self.descriptors, fd, FileUse::Itself)?;
-        set_size(&mut self.fs, &mut self.descriptors, fd, &slot.file, size)?;
+        about_file(
+            &mut self.fs,
+            &mut self.descriptors,
+            fd,
+            &slot.file,
+            SetSizeOf { size },
+        )?;
         Ok(Value::Unit)
     }
 
@@ -121,15 +135,7 @@ impl<H: Host> WasiP1Ctx<H> {
             modes,
         } = file_at(&self.fs.host, &self.descriptors, fd, FileUse::Position)?;
         let position = position_sought(&mut self.fs.host, file.file, position, place, offset)?;
-        put_back(
-            &mut self.descriptors,
-            fd,
-            FileSlot {
-                file,
-                position,
-                modes,
-            },
-        );
+        put_back(&mut self.descriptors, fd, file, position, modes);
         Ok(Value::Number(position))
     }
 

@@ -110,15 +110,7 @@ impl<H: Host> WasiP1Ctx<H> {
         let handle = file.file;
         let count = read_into(&mut self.fs.host, memory, handle, position, buffer)?;
         let position = position + count as u64;
-        put_back(
-            &mut self.descriptors,
-            fd,
-            FileSlot {
-                file,
-                position,
-                modes,
-            },
-        );
+        put_back(&mut self.descriptors, fd, file, position, modes);
         Ok(Value::Number(count as u64))
     }
 
@@ -159,15 +151,7 @@ impl<H: Host> WasiP1Ctx<H> {
         check_write(file.perms)?;
         let handle = file.file;
         let Put { count, position } = put_next(&mut self.fs.host, handle, modes, position, piece)?;
-        put_back(
-            &mut self.descriptors,
-            fd,
-            FileSlot {
-                file,
-                position,
-                modes,
-            },
-        );
+        put_back(&mut self.descriptors, fd, file, position, modes);
         Ok(Value::Number(count))
     }
 }

@@ -3,12 +3,13 @@ ghost use Rattle.wasi_guest.specs.declared.call.Call.TheVariants.{FdFilestatSetT
 ghost use Rattle.wasi_turns.specs.Method.{StaysInBounds, DoesItsRow};
 
 use crate::context::WasiP1Ctx;
-use wasi_guest::Value;
+use wasi_guest::{Errno, Value};
 use wasi_host::Host;
-use wasi_p1_parts::call_parts::{descriptor_at, start_at};
+use wasi_p1_parts::call_parts::{descriptor_at, directory_at};
 use wasi_p1_parts::open_with::path_flags_of;
-use wasi_p1_parts::view_parts::nodes::set_times;
-use wasi_p1_parts::view_parts::places::set_times_at;
+use wasi_p1_parts::view_parts::nodes::SetTimesOf;
+use wasi_p1_parts::view_parts::places::SetTimesAt;
+use wasi_p1_parts::view_parts::{about, below};
 use wasi_turns::{NewTimes, P1Error, text_at};
 
 impl<H: Host> WasiP1Ctx<H> {
@@ -41,16 +42,18 @@ impl<H: Host> WasiP1Ctx<H> {
     {
         let flags = path_flags_of(flags)?;
         let times = NewTimes::of(self.holdings.wall(), atim, mtim, fst_flags)?;
-        let dir = start_at(&self.fs.host, &self.descriptors, fd)?;
+        let dir = directory_at(&self.fs.host, &self.descriptors, fd, Errno::Badf)?;
         let text = text_at(memory, &mut self.fuel, path, path_len)?;
-        set_times_at(
+        below(
             &mut self.fs,
             &mut self.descriptors,
             fd,
             &dir,
-            flags,
-            text,
-            times,
+            SetTimesAt {
+                flags,
+                path: text,
+                times,
+            },
         )?;
         Ok(Value::Unit)
     }
@@ -74,7 +77,13 @@ impl<H: Host> WasiP1Ctx<H> {
     {
         let times = NewTimes::of(self.holdings.wall(), atim, mtim, fst_flags)?;
         let descriptor = descriptor_at(&self.fs.host, &self.descriptors, fd)?;
-        set_times(&mut self.fs, &mut self.descriptors, fd, &descriptor, times)?;
+        about(
+            &mut self.fs,
+            &mut self.descriptors,
+            fd,
+            &descriptor,
+            SetTimesOf { times },
+        )?;
         Ok(Value::Unit)
     }
 }

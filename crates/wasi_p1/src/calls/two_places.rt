@@ -3,11 +3,11 @@ ghost use Rattle.wasi_guest.specs.declared.call.Call.TheVariants.{PathLink, Path
 ghost use Rattle.wasi_turns.specs.Method.{StaysInBounds, DoesItsRow};
 
 use crate::context::WasiP1Ctx;
-use wasi_guest::Value;
+use wasi_guest::{Errno, Value};
 use wasi_host::Host;
-use wasi_p1_parts::call_parts::start_at;
+use wasi_p1_parts::call_parts::directory_at;
 use wasi_p1_parts::open_with::path_flags_of;
-use wasi_p1_parts::view_parts::two_places::{link_at, rename_at};
+use wasi_p1_parts::view_parts::two_places::{LinkAt, RenameAt, between};
 use wasi_turns::{P1Error, text_at};
 
 impl<H: Host> WasiP1Ctx<H> {
@@ -40,20 +40,22 @@ impl<H: Host> WasiP1Ctx<H> {
             (PathLink old_fd old_flags old_path old_path_len new_fd new_path new_path_len) result }
     {
         let flags = path_flags_of(old_flags)?;
-        let old = start_at(&self.fs.host, &self.descriptors, old_fd)?;
-        let new = start_at(&self.fs.host, &self.descriptors, new_fd)?;
+        let old = directory_at(&self.fs.host, &self.descriptors, old_fd, Errno::Badf)?;
+        let new = directory_at(&self.fs.host, &self.descriptors, new_fd, Errno::Badf)?;
         let old_text = text_at(memory, &mut self.fuel, old_path, old_path_len)?;
         let new_text = text_at(memory, &mut self.fuel, new_path, new_path_len)?;
-        link_at(
+        between(
             &mut self.fs,
             &mut self.descriptors,
             old_fd,
             &old,
-            flags,
-            old_text,
             new_fd,
             &new,
-            new_text,
+            LinkAt {
+                old_path_flags: flags,
+                old_path: old_text,
+                new_path: new_text,
+            },
         )?;
         Ok(Value::Unit)
     }
@@ -88,19 +90,21 @@ impl<H: Host> WasiP1Ctx<H> {
         ensures turn { DoesItsRow H.Host self.old self.new memory.old memory.new
             (PathRename old_fd old_path old_path_len new_fd new_path new_path_len) result }
     {
-        let old = start_at(&self.fs.host, &self.descriptors, old_fd)?;
-        let new = start_at(&self.fs.host, &self.descriptors, new_fd)?;
+        let old = directory_at(&self.fs.host, &self.descriptors, old_fd, Errno::Badf)?;
+        let new = directory_at(&self.fs.host, &self.descriptors, new_fd, Errno::Badf)?;
         let old_text = text_at(memory, &mut self.fuel, old_path, old_path_len)?;
         let new_text = text_at(memory, &mut self.fuel, new_path, new_path_len)?;
-        rename_at(
+        between(
             &mut self.fs,
             &mut self.descriptors,
             old_fd,
             &old,
-            old_text,
             new_fd,
             &new,
-            new_text,
+            RenameAt {
+                old_path: old_text,
+                new_path: new_text,
+            },
         )?;
         Ok(Value::Unit)
     }

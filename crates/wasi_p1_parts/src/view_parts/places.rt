@@ -1,29 +1,22 @@
 //! The calls of views at a path below a directory.
-ghost use Rattle.std.specs.Prelude.{◌≡◌, slice_get, None, Some, IfOk};
+ghost use Rattle.std.specs.Prelude.{None, IfOk};
 ghost use Rattle.std.specs.String.{string_bytes};
 ghost use Rattle.wasi_fs.specs.Calls.{looks, may_change, may_link, meant_as, sets_times};
 ghost use Rattle.wasi_fs.specs.DescriptorStat.{descriptor_stat, IsStat};
 ghost use Rattle.wasi_fs.specs.MetadataHash.{metadata_hash, IsHash};
-ghost use Rattle.wasi_host.specs.Lineage.{Traced, Only, Nothing};
-ghost use Rattle.wasi_p1_parts.specs.Held.{HoldsHandles};
 ghost use Rattle.wasi_turns.specs.SinceEpoch.{AreSinceEpoch};
-ghost use Rattle.wasi_turns.specs.Owners.{handles};
-ghost use Rattle.wasi_p1_parts.specs.Viewed.{descriptor_under, Lowered};
 ghost use Rattle.wasi_p2_types.specs.FlagNames.{path_flags_named};
-ghost use Rattle.wasi_p2_types.specs.FsErrors.{FsCause};
 ghost use Rattle.wasi_p2.specs.Places.{IsReadText};
 ghost use Rattle.wasi_p2_types.specs.Stats.{hash_named, stat_named};
 ghost use Rattle.wasi_p2.specs.Views.{Performs};
 ghost use Rattle.wasi_resolve.specs.AtPlace.{CreateDir, ReadLink, RemoveDir, RemoveFile, Symlink};
 ghost use Rattle.wasi_resolve.specs.PathRequest.{AtPlace, meant_by};
 
-use crate::descriptors::Descriptors;
 use crate::new_times::timestamp_of;
-use crate::view_parts::{PlaceCall, resource_under};
-use wasi_fs::{Descriptor, Dir};
+use crate::view_parts::PlaceCall;
 use wasi_host::Host;
 use wasi_p2::types::{DescriptorStat, MetadataHashValue, PathFlags};
-use wasi_p2::{FsResult, WasiFilesystemCtx, WasiFilesystemCtxView};
+use wasi_p2::{FsResult, WasiFilesystemCtxView};
 use wasi_streams::Resource;
 use wasi_turns::NewTimes;
 
@@ -192,34 +185,30 @@ impl<'p, H: Host> PlaceCall<H> for MetadataHashAt<'p> {
     }
 }
 
-/// Sets the times of the node that a path names.
-pub fn set_times_at<H: Host>(
-    fs: &mut WasiFilesystemCtx<H>,
-    descriptors: &mut Descriptors,
-    fd: u32,
-    dir: &Dir,
-    path_flags: PathFlags,
-    path: &str,
-    times: NewTimes,
-) -> FsResult<()>
-    requires holds { HoldsHandles (H.live fs.old.host) (handles descriptors.old.slots) fs.old.preopens.items }
-    requires stands { descriptor_under (slice_get descriptors.old.slots fd) ≡ Some (Descriptor.Dir dir.now) }
-    requires since { AreSinceEpoch times }
-    ensures ctx { fs.new ≡ record fs.old { host = fs.new.host } }
-    ensures same { descriptors.new ≡ descriptors.old }
-    ensures cause { FsCause (H.faults fs.old.host) (H.faults fs.new.host) result }
-    ensures live { H.live fs.new.host ≡ H.live fs.old.host }
-    ensures lineage { Traced (Only dir.now.dir) Nothing Nothing (H.lookups fs.old.host) (H.lookups fs.new.host) }
-    ensures did { Lowered (λ unit. unit) (Performs H.Host fs.old.host fs.new.host (may_change dir.now.perms)
-        (meant_by (H.world fs.old.host).tree (sets_times ((H.world fs.old.host).held dir.now.dir).node path.now (path_flags_named path_flags) times.atime times.mtime))
-        (λ unit. unit)) result }
-{
-    let resource = resource_under(&descriptors.items, fd);
-    let atim = timestamp_of(times.atime);
-    let mtim = timestamp_of(times.mtime);
-    let mut view = WasiFilesystemCtxView {
-        ctx: fs,
-        table: &mut descriptors.table,
-    };
-    view.set_times_at(resource, path_flags, path, atim, mtim)
+/// Sets the times of the node that a path names, of which none may be before the epoch.
+#[derive(Clone, Copy)]
+pub struct SetTimesAt<'p> {
+    pub flags: PathFlags,
+    pub path: &'p str,
+    pub times: NewTimes,
+}
+
+impl<'p, H: Host> PlaceCall<H> for SetTimesAt<'p> {
+    type Gives = ();
+
+    type Lower = ();
+
+    ghost shown = { λ unit. unit };
+
+    ghost Did = { λ call old new dir. Performs H.Host old new (may_change dir.perms)
+        (meant_by (H.world old).tree (sets_times ((H.world old).held dir.dir).node call.path.now
+        (path_flags_named call.flags) call.times.atime call.times.mtime)) (λ unit. unit) };
+
+    ghost Fits = { λ call. AreSinceEpoch call.times };
+
+    fn made(self, view: &mut WasiFilesystemCtxView<'_, H>, fd: Resource) -> FsResult<()> {
+        let atim = timestamp_of(self.times.atime);
+        let mtim = timestamp_of(self.times.mtime);
+        view.set_times_at(fd, self.flags, self.path, atim, mtim)
+    }
 }

@@ -1,14 +1,17 @@
 //! The calls of views that name a place below another directory too.
-ghost use Rattle.std.specs.Prelude.{◌≡◌, false, slice_get, Some};
+ghost use Rattle.std.specs.Prelude.{◌≡◌, slice_get, Result, Some};
 ghost use Rattle.wasi_fs.specs.Calls.{may_add_name, may_rename};
 ghost use Rattle.wasi_fs.specs.OpenHow.{is_followed};
+ghost use Rattle.wasi_fs.specs.declared.descriptor.Dir.{Dir as Directory};
 ghost use Rattle.wasi_host.specs.Lineage.{Traced, OneOf, Nothing};
+ghost use Rattle.wasi_host.specs.declared.errors.HostError.{HostError};
 ghost use Rattle.wasi_p1_parts.specs.Held.{HoldsHandles};
 ghost use Rattle.wasi_turns.specs.Owners.{handles};
 ghost use Rattle.wasi_p1_parts.specs.Viewed.{descriptor_under, Lowered};
 ghost use Rattle.wasi_p2_types.specs.FlagNames.{path_flags_named};
 ghost use Rattle.wasi_p2_types.specs.FsErrors.{FsCause};
-ghost use Rattle.wasi_p2.specs.Views.{Performs};
+ghost use Rattle.wasi_p2.specs.Resources.{both_found, directory_at};
+ghost use Rattle.wasi_p2.specs.Views.{files_of, CallsOn, FilesOwned, LooksFromBoth, Performs};
 ghost use Rattle.wasi_resolve.specs.AtTwo.{HardLink, Rename};
 ghost use Rattle.wasi_resolve.specs.PathRequest.{AtTwo, meant_by};
 
@@ -18,18 +21,40 @@ use wasi_fs::{Descriptor, Dir};
 use wasi_host::Host;
 use wasi_p2::types::PathFlags;
 use wasi_p2::{FsResult, WasiFilesystemCtx, WasiFilesystemCtxView};
+use wasi_streams::Resource;
 
-/// Gives the file or link under `old_path` a further name.
-pub fn link_at<H: Host>(
+/// A call of a view at a path below one directory and at a path below another, which may be the same one.
+pub trait BetweenCall<H: Host> {
+    /// What the lower call did, of the two directories.
+    ghost Did: { Self → H → H → Directory → Directory → Result (Unit {0}) HostError → Type 0 };
+
+    /// The call, of the two directories' resources.
+    fn made(
+        self,
+        view: &mut WasiFilesystemCtxView<'_, H>,
+        fd: Resource,
+        new_fd: Resource,
+    ) -> FsResult<()>
+        requires owned { FilesOwned H.Host (files_of view.old.ctx.now view.old.table.now) }
+        ensures same_ctx { view.new.ctx.ghost_name ≡ view.old.ctx.ghost_name }
+        ensures same_table { view.new.table.ghost_name ≡ view.old.table.ghost_name }
+        ensures call { CallsOn H.Host (files_of view.old.ctx.now view.old.table.now)
+            (files_of view.new.ctx.now view.new.table.now)
+            (LooksFromBoth view.old.table.now.entries fd.number new_fd.number)
+            (both_found (directory_at view.old.table.now.entries fd.number)
+            (directory_at view.old.table.now.entries new_fd.number)) (λ unit. unit)
+            (λ dirs. Did self view.old.ctx.now.host view.new.ctx.now.host dirs.0 dirs.1) result };
+}
+
+/// Makes a call at a path below the directory of a number and at one below that of another.
+pub fn between<H: Host, C: BetweenCall<H>>(
     fs: &mut WasiFilesystemCtx<H>,
     descriptors: &mut Descriptors,
     fd: u32,
     dir: &Dir,
-    old_path_flags: PathFlags,
-    old_path: &str,
     new_fd: u32,
     new_dir: &Dir,
-    new_path: &str,
+    call: C,
 ) -> FsResult<()>
     requires holds { HoldsHandles (H.live fs.old.host) (handles descriptors.old.slots) fs.old.preopens.items }
     requires stands { descriptor_under (slice_get descriptors.old.slots fd) ≡ Some (Descriptor.Dir dir.now) }
@@ -38,10 +63,9 @@ pub fn link_at<H: Host>(
     ensures same { descriptors.new ≡ descriptors.old }
     ensures cause { FsCause (H.faults fs.old.host) (H.faults fs.new.host) result }
     ensures live { H.live fs.new.host ≡ H.live fs.old.host }
-    ensures lineage { Traced (OneOf dir.now.dir new_dir.now.dir) Nothing Nothing (H.lookups fs.old.host) (H.lookups fs.new.host) }
-    ensures did { Lowered (λ unit. unit) (Performs H.Host fs.old.host fs.new.host (may_add_name dir.now.perms new_dir.now.perms (is_followed (path_flags_named old_path_flags)))
-        (meant_by (H.world fs.old.host).tree (AtTwo ((H.world fs.old.host).held dir.now.dir).node old_path.now ((H.world fs.old.host).held new_dir.now.dir).node new_path.now HardLink))
-        (λ unit. unit)) result }
+    ensures lineage { Traced (OneOf dir.now.dir new_dir.now.dir) Nothing Nothing
+        (H.lookups fs.old.host) (H.lookups fs.new.host) }
+    ensures did { Lowered (λ unit. unit) (C.Did call fs.old.host fs.new.host dir.now new_dir.now) result }
 {
     let resource = resource_under(&descriptors.items, fd);
     let new_resource = resource_under(&descriptors.items, new_fd);
@@ -49,37 +73,57 @@ pub fn link_at<H: Host>(
         ctx: fs,
         table: &mut descriptors.table,
     };
-    view.link_at(resource, old_path_flags, old_path, new_resource, new_path)
+    call.made(&mut view, resource, new_resource)
+}
+
+/// Gives the file or link under `old_path` a further name.
+#[derive(Clone, Copy)]
+pub struct LinkAt<'p> {
+    pub old_path_flags: PathFlags,
+    pub old_path: &'p str,
+    pub new_path: &'p str,
+}
+
+impl<'p, H: Host> BetweenCall<H> for LinkAt<'p> {
+    ghost Did = { λ call old new dir new_dir. Performs H.Host old new
+        (may_add_name dir.perms new_dir.perms (is_followed (path_flags_named call.old_path_flags)))
+        (meant_by (H.world old).tree (AtTwo ((H.world old).held dir.dir).node call.old_path.now
+        ((H.world old).held new_dir.dir).node call.new_path.now HardLink)) (λ unit. unit) };
+
+    fn made(
+        self,
+        view: &mut WasiFilesystemCtxView<'_, H>,
+        fd: Resource,
+        new_fd: Resource,
+    ) -> FsResult<()> {
+        view.link_at(
+            fd,
+            self.old_path_flags,
+            self.old_path,
+            new_fd,
+            self.new_path,
+        )
+    }
 }
 
 /// Moves what is under `old_path`.
-pub fn rename_at<H: Host>(
-    fs: &mut WasiFilesystemCtx<H>,
-    descriptors: &mut Descriptors,
-    fd: u32,
-    dir: &Dir,
-    old_path: &str,
-    new_fd: u32,
-    new_dir: &Dir,
-    new_path: &str,
-) -> FsResult<()>
-    requires holds { HoldsHandles (H.live fs.old.host) (handles descriptors.old.slots) fs.old.preopens.items }
-    requires stands { descriptor_under (slice_get descriptors.old.slots fd) ≡ Some (Descriptor.Dir dir.now) }
-    requires new_stands { descriptor_under (slice_get descriptors.old.slots new_fd) ≡ Some (Descriptor.Dir new_dir.now) }
-    ensures ctx { fs.new ≡ record fs.old { host = fs.new.host } }
-    ensures same { descriptors.new ≡ descriptors.old }
-    ensures cause { FsCause (H.faults fs.old.host) (H.faults fs.new.host) result }
-    ensures live { H.live fs.new.host ≡ H.live fs.old.host }
-    ensures lineage { Traced (OneOf dir.now.dir new_dir.now.dir) Nothing Nothing (H.lookups fs.old.host) (H.lookups fs.new.host) }
-    ensures did { Lowered (λ unit. unit) (Performs H.Host fs.old.host fs.new.host (may_rename dir.now.perms new_dir.now.perms)
-        (meant_by (H.world fs.old.host).tree (AtTwo ((H.world fs.old.host).held dir.now.dir).node old_path.now ((H.world fs.old.host).held new_dir.now.dir).node new_path.now Rename))
-        (λ unit. unit)) result }
-{
-    let resource = resource_under(&descriptors.items, fd);
-    let new_resource = resource_under(&descriptors.items, new_fd);
-    let mut view = WasiFilesystemCtxView {
-        ctx: fs,
-        table: &mut descriptors.table,
-    };
-    view.rename_at(resource, old_path, new_resource, new_path)
+#[derive(Clone, Copy)]
+pub struct RenameAt<'p> {
+    pub old_path: &'p str,
+    pub new_path: &'p str,
+}
+
+impl<'p, H: Host> BetweenCall<H> for RenameAt<'p> {
+    ghost Did = { λ call old new dir new_dir. Performs H.Host old new (may_rename dir.perms new_dir.perms)
+        (meant_by (H.world old).tree (AtTwo ((H.world old).held dir.dir).node call.old_path.now
+        ((H.world old).held new_dir.dir).node call.new_path.now Rename)) (λ unit. unit) };
+
+    fn made(
+        self,
+        view: &mut WasiFilesystemCtxView<'_, H>,
+        fd: Resource,
+        new_fd: Resource,
+    ) -> FsResult<()> {
+        view.rename_at(fd, self.old_path, new_fd, self.new_path)
+    }
 }

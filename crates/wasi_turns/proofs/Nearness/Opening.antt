@@ -2,6 +2,7 @@
 use Rattle.std.proofs.Common.{ℕ, [], slice_get}
 use Rattle.wasi_fs.specs.OpenHow.{mode_of}
 use Rattle.wasi_guest.specs.declared.call.Call.TheVariants as calls
+use Rattle.wasi_guest.specs.declared.errno.Errno.TheVariants as errnos
 use Rattle.wasi_turns.specs.Guest.{Guest}
 use Rattle.wasi_turns.specs.RawFlags.{modes_in}
 use Rattle.wasi_turns.specs.Rows.{path_open}
@@ -17,8 +18,8 @@ unfolding path_open
 path_open_near {g} {fd} {fdflags = fdflags} = then _ (how_never _ _ _ _ _) (λ how _. then_text g _ _ (λ text read.
     then _ (directory_never (slice_get g.slots fd)) (λ d is. then _ (room_never g.slots g.table_max 1) (λ _ _.
     then _ (permit_never _ (open_known how d.perms)) (λ _ may.
-    let perms = directory_perms (slice_get g.slots fd) is in asks_near (record {
-      starts = λ n has. named_directory g fd n (Contains-here fd []) is has;
+    let perms = directory_perms errnos.Notdir (slice_get g.slots fd) is in asks_near (record {
+      starts = λ n has. named_directory errnos.Notdir g fd n (Contains-here fd []) is has;
       slots = λ found. put_opened g fd d.perms (mode_of how) (modes_in fdflags) found perms;
       ends = λ t found answered. tt;
       permits = λ names t found answered. open_keeps t d.node text how

@@ -26,7 +26,7 @@ use Rattle.wasi_turns.specs.declared.error.P1Error.TheVariants.{Errno}
 use Rattle.wasi_host.proofs.Agreeing.{one}
 use Rattle.wasi_host.proofs.Leaving.{Contains-here}
 use Rattle.wasi_turns.proofs.Bytes.{text_utf8}
-use Rattle.wasi_turns.proofs.Changing.{named_directory, named_file, start_is, directory_perms, put_nothing}
+use Rattle.wasi_turns.proofs.Changing.{named_directory, named_file, directory_perms, put_nothing}
 use Rattle.wasi_turns.proofs.Codes.{IsKnown}
 use Rattle.wasi_turns.proofs.Near.{Ends, IsNamed, StaysNear, AsksNear, IsNear, KeepsSlots, KeepsBytes, GivesBytes, MayBeAsked, AreTexts, given_by}
 use Rattle.wasi_turns.proofs.Keeping.{no_write}
@@ -127,7 +127,7 @@ only_named g fd n is perms = ap (λ k. perms_in (slice_get g.slots k)) (one is) 
 
 pub start_perms : {d : OpenNode} (g : Guest) (fd : ℕ) → start_in (slice_get g.slots fd) ≡ Ok d
     → perms_in (slice_get g.slots fd) ≡ Some d.perms
-start_perms g fd is = directory_perms (slice_get g.slots fd) (start_is (slice_get g.slots fd) is)
+start_perms g fd = directory_perms errnos.Badf (slice_get g.slots fd)
 
 -- ---- ends of rows
 
@@ -163,7 +163,7 @@ asks_near near = record { near = λ fuel. near }
 -- of a row that starts from a directory, and asks for something at a path
 pub starts_near : {d : OpenNode} {call : Call} (g : Guest) (fd n : ℕ) → Contains (descriptors_named g.memory call) fd
     → start_in (slice_get g.slots fd) ≡ Ok d → Contains (d.node ∷ []) n → IsNamed g call n
-starts_near g fd n named is has = named_directory g fd n named (start_is (slice_get g.slots fd) is) has
+starts_near = named_directory errnos.Badf
 
 -- at the file of the one number that a call names
 pub file_asked : {g : Guest} {call : Call} {f : OpenFile} {r : Request} {next : Reply r → Row (Value × Guest)} (fd : ℕ)

@@ -2,4 +2,4 @@ use Rattle.wasi_turns.proofs.Owning.{put_file}
 use Rattle.wasi_p1_parts.proofs.call_parts.put_back.Goals as goal
 
 pub returns-clause-handles : goal.returns-clause-handles
-returns-clause-handles c = rw c.put_back.ensures.slots (put_file _ _ c.args.slot c.requires.is)
+returns-clause-handles c = rw c.put_back.ensures.slots (put_file _ _ _ c.requires.is)

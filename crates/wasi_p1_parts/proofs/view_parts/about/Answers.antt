@@ -7,7 +7,10 @@ resource_under-resource-requires g c =
     record { live = open_under c.args.fd c.descriptors.invariant c.descriptors.view_is c.requires.stands }
 
 pub made-requires : goal.made-requires
-made-requires g c = record { owned = kept_owned c.descriptors.invariant c.descriptors.view_is c.requires.holds }
+made-requires g c = record {
+  fits = c.requires.fits;
+  owned = kept_owned c.descriptors.invariant c.descriptors.view_is c.requires.holds;
+}
 
 pub returns-clause-did : goal.returns-clause-did
 returns-clause-did g c =

@@ -8,20 +8,20 @@ use Rattle.wasi_turns.proofs.Taking.{unchanged}
 use Rattle.wasi_p1_parts.proofs.Viewing.{lowered_err, lowered_ok, on_refusal}
 use Rattle.wasi_p1.proofs.context.WasiP1Ctx.fd_datasync.Goals as goal
 
-pub returns-in_err-sync_data-clause-turn : goal.returns-in_err-sync_data-clause-turn
+pub returns-in_err-about_file-clause-turn : goal.returns-in_err-about_file-clause-turn
 unfolding fd_datasync
-returns-in_err-sync_data-clause-turn g c =
-    let given = c.in_err-sync_data.ensures in
+returns-in_err-about_file-clause-turn g c =
+    let given = c.in_err-about_file.ensures in
     let lower = lowered_err _ given.cause given.did in
-    rw (given.same, ← c.self.view_is) (on_refusal lower c.from_residual-in_err-sync_data.ensures.1 (changed_err {own = None} {r = Direct (Sync _)}
+    rw (given.same, ← c.self.view_is) (on_refusal lower c.from_residual-in_err-about_file.ensures.1 (changed_err {own = None} {r = Direct (Sync _)}
     (rw (← c.in_ok-slot.ensures.row) refl) c.self.invariant.owned unchanged _ tt (not_wanted _ lower.did.0)
-    (λ told _. (lower.did.2.does told refl).keeps)
-    (λ told _. called_err _ (λ is. lower.cause.io (ap Err is)) (lower.did.2.does told refl))))
+    (λ told _. (lower.did.1.does told refl).keeps)
+    (λ told _. called_err _ (λ is. lower.cause.io (ap Err is)) (lower.did.1.does told refl))))
 
 pub returns-clause-turn : goal.returns-clause-turn
 unfolding fd_datasync
 returns-clause-turn g c =
-    let given = c.in_ok-sync_data.ensures in
+    let given = c.in_ok-about_file.ensures in
     let lower = lowered_ok _ given.did in
     rw (given.same, ← c.self.view_is) (changed_ok {own = None} {r = Direct (Sync _)} (rw (← c.in_ok-slot.ensures.row) refl)
-    c.self.invariant.owned unchanged tt tt tt (λ told _. (lower.2.does told refl).keeps) (λ told _. called_ok (lower.2.does told refl)))
+    c.self.invariant.owned unchanged tt tt tt (λ told _. (lower.1.does told refl).keeps) (λ told _. called_ok (lower.1.does told refl)))

@@ -22,8 +22,8 @@ returns-in_err-fdstat-in-Directory-clause-turn g c =
     let given = c.in_err-fdstat-in-Directory.ensures in
     rw (given.same, ← c.self.view_is) (on_err c.from_residual-in_err-fdstat-in-Directory.ensures.1 (makes_err {r = Direct (Flags _)}
     (λ _. give directory_fdstat) with_fdstat
-    (rw (← c.in_ok-slot.ensures.row, c.in-Directory.is, ← c.if-is_some.ensures) refl) c.self.invariant.owned given.front
-    (λ is. absurd (given.never_wants is)) unchanged given.told))
+    (rw (← c.in_ok-slot.ensures.row, c.in-Directory.is, ← c.if-is_some.ensures) refl) c.self.invariant.owned given.makes.front
+    (λ is. absurd (given.makes.never_wants is)) unchanged given.makes.told))
 
 pub open_file_fdstat-requires : goal.open_file_fdstat-requires
 open_file_fdstat-requires g c = record {
@@ -37,8 +37,8 @@ returns-in_err-fdstat-in-File-clause-turn g c =
     let given = c.in_err-fdstat-in-File.ensures in
     rw (given.same, ← c.self.view_is) (on_err c.from_residual-in_err-fdstat-in-File.ensures.1 (makes_err {r = Direct (Stat _)}
     (λ metadata. give (file_told (open_file_of (g.H.Host.world c.self.inside.fs.host).held c.in-File.file) metadata)) with_fdstat
-    (rw (← c.in_ok-slot.ensures.row, c.in-File.is) refl) c.self.invariant.owned given.front
-    (λ is. absurd (given.never_wants is)) unchanged given.told))
+    (rw (← c.in_ok-slot.ensures.row, c.in-File.is) refl) c.self.invariant.owned given.makes.front
+    (λ is. absurd (given.makes.never_wants is)) unchanged given.makes.told))
 
 pub returns-in_ok-fdstat-in-Directory-clause-turn : goal.returns-in_ok-fdstat-in-Directory-clause-turn
 unfolding fd_fdstat_get
@@ -46,7 +46,7 @@ returns-in_ok-fdstat-in-Directory-clause-turn g c =
     let given = c.in_ok-fdstat-in-Directory.ensures in
     rw (given.same, ← c.self.view_is) (makes_ok {r = Direct (Flags _)} (λ _. give directory_fdstat) with_fdstat
     (rw (← c.in_ok-slot.ensures.row, c.in-Directory.is, ← c.if-is_some.ensures) refl)
-    c.self.invariant.owned refl given.front refl refl given.told)
+    c.self.invariant.owned refl given.makes.front refl refl given.makes.told)
 
 pub returns-in_ok-fdstat-in-File-clause-turn : goal.returns-in_ok-fdstat-in-File-clause-turn
 unfolding fd_fdstat_get
@@ -54,4 +54,4 @@ returns-in_ok-fdstat-in-File-clause-turn g c =
     let given = c.in_ok-fdstat-in-File.ensures in
     rw (given.same, ← c.self.view_is) (makes_ok {r = Direct (Stat _)}
     (λ metadata. give (file_told (open_file_of (g.H.Host.world c.self.inside.fs.host).held c.in-File.file) metadata)) with_fdstat
-    (rw (← c.in_ok-slot.ensures.row, c.in-File.is) refl) c.self.invariant.owned refl given.front refl refl given.told)
+    (rw (← c.in_ok-slot.ensures.row, c.in-File.is) refl) c.self.invariant.owned refl given.makes.front refl refl given.makes.told)

@@ -20,8 +20,8 @@ returns-in_err-filestat-in-Directory-clause-turn g c =
     let given = c.in_err-filestat-in-Directory.ensures in
     rw (given.same, ← c.self.view_is) (on_err c.from_residual-in_err-filestat-in-Directory.ensures.1 (makes_err {r = Direct (Stat _)}
     (λ metadata. filestat_in (stat_both metadata)) with_filestat
-    (rw (← c.in_ok-slot.ensures.row, c.in-Directory.is) refl) c.self.invariant.owned given.front
-    (λ is. absurd (given.never_wants is)) unchanged given.told))
+    (rw (← c.in_ok-slot.ensures.row, c.in-Directory.is) refl) c.self.invariant.owned given.makes.front
+    (λ is. absurd (given.makes.never_wants is)) unchanged given.makes.told))
 
 pub node_filestat-requires-in-File : goal.node_filestat-requires-in-File
 node_filestat-requires-in-File g c = record {
@@ -35,19 +35,19 @@ returns-in_err-filestat-in-File-clause-turn g c =
     let given = c.in_err-filestat-in-File.ensures in
     rw (given.same, ← c.self.view_is) (on_err c.from_residual-in_err-filestat-in-File.ensures.1 (makes_err {r = Direct (Stat _)}
     (λ metadata. filestat_in (stat_both metadata)) with_filestat
-    (rw (← c.in_ok-slot.ensures.row, c.in-File.is) refl) c.self.invariant.owned given.front
-    (λ is. absurd (given.never_wants is)) unchanged given.told))
+    (rw (← c.in_ok-slot.ensures.row, c.in-File.is) refl) c.self.invariant.owned given.makes.front
+    (λ is. absurd (given.makes.never_wants is)) unchanged given.makes.told))
 
 pub returns-in_ok-filestat-in-Directory-clause-turn : goal.returns-in_ok-filestat-in-Directory-clause-turn
 unfolding fd_filestat_get
 returns-in_ok-filestat-in-Directory-clause-turn g c =
     let given = c.in_ok-filestat-in-Directory.ensures in
     rw (given.same, ← c.self.view_is) (makes_ok {r = Direct (Stat _)} (λ metadata. filestat_in (stat_both metadata)) with_filestat
-    (rw (← c.in_ok-slot.ensures.row, c.in-Directory.is) refl) c.self.invariant.owned refl given.front refl refl given.told)
+    (rw (← c.in_ok-slot.ensures.row, c.in-Directory.is) refl) c.self.invariant.owned refl given.makes.front refl refl given.makes.told)
 
 pub returns-in_ok-filestat-in-File-clause-turn : goal.returns-in_ok-filestat-in-File-clause-turn
 unfolding fd_filestat_get
 returns-in_ok-filestat-in-File-clause-turn g c =
     let given = c.in_ok-filestat-in-File.ensures in
     rw (given.same, ← c.self.view_is) (makes_ok {r = Direct (Stat _)} (λ metadata. filestat_in (stat_both metadata)) with_filestat
-    (rw (← c.in_ok-slot.ensures.row, c.in-File.is) refl) c.self.invariant.owned refl given.front refl refl given.told)
+    (rw (← c.in_ok-slot.ensures.row, c.in-File.is) refl) c.self.invariant.owned refl given.makes.front refl refl given.makes.told)

@@ -8,12 +8,12 @@ use Rattle.wasi_turns.proofs.Taking.{unchanged}
 use Rattle.wasi_p1_parts.proofs.Viewing.{lowered_err, lowered_ok, on_refusal}
 use Rattle.wasi_p1.proofs.context.WasiP1Ctx.fd_filestat_set_size.Goals as goal
 
-pub returns-in_err-set_size-clause-turn : goal.returns-in_err-set_size-clause-turn
+pub returns-in_err-about_file-clause-turn : goal.returns-in_err-about_file-clause-turn
 unfolding fd_filestat_set_size
-returns-in_err-set_size-clause-turn g c =
-    let given = c.in_err-set_size.ensures in
+returns-in_err-about_file-clause-turn g c =
+    let given = c.in_err-about_file.ensures in
     let lower = lowered_err _ given.cause given.did in
-    rw (given.same, ← c.self.view_is) (on_refusal lower c.from_residual-in_err-set_size.ensures.1 (changed_err {r = Direct (SetSize _ _)}
+    rw (given.same, ← c.self.view_is) (on_refusal lower c.from_residual-in_err-about_file.ensures.1 (changed_err {r = Direct (SetSize _ _)}
     (rw (← c.in_ok-slot.ensures.row) refl) c.self.invariant.owned unchanged _ lower.did.permit (λ _. refl)
     (λ told none. (lower.did.does told none).keeps)
     (λ told none. called_err _ (λ is. lower.cause.io (ap Err is)) (lower.did.does told none))))
@@ -21,7 +21,7 @@ returns-in_err-set_size-clause-turn g c =
 pub returns-clause-turn : goal.returns-clause-turn
 unfolding fd_filestat_set_size
 returns-clause-turn g c =
-    let given = c.in_ok-set_size.ensures in
+    let given = c.in_ok-about_file.ensures in
     let lower = lowered_ok _ given.did in
     rw (given.same, ← c.self.view_is) (changed_ok {r = Direct (SetSize _ _)} (rw (← c.in_ok-slot.ensures.row) refl)
     c.self.invariant.owned unchanged tt tt lower.permit (λ told none. (lower.does told none).keeps)

@@ -9,13 +9,13 @@ use Rattle.wasi_turns.specs.Rows.Times.{fd_filestat_set_times}
 use Rattle.wasi_p1_parts.proofs.Viewing.{lowered_err, lowered_ok, on_refusal}
 use Rattle.wasi_p1.proofs.context.WasiP1Ctx.fd_filestat_set_times.Goals as goal
 
-pub returns-in_err-set_times-clause-turn : goal.returns-in_err-set_times-clause-turn
+pub returns-in_err-about-clause-turn : goal.returns-in_err-about-clause-turn
 unfolding fd_filestat_set_times
-returns-in_err-set_times-clause-turn g c =
-    let given = c.in_err-set_times.ensures in
+returns-in_err-about-clause-turn g c =
+    let given = c.in_err-about.ensures in
     let lower = lowered_err _ given.cause given.did in
     let node = open_node_of (g.H.Host.world c.self.inside.fs.host).held c.in_ok-descriptor.descriptor in
-    rw (given.same, ← c.self.view_is) (on_refusal lower c.from_residual-in_err-set_times.ensures.1 (changed_err {r = Direct (SetTimes node.node c.in_ok-times.times.atime c.in_ok-times.times.mtime)}
+    rw (given.same, ← c.self.view_is) (on_refusal lower c.from_residual-in_err-about.ensures.1 (changed_err {r = Direct (SetTimes node.node c.in_ok-times.times.atime c.in_ok-times.times.mtime)}
     (rw (← (rw c.wall.ensures.wall at c.in_ok-times.ensures.row), ← c.in_ok-descriptor.ensures.row) refl)
     c.self.invariant.owned unchanged _ lower.did.1.permit (not_wanted _ lower.did.0) (λ told none.
     (lower.did.1.does told none).keeps) (λ told none. set_err _ (λ is. lower.cause.io (ap Err is)) (lower.did.1.does told none))))
@@ -23,7 +23,7 @@ returns-in_err-set_times-clause-turn g c =
 pub returns-clause-turn : goal.returns-clause-turn
 unfolding fd_filestat_set_times
 returns-clause-turn g c =
-    let given = c.in_ok-set_times.ensures in
+    let given = c.in_ok-about.ensures in
     let lower = lowered_ok _ given.did in
     let node = open_node_of (g.H.Host.world c.self.inside.fs.host).held c.in_ok-descriptor.descriptor in
     rw (given.same, ← c.self.view_is) (changed_ok {r = Direct (SetTimes node.node c.in_ok-times.times.atime c.in_ok-times.times.mtime)}

@@ -7,19 +7,19 @@ use Rattle.wasi_turns.proofs.Taking.{refusals}
 use Rattle.wasi_p1_parts.proofs.Viewing.{lowered_err, lowered_ok, on_refusal}
 use Rattle.wasi_p1.proofs.context.WasiP1Ctx.path_link.Goals as goal
 
-pub returns-in_err-link_at-clause-turn : goal.returns-in_err-link_at-clause-turn
+pub returns-in_err-between-clause-turn : goal.returns-in_err-between-clause-turn
 unfolding path_link
-returns-in_err-link_at-clause-turn g c =
-    let given = c.in_err-link_at.ensures in
+returns-in_err-between-clause-turn g c =
+    let given = c.in_err-between.ensures in
     let lower = lowered_err _ given.cause given.did in
-    rw (given.same, ← c.self.view_is) (on_refusal lower c.from_residual-in_err-link_at.ensures.1 (done_err (AtTwo _ _ _ _ HardLink)
+    rw (given.same, ← c.self.view_is) (on_refusal lower c.from_residual-in_err-between.ensures.1 (done_err (AtTwo _ _ _ _ HardLink)
     (rw (← c.in_ok-flags.ensures.row, ← c.in_ok-old.ensures.row, ← c.in_ok-new.ensures.row, ← c.in_ok-old_text.ensures.row, ← c.in_ok-new_text.ensures.row) refl) c.self.invariant.owned _ lower.cause
     lower.did.permit refl lower.did.does))
 
 pub returns-clause-turn : goal.returns-clause-turn
 unfolding path_link
 returns-clause-turn g c =
-    let given = c.in_ok-link_at.ensures in
+    let given = c.in_ok-between.ensures in
     let lower = lowered_ok _ given.did in
     rw (given.same, ← c.self.view_is) (done_ok (AtTwo _ _ _ _ HardLink)
     (rw (← c.in_ok-flags.ensures.row, ← c.in_ok-old.ensures.row, ← c.in_ok-new.ensures.row, ← c.in_ok-old_text.ensures.row, ← c.in_ok-new_text.ensures.row) refl) c.self.invariant.owned

@@ -1,26 +1,24 @@
 use Rattle.std.proofs.Common.{rules}
-use Rattle.wasi_fs.specs.declared.descriptor.Descriptor.TheVariants.{File}
-use Rattle.wasi_p1_parts.proofs.Viewing.{descriptor_stands, entry_under, kept_owned, lowered, open_under}
-use Rattle.wasi_p1_parts.proofs.view_parts.nodes.sync.Goals as goal
+use Rattle.wasi_p1_parts.proofs.Viewing.{entry_under, kept_owned, open_under}
+use Rattle.wasi_p1_parts.proofs.view_parts.files.about_file.Goals as goal
 
 pub resource_under-resource-requires : goal.resource_under-resource-requires
 resource_under-resource-requires g c =
     record { live = open_under c.args.fd c.descriptors.invariant c.descriptors.view_is c.requires.stands }
 
-pub sync-requires : goal.sync-requires
-sync-requires g c = record { owned = kept_owned c.descriptors.invariant c.descriptors.view_is c.requires.holds }
+pub made-requires : goal.made-requires
+made-requires g c = record { owned = kept_owned c.descriptors.invariant c.descriptors.view_is c.requires.holds }
 
 pub returns-clause-logged : goal.returns-clause-logged
 returns-clause-logged g c =
     let entry = entry_under c.args.fd c.descriptors.invariant c.descriptors.view_is c.requires.stands _
     c.resource_under-resource.ensures.names in
-    let did = lowered _ _ _ (File c.args.file.now) (descriptor_stands _ _ entry) c.sync.ensures.call.did in
-    let logged = did.2.1 in
+    let logged = (c.made.ensures.call c.args.file.now entry).0 in
     search rules
 
 pub returns-clause-did : goal.returns-clause-did
 returns-clause-did g c =
     let entry = entry_under c.args.fd c.descriptors.invariant c.descriptors.view_is c.requires.stands _
     c.resource_under-resource.ensures.names in
-    let did = lowered _ _ _ (File c.args.file.now) (descriptor_stands _ _ entry) c.sync.ensures.call.did in
+    let did = (c.made.ensures.call c.args.file.now entry).1 in
     search rules

@@ -1,7 +1,7 @@
 use Rattle.std.proofs.Common.{ap, rules}
 use Rattle.wasi_p2.specs.Resources.{entry_handle}
 use Rattle.wasi_p1_parts.proofs.Viewing.{directories_stand, entry_under, kept_owned, lowered, open_under, traced_either}
-use Rattle.wasi_p1_parts.proofs.view_parts.two_places.link_at.Goals as goal
+use Rattle.wasi_p1_parts.proofs.view_parts.two_places.between.Goals as goal
 
 pub resource_under-resource-requires : goal.resource_under-resource-requires
 resource_under-resource-requires g c =
@@ -11,8 +11,8 @@ pub resource_under-new_resource-requires : goal.resource_under-new_resource-requ
 resource_under-new_resource-requires g c =
     record { live = open_under c.args.new_fd c.descriptors.invariant c.descriptors.view_is c.requires.new_stands }
 
-pub link_at-requires : goal.link_at-requires
-link_at-requires g c = record { owned = kept_owned c.descriptors.invariant c.descriptors.view_is c.requires.holds }
+pub made-requires : goal.made-requires
+made-requires g c = record { owned = kept_owned c.descriptors.invariant c.descriptors.view_is c.requires.holds }
 
 pub returns-clause-lineage : goal.returns-clause-lineage
 returns-clause-lineage g c =
@@ -20,7 +20,7 @@ returns-clause-lineage g c =
     c.resource_under-resource.ensures.names in
     let new_entry = entry_under c.args.new_fd c.descriptors.invariant c.descriptors.view_is c.requires.new_stands _
     c.resource_under-new_resource.ensures.names in
-    let looks = traced_either _ _ _ (ap entry_handle entry) (ap entry_handle new_entry) c.link_at.ensures.call.looks in
+    let looks = traced_either _ _ _ (ap entry_handle entry) (ap entry_handle new_entry) c.made.ensures.call.looks in
     search rules
 
 pub returns-clause-did : goal.returns-clause-did
@@ -29,5 +29,5 @@ returns-clause-did g c =
     c.resource_under-resource.ensures.names in
     let new_entry = entry_under c.args.new_fd c.descriptors.invariant c.descriptors.view_is c.requires.new_stands _
     c.resource_under-new_resource.ensures.names in
-    let did = lowered _ _ _ (c.args.dir.now, c.args.new_dir.now) (directories_stand _ _ _ entry new_entry) c.link_at.ensures.call.did in
+    let did = lowered _ _ _ (c.args.dir.now, c.args.new_dir.now) (directories_stand _ _ _ entry new_entry) c.made.ensures.call.did in
     search rules
