@@ -1,5 +1,5 @@
 -- A call is refused `Io` only where the call below it was.
-use Rattle.std.proofs.Common.{◌≡◌, ℕ, Result, Ok, Err, refl, ap}
+use Rattle.std.proofs.Common.{◌≡◌, Result, Ok, Err, refl, ap}
 use Rattle.wasi_host.specs.Meaning.{FaultCount, HasCause}
 use Rattle.wasi_host.specs.declared.errors.ErrorCode.{ErrorCode as LowerCode}
 use Rattle.wasi_host.specs.declared.errors.ErrorCode.TheVariants as lower

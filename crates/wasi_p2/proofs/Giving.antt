@@ -1,5 +1,5 @@
 -- Directories that are given one after another.
-use Rattle.std.proofs.Common.{suc, ◌≡◌, ◌≤◌, ◌+◌, ◌⊎◌, min, ℕ, Bool, true, false, cond, is_some, IsTrue, IsSome, IfSome, List, [], ◌∷◌, length, slice_get, option_map, Option, Some, None, Result, Ok, Err, refl, ap, sym, subst, ◌∙◌, inl, inr, arith}
+use Rattle.std.proofs.Common.{suc, ◌≡◌, ◌+◌, ◌⊎◌, ℕ, Bool, true, false, cond, is_some, IsTrue, IsSome, IfSome, List, [], ◌∷◌, length, slice_get, option_map, Option, Some, None, Result, Ok, Err, refl, ap, sym, subst, ◌∙◌, inl, inr, arith}
 use Rattle.std.proofs.lemmas.Bool.{cases_eq}
 use Rattle.std.proofs.lemmas.Bool.Decides.{nat_tests}
 use Rattle.std.specs.Cmp.{nat_cmp_total}

@@ -1,5 +1,5 @@
 -- Several contexts and tables whose handles are owned, as a call of one of them keeps its own so.
-use Rattle.std.proofs.Common.{suc, zero, ◌<◌, ◌≡◌, ◌⊎◌, ℕ, List, [], ◌∷◌, length, map, slice_get, slice_set, get_or, option_map, Some, None, refl, ap, sym, subst, ◌∙◌, inl, inr}
+use Rattle.std.proofs.Common.{suc, zero, ◌<◌, ◌≡◌, ℕ, List, [], ◌∷◌, length, map, slice_get, slice_set, get_or, option_map, Some, None, ap, sym, subst, ◌∙◌, inl, inr}
 use Rattle.std.specs.FinMap.{empty, get-empty}
 use Rattle.std.proofs.lemmas.List.{length-map, length-set, map-set}
 use Rattle.std.proofs.lemmas.Option.{slice_get-map, slice_get_read}
