@@ -58,7 +58,7 @@ fn way_asked(rt: &HostRuntime) -> io::Result<Way> {
 // Makes the script of a number.
 fn make(rt: &HostRuntime) -> io::Result<ExitCode> {
     let script = gen_script(rt.alloc(), MADE)?;
-    println!(rt; "{} calls", script.calls.len())?;
+    println!(rt; "{} calls", script.session.calls.len())?;
     Ok(ExitCode::SUCCESS)
 }
 
