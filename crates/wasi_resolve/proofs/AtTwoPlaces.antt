@@ -1,22 +1,19 @@
 -- What is done at two places: from the opens of both directories over the host's one call to their closes.
-use Rattle.std.proofs.Common.{ℕ, ◌≡◌, ◌⊎◌, inl, inr, true, false, cond, Bool, List, [], ◌∷◌, ◌++◌, Option, Some, None, Result, Ok, Err, refl, sym, ap, subst, ◌∙◌, arith, length, length-append, length-set, slice_set}
+use Rattle.std.proofs.Common.{ℕ, ◌≡◌, ◌⊎◌, inl, inr, true, false, cond, Bool, List, [], ◌∷◌, ◌++◌, Option, Some, None, Result, Ok, Err, refl, sym, ap, subst, ◌∙◌, arith, length-set, slice_set}
 use Rattle.std.specs.Prelude.{All, Contains}
 use Rattle.std.specs.FinSet.{contains}
-use Rattle.std.proofs.lemmas.List.Sums.{sum_by-append}
 use Rattle.std.proofs.lemmas.List.Elements.{All-append, Contains-append_cases, Contains-append_left, Contains-append_right}
 use Rattle.wasi_host.specs.Tree.{Tree, Node, child, next_of, node_at, hold_one}
 use Rattle.wasi_host.specs.ValidTree.{Reached, root}
 use Rattle.wasi_host.specs.Answer.{HostAnswer}
 use Rattle.wasi_host.specs.Step.{step, found_by, found_under, made_by, added_step, moved_step, link_step, rename_step, dropped_step, name_lost, with_name, one_name_more}
 use Rattle.wasi_host.specs.Steps.{◌>>=◌}
-use Rattle.wasi_host.specs.Meaning.{World, Handles, Told, MeansErr, Logged, MaybeLogged, both_looked}
+use Rattle.wasi_host.specs.Meaning.{World, Handles, Told, MeansErr, Logged, both_looked}
 use Rattle.wasi_host.specs.Lineage.{Traced, Only, OneOf, Nothing}
 use Rattle.wasi_host.specs.declared.lookup.Lookup.{Lookup}
 use Rattle.wasi_host.specs.declared.errors.ErrorCode.{ErrorCode}
 use Rattle.wasi_host.specs.declared.lookup.LookKind.{LookKind}
-use Rattle.wasi_host.specs.declared.errors.ErrorCode.TheVariants.{Io}
 use Rattle.wasi_host.specs.declared.errors.HostError.{HostError}
-use Rattle.wasi_host.specs.declared.errors.HostError.TheVariants.{Code, Memory}
 use Rattle.wasi_host.proofs.Leaving.{LeavesFor, added_near, renamed_near, next_of-moved, next_of-dropped_step}
 use Rattle.wasi_host.proofs.Touching.{reached_through, same_node}
 use Rattle.wasi_host.proofs.Tracing.{traced_same, traced_given, traced_kept, traced_last, traced_then}
@@ -25,7 +22,7 @@ use Rattle.wasi_paths.specs.Name.{name_bytes}
 use Rattle.wasi_resolve.specs.Laws.{From, GivesIn}
 use Rattle.wasi_resolve.specs.Paths.{Place, place}
 use Rattle.wasi_resolve.specs.Finding.{FewReads}
-use Rattle.wasi_resolve.specs.Resolved.{Meant, Resolved, is_link_read, links_read, call_meant}
+use Rattle.wasi_resolve.specs.Resolved.{Meant, Resolved, links_read, call_meant}
 use Rattle.wasi_resolve.specs.Parents.{directory_of, places_at, released, shown_place, GotIn, LiveIn}
 use Rattle.wasi_resolve.specs.AtPlace.{ends_in}
 use Rattle.wasi_resolve.specs.AtTwo.{TwoPlaceCall, HardLink, Rename, Places, places_in, call_at_two, answer_at_two, step_at_two, ends_at_two}
@@ -36,6 +33,7 @@ use Rattle.wasi_resolve.specs.declared.parent.MaybeOwned.{MaybeOwned}
 use Rattle.wasi_resolve.specs.declared.parent.MaybeOwned.TheVariants.{Borrowed, Owned}
 use Rattle.wasi_resolve.specs.declared.parent.Parent.{Parent}
 use Rattle.wasi_resolve.proofs.LawProofs.{paths_stay_in_reach}
+use Rattle.wasi_resolve.proofs.Counting.{few_logged}
 use Rattle.wasi_resolve.proofs.AtPlaces.{child_after, all_ends, under_here, under_name, released_live, begins_at}
 use Rattle.wasi_resolve.proofs.Calls.{call_ok, call_err, found_ok, looks_of, looks_none, looks_stay, looks_through, means_then, resolved_err, resolved_stay, resolved_through, same_live, still_live, stayed_then}
 
@@ -367,25 +365,5 @@ traced_at_two first second closed = traced_same _ closed (traced_last (λ h has.
 pub two_reads : {A : Type 0} {before now last : List Lookup} (kind : LookKind) (old new : ℕ) (r : Result A HostError)
     → links_read (both_looked kind old new) ≡ 0 → Logged before (both_looked kind old new) r now → last ≡ now
     → FewReads 2 0 before last
-two_reads {A = A} {before = before} {now = now} kind old new r none logged closed =
-    subst (FewReads 2 0 before) (sym closed) (by r logged)
-  where
-    both : now ≡ before ++ both_looked kind old new → FewReads 2 0 before now
-    both adds = record {
-      calls = omega (arith, ap length adds, length-append before (both_looked kind old new));
-      links =
-          let sums = sum_by-append (λ (x : Lookup). cond (is_link_read x) 1 0) before (both_looked kind old new) in
-          omega (arith, ap links_read adds, sums, none);
-    }
-
-    maybe : MaybeLogged before (both_looked kind old new) now → FewReads 2 0 before now
-    maybe logged = elim logged [
-      | inl same ↦ record { calls = omega (arith, ap length same); links = omega (arith, ap links_read same) }
-      | inr adds ↦ both adds
-    ]
-
-    by : (x : Result A HostError) → Logged before (both_looked kind old new) x now → FewReads 2 0 before now
-    by (Ok a) adds = both adds
-    by (Err Memory) logged = maybe logged
-    by (Err (Code Io)) logged = maybe logged
-    by (Err (Code code)) adds = both adds
+two_reads {before = before} kind old new r none logged closed =
+    subst (λ now. FewReads 2 0 before now) (sym closed) (rw none at (few_logged (both_looked kind old new) r logged))

@@ -9,6 +9,8 @@ pub mod Asking
 pub mod Calls
 pub mod Stacks
 pub mod Lookups
+pub mod Counting
+pub mod Causes
 pub mod Tables
 pub mod Legs
 pub mod Ascending

@@ -89,7 +89,6 @@ fn is_no_directory(kind: FileType, slash: bool) -> bool
 /// Opens a name. `None` is a link that is to be read, where links may be read. A name is a link's where the open is
 /// refused Loop; or is refused NotDirectory, a directory is required, and a look says so. Where that look fails, that is
 /// the answer.
-#[tactic(auto, using(crate::proofs::Lookups::last_is))]
 pub(crate) fn open_or_link<H: Host>(
     host: &mut H,
     here: Handle,

@@ -84,7 +84,6 @@ fn leg<'p, H: Host>(host: &mut H, start: Handle, way: &mut Way<'p>) -> Result<St
 
 /// A walk that ends in a directory, since no part is left: it is opened, or looked at, for which it must have its search
 /// bit.
-#[tactic(auto, using(crate::proofs::Lookups::last_is))]
 fn at_dot<H: Host>(host: &mut H, here: Handle, aim: &Aim) -> Result<Found, HostError>
     requires { contains (H.live host.old) here ≡ true }
     ensures cause { HasCause (H.faults host.old) (H.faults host.new) result }

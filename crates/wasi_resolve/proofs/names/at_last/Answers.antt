@@ -1,6 +1,11 @@
 use Rattle.std.proofs.Common.{◌∙◌, Some, None, Ok, Err, inr, refl, sym}
 use Rattle.std.proofs.lemmas.Result.{err_from_is_err_and}
 use Rattle.wasi_resolve.proofs.Ending.{last_opened, last_unseen, last_link, last_not_directory, last_seen}
+use Rattle.wasi_host.specs.Meaning.{one_looked}
+use Rattle.wasi_host.specs.declared.lookup.LookKind.TheVariants.{Stat}
+use Rattle.wasi_resolve.proofs.Counting.{few_more, few_err, few_piece}
+use Rattle.wasi_host.specs.declared.metadata.Metadata.{Metadata}
+use Rattle.wasi_host.proofs.Tracing.{traced_call}
 use Rattle.wasi_resolve.proofs.names.at_last.Goals as goal
 
 pub returns-in-Ok-Some-clause-told : goal.returns-in-Ok-Some-clause-told
@@ -58,3 +63,26 @@ returns-else-is_no_directory-clause-told g c told =
     (rw c.name-in-Look.ensures.bytes at (c.in_ok-metadata-in-Look.ensures.told told))
     (rw c.reads_links.ensures at (sym c.is_read.ensures ∙ c.if-is_read.false))
     (sym c.is_no_directory.ensures ∙ c.if-is_no_directory.false))
+
+pub returns-in_err-metadata-in-Look-clause-reads : goal.returns-in_err-metadata-in-Look-clause-reads
+returns-in_err-metadata-in-Look-clause-reads g c =
+    few_more 1 (few_err (one_looked Stat c.args.here) c.in_err-metadata-in-Look.field-0.0
+    c.in_err-metadata-in-Look.ensures.logged)
+
+pub returns-then-is_read-clause-reads : goal.returns-then-is_read-clause-reads
+returns-then-is_read-clause-reads g c =
+    few_more 1 (few_piece (one_looked Stat c.args.here) c.in_ok-metadata-in-Look.ensures.logged)
+
+pub returns-then-is_no_directory-clause-reads : goal.returns-then-is_no_directory-clause-reads
+returns-then-is_no_directory-clause-reads g c =
+    few_more 1 (few_piece (one_looked Stat c.args.here) c.in_ok-metadata-in-Look.ensures.logged)
+
+pub returns-else-is_no_directory-clause-reads : goal.returns-else-is_no_directory-clause-reads
+returns-else-is_no_directory-clause-reads g c =
+    few_more 1 (few_piece (one_looked Stat c.args.here) c.in_ok-metadata-in-Look.ensures.logged)
+
+pub returns-in_err-metadata-in-Look-clause-lineage : goal.returns-in_err-metadata-in-Look-clause-lineage
+returns-in_err-metadata-in-Look-clause-lineage g c =
+    let error = err_from_is_err_and c.from_residual.result c.from_residual.ensures.1 in
+    rw error.1 (traced_call {A = Metadata} Stat c.args.here (Err c.in_err-metadata-in-Look.field-0.0)
+    c.in_err-metadata-in-Look.ensures.logged)

@@ -3,6 +3,7 @@ use Rattle.std.proofs.lemmas.Result.{err_from_is_err_and}
 use Rattle.wasi_host.proofs.Tracing.{traced_none, traced_then, traced_last, traced_less}
 use Rattle.wasi_resolve.specs.Finding.{course_of}
 use Rattle.wasi_resolve.specs.Left.{parts_left}
+use Rattle.wasi_resolve.proofs.Causes.{cause_err, cause_ok}
 use Rattle.wasi_resolve.proofs.Stacks.{top_live, stands_same}
 use Rattle.wasi_resolve.proofs.Lookups.{traced_top, traced_stays}
 use Rattle.wasi_resolve.proofs.Going.{on_top}
@@ -154,3 +155,57 @@ pub returns-in-Ok-Link-reach-clause-lineage : goal.returns-in-Ok-Link-reach-clau
 returns-in-Ok-Link-reach-clause-lineage g c =
     traced_less (traced_then (λ q has. has) (λ q has. has) c.loop-links.invariant.lineage
     (rw c.in-Ok-Link-reach.field-0-is at c.in-Ok-Link-reach.ensures.lineage))
+
+pub returns-in-Ok-Found-clause-cause : goal.returns-in-Ok-Found-clause-cause
+returns-in-Ok-Found-clause-cause g c =
+    cause_ok c.loop-links.invariant.later c.loop-links.invariant.most c.in-Ok-Found.ensures.cause
+
+pub returns-in-Err-clause-cause : goal.returns-in-Err-clause-cause
+returns-in-Err-clause-cause g c =
+    cause_err c.loop-links.invariant.later c.loop-links.invariant.most c.in-Err.ensures.cause
+
+pub returns-in-Ok-Found-reach-clause-cause : goal.returns-in-Ok-Found-reach-clause-cause
+returns-in-Ok-Found-reach-clause-cause g c =
+    cause_ok c.loop-links.invariant.later c.loop-links.invariant.most c.in-Ok-Found-reach.ensures.cause
+
+pub returns-in-Err-reach-clause-cause : goal.returns-in-Err-reach-clause-cause
+returns-in-Err-reach-clause-cause g c =
+    cause_err c.loop-links.invariant.later c.loop-links.invariant.most c.in-Err-reach.ensures.cause
+
+pub returns-in_err-slash-in-Ok-Link-clause-cause : goal.returns-in_err-slash-in-Ok-Link-clause-cause
+returns-in_err-slash-in-Ok-Link-clause-cause g c =
+    let residual = c.from_residual in
+    let error = err_from_is_err_and residual.result residual.ensures.1 in
+    let reached = c.in-Ok-Link.ensures.cause in
+    rw (error.1, error.2) (cause_err (omega (arith, c.loop-links.invariant.later, reached.later))
+    (reached.most ∙ c.loop-links.invariant.most) c.in_err-slash-in-Ok-Link.ensures.cause)
+
+pub returns-in-Err-clause-stands : goal.returns-in-Err-clause-stands
+returns-in-Err-clause-stands g c first stands =
+    c.in-Err.ensures.stands first (c.loop-links.invariant.stands first stands)
+
+pub returns-in-Err-reach-clause-stands : goal.returns-in-Err-reach-clause-stands
+returns-in-Err-reach-clause-stands g c first stands =
+    c.in-Err-reach.ensures.stands first (c.loop-links.invariant.stands first stands)
+
+pub returns-in-Ok-Found-clause-stands : goal.returns-in-Ok-Found-clause-stands
+returns-in-Ok-Found-clause-stands g c first stands =
+    rw c.in-Ok-Found.field-0-is at (c.in-Ok-Found.ensures.stands first (c.loop-links.invariant.stands first stands))
+
+pub returns-in-Ok-Found-reach-clause-stands : goal.returns-in-Ok-Found-reach-clause-stands
+returns-in-Ok-Found-reach-clause-stands g c first stands =
+    rw c.in-Ok-Found-reach.field-0-is at (c.in-Ok-Found-reach.ensures.stands first
+    (c.loop-links.invariant.stands first stands))
+
+pub returns-in-Ok-Link-reach-clause-stands : goal.returns-in-Ok-Link-reach-clause-stands
+returns-in-Ok-Link-reach-clause-stands g c first stands =
+    rw c.in-Ok-Link-reach.field-0-is at (c.in-Ok-Link-reach.ensures.stands first
+    (c.loop-links.invariant.stands first stands))
+
+pub returns-in_err-slash-in-Ok-Link-clause-stands : goal.returns-in_err-slash-in-Ok-Link-clause-stands
+returns-in_err-slash-in-Ok-Link-clause-stands g c first stands =
+    let residual = c.from_residual in
+    let error = err_from_is_err_and residual.result residual.ensures.1 in
+    rw error.1 (stands_same (rw c.in-Ok-Link.field-0-is at
+    (c.in-Ok-Link.ensures.stands first (c.loop-links.invariant.stands first stands)))
+    c.in_err-slash-in-Ok-Link.ensures.live)

@@ -2,6 +2,9 @@ use Rattle.std.proofs.Common.{◌∙◌, ap, length, refl}
 use Rattle.std.specs.Prelude.{◌==◌}
 use Rattle.std.proofs.lemmas.Result.{err_from_is_err_and}
 use Rattle.wasi_resolve.proofs.Passing.{read_fails, reads_now, reads_wants}
+use Rattle.wasi_host.specs.Meaning.{one_looked}
+use Rattle.wasi_host.specs.declared.lookup.LookKind.TheVariants.{ReadLink}
+use Rattle.wasi_resolve.proofs.Counting.{few_err, few_piece}
 use Rattle.wasi_resolve.proofs.walk.read_link.Goals as goal
 
 pub returns-in_err-read-clause-told : goal.returns-in_err-read-clause-told
@@ -29,3 +32,16 @@ returns-clause-told g c told =
     (rw text at c.in_ok-put_parts.ensures.parts)
     (c.is_empty-was_last.ensures ∙ ap (λ l. length l == 0) c.as_slice.ensures.value)
     (rw text at c.slash_behind.ensures)
+
+pub returns-in_err-read-clause-reads : goal.returns-in_err-read-clause-reads
+returns-in_err-read-clause-reads g c =
+    few_err (one_looked ReadLink c.args.here) c.in_err-read.field-0.0 c.in_err-read.ensures.logged
+
+pub returns-in_err-text-clause-reads : goal.returns-in_err-text-clause-reads
+returns-in_err-text-clause-reads g c = few_piece (one_looked ReadLink c.args.here) c.in_ok-read.ensures.logged
+
+pub returns-in_err-put_parts-clause-reads : goal.returns-in_err-put_parts-clause-reads
+returns-in_err-put_parts-clause-reads g c = few_piece (one_looked ReadLink c.args.here) c.in_ok-read.ensures.logged
+
+pub returns-clause-reads : goal.returns-clause-reads
+returns-clause-reads g c = few_piece (one_looked ReadLink c.args.here) c.in_ok-read.ensures.logged
