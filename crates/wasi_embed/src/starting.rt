@@ -22,7 +22,7 @@ fn has_no_guest(script: &Script) -> bool
 pub fn start(alloc: Global, text: &[u8]) -> Result<Sandbox, StartError>
     ensures starts { StartsBy text.now result }
 {
-    let script = read_script(alloc, text)?;
+    let script = read_script(alloc, alloc, text)?;
     if !has_no_guest(&script) {
         return Err(StartError::Guest);
     }

@@ -14,7 +14,7 @@ use crate::script::{Draft, Script};
 use crate::shapes::{Reading, Unread};
 use crate::within::is_within_limits;
 use json::{Reader, Scratch};
-use std::alloc::{AllocError, Global};
+use std::alloc::{AllocError, Allocator, Global};
 use std::str;
 use thiserror::Error;
 use wasi_ends::MOST;
@@ -76,13 +76,18 @@ impl From<AllocError> for ScriptError {
 /// The faults are a list of `[NUMBER, "before"]` or `[NUMBER, "after"]`, of calls of the host that fail, by numbers that rise
 /// from 1 or more on; where they aren't said, none does.
 ///
-/// More than 16,777,216 bytes are refused unread.
-pub fn read_script(alloc: Global, bytes: &[u8]) -> Result<Script, ScriptError>
+/// More than 16,777,216 bytes are refused unread. What is kept only while the text is read, as many bytes as it has, is
+/// taken of `room` and given back to it.
+pub fn read_script<A: Allocator + Copy>(
+    alloc: Global,
+    room: A,
+    bytes: &[u8],
+) -> Result<Script, ScriptError>
     ensures verdict { Reads result (IsVerdict bytes.now) }
     ensures services { IfOk result (λ script. AreWithin (handed script.session.services)) }
     ensures rising { IfOk result (λ script. IsTrue (numbers_rise script.session.faults.items)) }
 {
-    let draft = read_draft(alloc, bytes)?;
+    let draft = read_draft(alloc, room, bytes)?;
     let script = tested(alloc, draft)?;
     if !is_within_limits(&script) {
         return Err(ScriptError::Refused(Refusal::Limit));
@@ -107,19 +112,23 @@ fn tested(alloc: Global, draft: Draft) -> Result<Script, ScriptError>
 }
 
 #[tactic(auto, using(crate::proofs::Accepted::too_many, crate::proofs::Accepted::reads_within))]
-fn read_draft(alloc: Global, bytes: &[u8]) -> Result<Draft, ScriptError>
+fn read_draft<A: Allocator + Copy>(
+    alloc: Global,
+    room: A,
+    bytes: &[u8],
+) -> Result<Draft, ScriptError>
     ensures { ReadsDraft result (λ verdict. read_plan bytes.now ≡ verdict) }
 {
     if bytes.len() > MOST {
         return Err(ScriptError::Refused(Refusal::Long));
     }
-    draft_in(alloc, bytes)
+    draft_in(alloc, room, bytes)
 }
 
-fn draft_in(alloc: Global, bytes: &[u8]) -> Result<Draft, ScriptError>
+fn draft_in<A: Allocator + Copy>(alloc: Global, room: A, bytes: &[u8]) -> Result<Draft, ScriptError>
     ensures { ReadsDraft result (λ verdict. plan_in (value_of bytes.now) ≡ verdict) }
 {
-    match draft_of_bytes(alloc, bytes) {
+    match draft_of_bytes(alloc, room, bytes) {
         Ok(Some(draft)) => Ok(draft),
         Ok(None) => Err(ScriptError::Refused(Refusal::Shape)),
         Err(Unread::Shape) => Err(ScriptError::Refused(Refusal::Json)),
@@ -128,21 +137,25 @@ fn draft_in(alloc: Global, bytes: &[u8]) -> Result<Draft, ScriptError>
 }
 
 // `Shape` where there is no value of JSON; `None` where it is no script.
-fn draft_of_bytes(alloc: Global, bytes: &[u8]) -> Reading<Option<Draft>>
+fn draft_of_bytes<A: Allocator + Copy>(
+    alloc: Global,
+    room: A,
+    bytes: &[u8],
+) -> Reading<Option<Draft>>
     ensures { IsRead (λ found. option_map drafted found) result
         (option_map script_of (value_of bytes.now)) }
 {
     match str::from_utf8(bytes) {
-        Ok(text) => draft_of_text(alloc, text),
+        Ok(text) => draft_of_text(alloc, room, text),
         Err(_) => Err(Unread::Shape),
     }
 }
 
-fn draft_of_text(alloc: Global, text: &str) -> Reading<Option<Draft>>
+fn draft_of_text<A: Allocator + Copy>(alloc: Global, room: A, text: &str) -> Reading<Option<Draft>>
     ensures { IsRead (λ found. option_map drafted found) result
         (option_map script_of (read_text text.now)) }
 {
-    let mut scratch = Scratch::new(alloc);
+    let mut scratch = Scratch::new(room);
     let mut reader = Reader::new(text, &mut scratch)?;
     let found = draft(alloc, &mut reader)?;
     match reader.next() {

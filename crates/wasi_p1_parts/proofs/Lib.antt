@@ -3,7 +3,5 @@ pub mod Naming
 pub mod Tabled
 pub mod Exchanging
 pub mod Viewing
-pub mod WallTimes
-pub mod NamedFlags
 pub mod OpeningThrough
 pub mod ViewedStats

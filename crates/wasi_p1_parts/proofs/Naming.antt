@@ -11,7 +11,6 @@ use Rattle.std.specs.Ordering.{nat_cmp}
 use Rattle.std.specs.Option.{option_map_or}
 use Rattle.wasi_fs.specs.declared.descriptor.Descriptor.TheVariants as descriptors
 use Rattle.wasi_fs.specs.declared.descriptor.File.{File as OpenedFile}
-use Rattle.wasi_streams.specs.declared.table.Resource.{Resource}
 use Rattle.wasi_streams.specs.declared.entry.Entry.TheVariants as entries
 use Rattle.wasi_p1_parts.specs.Descriptors.{AreKept}
 use Rattle.wasi_p1_parts.specs.LiveEntries.{AreLiveDescriptors, entry_of_slot, entry_under}
@@ -23,9 +22,9 @@ use Rattle.wasi_streams.specs.declared.entry.Entry.{Entry}
 use Rattle.wasi_turns.specs.declared.slots.FileModes.{FileModes}
 use Rattle.wasi_turns.specs.declared.slots.Slot.{Slot}
 use Rattle.wasi_turns.specs.declared.slots.Slot.TheVariants as slots
-use Rattle.wasi_p1_parts.specs.declared.items.Item.{Item}
-use Rattle.wasi_p1_parts.specs.declared.items.Item.TheVariants.{Closed, Stream, Directory, File}
-use Rattle.wasi_p1_parts.specs.Items.{resource_in, slot_in, slots_of, directory_of_entry, file_of_entry, stream_entry, IsOfKind, NamesResource, AreNamed, Admitted, is_closed_item, without_item, put_item}
+use Rattle.wasi_p1_types.specs.declared.items.Item.{Item}
+use Rattle.wasi_p1_types.specs.declared.items.Item.TheVariants.{Closed, Stream, Directory, File}
+use Rattle.wasi_p1_types.specs.Items.{resource_in, slot_in, slots_of, directory_of_entry, file_of_entry, stream_entry, IsOfKind, NamesResource, AreNamed, Admitted, is_closed_item, without_item, put_item}
 
 one : {a b : ℕ} → Some a ≡ Some b → a ≡ b
 one is = cc
@@ -425,16 +424,6 @@ get_slot table items i item is stands =
 pub get_none : (table : Entries) (items : List Item) (i : ℕ) → slice_get items i ≡ None
     → None ≡ slice_get (slots_of table items) i
 get_none table items i is = sym (slots_get table items i ∙ ap (option_map (slot_in table)) is)
-
--- a descriptor was put into the table
-pub admitted_by : {table table' : Entries} {item : Item} {slot : Slot} (r : Resource) (e : Entry)
-    → resource_in item ≡ Some r.number → get table r.number ≡ None → table' ≡ insert table r.number e
-    → (get table' r.number ≡ Some e → IsOfKind table' item × (slot_in table' item ≡ slot))
-    → Admitted table table' item slot
-admitted_by {table} {table'} r e names fresh put then =
-    let at : get (insert table r.number e) r.number ≡ Some e = grind (arith, gets, nat_tests) in
-    let both = then (ap (λ t. get t r.number) put ∙ at) in
-    record { resource = r.number; entry = e; names = names; fresh = fresh; put = put; kind = both.0; stands = both.1 }
 
 -- ---- how many entries there are
 

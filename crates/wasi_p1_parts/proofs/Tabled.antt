@@ -7,14 +7,14 @@ use Rattle.std.proofs.lemmas.List.{length-set, length-append}
 use Rattle.std.proofs.lemmas.List.Sorted.{length_permutation}
 use Rattle.wasi_streams.specs.Table.{Entries}
 use Rattle.wasi_p1_parts.specs.Descriptors.{AreKept}
-use Rattle.wasi_p1_parts.specs.Items.{slots_of, is_closed_item, without_item, put_item, Admitted}
+use Rattle.wasi_p1_types.specs.Items.{slots_of, is_closed_item, without_item, put_item, Admitted}
 use Rattle.wasi_turns.specs.Numbering.{passes_at}
 use Rattle.wasi_turns.specs.Slots.{file_under, is_closed_slot}
 use Rattle.wasi_turns.specs.declared.slots.FileSlot.{FileSlot}
 use Rattle.wasi_turns.specs.declared.slots.Slot.{Slot}
 use Rattle.wasi_turns.specs.declared.slots.Slot.TheVariants as slots
-use Rattle.wasi_p1_parts.specs.declared.items.Item.{Item}
-use Rattle.wasi_p1_parts.specs.declared.items.Item.TheVariants.{Closed}
+use Rattle.wasi_p1_types.specs.declared.items.Item.{Item}
+use Rattle.wasi_p1_types.specs.declared.items.Item.TheVariants.{Closed}
 use Rattle.wasi_p1_parts.proofs.ClosedHeap.{holds_pushed, top_closed, holds_taken, holds_closed, holds_set}
 use Rattle.wasi_p1_parts.proofs.Naming.{slots_length, passes-item, admitted_len, forgotten_len, taken_named, taken_slots, behind_named, behind_slots, closed_named, closed_slots, put_back_at, file_within, file_used}
 

@@ -25,7 +25,7 @@ use Rattle.wasi_streams.specs.Table.{Entries}
 use Rattle.wasi_streams.specs.declared.entry.Entry.{Entry}
 use Rattle.wasi_streams.specs.declared.entry.Entry.TheVariants as entries
 use Rattle.wasi_p2_types.specs.ErrorCodes.{code_named}
-use Rattle.wasi_p2_types.specs.FsErrors.{fs_error, FsCause}
+use Rattle.wasi_p2_errors.specs.FsErrors.{fs_error, FsCause}
 use Rattle.wasi_p2_types.specs.Moments.{time_wanted}
 use Rattle.wasi_p2.specs.Nodes.{AboutFile, SyncsIt}
 use Rattle.wasi_p2.specs.Timed.{timed_by, with_wanted, TimesWanted}
@@ -36,13 +36,13 @@ use Rattle.wasi_streams.specs.Found.{descriptor_found}
 use Rattle.wasi_p2.specs.Resources.{as_directory_of, as_file_or, as_opened, both_found, directory_at, file_at, descriptor_at, AreOwned, HasIt, Holder, OneHasIt, entry_handle, handle_held, preopened, tabled}
 use Rattle.wasi_p2.specs.Views.{CallsOn, Files, Passes, Performs, tree_in}
 use Rattle.wasi_p2.specs.declared.context.Preopen.{Preopen}
-use Rattle.wasi_p2_types.specs.declared.error.FsError.{FsError}
+use Rattle.wasi_p2_errors.specs.declared.error.FsError.{FsError}
 use Rattle.wasi_p2_types.specs.declared.error_code.ErrorCode.TheVariants.{BadDescriptor}
 use Rattle.wasi_turns.specs.CallTurn.{FollowsRow}
 use Rattle.wasi_p1_parts.specs.Descriptors.{AreKept, SlotTable}
 use Rattle.wasi_turns.specs.Errnos.{errno_of, error_of}
 use Rattle.wasi_p1_parts.specs.Held.{HoldsHandles}
-use Rattle.wasi_p1_parts.specs.Items.{resource_in, slot_in, slots_of, directory_of_entry, file_of_entry, stream_entry, is_closed_item, IsOfKind, NamesResource, AreNamed}
+use Rattle.wasi_p1_types.specs.Items.{resource_in, slot_in, slots_of, directory_of_entry, file_of_entry, stream_entry, is_closed_item, IsOfKind, NamesResource, AreNamed}
 use Rattle.wasi_turns.specs.Owners.{handle_in, handles, Owned}
 use Rattle.wasi_turns.specs.Slots.{descriptor_in, View}
 use Rattle.wasi_turns.specs.ViewErrors.{errno_named, view_error_of}
@@ -53,8 +53,8 @@ use Rattle.wasi_turns.specs.declared.slots.Stream.{Stream as StandardStream}
 use Rattle.wasi_turns.specs.declared.slots.Stream.TheVariants as streams
 use Rattle.wasi_turns.specs.declared.error.P1Error.{P1Error}
 use Rattle.wasi_turns.specs.declared.error.P1Error.TheVariants.{Errno as ByNumber}
-use Rattle.wasi_p1_parts.specs.declared.items.Item.{Item}
-use Rattle.wasi_p1_parts.specs.declared.items.Item.TheVariants.{Closed, Stream, Directory, File}
+use Rattle.wasi_p1_types.specs.declared.items.Item.{Item}
+use Rattle.wasi_p1_types.specs.declared.items.Item.TheVariants.{Closed, Stream, Directory, File}
 use Rattle.wasi_turns.proofs.Counting.{handle_at}
 use Rattle.wasi_p1_parts.proofs.Naming.{slots_get}
 use Rattle.wasi_turns.proofs.Owning.{owned_apart}

@@ -4,12 +4,12 @@ use Rattle.std.specs.FinMap.{len}
 use Rattle.std.specs.Ordering.{nat_cmp}
 use Rattle.std.specs.BinaryHeap.{IsHeap}
 use Rattle.wasi_streams.specs.Table.{Entries}
-use Rattle.wasi_p1_parts.specs.Items.{slots_of, AreNamed}
+use Rattle.wasi_p1_types.specs.Items.{slots_of, AreNamed}
 use Rattle.wasi_turns.specs.Numbering.{passes_at}
 use Rattle.wasi_turns.specs.Owners.{one_if}
 use Rattle.wasi_turns.specs.Slots.{is_closed_slot}
 use Rattle.wasi_turns.specs.declared.slots.Slot.{Slot}
-use Rattle.wasi_p1_parts.specs.declared.items.Item.{Item}
+use Rattle.wasi_p1_types.specs.declared.items.Item.{Item}
 
 -- what stands under each number, for how many new descriptors memory was taken, and how many live ones there may be
 pub record SlotTable : Type 0 where

@@ -5,7 +5,7 @@ use Rattle.wasi_fs.specs.declared.descriptor.Descriptor.TheVariants as descripto
 use Rattle.wasi_streams.specs.Table.{Entries}
 use Rattle.wasi_streams.specs.declared.entry.Entry.{Entry}
 use Rattle.wasi_streams.specs.declared.entry.Entry.TheVariants as entries
-use Rattle.wasi_p1_parts.specs.Items.{stream_entry}
+use Rattle.wasi_p1_types.specs.Items.{stream_entry}
 use Rattle.wasi_turns.specs.declared.slots.Slot.{Slot}
 use Rattle.wasi_turns.specs.declared.slots.Slot.TheVariants as slots
 

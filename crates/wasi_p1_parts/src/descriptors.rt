@@ -8,8 +8,8 @@ ghost use Rattle.wasi_turns.specs.CallParts.{Rests};
 ghost use Rattle.wasi_p1_parts.specs.Descriptors.{AreKept};
 ghost use Rattle.wasi_p1_parts.specs.Placed.{TakesFreeNumber};
 ghost use Rattle.wasi_p1_parts.specs.Viewed.{descriptor_under, Opens, PutDescriptor};
-ghost use Rattle.wasi_p2_types.specs.FsErrors.{FsCause};
-ghost use Rattle.wasi_p2.specs.Opens.{how_named};
+ghost use Rattle.wasi_p2_errors.specs.FsErrors.{FsCause};
+ghost use Rattle.wasi_p2_types.specs.FlagNames.{how_named};
 ghost use Rattle.wasi_p1_parts.specs.Held.{HoldsHandles};
 ghost use Rattle.wasi_p1_parts.specs.LiveEntries.{AreLiveDescriptors};
 ghost use Rattle.wasi_turns.specs.Numbering.{passes_at, free_number, with_new, renumbered, live_count};
@@ -17,8 +17,6 @@ ghost use Rattle.wasi_turns.specs.Owners.{handle_in, handles, without};
 ghost use Rattle.wasi_turns.specs.Slots.{file_under, first_slots, is_closed_slot};
 ghost use Rattle.wasi_turns.specs.declared.error.CtxError.TheVariants.{Full};
 
-use crate::items::{Item, admit, item_at, item_under, put_item, reserve_entry, slot_of_item};
-use crate::open_with::OpenWith;
 use crate::view_parts::closing::drop_item;
 use crate::view_parts::opening::open_item;
 use crate::view_parts::resource_under;
@@ -27,6 +25,10 @@ use std::collections::BinaryHeap;
 use std::marker::Model;
 use wasi_fs::{Descriptor, Dir};
 use wasi_host::Host;
+use wasi_p1_types::items::{
+    Item, admit, item_at, item_under, put_item, reserve_entry, slot_of_item,
+};
+use wasi_p1_types::open_with::OpenWith;
 use wasi_p2::{FsResult, WasiFilesystemCtx};
 use wasi_streams::ResourceTable;
 use wasi_turns::{CtxError, DirectorySlot, FileSlot, P1Preopen, Slot, Stream};
@@ -49,7 +51,7 @@ impl Model for Descriptors {
     ghost use Rattle.std.specs.Vec.{vec_len, vec_capacity};
     ghost use Rattle.std.specs.BinaryHeap.{heap_items, heap_len, heap_capacity};
     ghost use Rattle.wasi_p1_parts.specs.Descriptors.{SlotTable, AreKept};
-    ghost use Rattle.wasi_p1_parts.specs.Items.{slots_of};
+    ghost use Rattle.wasi_p1_types.specs.Items.{slots_of};
 
     ghost Value = { SlotTable };
 

@@ -6,9 +6,9 @@ ghost use Rattle.wasi_fs.specs.declared.descriptor.Dir.{Dir as Directory};
 ghost use Rattle.wasi_host.specs.Lineage.{Traced, Only, Nothing};
 ghost use Rattle.wasi_host.specs.declared.errors.HostError.{HostError};
 ghost use Rattle.wasi_p1_parts.specs.Held.{HoldsHandles};
-ghost use Rattle.wasi_p1_parts.specs.Items.{is_closed_item, NamesResource};
+ghost use Rattle.wasi_p1_types.specs.Items.{is_closed_item, NamesResource};
 ghost use Rattle.wasi_p1_parts.specs.Viewed.{descriptor_under, Lowered};
-ghost use Rattle.wasi_p2_types.specs.FsErrors.{FsCause};
+ghost use Rattle.wasi_p2_errors.specs.FsErrors.{FsCause};
 ghost use Rattle.wasi_p2.specs.Nodes.{AboutIt};
 ghost use Rattle.wasi_p2.specs.Places.{BelowIt};
 ghost use Rattle.wasi_p2.specs.Views.{files_of, FilesOwned};
@@ -22,9 +22,9 @@ pub mod places;
 pub mod two_places;
 
 use crate::descriptors::Descriptors;
-use crate::items::{Item, item_under};
 use wasi_fs::{Descriptor, Dir};
 use wasi_host::Host;
+use wasi_p1_types::items::{Item, item_under};
 use wasi_p2::{FsResult, WasiFilesystemCtx, WasiFilesystemCtxView};
 use wasi_streams::Resource;
 

@@ -1,7 +1,6 @@
 pub mod Directories
 pub mod Drops
 pub mod FileBytes
-pub mod Named
 pub mod Nodes
 pub mod Opens
 pub mod Places

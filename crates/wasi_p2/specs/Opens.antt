@@ -11,7 +11,7 @@ use Rattle.wasi_host.specs.declared.host.Host.{Ghosts}
 use Rattle.wasi_resolve.specs.Meanings.{lists_at}
 use Rattle.wasi_resolve.specs.PathRequest.{meant_by}
 use Rattle.wasi_fs.specs.Calls.{opened_of, open_mode_of, perms_of, opens, IsAsked}
-use Rattle.wasi_fs.specs.OpenHow.{OpenHow, how_of, may_open, mode_of}
+use Rattle.wasi_fs.specs.OpenHow.{OpenHow, may_open, mode_of}
 use Rattle.wasi_fs.specs.declared.descriptor.Descriptor.{Descriptor}
 use Rattle.wasi_fs.specs.declared.perms.FsPerms.{FsPerms}
 use Rattle.wasi_streams.specs.Table.{Entries, Table}
@@ -23,12 +23,12 @@ use Rattle.wasi_streams.specs.declared.output.FileOutputMode.{FileOutputMode}
 use Rattle.wasi_streams.specs.declared.output.FileOutputMode.TheVariants.{Position, Append}
 use Rattle.wasi_streams.specs.declared.output.OutputState.TheVariants.{Ready}
 use Rattle.wasi_streams.specs.declared.table.Resource.{Resource}
-use Rattle.wasi_p2_types.specs.FlagNames.{path_flags_named, open_flags_named, descriptor_flags_named}
-use Rattle.wasi_p2_types.specs.FsErrors.{fs_error, FsCause}
+use Rattle.wasi_p2_types.specs.FlagNames.{how_named}
+use Rattle.wasi_p2_errors.specs.FsErrors.{fs_error, FsCause}
 use Rattle.wasi_p2.specs.Resources.{HasIt, directory_at, entry_handle, readable_at, writable_at}
 use Rattle.wasi_p2.specs.Views.{Files, FilesOwned, OrRefused, Performs, node_held, tree_in}
-use Rattle.wasi_p2_types.specs.declared.error.FsError.{FsError}
-use Rattle.wasi_p2_types.specs.declared.error.FsError.TheVariants.{Trap, Memory}
+use Rattle.wasi_p2_errors.specs.declared.error.FsError.{FsError}
+use Rattle.wasi_p2_errors.specs.declared.error.FsError.TheVariants.{Trap, Memory}
 use Rattle.wasi_p2_types.specs.declared.flags.DescriptorFlags.{DescriptorFlags}
 use Rattle.wasi_p2_types.specs.declared.flags.OpenFlags.{OpenFlags}
 use Rattle.wasi_p2_types.specs.declared.flags.PathFlags.{PathFlags}
@@ -79,11 +79,6 @@ pub record MakesEntry {H X M : Type 0} (host : Ghosts H) (old new : Files H) (fd
       (host.lookups new.ctx.host)
   pub did : OrRefused found (new.ctx.host ≡ old.ctx.host) (λ x. HasRoom old.table 1 (new.ctx.host ≡ old.ctx.host)
       ((answer : Result M HostError) × StandsFor entry new.table.entries result answer × Did x answer) result) result
-
--- how an open is asked for, by preview2's flags
-abbrev pub how_named : PathFlags → OpenFlags → DescriptorFlags → OpenHow
-how_named path_flags oflags flags =
-    how_of (path_flags_named path_flags) (open_flags_named oflags) (descriptor_flags_named flags)
 
 -- what an open below a directory did
 pub record OpensBelow {H : Type 0} (host : Ghosts H) (old new : Files H) (dir : ℕ) (perms : FsPerms) (path : List ℕ)

@@ -2,7 +2,7 @@
 
 mod directories;
 mod dropping;
-pub(crate) mod error_codes;
+mod error_codes;
 mod nodes;
 mod opening;
 mod places;

@@ -1,11 +1,13 @@
 //! What a resource stands for: copies, which name the same handles, since a call changes its table beside them.
 ghost use Rattle.std.specs.Prelude.{◌≡◌, IfOk};
 ghost use Rattle.wasi_fs.specs.Calls.{handle_of};
+ghost use Rattle.wasi_p2_errors.specs.FsErrors.{raised};
 ghost use Rattle.wasi_p2.specs.Resources.{descriptor_at, directory_at, file_at, file_or, writable_at, HasIt};
 
 use crate::types::ErrorCode;
 use crate::{FsError, FsResult};
 use wasi_fs::{Descriptor, Dir, File};
+use wasi_host::HostError;
 use wasi_streams::{Resource, ResourceTable};
 
 /// The descriptor of a resource. Refusals: a trap where it is missing or of another kind.
@@ -71,4 +73,11 @@ fn copy_dir(dir: &Dir) -> Dir
     ensures { result ≡ dir.now }
 {
     Dir::new(dir.dir, dir.perms, dir.open_mode)
+}
+
+/// What a lower call answered, its refusal as one of a view's calls.
+pub fn raised<T>(answer: Result<T, HostError>) -> FsResult<T>
+    ensures { result ≡ raised (λ value. value) answer }
+{
+    Ok(answer?)
 }

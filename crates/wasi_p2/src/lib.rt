@@ -5,14 +5,11 @@ mod calls;
 mod context;
 mod entries;
 mod found;
-mod named;
 mod preopens;
 mod read_result;
 pub mod types;
-mod views;
 
 pub use context::{Preopen, WasiFilesystemCtx, WasiFilesystemCtxView};
 pub use preopens::PreopenEntry;
 pub use read_result::ReadResult;
-pub use views::{NamedId, WasiCtxNamedView, WasiFilesystemNamedView, WasiFilesystemView};
-pub use wasi_p2_types::{FsError, FsResult};
+pub use wasi_p2_errors::{FsError, FsResult};

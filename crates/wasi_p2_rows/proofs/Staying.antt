@@ -6,7 +6,7 @@ use Rattle.std.proofs.lemmas.Option.{slice_get-map, slice_get_read}
 use Rattle.wasi_host.specs.Meaning.{Handles}
 use Rattle.wasi_host.specs.declared.host.Host.{Ghosts}
 use Rattle.wasi_streams.proofs.OneChanged.{set_cases}
-use Rattle.wasi_p2.specs.Named.{AtOne, OneDoes}
+use Rattle.wasi_p2_views.specs.Named.{AtOne, OneDoes}
 use Rattle.wasi_p2.specs.Resources.{AreOwned, Holder, entry_handle, handle_held, preopened, tabled}
 use Rattle.wasi_p2.specs.Views.{Files, FilesOwned}
 use Rattle.wasi_p2_rows.specs.AllOwned.{AllOwned, StayOwned}

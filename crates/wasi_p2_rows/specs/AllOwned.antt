@@ -1,7 +1,7 @@
 -- Several contexts and tables whose handles are owned.
 use Rattle.std.specs.Prelude.{◌≡◌, ℕ, List, length}
 use Rattle.wasi_host.specs.declared.host.Host.{Ghosts}
-use Rattle.wasi_p2.specs.Named.{AtOne}
+use Rattle.wasi_p2_views.specs.Named.{AtOne}
 use Rattle.wasi_p2.specs.Views.{Files, FilesOwned}
 
 -- each of them, by itself

@@ -3,9 +3,8 @@ ghost use Rattle.std.specs.Prelude.{map};
 ghost use Rattle.wasi_p2.specs.Views.{files_of};
 
 use wasi_host::Host;
-use wasi_p2::{
-    NamedId, WasiFilesystemCtx, WasiFilesystemCtxView, WasiFilesystemNamedView, WasiFilesystemView,
-};
+use wasi_p2::{WasiFilesystemCtx, WasiFilesystemCtxView};
+use wasi_p2_views::{NamedId, WasiFilesystemNamedView, WasiFilesystemView};
 use wasi_streams::ResourceTable;
 
 /// A guest's context and table.

@@ -12,10 +12,8 @@ use crate::trees::tree;
 use std::alloc::{AllocError, Global};
 use wasi_fs::{Dir, FsPerms, OpenMode};
 use wasi_host::{Host, SystemTime};
-use wasi_p2::{
-    NamedId, Preopen, WasiCtxNamedView, WasiFilesystemCtx, WasiFilesystemCtxView,
-    WasiFilesystemNamedView, WasiFilesystemView,
-};
+use wasi_p2::{Preopen, WasiFilesystemCtx, WasiFilesystemCtxView};
+use wasi_p2_views::{NamedId, WasiCtxNamedView, WasiFilesystemNamedView, WasiFilesystemView};
 use wasi_streams::ResourceTable;
 use wasi_table::{Answering, Asked, Told, number, unknown, word};
 use wasi_tree::MemTree;

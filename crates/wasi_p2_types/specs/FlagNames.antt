@@ -3,6 +3,7 @@
 use Rattle.std.specs.Prelude.{ℕ, [], ◌∷◌}
 use Rattle.wasi_fs.specs.Calls.{bits_set}
 use Rattle.wasi_fs.specs.OpenFlags.{includes, descriptor_flag_bits}
+use Rattle.wasi_fs.specs.OpenHow.{OpenHow, how_of}
 use Rattle.wasi_fs.specs.declared.open_flags.PathFlags.{PathFlags as LowerPathFlags}
 use Rattle.wasi_fs.specs.declared.open_flags.OpenFlags.{OpenFlags as LowerOpenFlags}
 use Rattle.wasi_fs.specs.declared.open_flags.DescriptorFlags.{DescriptorFlags as LowerDescriptorFlags}
@@ -41,3 +42,8 @@ descriptor_flags_named set = record { 0 = descriptor_bits set.0 }
 -- the other way round, from the bits of a set
 abbrev pub descriptor_flags_told : LowerDescriptorFlags → DescriptorFlags
 descriptor_flags_told set = record { 0 = descriptor_bits (descriptor_flag_bits set) }
+
+-- how an open is asked for, by preview2's flags
+abbrev pub how_named : PathFlags → OpenFlags → DescriptorFlags → OpenHow
+how_named path_flags oflags flags =
+    how_of (path_flags_named path_flags) (open_flags_named oflags) (descriptor_flags_named flags)

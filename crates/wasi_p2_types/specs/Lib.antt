@@ -1,6 +1,5 @@
 pub mod Advices
 pub mod ErrorCodes
 pub mod FlagNames
-pub mod FsErrors
 pub mod Moments
 pub mod Stats

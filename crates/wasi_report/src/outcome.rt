@@ -10,7 +10,7 @@ use crate::told::{Told, tell_bytes, tell_list};
 use crate::told_answers::tell_answers;
 use crate::told_nodes::tell_node;
 use json::Writer;
-use std::alloc::{AllocError, Global};
+use std::alloc::{AllocError, Allocator, Global};
 use wasi_guest::Answers;
 use wasi_tree::MemTree;
 
@@ -36,9 +36,10 @@ pub fn report(alloc: Global, outcome: &Outcome, tree: &MemTree) -> Result<Vec<u8
     report_in(alloc, Vec::new(alloc), outcome, tree)
 }
 
-/// The same text as `report`, written in the memory of a buffer, whose bytes are let go.
-pub fn report_in(
-    alloc: Global,
+/// The same text as `report`, written in the memory of a buffer, whose bytes are let go. What is kept only while it is
+/// written, the digits of one text of bytes at a time, is taken of `alloc` and given back to it.
+pub fn report_in<A: Allocator + Copy>(
+    alloc: A,
     mut buffer: Vec<u8>,
     outcome: &Outcome,
     tree: &MemTree,
@@ -55,8 +56,8 @@ pub fn report_in(
 }
 
 #[tactic(auto, unfolding(crate::specs::ReadBack::IsOrdered))]
-fn tell_outcome(
-    alloc: Global,
+fn tell_outcome<A: Allocator + Copy>(
+    alloc: A,
     outcome: &Outcome,
     tree: &MemTree,
     out: &mut Writer,
@@ -78,8 +79,8 @@ fn tell_outcome(
     out.end_object()
 }
 
-fn tell_list_at<T: Told>(
-    alloc: Global,
+fn tell_list_at<A: Allocator + Copy, T: Told>(
+    alloc: A,
     name: &str,
     items: &[T],
     out: &mut Writer,
@@ -92,8 +93,8 @@ fn tell_list_at<T: Told>(
     tell_list(alloc, items, out)
 }
 
-fn tell_bytes_at(
-    alloc: Global,
+fn tell_bytes_at<A: Allocator + Copy>(
+    alloc: A,
     name: &str,
     bytes: &[u8],
     out: &mut Writer,
@@ -106,8 +107,8 @@ fn tell_bytes_at(
     tell_bytes(alloc, bytes, out)
 }
 
-fn tell_texts_at(
-    alloc: Global,
+fn tell_texts_at<A: Allocator + Copy>(
+    alloc: A,
     name: &str,
     texts: &[Vec<u8>],
     out: &mut Writer,
@@ -120,7 +121,11 @@ fn tell_texts_at(
 }
 
 // The nodes by their numbers, each as the tree lends it.
-fn tell_tree(alloc: Global, tree: &MemTree, out: &mut Writer) -> Result<(), AllocError>
+fn tell_tree<A: Allocator + Copy>(
+    alloc: A,
+    tree: &MemTree,
+    out: &mut Writer,
+) -> Result<(), AllocError>
     ensures before { out.new.before ≡ out.old.before }
     ensures tokens { OnOk result (out.new.tokens
         ≡ out.old.tokens ++ told (list_value node_value (map given_of tree.now.tree.nodes))) }

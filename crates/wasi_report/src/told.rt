@@ -7,7 +7,7 @@ ghost use Rattle.wasi_report.specs.Report.{list_value, hex_value, number_value, 
 ghost use Rattle.wasi_report.specs.Told.{told};
 
 use json::Writer;
-use std::alloc::{AllocError, Global};
+use std::alloc::{AllocError, Allocator};
 use wasi_host::SystemTime;
 
 /// What is written as a value of JSON.
@@ -17,7 +17,7 @@ pub trait Told {
     /// In range, as each value of the type is: numbers fit 64 bits, and bytes are bytes.
     ghost fits: { Self → Type 0 };
 
-    fn tell(&self, alloc: Global, out: &mut Writer) -> Result<(), AllocError>
+    fn tell<A: Allocator + Copy>(&self, alloc: A, out: &mut Writer) -> Result<(), AllocError>
         ensures before { out.new.before ≡ out.old.before }
         ensures tokens { OnOk result (out.new.tokens ≡ out.old.tokens ++ told (value self.now)) }
         ensures fits { OnOk result (fits self.now) };
@@ -28,7 +28,7 @@ impl Told for u64 {
 
     ghost fits = { FitsNumber };
 
-    fn tell(&self, _alloc: Global, out: &mut Writer) -> Result<(), AllocError> {
+    fn tell<A: Allocator + Copy>(&self, _alloc: A, out: &mut Writer) -> Result<(), AllocError> {
         out.u64(*self)
     }
 }
@@ -39,7 +39,7 @@ impl Told for Vec<u8> {
 
     ghost fits = { λ bytes. IsBytes bytes.items };
 
-    fn tell(&self, alloc: Global, out: &mut Writer) -> Result<(), AllocError> {
+    fn tell<A: Allocator + Copy>(&self, alloc: A, out: &mut Writer) -> Result<(), AllocError> {
         tell_bytes(alloc, self.as_slice(), out)
     }
 }
@@ -49,7 +49,7 @@ impl Told for SystemTime {
 
     ghost fits = { FitsTime };
 
-    fn tell(&self, _alloc: Global, out: &mut Writer) -> Result<(), AllocError> {
+    fn tell<A: Allocator + Copy>(&self, _alloc: A, out: &mut Writer) -> Result<(), AllocError> {
         out.begin_array()?;
         out.i64(self.seconds)?;
         out.u64(self.nanoseconds as u64)?;
@@ -58,7 +58,11 @@ impl Told for SystemTime {
 }
 
 /// Bytes, in hex.
-pub fn tell_bytes(alloc: Global, bytes: &[u8], out: &mut Writer) -> Result<(), AllocError>
+pub fn tell_bytes<A: Allocator + Copy>(
+    alloc: A,
+    bytes: &[u8],
+    out: &mut Writer,
+) -> Result<(), AllocError>
     ensures before { out.new.before ≡ out.old.before }
     ensures tokens { OnOk result (out.new.tokens ≡ out.old.tokens ++ told (hex_value bytes.now)) }
     ensures fits { IsBytes bytes.now }
@@ -68,7 +72,11 @@ pub fn tell_bytes(alloc: Global, bytes: &[u8], out: &mut Writer) -> Result<(), A
 }
 
 /// The items of a list, in order.
-pub fn tell_list<T: Told>(alloc: Global, items: &[T], out: &mut Writer) -> Result<(), AllocError>
+pub fn tell_list<A: Allocator + Copy, T: Told>(
+    alloc: A,
+    items: &[T],
+    out: &mut Writer,
+) -> Result<(), AllocError>
     ensures before { out.new.before ≡ out.old.before }
     ensures tokens { OnOk result (out.new.tokens ≡ out.old.tokens ++ told (list_value T.value items.now)) }
     ensures fits { OnOk result (All T.fits items.now) }

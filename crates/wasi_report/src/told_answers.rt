@@ -7,7 +7,7 @@ ghost use Rattle.wasi_report.specs.Told.{told};
 
 use crate::told::{Told, tell_list};
 use json::Writer;
-use std::alloc::{AllocError, Global};
+use std::alloc::{AllocError, Allocator};
 use wasi_guest::{Answer, Answers, Fdstat, Filestat, TrapKind, Value};
 
 impl Told for Answer {
@@ -15,7 +15,7 @@ impl Told for Answer {
 
     ghost fits = { FitsAnswer };
 
-    fn tell(&self, alloc: Global, out: &mut Writer) -> Result<(), AllocError> {
+    fn tell<A: Allocator + Copy>(&self, alloc: A, out: &mut Writer) -> Result<(), AllocError> {
         match *self {
             Answer::Ok(value) => tell_success(alloc, value, out),
             Answer::Errno(errno) => tell_text("errno", errno.name(), out),
@@ -30,7 +30,7 @@ impl Told for Value {
 
     ghost fits = { FitsValue };
 
-    fn tell(&self, alloc: Global, out: &mut Writer) -> Result<(), AllocError> {
+    fn tell<A: Allocator + Copy>(&self, alloc: A, out: &mut Writer) -> Result<(), AllocError> {
         match *self {
             Value::Unit => out.null(),
             Value::Number(n) => out.u64(n),
@@ -47,7 +47,7 @@ impl Told for Fdstat {
 
     ghost fits = { FitsFdstat };
 
-    fn tell(&self, alloc: Global, out: &mut Writer) -> Result<(), AllocError> {
+    fn tell<A: Allocator + Copy>(&self, alloc: A, out: &mut Writer) -> Result<(), AllocError> {
         let numbers = [
             self.filetype as u64,
             self.flags as u64,
@@ -64,7 +64,7 @@ impl Told for Filestat {
 
     ghost fits = { FitsFilestat };
 
-    fn tell(&self, alloc: Global, out: &mut Writer) -> Result<(), AllocError> {
+    fn tell<A: Allocator + Copy>(&self, alloc: A, out: &mut Writer) -> Result<(), AllocError> {
         let numbers = [
             self.dev,
             self.ino,
@@ -80,7 +80,11 @@ impl Told for Filestat {
 }
 
 /// The answers, in order.
-pub fn tell_answers(alloc: Global, answers: &Answers, out: &mut Writer) -> Result<(), AllocError>
+pub fn tell_answers<A: Allocator + Copy>(
+    alloc: A,
+    answers: &Answers,
+    out: &mut Writer,
+) -> Result<(), AllocError>
     ensures before { out.new.before ≡ out.old.before }
     ensures tokens { OnOk result (out.new.tokens
         ≡ out.old.tokens ++ told (list_value answer_value answers.now.answers)) }
@@ -103,7 +107,11 @@ fn trap_name(kind: TrapKind) -> &'static str
     }
 }
 
-fn tell_success(alloc: Global, value: Value, out: &mut Writer) -> Result<(), AllocError>
+fn tell_success<A: Allocator + Copy>(
+    alloc: A,
+    value: Value,
+    out: &mut Writer,
+) -> Result<(), AllocError>
     ensures before { out.new.before ≡ out.old.before }
     ensures tokens { OnOk result (out.new.tokens ≡ out.old.tokens ++ told (only (codes "ok") (success_value value))) }
     ensures fits { OnOk result (FitsValue value) }

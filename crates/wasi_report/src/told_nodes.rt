@@ -9,13 +9,17 @@ ghost use Rattle.wasi_report.specs.Told.{told, content_told};
 
 use crate::told::{Told, tell_bytes};
 use json::Writer;
-use std::alloc::{AllocError, Global};
+use std::alloc::{AllocError, Allocator};
 use wasi_host::Bits;
 use wasi_names::Run;
 use wasi_tree::{LentContent, LentNode};
 
 /// A node, as one object with no space and with keys in byte order.
-pub fn tell_node(alloc: Global, node: &LentNode<'_>, out: &mut Writer) -> Result<(), AllocError>
+pub fn tell_node<A: Allocator + Copy>(
+    alloc: A,
+    node: &LentNode<'_>,
+    out: &mut Writer,
+) -> Result<(), AllocError>
     ensures before { out.new.before ≡ out.old.before }
     ensures tokens { OnOk result (out.new.tokens ≡ out.old.tokens ++ told (node_value (lent node.now))) }
     ensures fits { OnOk result (FitsNode (lent node.now)) }
@@ -29,8 +33,8 @@ pub fn tell_node(alloc: Global, node: &LentNode<'_>, out: &mut Writer) -> Result
     out.end_object()
 }
 
-fn tell_content(
-    alloc: Global,
+fn tell_content<A: Allocator + Copy>(
+    alloc: A,
     content: &LentContent<'_>,
     out: &mut Writer,
 ) -> Result<(), AllocError>
@@ -60,7 +64,7 @@ fn letter_of(letter: char, set: bool) -> char
     if set { letter } else { '-' }
 }
 
-fn tell_bits(alloc: Global, bits: Bits, out: &mut Writer) -> Result<(), AllocError>
+fn tell_bits<A: Allocator + Copy>(alloc: A, bits: Bits, out: &mut Writer) -> Result<(), AllocError>
     ensures before { out.new.before ≡ out.old.before }
     ensures tokens { OnOk result (out.new.tokens ≡ out.old.tokens ++ told (string (bits_text bits))) }
 {
@@ -71,7 +75,11 @@ fn tell_bits(alloc: Global, bits: Bits, out: &mut Writer) -> Result<(), AllocErr
     out.string(text.as_str())
 }
 
-fn tell_times(alloc: Global, node: &LentNode<'_>, out: &mut Writer) -> Result<(), AllocError>
+fn tell_times<A: Allocator + Copy>(
+    alloc: A,
+    node: &LentNode<'_>,
+    out: &mut Writer,
+) -> Result<(), AllocError>
     ensures before { out.new.before ≡ out.old.before }
     ensures tokens { OnOk result (out.new.tokens ≡ out.old.tokens ++ told (times_value (lent node.now))) }
     ensures fits { OnOk result (FitsTimes (lent node.now)) }

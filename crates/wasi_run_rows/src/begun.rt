@@ -75,7 +75,7 @@ fn told(
 impl Begun {
     /// A script in which nothing was called yet, if it can be run.
     pub fn of(alloc: Global, script: &[u8]) -> Result<Option<Begun>, AllocError> {
-        match read_script(alloc, script) {
+        match read_script(alloc, alloc, script) {
             Ok(script) => {
                 let begun = begin(alloc, script)?;
                 Ok(Some(Begun { alloc, begun }))

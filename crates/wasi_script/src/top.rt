@@ -47,7 +47,7 @@ fn read_from<S: Source>(
     ensures read { IsTrue S.told → ReadsScript result (S.left source.old) (S.left source.new) }
 {
     *buffer = read_all(alloc, source)?;
-    Ok(read_script(alloc, buffer.as_slice())?)
+    Ok(read_script(alloc, alloc, buffer.as_slice())?)
 }
 
 // The report of a script, in the memory of a buffer.

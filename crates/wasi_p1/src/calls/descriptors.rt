@@ -9,7 +9,7 @@ use wasi_host::Host;
 use wasi_p1_parts::call_parts::{close_slot, descriptor_at, live_at, put_back, renumber_slot};
 use wasi_p1_parts::file_parts::{file_at, not_synchronized, preopen_at, put_name};
 use wasi_p1_parts::look_parts::{dir_fdstat, node_filestat, open_file_fdstat};
-use wasi_p1_parts::open_with::file_modes;
+use wasi_p1_types::open_with::file_modes;
 use wasi_turns::{
     DirectorySlot, FileSlot, FileUse, P1Error, Slot, fdflags_of, preopen_fdstat, rights_of,
     stream_fdstat, stream_filestat,

@@ -6,7 +6,7 @@ use crate::context::WasiP1Ctx;
 use wasi_guest::{Errno, Value};
 use wasi_host::Host;
 use wasi_p1_parts::call_parts::{directory_at, room_at};
-use wasi_p1_parts::listing_parts::{listing_of, write_page};
+use wasi_p1_types::listing_parts::{listing_of, write_page};
 use wasi_turns::P1Error;
 
 impl<H: Host> WasiP1Ctx<H> {

@@ -6,7 +6,7 @@ use crate::context::WasiP1Ctx;
 use wasi_guest::{Errno, Value};
 use wasi_host::Host;
 use wasi_p1_parts::call_parts::{directory_at, open_into, room_at};
-use wasi_p1_parts::open_with::OpenWith;
+use wasi_p1_types::open_with::OpenWith;
 use wasi_turns::{P1Error, text_at};
 
 impl<H: Host> WasiP1Ctx<H> {

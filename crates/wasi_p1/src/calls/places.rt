@@ -6,11 +6,11 @@ use crate::context::WasiP1Ctx;
 use wasi_guest::{Errno, Value};
 use wasi_host::Host;
 use wasi_p1_parts::call_parts::{directory_at, stat_both};
-use wasi_p1_parts::open_with::path_flags_of;
 use wasi_p1_parts::view_parts::below;
 use wasi_p1_parts::view_parts::places::{
     CreateDirectoryAt, ReadlinkAt, RemoveDirectoryAt, SymlinkAt, UnlinkFileAt,
 };
+use wasi_p1_types::open_with::path_flags_of;
 use wasi_turns::{P1Error, text_at, write_front};
 
 impl<H: Host> WasiP1Ctx<H> {

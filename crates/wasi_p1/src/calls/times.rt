@@ -6,10 +6,10 @@ use crate::context::WasiP1Ctx;
 use wasi_guest::{Errno, Value};
 use wasi_host::Host;
 use wasi_p1_parts::call_parts::{descriptor_at, directory_at};
-use wasi_p1_parts::open_with::path_flags_of;
 use wasi_p1_parts::view_parts::nodes::SetTimesOf;
 use wasi_p1_parts::view_parts::places::SetTimesAt;
 use wasi_p1_parts::view_parts::{about, below};
+use wasi_p1_types::open_with::path_flags_of;
 use wasi_turns::{NewTimes, P1Error, text_at};
 
 impl<H: Host> WasiP1Ctx<H> {

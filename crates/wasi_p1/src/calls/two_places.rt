@@ -6,8 +6,8 @@ use crate::context::WasiP1Ctx;
 use wasi_guest::{Errno, Value};
 use wasi_host::Host;
 use wasi_p1_parts::call_parts::directory_at;
-use wasi_p1_parts::open_with::path_flags_of;
 use wasi_p1_parts::view_parts::two_places::{LinkAt, RenameAt, between};
+use wasi_p1_types::open_with::path_flags_of;
 use wasi_turns::{P1Error, text_at};
 
 impl<H: Host> WasiP1Ctx<H> {

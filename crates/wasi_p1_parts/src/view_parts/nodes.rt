@@ -9,9 +9,9 @@ ghost use Rattle.wasi_p2_types.specs.FlagNames.{descriptor_flags_told};
 ghost use Rattle.wasi_p2_types.specs.Stats.{hash_named, stat_named, type_named};
 ghost use Rattle.wasi_p2.specs.Views.{Performs};
 
-use crate::new_times::timestamp_of;
 use crate::view_parts::NodeCall;
 use wasi_host::Host;
+use wasi_p1_types::new_times::timestamp_of;
 use wasi_p2::types::{DescriptorFlags, DescriptorStat, DescriptorType, MetadataHashValue};
 use wasi_p2::{FsResult, WasiFilesystemCtxView};
 use wasi_streams::Resource;

@@ -12,9 +12,9 @@ ghost use Rattle.wasi_p2.specs.Views.{Performs};
 ghost use Rattle.wasi_resolve.specs.AtPlace.{CreateDir, ReadLink, RemoveDir, RemoveFile, Symlink};
 ghost use Rattle.wasi_resolve.specs.PathRequest.{AtPlace, meant_by};
 
-use crate::new_times::timestamp_of;
 use crate::view_parts::PlaceCall;
 use wasi_host::Host;
+use wasi_p1_types::new_times::timestamp_of;
 use wasi_p2::types::{DescriptorStat, MetadataHashValue, PathFlags};
 use wasi_p2::{FsResult, WasiFilesystemCtxView};
 use wasi_streams::Resource;

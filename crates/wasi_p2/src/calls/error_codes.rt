@@ -1,6 +1,6 @@
 //! The calls of a view that tell the codes of errors.
 ghost use Rattle.std.specs.Prelude.{◌≡◌};
-ghost use Rattle.wasi_p2_types.specs.FsErrors.{code_of_error, stream_code};
+ghost use Rattle.wasi_p2_errors.specs.FsErrors.{code_of_error, stream_code};
 
 use crate::types::ErrorCode;
 use crate::{FsError, WasiFilesystemCtxView};
@@ -17,7 +17,7 @@ impl<'a, H: Host> WasiFilesystemCtxView<'a, H> {
         ensures table { self.new.table.now ≡ self.old.table.now }
         ensures code { result ≡ code_of_error err }
     {
-        code_of(err)
+        err.downcast()
     }
 
     /// The code that a stream's read or write was refused with, `None` exactly of another error of a stream.
@@ -34,16 +34,5 @@ impl<'a, H: Host> WasiFilesystemCtxView<'a, H> {
             StreamError::Trap(_) => None,
             StreamError::Memory => None,
         }
-    }
-}
-
-/// The code of a refusal, or the refusal where it has none.
-pub fn code_of(err: FsError) -> Result<ErrorCode, FsError>
-    ensures { result ≡ code_of_error err }
-{
-    match err {
-        FsError::Code(code) => Ok(code),
-        FsError::Trap(refused) => Err(FsError::Trap(refused)),
-        FsError::Memory => Err(FsError::Memory),
     }
 }

@@ -3,7 +3,7 @@ ghost use Rattle.std.specs.Prelude.{◌≡◌};
 ghost use Rattle.wasi_p2.specs.Nodes.{Advises, SetsSize, TellsFlags, TellsType, TellsStat, TellsHash, SyncsIt, SetsTimes, ComparesBoth};
 ghost use Rattle.wasi_p2.specs.Views.{FilesOwned, files_of};
 
-use crate::found::{descriptor_at, file_at};
+use crate::found::{descriptor_at, file_at, raised};
 use crate::types::{
     Advice, DescriptorFlags, DescriptorStat, DescriptorType, MetadataHashValue, NewTimestamp,
     systemtimespec_from,
@@ -27,7 +27,7 @@ impl<'a, H: Host> WasiFilesystemCtxView<'a, H> {
     {
         let file = file_at(self.table, fd)?;
         let advice = wasi_host::Advice::from(advice);
-        Ok(file.advise(&mut self.ctx.host, offset, len, advice)?)
+        raised(file.advise(&mut self.ctx.host, offset, len, advice))
     }
 
     /// Cuts a file to `size` bytes, or fills it up to them with zeros.
@@ -40,7 +40,7 @@ impl<'a, H: Host> WasiFilesystemCtxView<'a, H> {
             (files_of self.new.ctx.now self.new.table.now) fd.number size result }
     {
         let file = file_at(self.table, fd)?;
-        Ok(file.set_size(&mut self.ctx.host, size)?)
+        raised(file.set_size(&mut self.ctx.host, size))
     }
 
     /// Waits until what is in the node is stored.
@@ -53,7 +53,7 @@ impl<'a, H: Host> WasiFilesystemCtxView<'a, H> {
             (files_of self.new.ctx.now self.new.table.now) fd.number result }
     {
         let descriptor = descriptor_at(self.table, fd)?;
-        Ok(descriptor.sync_data(self.ctx.alloc, &mut self.ctx.host)?)
+        raised(descriptor.sync_data(self.ctx.alloc, &mut self.ctx.host))
     }
 
     /// Waits until the node is stored, with what is said of it.
@@ -66,7 +66,7 @@ impl<'a, H: Host> WasiFilesystemCtxView<'a, H> {
             (files_of self.new.ctx.now self.new.table.now) fd.number result }
     {
         let descriptor = descriptor_at(self.table, fd)?;
-        Ok(descriptor.sync(self.ctx.alloc, &mut self.ctx.host)?)
+        raised(descriptor.sync(self.ctx.alloc, &mut self.ctx.host))
     }
 
     /// What the descriptor is for.
@@ -143,7 +143,7 @@ impl<'a, H: Host> WasiFilesystemCtxView<'a, H> {
         let descriptor = descriptor_at(self.table, fd)?;
         let atim = systemtimespec_from(atim, self.ctx.now)?;
         let mtim = systemtimespec_from(mtim, self.ctx.now)?;
-        Ok(descriptor.set_times(&mut self.ctx.host, atim, mtim)?)
+        raised(descriptor.set_times(&mut self.ctx.host, atim, mtim))
     }
 
     /// Whether two descriptors stand for one node. The first one's refusals go first.
@@ -157,6 +157,6 @@ impl<'a, H: Host> WasiFilesystemCtxView<'a, H> {
     {
         let here = descriptor_at(self.table, a)?;
         let there = descriptor_at(self.table, b)?;
-        Ok(here.is_same_object(&mut self.ctx.host, &there)?)
+        raised(here.is_same_object(&mut self.ctx.host, &there))
     }
 }

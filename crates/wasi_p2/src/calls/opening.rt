@@ -7,7 +7,8 @@ ghost use Rattle.wasi_resolve.specs.PathRequest.{meant_by};
 ghost use Rattle.wasi_resolve.specs.Resolved.{Resolved};
 ghost use Rattle.wasi_fs.specs.Calls.{opened_of, open_mode_of, perms_of, opens, GotOpened, IsAsked, LiveOpened, Refuses};
 ghost use Rattle.wasi_fs.specs.OpenHow.{may_open, mode_of};
-ghost use Rattle.wasi_p2.specs.Opens.{how_named, OpensAt, StreamsFrom, StreamsTo, StreamsToOffset, StreamsToEnd, ListsIt};
+ghost use Rattle.wasi_p2_types.specs.FlagNames.{how_named};
+ghost use Rattle.wasi_p2.specs.Opens.{OpensAt, StreamsFrom, StreamsTo, StreamsToOffset, StreamsToEnd, ListsIt};
 ghost use Rattle.wasi_p2.specs.Views.{FilesOwned, files_of};
 
 use crate::entries::{list_names, make_room, put};

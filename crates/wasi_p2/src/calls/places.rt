@@ -3,7 +3,7 @@ ghost use Rattle.std.specs.Prelude.{◌≡◌};
 ghost use Rattle.wasi_p2.specs.Places.{CreatesDirectory, RemovesDirectory, UnlinksFile, MakesLink, TellsLink, StatsAt, HashesAt, SetsTimesAt};
 ghost use Rattle.wasi_p2.specs.Views.{FilesOwned, files_of};
 
-use crate::found::directory_at;
+use crate::found::{directory_at, raised};
 use crate::types::{
     DescriptorStat, MetadataHashValue, NewTimestamp, PathFlags, systemtimespec_from,
 };
@@ -15,7 +15,7 @@ use wasi_streams::Resource;
 /// trap where the resource is missing or no descriptor, NotDirectory of a file; then those of that call.
 impl<'a, H: Host> WasiFilesystemCtxView<'a, H> {
     /// Makes an empty directory.
-    #[tactic(auto, using(crate::proofs::Owning::has_lives, crate::proofs::Owning::traced_from))]
+    #[tactic(auto, using(crate::proofs::Owning::has_lives, crate::proofs::Owning::traced_from, crate::proofs::Asking::asked))]
     pub fn create_directory_at(&mut self, fd: Resource, path: &str) -> FsResult<()>
         requires owned { FilesOwned H.Host (files_of self.old.ctx.now self.old.table.now) }
         ensures same_ctx { self.new.ctx.ghost_name ≡ self.old.ctx.ghost_name }
@@ -24,11 +24,11 @@ impl<'a, H: Host> WasiFilesystemCtxView<'a, H> {
             (files_of self.new.ctx.now self.new.table.now) fd.number path.now result }
     {
         let dir = directory_at(self.table, fd)?;
-        Ok(dir.create_directory_at(self.ctx.alloc, &mut self.ctx.host, path)?)
+        raised(dir.create_directory_at(self.ctx.alloc, &mut self.ctx.host, path))
     }
 
     /// Drops an empty directory.
-    #[tactic(auto, using(crate::proofs::Owning::has_lives, crate::proofs::Owning::traced_from))]
+    #[tactic(auto, using(crate::proofs::Owning::has_lives, crate::proofs::Owning::traced_from, crate::proofs::Asking::asked))]
     pub fn remove_directory_at(&mut self, fd: Resource, path: &str) -> FsResult<()>
         requires owned { FilesOwned H.Host (files_of self.old.ctx.now self.old.table.now) }
         ensures same_ctx { self.new.ctx.ghost_name ≡ self.old.ctx.ghost_name }
@@ -37,11 +37,11 @@ impl<'a, H: Host> WasiFilesystemCtxView<'a, H> {
             (files_of self.new.ctx.now self.new.table.now) fd.number path.now result }
     {
         let dir = directory_at(self.table, fd)?;
-        Ok(dir.remove_directory_at(self.ctx.alloc, &mut self.ctx.host, path)?)
+        raised(dir.remove_directory_at(self.ctx.alloc, &mut self.ctx.host, path))
     }
 
     /// Drops the name of a file or link.
-    #[tactic(auto, using(crate::proofs::Owning::has_lives, crate::proofs::Owning::traced_from))]
+    #[tactic(auto, using(crate::proofs::Owning::has_lives, crate::proofs::Owning::traced_from, crate::proofs::Asking::asked))]
     pub fn unlink_file_at(&mut self, fd: Resource, path: &str) -> FsResult<()>
         requires owned { FilesOwned H.Host (files_of self.old.ctx.now self.old.table.now) }
         ensures same_ctx { self.new.ctx.ghost_name ≡ self.old.ctx.ghost_name }
@@ -50,11 +50,11 @@ impl<'a, H: Host> WasiFilesystemCtxView<'a, H> {
             (files_of self.new.ctx.now self.new.table.now) fd.number path.now result }
     {
         let dir = directory_at(self.table, fd)?;
-        Ok(dir.unlink_file_at(self.ctx.alloc, &mut self.ctx.host, path)?)
+        raised(dir.unlink_file_at(self.ctx.alloc, &mut self.ctx.host, path))
     }
 
     /// Makes a link of the text `src_path` under `dest_path`.
-    #[tactic(auto, using(crate::proofs::Owning::has_lives, crate::proofs::Owning::traced_from))]
+    #[tactic(auto, using(crate::proofs::Owning::has_lives, crate::proofs::Owning::traced_from, crate::proofs::Asking::asked))]
     pub fn symlink_at(&mut self, fd: Resource, src_path: &str, dest_path: &str) -> FsResult<()>
         requires owned { FilesOwned H.Host (files_of self.old.ctx.now self.old.table.now) }
         ensures same_ctx { self.new.ctx.ghost_name ≡ self.old.ctx.ghost_name }
@@ -63,11 +63,11 @@ impl<'a, H: Host> WasiFilesystemCtxView<'a, H> {
             (files_of self.new.ctx.now self.new.table.now) fd.number dest_path.now src_path.now result }
     {
         let dir = directory_at(self.table, fd)?;
-        Ok(dir.symlink_at(self.ctx.alloc, &mut self.ctx.host, src_path, dest_path)?)
+        raised(dir.symlink_at(self.ctx.alloc, &mut self.ctx.host, src_path, dest_path))
     }
 
     /// The text of a link.
-    #[tactic(auto, using(crate::proofs::Owning::has_lives, crate::proofs::Owning::traced_from))]
+    #[tactic(auto, using(crate::proofs::Owning::has_lives, crate::proofs::Owning::traced_from, crate::proofs::Asking::asked))]
     pub fn readlink_at(&mut self, fd: Resource, path: &str) -> FsResult<String>
         requires owned { FilesOwned H.Host (files_of self.old.ctx.now self.old.table.now) }
         ensures same_ctx { self.new.ctx.ghost_name ≡ self.old.ctx.ghost_name }
@@ -76,11 +76,11 @@ impl<'a, H: Host> WasiFilesystemCtxView<'a, H> {
             (files_of self.new.ctx.now self.new.table.now) fd.number path.now result }
     {
         let dir = directory_at(self.table, fd)?;
-        Ok(dir.readlink_at(self.ctx.alloc, &mut self.ctx.host, path)?)
+        raised(dir.readlink_at(self.ctx.alloc, &mut self.ctx.host, path))
     }
 
     /// What is said of the node that a path names.
-    #[tactic(auto, using(crate::proofs::Owning::has_lives, crate::proofs::Owning::traced_from))]
+    #[tactic(auto, using(crate::proofs::Owning::has_lives))]
     pub fn stat_at(
         &mut self,
         fd: Resource,
@@ -100,7 +100,7 @@ impl<'a, H: Host> WasiFilesystemCtxView<'a, H> {
     }
 
     /// The hash of the node that a path names.
-    #[tactic(auto, using(crate::proofs::Owning::has_lives, crate::proofs::Owning::traced_from))]
+    #[tactic(auto, using(crate::proofs::Owning::has_lives))]
     pub fn metadata_hash_at(
         &mut self,
         fd: Resource,
@@ -122,7 +122,7 @@ impl<'a, H: Host> WasiFilesystemCtxView<'a, H> {
     /// Sets the times of the node that a path names; `Now` is what the context's clock stands at. Overflow, of a moment
     /// that a node's time doesn't hold, stands after the resource's refusals, that of the last read first, and before
     /// NotPermitted.
-    #[tactic(auto, using(crate::proofs::Owning::has_lives, crate::proofs::Owning::traced_from))]
+    #[tactic(auto, using(crate::proofs::Owning::has_lives, crate::proofs::Owning::traced_from, crate::proofs::Asking::asked, crate::proofs::Asking::timed_are))]
     pub fn set_times_at(
         &mut self,
         fd: Resource,
@@ -141,6 +141,6 @@ impl<'a, H: Host> WasiFilesystemCtxView<'a, H> {
         let atim = systemtimespec_from(atim, self.ctx.now)?;
         let mtim = systemtimespec_from(mtim, self.ctx.now)?;
         let flags = wasi_fs::PathFlags::from(path_flags);
-        Ok(dir.set_times_at(self.ctx.alloc, &mut self.ctx.host, flags, path, atim, mtim)?)
+        raised(dir.set_times_at(self.ctx.alloc, &mut self.ctx.host, flags, path, atim, mtim))
     }
 }

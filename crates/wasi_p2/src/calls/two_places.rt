@@ -3,7 +3,7 @@ ghost use Rattle.std.specs.Prelude.{◌≡◌};
 ghost use Rattle.wasi_p2.specs.Places.{LinksAt, RenamesAt};
 ghost use Rattle.wasi_p2.specs.Views.{FilesOwned, files_of};
 
-use crate::found::directory_at;
+use crate::found::{directory_at, raised};
 use crate::types::PathFlags;
 use crate::{FsResult, WasiFilesystemCtxView};
 use wasi_host::Host;
@@ -14,7 +14,7 @@ use wasi_streams::Resource;
 /// no descriptor, and NotDirectory of a file; then those of that call.
 impl<'a, H: Host> WasiFilesystemCtxView<'a, H> {
     /// Gives the file or link under `old_path` a further name.
-    #[tactic(auto, using(crate::proofs::Owning::has_lives, crate::proofs::Owning::traced_both))]
+    #[tactic(auto, using(crate::proofs::Owning::has_lives, crate::proofs::Owning::traced_both, crate::proofs::Asking::asked, crate::proofs::Asking::both_are))]
     pub fn link_at(
         &mut self,
         fd: Resource,
@@ -33,18 +33,18 @@ impl<'a, H: Host> WasiFilesystemCtxView<'a, H> {
         let new_dir = directory_at(self.table, new_fd)?;
         let flags = wasi_fs::PathFlags::from(old_path_flags);
         let alloc = self.ctx.alloc;
-        Ok(dir.link_at(
+        raised(dir.link_at(
             alloc,
             &mut self.ctx.host,
             flags,
             old_path,
             &new_dir,
             new_path,
-        )?)
+        ))
     }
 
     /// Moves what is under `old_path`.
-    #[tactic(auto, using(crate::proofs::Owning::has_lives, crate::proofs::Owning::traced_both))]
+    #[tactic(auto, using(crate::proofs::Owning::has_lives, crate::proofs::Owning::traced_both, crate::proofs::Asking::asked, crate::proofs::Asking::both_are))]
     pub fn rename_at(
         &mut self,
         fd: Resource,
@@ -61,6 +61,6 @@ impl<'a, H: Host> WasiFilesystemCtxView<'a, H> {
         let dir = directory_at(self.table, fd)?;
         let new_dir = directory_at(self.table, new_fd)?;
         let alloc = self.ctx.alloc;
-        Ok(dir.rename_at(alloc, &mut self.ctx.host, old_path, &new_dir, new_path)?)
+        raised(dir.rename_at(alloc, &mut self.ctx.host, old_path, &new_dir, new_path))
     }
 }

@@ -5,7 +5,7 @@ ghost use Rattle.wasi_p2_rows.specs.AllOwned.{AllOwned, StayOwned};
 use crate::answers::{all_kept, first, flags, kept, resource, shown, time, told_read};
 use wasi_host::Host;
 use wasi_p2::types::Advice;
-use wasi_p2::{NamedId, WasiCtxNamedView, WasiFilesystemNamedView};
+use wasi_p2_views::{NamedId, WasiCtxNamedView, WasiFilesystemNamedView};
 use wasi_streams::Resource;
 use wasi_table::{Asked, Told, number, unknown, word};
 

@@ -4,22 +4,22 @@ use Rattle.wasi_form.proofs.Accepted.{unread_before, tested, refused_by, past_li
 use Rattle.wasi_form.proofs.verdict.read_script.Goals as goal
 
 pub returns-in_err-draft-clause-verdict : goal.returns-in_err-draft-clause-verdict
-returns-in_err-draft-clause-verdict c =
+returns-in_err-draft-clause-verdict g c =
     let error = err_from_is_err_and c.from_residual.result c.from_residual.ensures.1 in
     rw (error.1, error.2) (unread_before _ _ c.in_err-draft.ensures)
 
 pub returns-in_err-script-clause-verdict : goal.returns-in_err-script-clause-verdict
-returns-in_err-script-clause-verdict c =
+returns-in_err-script-clause-verdict g c =
     let error = err_from_is_err_and c.from_residual-in_err-script.result c.from_residual-in_err-script.ensures.1 in
     rw (error.1, error.2) (refused_by _ _ _ c.in_ok-draft.ensures c.in_err-script.ensures)
 
 pub returns-then-not-is_within_limits-clause-verdict : goal.returns-then-not-is_within_limits-clause-verdict
-returns-then-not-is_within_limits-clause-verdict c =
+returns-then-not-is_within_limits-clause-verdict g c =
     let script = tested c.in_ok-script.script c.in_ok-draft.ensures c.in_ok-script.ensures in
     past_limit script refl (sym c.if-not-is_within_limits.ensures)
 
 pub returns : goal.returns
-returns c =
+returns g c =
     let script = tested c.in_ok-script.script c.in_ok-draft.ensures c.in_ok-script.ensures in
     let verdict = taken script refl (sym c.if-not-is_within_limits.ensures) in
     record { verdict = verdict; services = (accepted verdict).services; rising = (accepted verdict).faults }

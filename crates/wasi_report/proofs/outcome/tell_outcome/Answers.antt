@@ -8,7 +8,7 @@ use Rattle.wasi_report.proofs.Telling.{eight}
 use Rattle.wasi_report.proofs.outcome.tell_outcome.Goals as goal
 
 pub returns-clause-tokens : goal.returns-clause-tokens
-returns-clause-tokens c =
+returns-clause-tokens g c =
     let o = c.args.outcome.now in
     let opened : c.begin_object.new.self.tokens ≡ c.args.out.now.tokens ++ begin_object ∷ [] = search rules in
     let answers : c.tell_answers.new.out.tokens ≡ c.begin_object.new.self.tokens ++ told_at (codes "answers") (list_value answer_value o.answers.answers) = search (rules, append_assoc) in

@@ -7,9 +7,9 @@ use Rattle.wasi_report.proofs.Telling.{told_seen}
 use Rattle.wasi_report.proofs.outcome.tell_texts_at.Goals as goal
 
 pub returns-clause-tokens : goal.returns-clause-tokens
-returns-clause-tokens c =
+returns-clause-tokens g c =
     on_ok_weaker c.tell_list_at.result (λ added. told_seen hex_value (λ text. text.items) c.args.texts.now c.args.name.now _ _ (search rules)) c.tell_list_at.ensures.tokens
 
 pub returns-clause-fits : goal.returns-clause-fits
-returns-clause-fits c =
+returns-clause-fits g c =
     on_ok_weaker c.tell_list_at.result (All-map IsBytes (λ text. text.items) c.args.texts.now) c.tell_list_at.ensures.fits

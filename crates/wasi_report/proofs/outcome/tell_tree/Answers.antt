@@ -9,7 +9,7 @@ use Rattle.wasi_report.proofs.outcome.tell_tree.Goals as goal
 
 pub loop-n-preserved : goal.loop-n-preserved
 unfolding node_at
-loop-n-preserved c =
+loop-n-preserved g c =
     let within = rw c.count-n-end.ensures.count at c.loop-n-test.true in
     record {
       before = c.in_ok-tell_node.ensures.before ∙ c.loop-n.invariant.before;
@@ -22,7 +22,7 @@ loop-n-preserved c =
     }
 
 pub returns-clause-fits : goal.returns-clause-fits
-returns-clause-fits c =
+returns-clause-fits g c =
     let none_left = rw c.count-n-end.ensures.count at c.loop-n-test.false in
     let told_all = rw (take_all _ _ none_left) at c.loop-n.invariant.fits in
     on_ok_weaker c.end_array.result (λ _. All-map FitsNode given_of _ told_all) c.end_array.ensures.ok

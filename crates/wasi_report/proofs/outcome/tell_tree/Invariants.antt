@@ -6,7 +6,7 @@ use Rattle.wasi_report.proofs.Telling.{items_told}
 use Rattle.wasi_report.proofs.outcome.tell_tree.Given as goal
 
 abbrev pub invariant-loop-n : goal.invariant-loop-n
-invariant-loop-n l = record {
+invariant-loop-n g l = record {
   before : l.out.before ≡ l.initial.out.before;
   tokens :
       l.out.tokens ++ items_told node_value (drop l.n (map given_of l.tree.tree.nodes))

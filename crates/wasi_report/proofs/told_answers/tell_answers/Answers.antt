@@ -8,7 +8,7 @@ use Rattle.wasi_report.proofs.Telling.{item_next}
 use Rattle.wasi_report.proofs.told_answers.tell_answers.Goals as goal
 
 pub loop-i-preserved : goal.loop-i-preserved
-loop-i-preserved c =
+loop-i-preserved g c =
     let within = rw c.len-i-end.ensures.count at c.loop-i-test.true in
     let is = get_or_from_slice_get c.args.answers.now.answers c.loop-i.i c.at.result c.at.result c.at.ensures.item in
     record {
@@ -19,7 +19,7 @@ loop-i-preserved c =
     }
 
 pub returns-clause-fits : goal.returns-clause-fits
-returns-clause-fits c =
+returns-clause-fits g c =
     let none_left = rw c.len-i-end.ensures.count at c.loop-i-test.false in
     let told_all = rw (take_all _ _ none_left) at c.loop-i.invariant.fits in
     on_ok_weaker c.end_array.result (λ _. told_all) c.end_array.ensures.ok

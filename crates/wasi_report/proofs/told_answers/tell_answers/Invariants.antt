@@ -5,7 +5,7 @@ use Rattle.wasi_report.proofs.Telling.{items_told}
 use Rattle.wasi_report.proofs.told_answers.tell_answers.Given as goal
 
 abbrev pub invariant-loop-i : goal.invariant-loop-i
-invariant-loop-i l = record {
+invariant-loop-i g l = record {
   before : l.out.before ≡ l.initial.out.before;
   tokens :
       l.out.tokens ++ items_told answer_value (drop l.i l.answers.answers)

@@ -4,4 +4,4 @@ use Rattle.wasi_report.proofs.Telling.{content_is}
 use Rattle.wasi_report.proofs.told_nodes.tell_node.Goals as goal
 
 pub returns-clause-tokens : goal.returns-clause-tokens
-returns-clause-tokens c = search (rules, IfOk-equal, append_assoc, content_is)
+returns-clause-tokens g c = search (rules, IfOk-equal, append_assoc, content_is)

@@ -3,4 +3,4 @@ use Rattle.std.proofs.lemmas.Result.{IfOk-equal}
 use Rattle.wasi_report.proofs.told_nodes.tell_times.Goals as goal
 
 pub returns-clause-tokens : goal.returns-clause-tokens
-returns-clause-tokens c = search (rules, IfOk-equal, append_assoc)
+returns-clause-tokens g c = search (rules, IfOk-equal, append_assoc)

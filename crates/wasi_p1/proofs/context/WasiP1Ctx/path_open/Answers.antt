@@ -1,6 +1,6 @@
 use Rattle.std.proofs.Common.{refl, rules}
 use Rattle.wasi_fs.specs.Calls.{opens}
-use Rattle.wasi_p2.specs.Opens.{how_named}
+use Rattle.wasi_p2_types.specs.FlagNames.{how_named}
 use Rattle.wasi_turns.specs.Request.{Path}
 use Rattle.wasi_turns.specs.Parts.{opened_among}
 use Rattle.wasi_turns.specs.Rows.Opening.{path_open}

@@ -1,7 +1,7 @@
 use Rattle.std.proofs.Common.{sym, subst, ◌∙◌}
 use Rattle.std.proofs.lemmas.Option.{get_or_from_slice_get}
-use Rattle.wasi_p1_parts.specs.Items.{IsOfKind}
-use Rattle.wasi_p1_parts.specs.declared.items.Item.TheVariants.{Closed}
+use Rattle.wasi_p1_types.specs.Items.{IsOfKind}
+use Rattle.wasi_p1_types.specs.declared.items.Item.TheVariants.{Closed}
 use Rattle.wasi_p1_parts.proofs.Naming.{get_slot, get_none}
 use Rattle.wasi_p1_parts.proofs.descriptors.Descriptors.get.Goals as goal
 

@@ -1,7 +1,7 @@
 use Rattle.std.proofs.lemmas.Result.{err_from_is_err_and}
 use Rattle.wasi_streams.specs.declared.entry.Entry.TheVariants.{Descriptor as AnOpened}
 use Rattle.wasi_p1_parts.proofs.OpeningThrough.{opened_entry}
-use Rattle.wasi_p1_parts.proofs.Naming.{admitted_by}
+use Rattle.wasi_p1_types.proofs.Admitting.{admitted_by}
 use Rattle.wasi_p1_parts.proofs.view_parts.opening.open_item.Goals as goal
 
 pub returns-in_err-opened-clause-did : goal.returns-in_err-opened-clause-did

@@ -1,0 +1,3 @@
+pub mod Admitting
+pub mod NamedFlags
+pub mod WallTimes

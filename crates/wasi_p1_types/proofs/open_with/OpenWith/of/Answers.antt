@@ -1,0 +1,8 @@
+use Rattle.std.proofs.Common.{rules}
+use Rattle.wasi_turns.specs.RawFlags.{open_how}
+use Rattle.wasi_p1_types.proofs.NamedFlags.{how_is}
+use Rattle.wasi_p1_types.proofs.open_with.OpenWith.of.Goals as goal
+
+pub returns-clause-row : goal.returns-clause-row
+unfolding open_how
+returns-clause-row c = rw (how_is _ _ _) (search rules)
