@@ -14,8 +14,8 @@ use crate::script::{Draft, Script};
 use crate::shapes::{Reading, Unread};
 use crate::within::is_within_limits;
 use json::{Reader, Scratch};
+use simdutf8::compat::from_utf8;
 use std::alloc::{AllocError, Allocator, Global};
-use std::str;
 use thiserror::Error;
 use wasi_ends::MOST;
 use wasi_tree::{FitNodes, TreeError};
@@ -145,7 +145,7 @@ fn draft_of_bytes<A: Allocator + Copy>(
     ensures { IsRead (λ found. option_map drafted found) result
         (option_map script_of (value_of bytes.now)) }
 {
-    match str::from_utf8(bytes) {
+    match from_utf8(bytes) {
         Ok(text) => draft_of_text(alloc, room, text),
         Err(_) => Err(Unread::Shape),
     }

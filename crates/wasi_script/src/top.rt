@@ -13,7 +13,8 @@ use crate::ran::run;
 use crate::status::Status;
 use crate::summary::summary_of;
 use crate::words::{Task, task_of};
-use std::alloc::{AllocError, Global};
+use bumpalo::Bump;
+use std::alloc::{AllocError, Allocator, Global};
 use wasi_ends::{Sink, Source, read_all, write_all};
 use wasi_form::{Refusal, Script, read_script};
 use wasi_report::{Outcome, report_in};
@@ -33,9 +34,11 @@ fn refusal_line(refusal: Refusal) -> &'static str
     }
 }
 
-// The script that the source has left, whose bytes the buffer has then; or how the program ends without one.
-fn read_from<S: Source>(
+// The script that the source has left, whose bytes the buffer has then; or how the program ends without one. `room` is
+// for what the reading needs only for a time.
+fn read_from<S: Source, A: Allocator + Copy>(
     alloc: Global,
+    room: A,
     source: &mut S,
     buffer: &mut Vec<u8>,
 ) -> Result<Script, Status>
@@ -47,11 +50,16 @@ fn read_from<S: Source>(
     ensures read { IsTrue S.told → ReadsScript result (S.left source.old) (S.left source.new) }
 {
     *buffer = read_all(alloc, source)?;
-    Ok(read_script(alloc, alloc, buffer.as_slice())?)
+    Ok(read_script(alloc, room, buffer.as_slice())?)
 }
 
-// The report of a script, in the memory of a buffer.
-fn report_of(alloc: Global, script: Script, buffer: Vec<u8>) -> Result<Vec<u8>, AllocError>
+// The report of a script, in the memory of a buffer. `room` is for its digits.
+fn report_of<A: Allocator + Copy>(
+    alloc: Global,
+    room: A,
+    script: Script,
+    buffer: Vec<u8>,
+) -> Result<Vec<u8>, AllocError>
     requires within { is_within_limits (plan script) ≡ true }
     requires rising { IsTrue (numbers_rise script.session.faults.items) }
     ensures { IfOk result (λ text. Reports (plan script) text.items) }
@@ -68,7 +76,7 @@ fn report_of(alloc: Global, script: Script, buffer: Vec<u8>) -> Result<Vec<u8>, 
         stderr: outputs.stderr,
         touched,
     };
-    report_in(alloc, buffer, &outcome, ended.host.inner())
+    report_in(room, buffer, &outcome, ended.host.inner())
 }
 
 fn written<K: Sink>(sink: &mut K, text: &[u8], status: Status) -> Status
@@ -84,7 +92,7 @@ fn written<K: Sink>(sink: &mut K, text: &[u8], status: Status) -> Status
 }
 
 // Runs a script that is read of the source, and writes its report, or why there is none. The report is written where the
-// script's bytes stood.
+// script's bytes stood, its digits where the reader had its room.
 fn run_source<S: Source, K: Sink>(alloc: Global, source: &mut S, sink: &mut K) -> Status
     ensures source_count { S.faults source.old ≤ S.faults source.new }
     ensures sink_count { K.faults sink.old ≤ K.faults sink.new }
@@ -99,8 +107,9 @@ fn run_source<S: Source, K: Sink>(alloc: Global, source: &mut S, sink: &mut K) -
     ensures read_only { IsTrue S.told → IsTrue K.told → OfDue result Task.Run (S.left source.old)
         (λ due. KeepsTree result due (K.taken sink.old) (K.taken sink.new)) }
 {
+    let room = Bump::new(alloc);
     let mut bytes = Vec::new(alloc);
-    let script = match read_from(alloc, source, &mut bytes) {
+    let script = match read_from(alloc, &room, source, &mut bytes) {
         Ok(script) => script,
         Err(Status::Refused(refusal)) => {
             return written(
@@ -111,7 +120,7 @@ fn run_source<S: Source, K: Sink>(alloc: Global, source: &mut S, sink: &mut K) -
         }
         Err(status) => return status,
     };
-    match report_of(alloc, script, bytes) {
+    match report_of(alloc, &room, script, bytes) {
         Ok(text) => written(sink, text.as_slice(), Status::Done),
         Err(AllocError) => Status::NoMemory,
     }

@@ -4,13 +4,13 @@ use Rattle.wasi_script.proofs.Headlines.{reports}
 use Rattle.wasi_script.proofs.top.report_of.Goals as goal
 
 pub shown-requires : goal.shown-requires
-shown-requires c =
+shown-requires g c =
     let ran = c.in_ok-ran.ensures in
     let parts = limits_kept (plan c.args.script) c.requires.within in
     rw (c.as_slice.ensures.value, c.bytes.ensures.bytes, ran.show, ran.size) parts.show
 
 pub returns : goal.returns
-returns c =
+returns g c =
     let ran = c.in_ok-ran.ensures in
     let shown-is = rw (c.as_slice.ensures.value, c.bytes.ensures.bytes, ran.show) at c.in_ok-shown.ensures.shown in
     let ended = c.into_parts-ended.ensures in

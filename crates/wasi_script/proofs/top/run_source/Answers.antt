@@ -51,5 +51,5 @@ pub returns-in-Ok-report_of-clause-left : goal.returns-in-Ok-report_of-clause-le
 returns-in-Ok-report_of-clause-left g c = λ tells.
     leaves_unread _ (c.in-Ok.ensures.read tells).1 c.written-in-Ok-report_of.ensures.written
 
-pub returns-in-Err-report_of-clause-left : goal.returns-in-Err-report_of-clause-left
-returns-in-Err-report_of-clause-left g c = λ tells. front_read _ (c.in-Ok.ensures.read tells).1
+pub returns-clause-left : goal.returns-clause-left
+returns-clause-left g c = λ tells. front_read _ (c.in-Ok.ensures.read tells).1
