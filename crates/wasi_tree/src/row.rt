@@ -78,14 +78,13 @@ impl RowContent {
         }
     }
 
-    /// The content, lent, where a directory has these names.
-    fn lend<'a>(&'a self, names: Run<'a>) -> LentContent<'a>
-        ensures { (held : Names) → maps.entries held ≡ names.entry
-            → lent_content result ≡ content_given (named_content held (stored_content self.now)) }
+    /// The content of the node of a number, lent. The names of a directory are looked for among those of all.
+    fn lend<'a>(&'a self, number: u64, names: &'a Rows) -> LentContent<'a>
+        ensures { lent_content result ≡ content_given (named_content (names_at names.now.names number) (stored_content self.now)) }
     {
         match self {
             RowContent::File { bytes, .. } => LentContent::File(bytes.as_slice()),
-            RowContent::Dir { .. } => LentContent::Dir(names),
+            RowContent::Dir { .. } => LentContent::Dir(names.names(number)),
             RowContent::Link { text, .. } => LentContent::Link(text.as_str()),
         }
     }
@@ -318,12 +317,12 @@ impl Row {
         })
     }
 
-    /// The node, lent, where a directory has these names.
-    pub fn lend<'a>(&'a self, names: Run<'a>) -> LentNode<'a>
-        ensures { (held : Names) → maps.entries held ≡ names.entry → lent result ≡ given_of (with_names held (stored_node self.now)) }
+    /// The node of a number, lent. The names of a directory are looked for among those of all.
+    pub fn lend<'a>(&'a self, number: u64, names: &'a Rows) -> LentNode<'a>
+        ensures { lent result ≡ given_of (with_names (names_at names.now.names number) (stored_node self.now)) }
     {
         LentNode {
-            content: self.content.lend(names),
+            content: self.content.lend(number, names),
             bits: self.bits,
             atime: self.atime,
             mtime: self.mtime,

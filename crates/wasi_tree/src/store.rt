@@ -101,7 +101,7 @@ impl Store {
         requires { n < next_of self.now }
         ensures { lent result ≡ given_of (node_at self.now n) }
     {
-        self.rows[n as usize].lend(self.names.names(n))
+        self.rows[n as usize].lend(n, &self.names)
     }
 
     /// Whether a number is a directory's.

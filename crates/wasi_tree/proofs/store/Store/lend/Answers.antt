@@ -1,5 +1,4 @@
 use Rattle.std.proofs.Common.{◌∙◌, sym, ap, arith}
-use Rattle.wasi_names.specs.NameRows.{names_at}
 use Rattle.wasi_tree.specs.Given.{given_of}
 use Rattle.wasi_tree.proofs.RowLemmas.{IsRow, row_node, row_within}
 use Rattle.wasi_tree.proofs.store.Store.lend.Goals as goal
@@ -9,7 +8,7 @@ returns c =
     let row : IsRow c.self.inside.rows.items c.self.inside.names.names c.self.inside.limits c.self.inside.worked.nodes
     c.args.self.now c.args.n c.index.result.now =
     record { stands = c.self.view_is; within = c.requires; read = c.index.ensures } in
-    c.lend.ensures (names_at c.self.inside.names.names c.args.n) (sym c.names.ensures) ∙ ap given_of (sym (row_node row))
+    c.lend.ensures ∙ ap given_of (sym (row_node row))
 
 pub index-requires : goal.index-requires
 index-requires c = omega (arith, row_within _ _ c.self.view_is c.requires)
