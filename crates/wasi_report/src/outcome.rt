@@ -6,7 +6,7 @@ ghost use Rattle.wasi_report.specs.ReadBack.{FitsNode, IsOrdered};
 ghost use Rattle.wasi_report.specs.Report.{reported, report_value, report_text, list_value, hex_value, node_value};
 ghost use Rattle.wasi_report.specs.Told.{told, told_at};
 
-use crate::told::{Told, tell_bytes, tell_list};
+use crate::told::{DigitRoom, Told, tell_bytes, tell_list};
 use crate::told_answers::tell_answers;
 use crate::told_nodes::tell_node;
 use json::Writer;
@@ -33,13 +33,15 @@ pub fn report(alloc: Global, outcome: &Outcome, tree: &MemTree) -> Result<Vec<u8
     ensures text { IfOk result (λ text. text.items ≡ report_text (reported outcome.now tree.now.tree.nodes)) }
     ensures ordered { OnOk result (IsOrdered (reported outcome.now tree.now.tree.nodes)) }
 {
-    report_in(alloc, Vec::new(alloc), outcome, tree)
+    report_in(alloc, alloc, Vec::new(alloc), outcome, tree)
 }
 
 /// The same text as `report`, written in the memory of a buffer, whose bytes are let go. What is kept only while it is
-/// written, the digits of one text of bytes at a time, is taken of `alloc` and given back to it.
+/// written, the digits of one text of bytes at a time, is taken of `room` where that has enough, else of `alloc`, and given
+/// back to it.
 pub fn report_in<A: Allocator + Copy>(
-    alloc: A,
+    alloc: Global,
+    room: A,
     mut buffer: Vec<u8>,
     outcome: &Outcome,
     tree: &MemTree,
@@ -49,7 +51,7 @@ pub fn report_in<A: Allocator + Copy>(
 {
     buffer.clear();
     let mut out = Writer::new(buffer);
-    tell_outcome(alloc, outcome, tree, &mut out)?;
+    tell_outcome(DigitRoom { room, alloc }, outcome, tree, &mut out)?;
     let mut text = out.into_inner();
     text.push(b'\n')?;
     Ok(text)
@@ -57,7 +59,7 @@ pub fn report_in<A: Allocator + Copy>(
 
 #[tactic(auto, unfolding(crate::specs::ReadBack::IsOrdered))]
 fn tell_outcome<A: Allocator + Copy>(
-    alloc: A,
+    digits: DigitRoom<A>,
     outcome: &Outcome,
     tree: &MemTree,
     out: &mut Writer,
@@ -69,18 +71,18 @@ fn tell_outcome<A: Allocator + Copy>(
 {
     out.begin_object()?;
     out.key("answers")?;
-    tell_answers(alloc, &outcome.answers, out)?;
-    tell_texts_at(alloc, "memory", outcome.shown.as_slice(), out)?;
-    tell_bytes_at(alloc, "stderr", outcome.stderr.as_slice(), out)?;
-    tell_bytes_at(alloc, "stdout", outcome.stdout.as_slice(), out)?;
-    tell_list_at(alloc, "touched", outcome.touched.as_slice(), out)?;
+    tell_answers(digits, &outcome.answers, out)?;
+    tell_texts_at(digits, "memory", outcome.shown.as_slice(), out)?;
+    tell_bytes_at(digits, "stderr", outcome.stderr.as_slice(), out)?;
+    tell_bytes_at(digits, "stdout", outcome.stdout.as_slice(), out)?;
+    tell_list_at(digits, "touched", outcome.touched.as_slice(), out)?;
     out.key("tree")?;
-    tell_tree(alloc, tree, out)?;
+    tell_tree(digits, tree, out)?;
     out.end_object()
 }
 
 fn tell_list_at<A: Allocator + Copy, T: Told>(
-    alloc: A,
+    digits: DigitRoom<A>,
     name: &str,
     items: &[T],
     out: &mut Writer,
@@ -90,11 +92,11 @@ fn tell_list_at<A: Allocator + Copy, T: Told>(
     ensures fits { OnOk result (All T.fits items.now) }
 {
     out.key(name)?;
-    tell_list(alloc, items, out)
+    tell_list(digits, items, out)
 }
 
 fn tell_bytes_at<A: Allocator + Copy>(
-    alloc: A,
+    digits: DigitRoom<A>,
     name: &str,
     bytes: &[u8],
     out: &mut Writer,
@@ -104,11 +106,11 @@ fn tell_bytes_at<A: Allocator + Copy>(
     ensures fits { OnOk result (IsBytes bytes.now) }
 {
     out.key(name)?;
-    tell_bytes(alloc, bytes, out)
+    tell_bytes(digits, bytes, out)
 }
 
 fn tell_texts_at<A: Allocator + Copy>(
-    alloc: A,
+    digits: DigitRoom<A>,
     name: &str,
     texts: &[Vec<u8>],
     out: &mut Writer,
@@ -117,12 +119,12 @@ fn tell_texts_at<A: Allocator + Copy>(
     ensures tokens { OnOk result (out.new.tokens ≡ out.old.tokens ++ told_at name.now (list_value hex_value (map (λ text. text.items) texts.now))) }
     ensures fits { OnOk result (All IsBytes (map (λ text. text.items) texts.now)) }
 {
-    tell_list_at(alloc, name, texts, out)
+    tell_list_at(digits, name, texts, out)
 }
 
 // The nodes by their numbers, each as the tree lends it.
 fn tell_tree<A: Allocator + Copy>(
-    alloc: A,
+    digits: DigitRoom<A>,
     tree: &MemTree,
     out: &mut Writer,
 ) -> Result<(), AllocError>
@@ -133,7 +135,7 @@ fn tell_tree<A: Allocator + Copy>(
 {
     out.begin_array()?;
     for n in 0..tree.count() {
-        tell_node(alloc, &tree.node(n), out)?;
+        tell_node(digits, &tree.node(n), out)?;
     }
     out.end_array()
 }

@@ -7,8 +7,16 @@ ghost use Rattle.wasi_report.specs.Report.{list_value, hex_value, number_value, 
 ghost use Rattle.wasi_report.specs.Told.{told};
 
 use json::Writer;
-use std::alloc::{AllocError, Allocator};
+use std::alloc::{AllocError, Allocator, Global};
 use wasi_host::SystemTime;
+
+/// Where the digits of a text of bytes stand while they are written: in the room, and where that has too little, in memory
+/// of their own.
+#[derive(Clone, Copy)]
+pub struct DigitRoom<A: Allocator + Copy> {
+    pub room: A,
+    pub alloc: Global,
+}
 
 /// What is written as a value of JSON.
 pub trait Told {
@@ -17,7 +25,11 @@ pub trait Told {
     /// In range, as each value of the type is: numbers fit 64 bits, and bytes are bytes.
     ghost fits: { Self → Type 0 };
 
-    fn tell<A: Allocator + Copy>(&self, alloc: A, out: &mut Writer) -> Result<(), AllocError>
+    fn tell<A: Allocator + Copy>(
+        &self,
+        digits: DigitRoom<A>,
+        out: &mut Writer,
+    ) -> Result<(), AllocError>
         ensures before { out.new.before ≡ out.old.before }
         ensures tokens { OnOk result (out.new.tokens ≡ out.old.tokens ++ told (value self.now)) }
         ensures fits { OnOk result (fits self.now) };
@@ -28,7 +40,11 @@ impl Told for u64 {
 
     ghost fits = { FitsNumber };
 
-    fn tell<A: Allocator + Copy>(&self, _alloc: A, out: &mut Writer) -> Result<(), AllocError> {
+    fn tell<A: Allocator + Copy>(
+        &self,
+        _digits: DigitRoom<A>,
+        out: &mut Writer,
+    ) -> Result<(), AllocError> {
         out.u64(*self)
     }
 }
@@ -39,8 +55,12 @@ impl Told for Vec<u8> {
 
     ghost fits = { λ bytes. IsBytes bytes.items };
 
-    fn tell<A: Allocator + Copy>(&self, alloc: A, out: &mut Writer) -> Result<(), AllocError> {
-        tell_bytes(alloc, self.as_slice(), out)
+    fn tell<A: Allocator + Copy>(
+        &self,
+        digits: DigitRoom<A>,
+        out: &mut Writer,
+    ) -> Result<(), AllocError> {
+        tell_bytes(digits, self.as_slice(), out)
     }
 }
 
@@ -49,7 +69,11 @@ impl Told for SystemTime {
 
     ghost fits = { FitsTime };
 
-    fn tell<A: Allocator + Copy>(&self, _alloc: A, out: &mut Writer) -> Result<(), AllocError> {
+    fn tell<A: Allocator + Copy>(
+        &self,
+        _digits: DigitRoom<A>,
+        out: &mut Writer,
+    ) -> Result<(), AllocError> {
         out.begin_array()?;
         out.i64(self.seconds)?;
         out.u64(self.nanoseconds as u64)?;
@@ -59,7 +83,7 @@ impl Told for SystemTime {
 
 /// Bytes, in hex.
 pub fn tell_bytes<A: Allocator + Copy>(
-    alloc: A,
+    digits: DigitRoom<A>,
     bytes: &[u8],
     out: &mut Writer,
 ) -> Result<(), AllocError>
@@ -67,13 +91,16 @@ pub fn tell_bytes<A: Allocator + Copy>(
     ensures tokens { OnOk result (out.new.tokens ≡ out.old.tokens ++ told (hex_value bytes.now)) }
     ensures fits { IsBytes bytes.now }
 {
-    let text = hex::encode(alloc, bytes)?;
+    if let Ok(text) = hex::encode(digits.room, bytes) {
+        return out.string(text.as_str());
+    }
+    let text = hex::encode(digits.alloc, bytes)?;
     out.string(text.as_str())
 }
 
 /// The items of a list, in order.
 pub fn tell_list<A: Allocator + Copy, T: Told>(
-    alloc: A,
+    digits: DigitRoom<A>,
     items: &[T],
     out: &mut Writer,
 ) -> Result<(), AllocError>
@@ -83,7 +110,7 @@ pub fn tell_list<A: Allocator + Copy, T: Told>(
 {
     out.begin_array()?;
     for item in items {
-        item.tell(alloc, out)?;
+        item.tell(digits, out)?;
     }
     out.end_array()
 }

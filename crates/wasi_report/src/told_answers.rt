@@ -5,7 +5,7 @@ ghost use Rattle.wasi_report.specs.ReadBack.{FitsAnswer, FitsFdstat, FitsFilesta
 ghost use Rattle.wasi_report.specs.Report.{only, list_value, number_value, fdstat_value, filestat_value, success_value, trap_name, answer_value};
 ghost use Rattle.wasi_report.specs.Told.{told};
 
-use crate::told::{Told, tell_list};
+use crate::told::{DigitRoom, Told, tell_list};
 use json::Writer;
 use std::alloc::{AllocError, Allocator};
 use wasi_guest::{Answer, Answers, Fdstat, Filestat, TrapKind, Value};
@@ -15,9 +15,13 @@ impl Told for Answer {
 
     ghost fits = { FitsAnswer };
 
-    fn tell<A: Allocator + Copy>(&self, alloc: A, out: &mut Writer) -> Result<(), AllocError> {
+    fn tell<A: Allocator + Copy>(
+        &self,
+        digits: DigitRoom<A>,
+        out: &mut Writer,
+    ) -> Result<(), AllocError> {
         match *self {
-            Answer::Ok(value) => tell_success(alloc, value, out),
+            Answer::Ok(value) => tell_success(digits, value, out),
             Answer::Errno(errno) => tell_text("errno", errno.name(), out),
             Answer::Trap(kind) => tell_text("trap", trap_name(kind), out),
             Answer::Exit(status) => tell_exit(status, out),
@@ -30,13 +34,17 @@ impl Told for Value {
 
     ghost fits = { FitsValue };
 
-    fn tell<A: Allocator + Copy>(&self, alloc: A, out: &mut Writer) -> Result<(), AllocError> {
+    fn tell<A: Allocator + Copy>(
+        &self,
+        digits: DigitRoom<A>,
+        out: &mut Writer,
+    ) -> Result<(), AllocError> {
         match *self {
             Value::Unit => out.null(),
             Value::Number(n) => out.u64(n),
-            Value::Pair(first, second) => tell_list(alloc, &[first as u64, second as u64], out),
-            Value::Fdstat(stat) => stat.tell(alloc, out),
-            Value::Filestat(stat) => stat.tell(alloc, out),
+            Value::Pair(first, second) => tell_list(digits, &[first as u64, second as u64], out),
+            Value::Fdstat(stat) => stat.tell(digits, out),
+            Value::Filestat(stat) => stat.tell(digits, out),
         }
     }
 }
@@ -47,14 +55,18 @@ impl Told for Fdstat {
 
     ghost fits = { FitsFdstat };
 
-    fn tell<A: Allocator + Copy>(&self, alloc: A, out: &mut Writer) -> Result<(), AllocError> {
+    fn tell<A: Allocator + Copy>(
+        &self,
+        digits: DigitRoom<A>,
+        out: &mut Writer,
+    ) -> Result<(), AllocError> {
         let numbers = [
             self.filetype as u64,
             self.flags as u64,
             self.base,
             self.inheriting,
         ];
-        tell_list(alloc, &numbers, out)
+        tell_list(digits, &numbers, out)
     }
 }
 
@@ -64,7 +76,11 @@ impl Told for Filestat {
 
     ghost fits = { FitsFilestat };
 
-    fn tell<A: Allocator + Copy>(&self, alloc: A, out: &mut Writer) -> Result<(), AllocError> {
+    fn tell<A: Allocator + Copy>(
+        &self,
+        digits: DigitRoom<A>,
+        out: &mut Writer,
+    ) -> Result<(), AllocError> {
         let numbers = [
             self.dev,
             self.ino,
@@ -75,13 +91,13 @@ impl Told for Filestat {
             self.mtim,
             self.ctim,
         ];
-        tell_list(alloc, &numbers, out)
+        tell_list(digits, &numbers, out)
     }
 }
 
 /// The answers, in order.
 pub fn tell_answers<A: Allocator + Copy>(
-    alloc: A,
+    digits: DigitRoom<A>,
     answers: &Answers,
     out: &mut Writer,
 ) -> Result<(), AllocError>
@@ -92,7 +108,7 @@ pub fn tell_answers<A: Allocator + Copy>(
 {
     out.begin_array()?;
     for i in 0..answers.len() {
-        answers.at(i).tell(alloc, out)?;
+        answers.at(i).tell(digits, out)?;
     }
     out.end_array()
 }
@@ -108,7 +124,7 @@ fn trap_name(kind: TrapKind) -> &'static str
 }
 
 fn tell_success<A: Allocator + Copy>(
-    alloc: A,
+    digits: DigitRoom<A>,
     value: Value,
     out: &mut Writer,
 ) -> Result<(), AllocError>
@@ -118,7 +134,7 @@ fn tell_success<A: Allocator + Copy>(
 {
     out.begin_object()?;
     out.key("ok")?;
-    value.tell(alloc, out)?;
+    value.tell(digits, out)?;
     out.end_object()
 }
 

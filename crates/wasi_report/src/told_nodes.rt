@@ -4,10 +4,10 @@ ghost use Rattle.serde_json.specs.Data.{object, string, no_members};
 ghost use Rattle.wasi_tree.specs.Given.{directory};
 ghost use Rattle.wasi_tree.specs.Lent.{lent, lent_content};
 ghost use Rattle.wasi_report.specs.ReadBack.{FitsTimes, FitsContent, FitsNode};
-ghost use Rattle.wasi_report.specs.Report.{bits_text, times_value, put_all, node_value, bit_letter};
+ghost use Rattle.wasi_report.specs.Report.{bits_text, times_value, put_all, node_value};
 ghost use Rattle.wasi_report.specs.Told.{told, content_told};
 
-use crate::told::{Told, tell_bytes};
+use crate::told::{DigitRoom, Told, tell_bytes};
 use json::Writer;
 use std::alloc::{AllocError, Allocator};
 use wasi_host::Bits;
@@ -16,7 +16,7 @@ use wasi_tree::{LentContent, LentNode};
 
 /// A node, as one object with no space and with keys in byte order.
 pub fn tell_node<A: Allocator + Copy>(
-    alloc: A,
+    digits: DigitRoom<A>,
     node: &LentNode<'_>,
     out: &mut Writer,
 ) -> Result<(), AllocError>
@@ -26,15 +26,15 @@ pub fn tell_node<A: Allocator + Copy>(
 {
     out.begin_object()?;
     out.key("bits")?;
-    tell_bits(alloc, node.bits, out)?;
-    tell_content(alloc, &node.content, out)?;
+    out.string(bits_text(node.bits))?;
+    tell_content(digits, &node.content, out)?;
     out.key("times")?;
-    tell_times(alloc, node, out)?;
+    tell_times(digits, node, out)?;
     out.end_object()
 }
 
 fn tell_content<A: Allocator + Copy>(
-    alloc: A,
+    digits: DigitRoom<A>,
     content: &LentContent<'_>,
     out: &mut Writer,
 ) -> Result<(), AllocError>
@@ -45,7 +45,7 @@ fn tell_content<A: Allocator + Copy>(
     match content {
         LentContent::File(bytes) => {
             out.key("file")?;
-            tell_bytes(alloc, bytes, out)
+            tell_bytes(digits, bytes, out)
         }
         LentContent::Dir(names) => {
             out.key("dir")?;
@@ -58,25 +58,23 @@ fn tell_content<A: Allocator + Copy>(
     }
 }
 
-fn letter_of(letter: char, set: bool) -> char
-    ensures { result ≡ bit_letter letter set }
+fn bits_text(bits: Bits) -> &'static str
+    ensures { result.now ≡ bits_text bits }
 {
-    if set { letter } else { '-' }
-}
-
-fn tell_bits<A: Allocator + Copy>(alloc: A, bits: Bits, out: &mut Writer) -> Result<(), AllocError>
-    ensures before { out.new.before ≡ out.old.before }
-    ensures tokens { OnOk result (out.new.tokens ≡ out.old.tokens ++ told (string (bits_text bits))) }
-{
-    let mut text = String::with_capacity(alloc, 3)?;
-    text.push(letter_of('r', bits.r))?;
-    text.push(letter_of('w', bits.w))?;
-    text.push(letter_of('x', bits.x))?;
-    out.string(text.as_str())
+    match (bits.r, bits.w, bits.x) {
+        (true, true, true) => "rwx",
+        (true, true, false) => "rw-",
+        (true, false, true) => "r-x",
+        (true, false, false) => "r--",
+        (false, true, true) => "-wx",
+        (false, true, false) => "-w-",
+        (false, false, true) => "--x",
+        (false, false, false) => "---",
+    }
 }
 
 fn tell_times<A: Allocator + Copy>(
-    alloc: A,
+    digits: DigitRoom<A>,
     node: &LentNode<'_>,
     out: &mut Writer,
 ) -> Result<(), AllocError>
@@ -85,9 +83,9 @@ fn tell_times<A: Allocator + Copy>(
     ensures fits { OnOk result (FitsTimes (lent node.now)) }
 {
     out.begin_array()?;
-    node.atime.tell(alloc, out)?;
-    node.mtime.tell(alloc, out)?;
-    node.btime.tell(alloc, out)?;
+    node.atime.tell(digits, out)?;
+    node.mtime.tell(digits, out)?;
+    node.btime.tell(digits, out)?;
     out.end_array()
 }
 

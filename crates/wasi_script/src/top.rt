@@ -53,7 +53,7 @@ fn read_from<S: Source, A: Allocator + Copy>(
     Ok(read_script(alloc, room, buffer.as_slice())?)
 }
 
-// The report of a script, in the memory of a buffer. `room` is for its digits.
+// The report of a script, in the memory of a buffer. `room` is for its digits, where it has enough.
 fn report_of<A: Allocator + Copy>(
     alloc: Global,
     room: A,
@@ -76,7 +76,7 @@ fn report_of<A: Allocator + Copy>(
         stderr: outputs.stderr,
         touched,
     };
-    report_in(room, buffer, &outcome, ended.host.inner())
+    report_in(alloc, room, buffer, &outcome, ended.host.inner())
 }
 
 fn written<K: Sink>(sink: &mut K, text: &[u8], status: Status) -> Status
@@ -92,7 +92,7 @@ fn written<K: Sink>(sink: &mut K, text: &[u8], status: Status) -> Status
 }
 
 // Runs a script that is read of the source, and writes its report, or why there is none. The report is written where the
-// script's bytes stood, its digits where the reader had its room.
+// script's bytes stood, and digits that aren't more than they were where the reader had its room, which grows no more.
 fn run_source<S: Source, K: Sink>(alloc: Global, source: &mut S, sink: &mut K) -> Status
     ensures source_count { S.faults source.old ≤ S.faults source.new }
     ensures sink_count { K.faults sink.old ≤ K.faults sink.new }
@@ -120,6 +120,7 @@ fn run_source<S: Source, K: Sink>(alloc: Global, source: &mut S, sink: &mut K) -
         }
         Err(status) => return status,
     };
+    room.set_allocation_limit(Some(0));
     match report_of(alloc, &room, script, bytes) {
         Ok(text) => written(sink, text.as_slice(), Status::Done),
         Err(AllocError) => Status::NoMemory,
