@@ -16,6 +16,15 @@ fn command_line(rt: &HostRuntime) -> Option<Vec<String>> {
     }
 }
 
+// Why there is no report, on the standard error.
+#[cold]
+#[inline(never)]
+fn tell(rt: &HostRuntime, status: Status) {
+    if let Some(message) = status.message() {
+        let _ = eprintln!(rt; "{message}");
+    }
+}
+
 fn main(rt: HostRuntime) -> ExitCode {
     let status = match command_line(&rt) {
         Some(words) => {
@@ -25,8 +34,6 @@ fn main(rt: HostRuntime) -> ExitCode {
         }
         None => Status::NoMemory,
     };
-    if let Some(message) = status.message() {
-        let _ = eprintln!(rt; "{message}");
-    }
+    tell(&rt, status);
     ExitCode::from(status.exit_code())
 }
