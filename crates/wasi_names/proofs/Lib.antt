@@ -1,3 +1,4 @@
+mod HeadLemmas
 pub mod FrontLemmas
 pub mod EntryLemmas
 pub mod ListLemmas

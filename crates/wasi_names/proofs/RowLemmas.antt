@@ -12,7 +12,7 @@ use Rattle.wasi_names.specs.Places.{place_in, starts_by, list_place, first_at, r
 use Rattle.wasi_names.specs.Blocks.{block_entries, all_entries, IsBlock, AreBlocks}
 use Rattle.wasi_names.specs.NameRows.{Key, NameEntry, key_cmp, row_key, row_entry}
 use Rattle.wasi_names.proofs.FrontLemmas.{AllFail, IsClosed, front_all}
-use Rattle.wasi_names.proofs.EntryLemmas.{Rises, rises, sorted_of, closed_places, find_place}
+use Rattle.wasi_names.proofs.EntryLemmas.{Rises, rises, sorted_of, closed_places}
 use Rattle.wasi_names.proofs.ListLemmas.{Started, AllStarted, closed_lists, list_at-get, list_rises, no_lists}
 use Rattle.wasi_names.proofs.KeyLemmas.{key_total}
 
@@ -48,13 +48,6 @@ map_drop g (suc n) (x ∷ xs) = map_drop g n xs
 pub first_from : (key : Key) (rows : List NameRow) (es : List NameEntry) (at : ℕ) → map row_entry rows ≡ es
     → first_at key_cmp key (map row_entry (drop at rows)) ≡ first_at key_cmp key (drop at es)
 first_from key rows es at is = ap (first_at key_cmp key) (map_drop row_entry at rows ∙ ap (drop at) is)
-
-pub found_in : (key : Key) (rows : List NameRow) (at : ℕ) → IsTrue (is_sorted key_cmp (map row_entry rows))
-    → at ≡ place_in key_cmp key (map row_entry rows)
-    → first_at key_cmp key (map row_entry (drop at rows)) ≡ find key_cmp key (map row_entry rows)
-found_in key rows at h is =
-    first_from key rows _ at refl ∙ ap (λ n. first_at key_cmp key (drop n (map row_entry rows))) is
-    ∙ sym (find_place key_cmp key_total key _ (rises key_cmp _ h))
 
 started_rows : (rows : List NameRow) → 0 < length rows → Started (map row_entry rows)
 started_rows [] some = absurd (omega arith)
@@ -94,9 +87,9 @@ module _ {Y : Type 0} where
       → find key_cmp key (all_entries bs) ≡ None
   find_none key bs le = ap (λ bs. find key_cmp key (all_entries bs)) (no_lists key_cmp block_entries key_total key bs le)
 
-pub set_row : (rows : List NameRow) (i : ℕ) (row : NameRow) (v : ℕ) → i < length rows → row ≡ get_or rows i row
-    → map row_entry (set rows i (record { directory = row.directory; name = row.name; node = v }))
-    ≡ revalued v (map row_entry rows) i
-set_row [] i row v lt is = absurd (omega arith)
-set_row (r ∷ rs) zero row v lt is = ap (λ x. (row_key x, v) ∷ map row_entry rs) is
-set_row (r ∷ rs) (suc i) row v lt is = ap (λ es. row_entry r ∷ es) (set_row rs i row v (omega arith) is)
+pub set_row : (rows : List NameRow) (i : ℕ) (row new : NameRow) → i < length rows → row ≡ get_or rows i row
+    → row_key new ≡ row_key row → map row_entry (set rows i new) ≡ revalued new.node (map row_entry rows) i
+set_row [] i row new lt is same = absurd (omega arith)
+set_row (r ∷ rs) zero row new lt is same =
+    ap (λ k. (k, new.node) ∷ map row_entry rs) same ∙ ap (λ x. (row_key x, new.node) ∷ map row_entry rs) is
+set_row (r ∷ rs) (suc i) row new lt is same = ap (λ es. row_entry r ∷ es) (set_row rs i row new (omega arith) is same)

@@ -1,3 +1,4 @@
+pub mod Heads
 pub mod Fronts
 pub mod Places
 pub mod NameRows

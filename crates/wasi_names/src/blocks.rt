@@ -16,6 +16,7 @@ ghost use Rattle.wasi_names.specs.Blocks.{block_entries, all_entries, with_row, 
 use crate::name_row::NameRow;
 use crate::near::Near;
 use crate::shift::{insert_into, insert_row, insert_through};
+use crate::sought::Sought;
 use std::mem;
 
 /// How many rows a block may have.
@@ -25,34 +26,25 @@ pub const BLOCK: usize = 128;
 const HALF: usize = 64;
 
 /// How many rows are before a name in a directory.
-pub fn place(rows: &[NameRow], directory: u64, name: &str) -> usize
+pub fn place(rows: &[NameRow], key: &Sought<'_>) -> usize
     requires { IsTrue (is_sorted key_cmp (map row_entry rows.now)) }
-    ensures place { result ≡ place_in key_cmp (directory, name.now) (map row_entry rows.now) }
+    ensures place { result ≡ place_in key_cmp key.now (map row_entry rows.now) }
     ensures bound { result ≤ length rows.now }
 {
-    rows.partition_point(|row| row.is_before(directory, name))
+    rows.partition_point(|row| row.is_before(key))
 }
 
 /// The node of the first row, if it has this name in this directory.
-fn first_at(rows: &[NameRow], directory: u64, name: &str) -> Option<u64>
-    ensures { result ≡ first_at key_cmp (directory, name.now) (map row_entry rows.now) }
+fn first_at(rows: &[NameRow], key: &Sought<'_>) -> Option<u64>
+    ensures { result ≡ first_at key_cmp key.now (map row_entry rows.now) }
 {
     let Some(row) = rows.first() else {
         return None;
     };
-    if !row.is_at(directory, name) {
+    if !row.is_at(key) {
         return None;
     }
     Some(row.node)
-}
-
-/// The node of the row that has this name in this directory.
-fn find_in(rows: &[NameRow], directory: u64, name: &str) -> Option<u64>
-    requires { IsTrue (is_sorted key_cmp (map row_entry rows.now)) }
-    ensures { result ≡ find key_cmp (directory, name.now) (map row_entry rows.now) }
-{
-    let at = place(rows, directory, name);
-    first_at(from(rows, at), directory, name)
 }
 
 /// The rows from a place on.
@@ -64,29 +56,29 @@ fn from(rows: &[NameRow], at: usize) -> &[NameRow]
 }
 
 /// Whether a block's first row isn't after a name in a directory.
-fn starts_by(block: &[NameRow], directory: u64, name: &str) -> bool
-    ensures { result ≡ starts_by key_cmp (directory, name.now) (map row_entry block.now) }
+fn starts_by(block: &[NameRow], key: &Sought<'_>) -> bool
+    ensures { result ≡ starts_by key_cmp key.now (map row_entry block.now) }
 {
     match block.first() {
-        Some(row) => !row.is_after(directory, name),
+        Some(row) => !row.is_after(key),
         None => true,
     }
 }
 
 /// The block in which a name in a directory stands, if any does; else the one in which it would.
-pub fn block_place(blocks: &Vec<Vec<NameRow>>, directory: u64, name: &str) -> usize
+pub fn block_place(blocks: &Vec<Vec<NameRow>>, key: &Sought<'_>) -> usize
     requires { AreBlocks blocks.now.items }
-    ensures place { result ≡ list_place key_cmp block_entries (directory, name.now) blocks.now.items }
+    ensures place { result ≡ list_place key_cmp block_entries key.now blocks.now.items }
 {
-    place_among(blocks.as_slice(), directory, name)
+    place_among(blocks.as_slice(), key)
 }
 
 /// The same, of a slice.
-fn place_among(blocks: &[Vec<NameRow>], directory: u64, name: &str) -> usize
+fn place_among(blocks: &[Vec<NameRow>], key: &Sought<'_>) -> usize
     requires { AreBlocks blocks.now }
-    ensures place { result ≡ list_place key_cmp block_entries (directory, name.now) blocks.now }
+    ensures place { result ≡ list_place key_cmp block_entries key.now blocks.now }
 {
-    let count = blocks.partition_point(|block| starts_by(block.as_slice(), directory, name));
+    let count = blocks.partition_point(|block| starts_by(block.as_slice(), key));
     count.saturating_sub(1)
 }
 
@@ -106,9 +98,9 @@ fn behind(blocks: &Vec<Vec<NameRow>>, near: Near) -> Near {
 }
 
 /// The node of the row at a place, if there is one, and it has this name in this directory.
-fn node_at(blocks: &Vec<Vec<NameRow>>, at: Near, directory: u64, name: &str) -> Option<u64>
+fn node_at(blocks: &Vec<Vec<NameRow>>, at: Near, key: &Sought<'_>) -> Option<u64>
     requires { AreBlocks blocks.now.items }
-    ensures { IfSome result (λ n. find key_cmp (directory, name.now) (all_entries blocks.now.items) ≡ Some n) }
+    ensures { IfSome result (λ n. find key_cmp key.now (all_entries blocks.now.items) ≡ Some n) }
 {
     if at.block >= blocks.len() {
         return None;
@@ -116,26 +108,26 @@ fn node_at(blocks: &Vec<Vec<NameRow>>, at: Near, directory: u64, name: &str) -> 
     if at.row > rows_at(blocks, at.block).len() {
         return None;
     }
-    found_at(blocks, at.block, at.row, directory, name)
+    found_at(blocks, at.block, at.row, key)
 }
 
 /// The node of a name in a directory. It is looked for behind the place where one was found last, before all else.
-pub fn find(blocks: &Vec<Vec<NameRow>>, near: &mut Near, directory: u64, name: &str) -> Option<u64>
+pub fn find(blocks: &Vec<Vec<NameRow>>, near: &mut Near, key: &Sought<'_>) -> Option<u64>
     requires { AreBlocks blocks.now.items }
-    ensures { result ≡ find key_cmp (directory, name.now) (all_entries blocks.now.items) }
+    ensures { result ≡ find key_cmp key.now (all_entries blocks.now.items) }
 {
     let next = behind(blocks, *near);
-    if let Some(node) = node_at(blocks, next, directory, name) {
+    if let Some(node) = node_at(blocks, next, key) {
         *near = next;
         return Some(node);
     }
-    let k = block_place(blocks, directory, name);
+    let k = block_place(blocks, key);
     if k >= blocks.len() {
         return None;
     }
-    let at = place_at(blocks, k, directory, name);
+    let at = place_at(blocks, k, key);
     *near = Near { block: k, row: at };
-    found_at(blocks, k, at, directory, name)
+    found_at(blocks, k, at, key)
 }
 
 /// The rows of a block.
@@ -147,74 +139,68 @@ fn rows_at(blocks: &Vec<Vec<NameRow>>, k: usize) -> &[NameRow]
 }
 
 /// How many rows of a block are before a name in a directory.
-fn place_at(blocks: &Vec<Vec<NameRow>>, k: usize, directory: u64, name: &str) -> usize
+fn place_at(blocks: &Vec<Vec<NameRow>>, k: usize, key: &Sought<'_>) -> usize
     requires kept { AreBlocks blocks.now.items }
     requires within { k < length blocks.now.items }
-    ensures place { result ≡ place_in key_cmp (directory, name.now) (list_at block_entries blocks.now.items k) }
+    ensures place { result ≡ place_in key_cmp key.now (list_at block_entries blocks.now.items k) }
     ensures bound { result ≤ length (list_at block_entries blocks.now.items k) }
 {
-    place(rows_at(blocks, k), directory, name)
+    place(rows_at(blocks, k), key)
 }
 
 /// Whether a name in a directory comes behind some rows: the last one is before it, or there is none.
-fn ends_before(rows: &[NameRow], directory: u64, name: &str) -> bool
+fn ends_before(rows: &[NameRow], key: &Sought<'_>) -> bool
     requires { IsTrue (is_sorted key_cmp (map row_entry rows.now)) }
-    ensures { result ≡ true → place_in key_cmp (directory, name.now) (map row_entry rows.now) ≡ length rows.now }
+    ensures { result ≡ true → place_in key_cmp key.now (map row_entry rows.now) ≡ length rows.now }
 {
     let count = rows.len();
-    count == 0 || rows[count - 1].is_before(directory, name)
+    count == 0 || rows[count - 1].is_before(key)
 }
 
 /// The block in which a name in a directory would stand, as `block_place` has it. The last block is tried first, since
 /// names often come in their order.
-fn rising_block(blocks: &Vec<Vec<NameRow>>, directory: u64, name: &str) -> usize
+fn rising_block(blocks: &Vec<Vec<NameRow>>, key: &Sought<'_>) -> usize
     requires { AreBlocks blocks.now.items }
-    ensures place { result ≡ list_place key_cmp block_entries (directory, name.now) blocks.now.items }
+    ensures place { result ≡ list_place key_cmp block_entries key.now blocks.now.items }
 {
     let count = blocks.len();
-    if count > 0 && starts_by(rows_at(blocks, count - 1), directory, name) {
+    if count > 0 && starts_by(rows_at(blocks, count - 1), key) {
         return count - 1;
     }
-    block_place(blocks, directory, name)
+    block_place(blocks, key)
 }
 
 /// How many rows of a block are before a name in a directory, as `place_at` has it. The place behind them all is tried
 /// first.
-fn rising_place(blocks: &Vec<Vec<NameRow>>, k: usize, directory: u64, name: &str) -> usize
+fn rising_place(blocks: &Vec<Vec<NameRow>>, k: usize, key: &Sought<'_>) -> usize
     requires kept { AreBlocks blocks.now.items }
     requires within { k < length blocks.now.items }
-    ensures place { result ≡ place_in key_cmp (directory, name.now) (list_at block_entries blocks.now.items k) }
+    ensures place { result ≡ place_in key_cmp key.now (list_at block_entries blocks.now.items k) }
     ensures bound { result ≤ length (list_at block_entries blocks.now.items k) }
 {
     let rows = rows_at(blocks, k);
-    if ends_before(rows, directory, name) {
+    if ends_before(rows, key) {
         return rows.len();
     }
-    place(rows, directory, name)
+    place(rows, key)
 }
 
 /// Whether a name in a directory comes behind all rows, so that none has it.
-pub fn is_behind(blocks: &Vec<Vec<NameRow>>, directory: u64, name: &str) -> bool
+pub fn is_behind(blocks: &Vec<Vec<NameRow>>, key: &Sought<'_>) -> bool
     requires { AreBlocks blocks.now.items }
-    ensures { result ≡ true → find key_cmp (directory, name.now) (all_entries blocks.now.items) ≡ None }
+    ensures { result ≡ true → find key_cmp key.now (all_entries blocks.now.items) ≡ None }
 {
     let count = blocks.len();
-    count == 0 || ends_before(rows_at(blocks, count - 1), directory, name)
+    count == 0 || ends_before(rows_at(blocks, count - 1), key)
 }
 
 /// The node of the row at a place of a block, if it has this name in this directory.
-fn found_at(
-    blocks: &Vec<Vec<NameRow>>,
-    k: usize,
-    at: usize,
-    directory: u64,
-    name: &str,
-) -> Option<u64>
+fn found_at(blocks: &Vec<Vec<NameRow>>, k: usize, at: usize, key: &Sought<'_>) -> Option<u64>
     requires within { k < length blocks.now.items }
     requires at { at ≤ length (list_at block_entries blocks.now.items k) }
-    ensures { result ≡ first_at key_cmp (directory, name.now) (drop at (list_at block_entries blocks.now.items k)) }
+    ensures { result ≡ first_at key_cmp key.now (drop at (list_at block_entries blocks.now.items k)) }
 {
-    first_at(from(rows_at(blocks, k), at), directory, name)
+    first_at(from(rows_at(blocks, k), at), key)
 }
 
 /// Moves a block's rows from a place on into another block, which is empty and has room for them.
@@ -351,14 +337,14 @@ pub fn put(
     ensures empty { spare.new.items ≡ [] }
     ensures put { all_entries blocks.new.items ≡ put key_cmp (row_key row) row.node (all_entries blocks.old.items) }
 {
-    let name = row.name.as_str();
-    let k = rising_block(blocks, row.directory, name);
+    let key = row.sought();
+    let k = rising_block(blocks, &key);
     if k >= blocks.len() {
         start(blocks, taken(spare), row);
         return;
     }
-    let at = rising_place(blocks, k, row.directory, name);
-    let found = found_at(blocks, k, at, row.directory, name);
+    let at = rising_place(blocks, k, &key);
+    let found = found_at(blocks, k, at, &key);
     if found.is_some() {
         set_at(blocks, k, at, row.node);
         return;
@@ -380,25 +366,24 @@ fn taken(spare: &mut Vec<NameRow>) -> Vec<NameRow>
 pub fn remove(
     blocks: &mut Vec<Vec<NameRow>>,
     spare: &mut Vec<NameRow>,
-    directory: u64,
-    name: &str,
+    key: &Sought<'_>,
 ) -> Option<u64>
     requires kept { AreBlocks blocks.old.items }
     requires empty { spare.old.items ≡ [] }
     ensures kept { AreBlocks blocks.new.items }
     ensures empty { spare.new.items ≡ [] }
-    ensures found { result ≡ find key_cmp (directory, name.now) (all_entries blocks.old.items) }
+    ensures found { result ≡ find key_cmp key.now (all_entries blocks.old.items) }
     ensures removed { all_entries blocks.new.items
-        ≡ where_key key_cmp (λ k. not (eq_by_cmp key_cmp (directory, name.now) k)) (all_entries blocks.old.items) }
+        ≡ where_key key_cmp (λ k. not (eq_by_cmp key_cmp key.now k)) (all_entries blocks.old.items) }
     ensures room { is_some result ≡ true → has_block blocks.new spare.new ≡ false
-        → HasSpace blocks.new.items (list_place key_cmp block_entries (directory, name.now) blocks.old.items) }
+        → HasSpace blocks.new.items (list_place key_cmp block_entries key.now blocks.old.items) }
 {
-    let k = block_place(blocks, directory, name);
+    let k = block_place(blocks, key);
     if k >= blocks.len() {
         return None;
     }
-    let at = place_at(blocks, k, directory, name);
-    let found = found_at(blocks, k, at, directory, name);
+    let at = place_at(blocks, k, key);
+    let found = found_at(blocks, k, at, key);
     if found.is_some() {
         take_row(blocks, spare, k, at);
     }
@@ -441,31 +426,30 @@ fn unless_room(blocks: &Vec<Vec<NameRow>>, spare: &Vec<NameRow>, k: usize) -> Op
 pub fn rename(
     blocks: &mut Vec<Vec<NameRow>>,
     spare: &mut Vec<NameRow>,
-    directory: u64,
-    name: &str,
+    key: &Sought<'_>,
     new_directory: u64,
     new_name: String,
 )
     requires kept { AreBlocks blocks.old.items }
     requires empty { spare.old.items ≡ [] }
-    requires held { is_some (find key_cmp (directory, name.now) (all_entries blocks.old.items)) ≡ true }
+    requires held { is_some (find key_cmp key.now (all_entries blocks.old.items)) ≡ true }
     ensures kept { AreBlocks blocks.new.items }
     ensures empty { spare.new.items ≡ [] }
-    ensures renamed { (node : ℕ) → find key_cmp (directory, name.now) (all_entries blocks.old.items) ≡ Some node
+    ensures renamed { (node : ℕ) → find key_cmp key.now (all_entries blocks.old.items) ≡ Some node
         → all_entries blocks.new.items ≡ put key_cmp (new_directory, string_bytes new_name) node
-        (where_key key_cmp (λ k. not (eq_by_cmp key_cmp (directory, name.now) k)) (all_entries blocks.old.items)) }
+        (where_key key_cmp (λ k. not (eq_by_cmp key_cmp key.now k)) (all_entries blocks.old.items)) }
 {
-    let k = block_place(blocks, directory, name);
-    let Some(node) = remove(blocks, spare, directory, name) else {
+    let k = block_place(blocks, key);
+    let Some(node) = remove(blocks, spare, key) else {
         unreachable!();
     };
     let free = unless_room(blocks, spare, k);
-    let row = NameRow {
-        directory: new_directory,
-        name: new_name,
-        node,
-    };
-    put(blocks, spare, free, row);
+    put(
+        blocks,
+        spare,
+        free,
+        NameRow::new(new_directory, new_name, node),
+    );
 }
 
 /// Rows and the blocks behind them, where the first rows are there if any are.
@@ -493,11 +477,12 @@ pub fn rows_from(blocks: &Vec<Vec<NameRow>>, directory: u64) -> (&[NameRow], &[V
     ensures run { IsRun directory result.0.now result.1.now }
     ensures same { run_of directory (entries_from result.0.now result.1.now) ≡ run_of directory (all_entries blocks.now.items) }
 {
-    let k = block_place(blocks, directory, "");
+    let key = Sought::new(directory, "");
+    let k = block_place(blocks, &key);
     if k >= blocks.len() {
         return (&[], &[]);
     }
-    let at = place_at(blocks, k, directory, "");
+    let at = place_at(blocks, k, &key);
     settled(from(rows_at(blocks, k), at), blocks_from(blocks, k + 1))
 }
 

@@ -7,6 +7,7 @@ mod near;
 mod rows;
 mod run;
 mod shift;
+mod sought;
 
 pub use name_row::NameRow;
 pub use near::Near;

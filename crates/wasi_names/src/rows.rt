@@ -8,6 +8,7 @@ use crate::blocks::{self, BLOCK};
 use crate::name_row::NameRow;
 use crate::near::Near;
 use crate::run::Run;
+use crate::sought::Sought;
 use std::alloc::{AllocError, Global};
 use std::marker::Model;
 
@@ -47,18 +48,19 @@ impl Rows {
     pub fn find(&self, near: &mut Near, directory: u64, name: &str) -> Option<u64>
         ensures { result ≡ maps.get self.now.names (directory, name.now) }
     {
-        blocks::find(&self.blocks, near, directory, name)
+        blocks::find(&self.blocks, near, &Sought::new(directory, name))
     }
 
     /// Whether a directory has a name. Of one that comes behind all others this is told at once.
     pub fn has(&self, directory: u64, name: &str) -> bool
         ensures { result ≡ is_some (maps.get self.now.names (directory, name.now)) }
     {
-        if blocks::is_behind(&self.blocks, directory, name) {
+        let key = Sought::new(directory, name);
+        if blocks::is_behind(&self.blocks, &key) {
             return false;
         }
         let mut near = Near::first();
-        blocks::find(&self.blocks, &mut near, directory, name).is_some()
+        blocks::find(&self.blocks, &mut near, &key).is_some()
     }
 
     /// Makes room for one more name.
@@ -79,11 +81,7 @@ impl Rows {
         requires { self.old.has_room ≡ true }
         ensures names { self.new.names ≡ maps.insert self.old.names (directory, string_bytes name) node }
     {
-        let row = NameRow {
-            directory,
-            name,
-            node,
-        };
+        let row = NameRow::new(directory, name, node);
         blocks::put(&mut self.blocks, &mut self.spare, None, row);
     }
 
@@ -92,7 +90,8 @@ impl Rows {
         ensures found { result ≡ maps.get self.old.names (directory, name.now) }
         ensures names { self.new.names ≡ maps.remove self.old.names (directory, name.now) }
     {
-        blocks::remove(&mut self.blocks, &mut self.spare, directory, name)
+        let key = Sought::new(directory, name);
+        blocks::remove(&mut self.blocks, &mut self.spare, &key)
     }
 
     /// Takes a name out of a directory, and puts the node that it held under a name of a directory, which may be the
@@ -107,8 +106,7 @@ impl Rows {
         blocks::rename(
             &mut self.blocks,
             &mut self.spare,
-            directory,
-            name,
+            &Sought::new(directory, name),
             new_directory,
             new_name,
         );

@@ -16,13 +16,11 @@ fn command_line(rt: &HostRuntime) -> Option<Vec<String>> {
     }
 }
 
-// Why there is no report, on the standard error.
+// Says why there is no report.
 #[cold]
 #[inline(never)]
-fn tell(rt: &HostRuntime, status: Status) {
-    if let Some(message) = status.message() {
-        let _ = eprintln!(rt; "{message}");
-    }
+fn tell(rt: &HostRuntime, message: &str) {
+    let _ = eprintln!(rt; "{message}");
 }
 
 fn main(rt: HostRuntime) -> ExitCode {
@@ -34,6 +32,8 @@ fn main(rt: HostRuntime) -> ExitCode {
         }
         None => Status::NoMemory,
     };
-    tell(&rt, status);
+    if let Some(message) = status.message() {
+        tell(&rt, message);
+    }
     ExitCode::from(status.exit_code())
 }

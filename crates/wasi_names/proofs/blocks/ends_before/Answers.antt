@@ -9,13 +9,13 @@ use Rattle.wasi_names.proofs.blocks.ends_before.Goals as goal
 -- there are no rows
 pub returns-then-count-eq0 : goal.returns-then-count-eq0
 returns-then-count-eq0 c = λ none.
-    let few = front_within (λ e. is_gt (key_cmp (c.args.directory, c.args.name.now) e.0)) (map row_entry c.args.rows.now) in
+    let few = front_within (λ e. is_gt (key_cmp c.args.key.now e.0)) (map row_entry c.args.rows.now) in
     omega (arith, few, length-map c.args.rows.now row_entry)
 
 pub returns-else-count-eq0 : goal.returns-else-count-eq0
 returns-else-count-eq0 c = λ before.
-    sym (front_rows (c.args.directory, c.args.name.now) c.args.rows.now)
-    ∙ front_all (λ row. is_gt (key_cmp (c.args.directory, c.args.name.now) (row_key row))) c.args.rows.now
+    sym (front_rows c.args.key.now c.args.rows.now)
+    ∙ front_all (λ row. is_gt (key_cmp c.args.key.now (row_key row))) c.args.rows.now
     (length c.args.rows.now - 1) c.index-rows-count.result (omega arith)
-    (closed_rows (c.args.directory, c.args.name.now) c.args.rows.now c.requires)
+    (closed_rows c.args.key.now c.args.rows.now c.requires)
     (rw (← c.index-rows-count.is, ← c.is_before.ensures) before)

@@ -6,5 +6,5 @@ use Rattle.wasi_names.proofs.blocks.found_at.Goals as goal
 
 pub returns : goal.returns
 returns c = c.first_at.ensures
-    ∙ ap (λ xs. first_at key_cmp (c.args.directory, c.args.name.now) (map row_entry xs)) c.from.ensures
-    ∙ first_from (c.args.directory, c.args.name.now) c.rows_at.result.now _ c.args.at c.rows_at.ensures
+    ∙ ap (λ xs. first_at key_cmp c.args.key.now (map row_entry xs)) c.from.ensures
+    ∙ first_from c.args.key.now c.rows_at.result.now _ c.args.at c.rows_at.ensures

@@ -11,5 +11,5 @@ ends_before-requires c =
 
 pub returns-else-count-eq0 : goal.returns-else-count-eq0
 returns-else-count-eq0 c = λ behind.
-    behind_all (c.args.directory, c.args.name.now) c.args.blocks.now.items (c.len-count.result - 1) c.requires (omega arith)
+    behind_all c.args.key.now c.args.blocks.now.items (c.len-count.result - 1) c.requires (omega arith)
     (rw (← c.rows_at.ensures) (c.ends_before.ensures behind ∙ sym (length-map c.rows_at.result.now row_entry)))

@@ -11,8 +11,8 @@ pub returns : goal.returns
 returns c = by c.found_at.result c.found_at.ensures
   where
     by : (o : Option ℕ)
-        → o ≡ first_at key_cmp (c.args.directory, c.args.name.now) (drop c.args.at.row (list_at block_entries c.args.blocks.now.items c.args.at.block))
-        → IfSome o (λ n. find key_cmp (c.args.directory, c.args.name.now) (all_entries c.args.blocks.now.items) ≡ Some n)
+        → o ≡ first_at key_cmp c.args.key.now (drop c.args.at.row (list_at block_entries c.args.blocks.now.items c.args.at.block))
+        → IfSome o (λ n. find key_cmp c.args.key.now (all_entries c.args.blocks.now.items) ≡ Some n)
     by None is = tt
-    by (Some n) is = find_there (c.args.directory, c.args.name.now) c.args.blocks.now.items c.args.at.block c.args.at.row n
+    by (Some n) is = find_there c.args.key.now c.args.blocks.now.items c.args.at.block c.args.at.row n
         c.requires (omega arith) (sym is)

@@ -8,8 +8,8 @@ use Rattle.wasi_names.proofs.blocks.place.Goals as goal
 
 pub returns-clause-place : goal.returns-clause-place
 returns-clause-place c =
-    let parted = partitioned (λ row. is_gt (key_cmp (c.args.directory, c.args.name.now) (row_key row))) c.args.rows.now
-    (closed_rows (c.args.directory, c.args.name.now) c.args.rows.now c.requires) in
-    let point = IsPartitionPoint-from_clause (λ row. is_gt (key_cmp (c.args.directory, c.args.name.now) (row_key row))) _ _
+    let parted = partitioned (λ row. is_gt (key_cmp c.args.key.now (row_key row))) c.args.rows.now
+    (closed_rows c.args.key.now c.args.rows.now c.requires) in
+    let point = IsPartitionPoint-from_clause (λ row. is_gt (key_cmp c.args.key.now (row_key row))) _ _
     c.partition_point.ensures.partitioned parted (λ a r q k. search rules) in
     front_is _ c.args.rows.now _ c.partition_point.ensures.bound point ∙ front_rows _ c.args.rows.now

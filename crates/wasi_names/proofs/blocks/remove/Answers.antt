@@ -4,38 +4,38 @@ use Rattle.wasi_names.proofs.BlockLemmas.{find_here, without_found, without_abse
 use Rattle.wasi_names.proofs.blocks.remove.Goals as goal
 
 pub returns-then-k-len-clause-found : goal.returns-then-k-len-clause-found
-returns-then-k-len-clause-found c = sym (find_none (c.args.directory, c.args.name.now) c.args.blocks.now.items
+returns-then-k-len-clause-found c = sym (find_none c.args.key.now c.args.blocks.now.items
     (rw (← c.block_place-k.ensures.place) (omega arith)))
 
 pub returns-then-k-len-clause-removed : goal.returns-then-k-len-clause-removed
-returns-then-k-len-clause-removed c = without_first (c.args.directory, c.args.name.now)
-    (no_blocks (c.args.directory, c.args.name.now) c.args.blocks.now.items (rw (← c.block_place-k.ensures.place) (omega arith)))
+returns-then-k-len-clause-removed c = without_first c.args.key.now
+    (no_blocks c.args.key.now c.args.blocks.now.items (rw (← c.block_place-k.ensures.place) (omega arith)))
 
 pub returns-then-is_some-clause-kept : goal.returns-then-is_some-clause-kept
-returns-then-is_some-clause-kept c = without_kept (c.args.directory, c.args.name.now) c.args.blocks.now.items _ c.requires.kept
+returns-then-is_some-clause-kept c = without_kept c.args.key.now c.args.blocks.now.items _ c.requires.kept
     c.take_row.ensures.each
-    (c.take_row.ensures.rows ∙ without_found (c.args.directory, c.args.name.now) c.args.blocks.now.items c.requires.kept
+    (c.take_row.ensures.rows ∙ without_found c.args.key.now c.args.blocks.now.items c.requires.kept
     c.block_place-k.result c.block_place-k.ensures.place (omega arith) c.place_at-at.result c.place_at-at.ensures.place
     (rw (← c.found_at-found.ensures, ← c.is_some.ensures) c.if-is_some.true))
 
 pub returns-then-is_some-clause-found : goal.returns-then-is_some-clause-found
-returns-then-is_some-clause-found c = c.found_at-found.ensures ∙ sym (find_here (c.args.directory, c.args.name.now)
+returns-then-is_some-clause-found c = c.found_at-found.ensures ∙ sym (find_here c.args.key.now
     c.args.blocks.now.items c.requires.kept c.block_place-k.result c.block_place-k.ensures.place (omega arith)
     c.place_at-at.result c.place_at-at.ensures.place)
 
 pub returns-then-is_some-clause-removed : goal.returns-then-is_some-clause-removed
 returns-then-is_some-clause-removed c =
-    c.take_row.ensures.rows ∙ without_found (c.args.directory, c.args.name.now) c.args.blocks.now.items c.requires.kept
+    c.take_row.ensures.rows ∙ without_found c.args.key.now c.args.blocks.now.items c.requires.kept
     c.block_place-k.result c.block_place-k.ensures.place (omega arith) c.place_at-at.result c.place_at-at.ensures.place
     (rw (← c.found_at-found.ensures, ← c.is_some.ensures) c.if-is_some.true)
 
 pub returns-else-is_some-clause-found : goal.returns-else-is_some-clause-found
-returns-else-is_some-clause-found c = c.found_at-found.ensures ∙ sym (find_here (c.args.directory, c.args.name.now)
+returns-else-is_some-clause-found c = c.found_at-found.ensures ∙ sym (find_here c.args.key.now
     c.args.blocks.now.items c.requires.kept c.block_place-k.result c.block_place-k.ensures.place (omega arith)
     c.place_at-at.result c.place_at-at.ensures.place)
 
 pub returns-else-is_some-clause-removed : goal.returns-else-is_some-clause-removed
-returns-else-is_some-clause-removed c = without_absent (c.args.directory, c.args.name.now) c.args.blocks.now.items c.requires.kept
+returns-else-is_some-clause-removed c = without_absent c.args.key.now c.args.blocks.now.items c.requires.kept
     c.block_place-k.result c.block_place-k.ensures.place (omega arith) c.place_at-at.result c.place_at-at.ensures.place
     (rw (← c.found_at-found.ensures, ← c.is_some.ensures) c.if-is_some.false)
 

@@ -1,7 +1,6 @@
 use Rattle.std.proofs.Common.{◌≡◌, ◌∙◌, refl}
 use Rattle.std.specs.FinMap.{put}
-use Rattle.std.specs.String.{string_bytes}
-use Rattle.wasi_names.specs.NameRows.{key_cmp}
+use Rattle.wasi_names.specs.NameRows.{key_cmp, row_key}
 use Rattle.wasi_names.proofs.ShiftLemmas.{room_given}
 use Rattle.wasi_names.proofs.blocks.rename.Goals as goal
 
@@ -12,6 +11,6 @@ put-requires-clause-room c = room_given c.remove.new.blocks c.remove.new.spare c
 
 pub returns-clause-renamed : goal.returns-clause-renamed
 returns-clause-renamed c = λ node held.
-    let same : c.in-Some.node ≡ node = cc (c.in-Some.ensures.found) in
-    c.put.ensures.put ∙ (λ i. put key_cmp (c.args.new_directory, string_bytes c.args.new_name) (same i)
-    (c.in-Some.ensures.removed i))
+    let same : c.new.result.node ≡ node = c.new.ensures.node ∙ cc (c.in-Some.ensures.found) in
+    rw (← c.new.ensures.directory, ← c.new.ensures.name) (
+    c.put.ensures.put ∙ (λ i. put key_cmp (row_key c.new.result) (same i) (c.in-Some.ensures.removed i)))

@@ -6,6 +6,6 @@ use Rattle.wasi_names.proofs.EntryLemmas.{told}
 use Rattle.wasi_names.proofs.rows.Rows.find.Goals as goal
 
 pub returns : goal.returns
-returns c = c.find.ensures
-    ∙ sym (get-from_sorted key_cmp _ (c.args.directory, c.args.name.now) (told c.self.invariant.kept.rises))
-    ∙ ap (λ (h : HeldNames). get h.names (c.args.directory, c.args.name.now)) c.self.view_is
+returns c = rw (← c.new.ensures.directory, ← c.new.ensures.name) (c.find.ensures
+    ∙ sym (get-from_sorted key_cmp _ c.new.result (told c.self.invariant.kept.rises))
+    ∙ ap (λ (h : HeldNames). get h.names c.new.result) c.self.view_is)

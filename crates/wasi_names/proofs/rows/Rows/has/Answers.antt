@@ -6,18 +6,18 @@ use Rattle.wasi_names.proofs.EntryLemmas.{told}
 use Rattle.wasi_names.proofs.rows.Rows.has.Goals as goal
 
 pub returns-then-is_behind : goal.returns-then-is_behind
-returns-then-is_behind c =
+returns-then-is_behind c = rw (← c.new-key.ensures.directory, ← c.new-key.ensures.name) (
     sym (ap is_some (
-    sym (ap (λ (h : HeldNames). get h.names (c.args.directory, c.args.name.now)) c.self.view_is)
-    ∙ get-from_sorted key_cmp _ (c.args.directory, c.args.name.now) (told c.self.invariant.kept.rises)
+    sym (ap (λ (h : HeldNames). get h.names c.new-key.result) c.self.view_is)
+    ∙ get-from_sorted key_cmp _ c.new-key.result (told c.self.invariant.kept.rises)
     ∙ c.is_behind.ensures c.if-is_behind.true
-    ))
+    )))
 
 pub returns : goal.returns
-returns c =
+returns c = rw (← c.new-key.ensures.directory, ← c.new-key.ensures.name) (
     c.is_some.ensures
     ∙ ap is_some (
     c.find.ensures
-    ∙ sym (get-from_sorted key_cmp _ (c.args.directory, c.args.name.now) (told c.self.invariant.kept.rises))
-    ∙ ap (λ (h : HeldNames). get h.names (c.args.directory, c.args.name.now)) c.self.view_is
-    )
+    ∙ sym (get-from_sorted key_cmp _ c.new-key.result (told c.self.invariant.kept.rises))
+    ∙ ap (λ (h : HeldNames). get h.names c.new-key.result) c.self.view_is
+    ))

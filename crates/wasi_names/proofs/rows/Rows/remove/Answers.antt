@@ -7,12 +7,12 @@ use Rattle.wasi_names.proofs.NamesLemmas.{from_sorted-without}
 use Rattle.wasi_names.proofs.rows.Rows.remove.Goals as goal
 
 pub returns-clause-found : goal.returns-clause-found
-returns-clause-found c = c.remove.ensures.found
-    ∙ sym (get-from_sorted key_cmp _ (c.args.directory, c.args.name.now) (told c.self.invariant.kept.rises))
-    ∙ ap (λ (h : HeldNames). get h.names (c.args.directory, c.args.name.now)) c.self.view_is
+returns-clause-found c = rw (← c.new-key.ensures.directory, ← c.new-key.ensures.name) (c.remove.ensures.found
+    ∙ sym (get-from_sorted key_cmp _ c.new-key.result (told c.self.invariant.kept.rises))
+    ∙ ap (λ (h : HeldNames). get h.names c.new-key.result) c.self.view_is)
 
 pub returns-clause-names : goal.returns-clause-names
-returns-clause-names c =
+returns-clause-names c = rw (← c.new-key.ensures.directory, ← c.new-key.ensures.name) (
     ap (from_sorted {R = key_cmp}) c.remove.ensures.removed
-    ∙ from_sorted-without _ (c.args.directory, c.args.name.now) c.self.invariant.kept.rises
-    ∙ ap (λ (h : HeldNames). remove h.names (c.args.directory, c.args.name.now)) c.self.view_is
+    ∙ from_sorted-without _ c.new-key.result c.self.invariant.kept.rises
+    ∙ ap (λ (h : HeldNames). remove h.names c.new-key.result) c.self.view_is)
