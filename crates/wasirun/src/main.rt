@@ -16,11 +16,13 @@ fn command_line(rt: &HostRuntime) -> Option<Vec<String>> {
     }
 }
 
-// Says why there is no report.
+// Says why there is no report, where no line that was written says it.
 #[cold]
 #[inline(never)]
-fn tell(rt: &HostRuntime, message: &str) {
-    let _ = eprintln!(rt; "{message}");
+fn tell(rt: &HostRuntime, status: Status) {
+    if let Some(message) = status.message() {
+        let _ = eprintln!(rt; "{message}");
+    }
 }
 
 fn main(rt: HostRuntime) -> ExitCode {
@@ -32,8 +34,8 @@ fn main(rt: HostRuntime) -> ExitCode {
         }
         None => Status::NoMemory,
     };
-    if let Some(message) = status.message() {
-        tell(&rt, message);
+    if status != Status::Done {
+        tell(&rt, status);
     }
     ExitCode::from(status.exit_code())
 }
