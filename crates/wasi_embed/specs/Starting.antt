@@ -5,7 +5,7 @@ use Rattle.wasi_form.specs.Plan.{Plan}
 use Rattle.wasi_form.specs.Verdict.{IsVerdict}
 use Rattle.wasi_form.specs.declared.verdict.ScriptError.{ScriptError}
 use Rattle.wasi_form.specs.declared.verdict.ScriptError.TheVariants as scripts
-use Rattle.wasi_start.specs.Start.{world_behind, IsBegun}
+use Rattle.wasi_start.specs.Start.{IsBegun}
 use Rattle.wasi_embed.specs.declared.error.StartError.{StartError}
 use Rattle.wasi_embed.specs.declared.error.StartError.TheVariants.{Refused, Guest, Memory}
 use Rattle.wasi_embed.specs.declared.sandbox.Sandbox.{Sandbox}
@@ -21,7 +21,7 @@ has_no_guest plan = length plan.calls == 0 && length plan.show == 0 && plan.size
 
 -- the sandbox stands as the plan begins: nothing was done yet
 pub record IsBegunBy (plan : Plan) (s : Sandbox) : Type 0 where
-  pub begun : IsBegun world_behind s.context (tree_of plan.nodes plan.limits) plan.preopens plan.services plan.table
+  pub begun : IsBegun s.context (tree_of plan.nodes plan.limits) plan.preopens plan.services plan.table
   pub faults : s.context.host.calls ≡ record { faults = plan.faults; calls = 0 }
   pub fuel : s.fuel ≡ plan.fuel
   pub answered : s.answered ≡ 0

@@ -24,12 +24,16 @@ mod times;
 mod two_places;
 
 // The call of a name with these arguments. `None` where there is no call of this name, or its arguments are of other
-// types.
+// types. The names are held beside it in order, so those that guests call most come first.
 #[tactic(auto, unfolding(crate::specs::CallForm::call_with))]
 fn call_with(name: &str, arguments: Arguments<'_>) -> Option<Call>
     ensures { result ≡ specs.call_with name.now (values_left arguments.entry) }
 {
     match name {
+        "path_open" => arguments.path_open(),
+        "fd_read" => arguments.fd_read(),
+        "fd_write" => arguments.fd_write(),
+        "fd_close" => arguments.fd_close(),
         "args_get" => arguments.args_get(),
         "args_sizes_get" => arguments.args_sizes_get(),
         "environ_get" => arguments.environ_get(),
@@ -38,7 +42,6 @@ fn call_with(name: &str, arguments: Arguments<'_>) -> Option<Call>
         "clock_time_get" => arguments.clock_time_get(),
         "fd_advise" => arguments.fd_advise(),
         "fd_allocate" => arguments.fd_allocate(),
-        "fd_close" => arguments.fd_close(),
         "fd_datasync" => arguments.fd_datasync(),
         "fd_sync" => arguments.fd_sync(),
         "fd_fdstat_get" => arguments.fd_fdstat_get(),
@@ -51,17 +54,14 @@ fn call_with(name: &str, arguments: Arguments<'_>) -> Option<Call>
         "fd_prestat_get" => arguments.fd_prestat_get(),
         "fd_prestat_dir_name" => arguments.fd_prestat_dir_name(),
         "fd_pwrite" => arguments.fd_pwrite(),
-        "fd_read" => arguments.fd_read(),
         "fd_readdir" => arguments.fd_readdir(),
         "fd_renumber" => arguments.fd_renumber(),
         "fd_seek" => arguments.fd_seek(),
         "fd_tell" => arguments.fd_tell(),
-        "fd_write" => arguments.fd_write(),
         "path_create_directory" => arguments.path_create_directory(),
         "path_filestat_get" => arguments.path_filestat_get(),
         "path_filestat_set_times" => arguments.path_filestat_set_times(),
         "path_link" => arguments.path_link(),
-        "path_open" => arguments.path_open(),
         "path_readlink" => arguments.path_readlink(),
         "path_remove_directory" => arguments.path_remove_directory(),
         "path_unlink_file" => arguments.path_unlink_file(),

@@ -117,8 +117,8 @@ impl<H: Host> WasiP1Ctx<H> {
         })
     }
 
-    /// Sets the fuel that is left, of which a call takes as much as the texts that it reads have bytes, and the buffer
-    /// that it fills or writes, and 8 for each record of a buffer. What a call took stays taken, whatever it answers.
+    /// Sets the fuel that is left. Of it a call takes a text's length; a read or write 8 for each buffer of its list,
+    /// and the length of the one it takes; a poll 80 for each subscription. It stays taken, whatever is answered.
     pub fn set_hostcall_fuel(&mut self, fuel: u64)
         ensures set { self.new ≡ record self.old { fuel = fuel } }
     {

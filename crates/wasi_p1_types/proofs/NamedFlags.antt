@@ -7,7 +7,7 @@ use Rattle.wasi_p2_types.specs.FlagNames.{how_named}
 use Rattle.wasi_p2_types.specs.declared.flags.PathFlags.{PathFlags}
 use Rattle.wasi_p2_types.specs.declared.flags.OpenFlags.{OpenFlags}
 use Rattle.wasi_p2_types.specs.declared.flags.DescriptorFlags.{DescriptorFlags}
-use Rattle.wasi_p1_types.specs.ViewFlags.{path_set, open_set, descriptor_set}
+use Rattle.wasi_p2_types.specs.FlagBits.{path_set, open_set, descriptor_set}
 
 abbrev same : Bool → Bool → Bool
 same true b = b

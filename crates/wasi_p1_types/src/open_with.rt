@@ -8,7 +8,7 @@ ghost use Rattle.wasi_guest.specs.Flags as flag;
 ghost use Rattle.wasi_guest.specs.Flags.{has};
 ghost use Rattle.wasi_turns.specs.RawFlags.{modes_in, open_how, follow_asked};
 ghost use Rattle.wasi_turns.specs.CallParts.{is_failure};
-ghost use Rattle.wasi_p1_types.specs.ViewFlags.{path_set, open_set, descriptor_set};
+ghost use Rattle.wasi_p2_types.specs.FlagBits.{path_set, open_set, descriptor_set};
 ghost use Rattle.wasi_p2_types.specs.FlagNames.{path_flags_named};
 ghost use Rattle.wasi_p2_types.specs.FlagNames.{how_named};
 

@@ -3,3 +3,4 @@ pub mod ErrorCodes
 pub mod FlagNames
 pub mod Moments
 pub mod Stats
+pub mod FlagBits

@@ -76,7 +76,7 @@ few_listed {faults} before now begins most fits k allows =
     (let few = (counts_few now).few in omega (arith, same)) fits allows
 
 pub begun_at : {context : View (Failing MemState)} {memory : List ℕ} (plan : Plan)
-    → IsBegun world_behind context (tree_of plan.nodes plan.limits) plan.preopens plan.services plan.table
+    → IsBegun context (tree_of plan.nodes plan.limits) plan.preopens plan.services plan.table
     → memory ≡ with_pieces (replicate plan.size 0) plan.pieces → state_of world_behind context memory ≡ start plan
 begun_at {memory} plan is memory-is = is.state memory ∙ (rw memory-is refl)
 

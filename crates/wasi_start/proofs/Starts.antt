@@ -1,5 +1,5 @@
 -- How the calls of a script begin.
-use Rattle.std.proofs.Common.{ℕ, zero, suc, ◌+◌, ◌<◌, ◌≤◌, ◌≡◌, ◌≢◌, inl, inr, Bool, true, false, subst, ap, List, [], ◌∷◌, ◌++◌, length, map, take, refl, sym, ◌∙◌, arith, get_or, slice_get, slice_index_or, Some}
+use Rattle.std.proofs.Common.{ℕ, zero, suc, ◌+◌, ◌<◌, ◌≤◌, ◌≡◌, ◌≢◌, inl, inr, Bool, true, false, subst, ap, List, [], ◌∷◌, ◌++◌, length, map, take, refl, sym, ◌∙◌, arith, get_or, slice_get, slice_index_or, None, Some, ◌==◌}
 use Rattle.std.specs.List.{list_all}
 use Rattle.std.specs.Ordering.{nat_cmp}
 use Rattle.std.specs.String.{string_bytes}
@@ -28,8 +28,14 @@ use Rattle.wasi_form.specs.Plan.{PlannedPreopen, PlannedPiece, planned_preopen, 
 use Rattle.wasi_form.specs.Within.{are_preopens_directories, is_directory_given, is_piece_within}
 use Rattle.wasi_turns.specs.Slots.{first_slots, given_mode, given_directory, given_name, given_slot, given_slots}
 use Rattle.wasi_turns.specs.Stock.{first_stock}
+use Rattle.wasi_turns.specs.Owners.{handles, one_if, uses, uses_in, IsHandle}
+use Rattle.wasi_turns.specs.declared.slots.Slot.{Slot}
+use Rattle.wasi_turns.specs.declared.slots.Slot.TheVariants.{Stream}
+use Rattle.wasi_turns.specs.declared.slots.Stream.{Stream as StandardStream}
+use Rattle.wasi_turns.specs.declared.slots.Stream.TheVariants.{Input, Output, Error}
+use Rattle.wasi_turns.proofs.Counting.{uses-cons, handles-cons}
 use Rattle.wasi_turns.specs.declared.slots.P1Preopen.{P1Preopen}
-use Rattle.wasi_start.specs.Start.{given_guest_slot, given_guest_slots, AreGiven, IsBegun, with_pieces, world_behind}
+use Rattle.wasi_start.specs.Start.{given_guest_slot, given_guest_slots, AreGiven, IsBegun, with_pieces}
 use Rattle.wasi_turns.specs.Guest.{State, directory as directory_slot, directory_by, guest_slot}
 use Rattle.wasi_form.specs.declared.script.Piece.{Piece}
 use Rattle.wasi_form.specs.declared.script.ScriptPreopen.{ScriptPreopen}
@@ -99,20 +105,50 @@ slots_more holds planned p place (q ∷ preopens) (g ∷ given) are here =
 slots_more holds planned p place [] (g ∷ given) are here = absurd (cc)
 slots_more holds planned p place (q ∷ preopens) [] are here = absurd (cc)
 
-pub none_given : {handles : HeldMap} → AreGiven handles [] []
-none_given = record {
+pub none_given : {held : HeldMap} → live_of held ≡ empty → AreGiven held [] []
+none_given none = record {
   live = λ k d within. absurd (omega arith);
   once = λ i j d less within. absurd (omega arith);
   slots = refl;
   names = refl;
+  all = λ h live. let not = contains-empty nat_cmp h in absurd (let wrong = sym live ∙ ap (λ s. contains s h) none in cc);
 }
+
+-- one descriptor more has its own handle
+uses_given : (place : ℕ) (given : List P1Preopen) (p : P1Preopen) (q : ℕ)
+    → uses (handles (given_slots place (given ++ p ∷ []))) q
+    ≡ uses (handles (given_slots place given)) q + uses_in (Some p.handle) q
+uses_given place [] p q =
+    let cons = ap (λ os. uses os q) (handles-cons (given_slot place p) []) in
+    omega (arith, cons, uses-cons (Some p.handle) (handles []) q)
+uses_given place (g ∷ gs) p q =
+    let after = ap (λ os. uses os q) (handles-cons (given_slot place g) (given_slots (suc place) (gs ++ p ∷ []))) in
+    let before = ap (λ os. uses os q) (handles-cons (given_slot place g) (given_slots (suc place) gs)) in
+    omega (
+      arith,
+      after,
+      before,
+      uses-cons (Some g.handle) (handles (given_slots (suc place) (gs ++ p ∷ []))) q,
+      uses-cons (Some g.handle) (handles (given_slots (suc place) gs)) q,
+      uses_given (suc place) gs p q,
+    )
+
+-- the standard streams have none
+uses_first : (given : List P1Preopen) (q : ℕ)
+    → uses (handles (first_slots given)) q ≡ uses (handles (given_slots 0 given)) q
+uses_first given q = of Input _ ∙ of Output _ ∙ of Error _
+  where
+    of : (s : StandardStream) (table : List Slot) → uses (handles (Stream s ∷ table)) q ≡ uses (handles table) q
+    of s table =
+        let cons = ap (λ os. uses os q) (handles-cons (Stream s) table) in
+        omega (arith, cons, uses-cons None (handles table) q)
 
 abbrev planned_name : PlannedPreopen → List ℕ
 planned_name preopen = preopen.name
 
 -- as many as the directories
-pub given_length : {handles : HeldMap} {preopens : List PlannedPreopen} {given : List P1Preopen}
-    → AreGiven handles preopens given → length given ≡ length preopens
+pub given_length : {held : HeldMap} {preopens : List PlannedPreopen} {given : List P1Preopen}
+    → AreGiven held preopens given → length given ≡ length preopens
 given_length {preopens = preopens} {given = given} are =
     sym (length-map given given_name) ∙ ap length are.names ∙ length-map preopens planned_name
 
@@ -143,8 +179,16 @@ given_more {old} {new} {planned} {p} preopens given are is = record {
       }));
   names = rw (map-append given_name given (p ∷ []), map-append planned_name preopens (planned ∷ []))
       (λ i. are.names i ++ is.name i ∷ []);
+  all = λ h live. own h (h == p.handle) refl (sym (ap (λ s. contains s h) is.live) ∙ live);
 }
   where
+    own : (h : ℕ) (b : Bool) → (h == p.handle) ≡ b → contains (insert (live_of old) p.handle) h ≡ true
+        → IsHandle (handles (given_slots 0 (given ++ p ∷ []))) h
+    own h true same live = let one = ap one_if same in omega (arith, one, uses_given 0 given p h)
+    own h false other live =
+        let was : contains (live_of old) h ≡ true = grind (arith, members, nat_tests, live, other) in
+        omega (arith, are.all h was, uses_given 0 given p h)
+
     still : (q : P1Preopen) → IsLiveIn old q → IsLiveIn new q
     still q lives = subst (λ s. contains s q.handle ≡ true) (sym is.live)
         (let more : contains (insert (live_of old) p.handle) q.handle ≡ true = grind (arith, members, nat_tests) in more)
@@ -155,8 +199,9 @@ given_more {old} {new} {planned} {p} preopens given are is = record {
 -- a context over a tree in memory that has given handles, whose calls fail
 pub begun_by : {host : Failing MemState} {tree : Tree} {preopens : List PlannedPreopen} {services : Handed}
     {table fuel : ℕ} {list : List P1Preopen}
-    → host.inner.tree ≡ tree → host.inner.touched ≡ empty → AreGiven host.inner.handles preopens list
-    → IsBegun world_behind
+    → host.inner.tree ≡ tree → host.inner.touched ≡ empty → host.inner.lookups ≡ []
+    → AreGiven host.inner.handles preopens list
+    → IsBegun
     (record {
       host = host;
       slots = first_slots list;
@@ -165,9 +210,11 @@ pub begun_by : {host : Failing MemState} {tree : Tree} {preopens : List PlannedP
       fuel = fuel;
     })
     tree preopens services table
-begun_by tree-is none are = record {
+begun_by {list = list} tree-is none unasked are = record {
   state = λ memory. rw (tree-is, are.slots, are.names) refl;
   untouched = none;
+  unasked = unasked;
+  alone = λ h live. omega (arith, are.all h live, uses_first list h);
 }
 
 -- at the start, where nothing was touched, all that was come to is in reach

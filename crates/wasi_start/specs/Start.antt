@@ -12,9 +12,11 @@ use Rattle.wasi_guest.specs.Services.{Handed}
 use Rattle.wasi_form.specs.Plan.{Plan, PlannedPiece, PlannedPreopen}
 use Rattle.wasi_turns.specs.Slots.{View, given_mode, given_slots}
 use Rattle.wasi_turns.specs.Guest.{State, GuestSlot, stream, directory, guest_slot, state_of}
+use Rattle.wasi_turns.specs.Owners.{handles, IsHandle}
 use Rattle.wasi_turns.specs.Stock.{first_stock}
 use Rattle.wasi_start.specs.declared.start.Beginning.{Beginning}
 use Rattle.wasi_turns.specs.declared.slots.P1Preopen.{P1Preopen}
+use Rattle.wasi_turns.specs.declared.slots.Slot.{Slot}
 use Rattle.wasi_turns.specs.declared.slots.Stream.TheVariants.{Input, Output, Error}
 
 -- the descriptor of a directory that the guest is given, by its place among them
@@ -63,15 +65,22 @@ start plan = begun (tree_of plan.nodes plan.limits) plan.preopens plan.services 
 abbrev pub world_behind : Failing MemState → World
 world_behind host = world_of host.inner
 
--- a context in which nothing was done yet, and no node touched
-pub record IsBegun {H : Type 0} (world : H → World) (context : View H) (tree : Tree)
-    (preopens : List PlannedPreopen) (services : Handed) (table : ℕ) : Type 0 where
-  pub state : (memory : List ℕ) → state_of world context memory ≡ begun tree preopens services table memory
-  pub untouched : (world context.host).touched ≡ empty
+-- each live handle of such a host is a descriptor's
+abbrev pub OwnAll : List Slot → HeldMap → Type 0
+OwnAll slots held = (h : ℕ) → contains (live_of held) h ≡ true → IsHandle (handles slots) h
+
+-- a context in which nothing was done yet: no node was touched, nothing looked up, and no handle is live but the
+-- descriptors'
+pub record IsBegun (context : View (Failing MemState)) (tree : Tree) (preopens : List PlannedPreopen)
+    (services : Handed) (table : ℕ) : Type 0 where
+  pub state : (memory : List ℕ) → state_of world_behind context memory ≡ begun tree preopens services table memory
+  pub untouched : (world_behind context.host).touched ≡ empty
+  pub unasked : context.host.inner.lookups ≡ []
+  pub alone : OwnAll context.slots context.host.inner.handles
 
 -- a plan's beginning: nothing was called yet
 pub record Begins (plan : Plan) (b : Beginning) : Type 0 where
-  pub begun : IsBegun world_behind b.context (tree_of plan.nodes plan.limits) plan.preopens plan.services plan.table
+  pub begun : IsBegun b.context (tree_of plan.nodes plan.limits) plan.preopens plan.services plan.table
   pub faults : b.context.host.calls ≡ record { faults = plan.faults; calls = 0 }
   pub written : b.memory ≡ with_pieces (replicate plan.size 0) plan.pieces
   pub size : length b.memory ≡ plan.size
@@ -79,9 +88,11 @@ pub record Begins (plan : Plan) (b : Beginning) : Type 0 where
   pub calls : b.calls.items ≡ plan.calls
   pub show : b.show.items ≡ plan.show
 
--- handles of these directories in their order, each live and another, with their permissions and names
-pub record AreGiven (handles : HeldMap) (preopens : List PlannedPreopen) (given : List P1Preopen) : Type 0 where
-  pub live : All (λ preopen. contains (live_of handles) preopen.handle ≡ true) given
+-- handles of these directories in their order, each live and another, with their permissions and names; no other handle
+-- is live
+pub record AreGiven (held : HeldMap) (preopens : List PlannedPreopen) (given : List P1Preopen) : Type 0 where
+  pub live : All (λ preopen. contains (live_of held) preopen.handle ≡ true) given
   pub once : AllPairs (λ one other. one.handle ≢ other.handle) given
-  pub slots : map (guest_slot (held_in handles)) (given_slots 0 given) ≡ given_guest_slots 0 preopens
+  pub slots : map (guest_slot (held_in held)) (given_slots 0 given) ≡ given_guest_slots 0 preopens
   pub names : map (λ preopen. string_bytes preopen.name) given ≡ map (λ preopen. preopen.name) preopens
+  pub all : OwnAll (given_slots 0 given) held

@@ -2,12 +2,14 @@
 ghost use Rattle.std.specs.Prelude.{◌≡◌, ◌≤◌, ◌+◌, true, length, map, replicate, All, IfOk, IsTrue};
 ghost use Rattle.std.specs.List.{list_all};
 ghost use Rattle.wasi_host.specs.Tree.{node_at, is_directory};
+ghost use Rattle.std.specs.FinSet.{empty};
 ghost use Rattle.wasi_tree.specs.Given.{tree_of};
+ghost use Rattle.wasi_tree.specs.MemState.{live_of};
 ghost use Rattle.wasi_faults.specs.Faults.{numbers_rise};
 ghost use Rattle.wasi_guest.specs.Services.{handed};
 ghost use Rattle.wasi_form.specs.Plan.{plan, planned_piece, planned_preopen};
 ghost use Rattle.wasi_form.specs.Within.{are_preopens_directories, is_piece_within, is_shown_within, is_within_limits};
-ghost use Rattle.wasi_start.specs.Start.{with_pieces, world_behind, AreGiven, Begins, IsBegun};
+ghost use Rattle.wasi_start.specs.Start.{with_pieces, AreGiven, Begins, IsBegun};
 ghost use Rattle.wasi_start.specs.ReportAfter.{bytes_shown};
 
 use std::alloc::{AllocError, Global};
@@ -35,8 +37,10 @@ fn given_handles(
 ) -> Result<Vec<P1Preopen>, AllocError>
     requires directories { All (λ preopen. is_directory (node_at tree.old.tree preopen.node).content ≡ true)
         preopens.now }
+    requires none { live_of tree.old.handles ≡ empty }
     ensures tree { tree.new.tree ≡ tree.old.tree }
     ensures touched { tree.new.touched ≡ tree.old.touched }
+    ensures lookups { tree.new.lookups ≡ tree.old.lookups }
     ensures given { IfOk result (λ given. AreGiven tree.new.handles (map planned_preopen preopens.now) given.items) }
 {
     let mut given = Vec::new(alloc);
@@ -69,7 +73,7 @@ fn first_context(
     requires directories { are_preopens_directories nodes.nodes (map planned_preopen preopens.now) ≡ true }
     requires table { 3 + length preopens.now ≤ table }
     requires rising { IsTrue (numbers_rise faults.items) }
-    ensures begun { IfOk result (λ c. IsBegun world_behind c (tree_of nodes.nodes nodes.limits)
+    ensures begun { IfOk result (λ c. IsBegun c (tree_of nodes.nodes nodes.limits)
         (map planned_preopen preopens.now) (handed services) table) }
     ensures faults { IfOk result (λ c. c.host.calls ≡ record { faults = faults.items; calls = 0 }) }
 {
@@ -98,8 +102,8 @@ fn first_memory(alloc: Global, size: u32, pieces: &[Piece]) -> Result<GuestMemor
     Ok(memory)
 }
 
-/// Begins a script: the pieces of its memory are written, and its directories have handles. The only refusal is want of
-/// memory.
+/// Begins a script: the pieces of its memory are written, and its directories have handles, the only ones that are live.
+/// The only refusal is want of memory.
 pub fn begin(alloc: Global, script: Script) -> Result<Beginning, AllocError>
     requires within { is_within_limits (plan script) ≡ true }
     requires rising { IsTrue (numbers_rise script.session.faults.items) }

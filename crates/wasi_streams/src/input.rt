@@ -169,8 +169,8 @@ impl FileInputStream {
         })
     }
 
-    /// The first of the bytes that are there, at most so many; where nothing was read, none, and a read of so many is
-    /// asked for. A code that a read was refused with is told once.
+    /// The first of the bytes that are there, at most so many; where nothing was read, none, and a read of so many, if
+    /// any, is asked for. A code that a read was refused with is told once.
     pub fn read(&mut self, size: usize) -> Result<Bytes, StreamError>
         ensures file { self.new.file ≡ self.old.file }
         ensures row { GivesAs (taken self.old.state size) self.old.state result self.new.state }
@@ -181,7 +181,7 @@ impl FileInputStream {
         Ok(bytes)
     }
 
-    /// Makes the read that was asked for, or else one of 4,096 bytes, unless what a read gave isn't taken yet.
+    /// Makes the read that was asked for, or else one of 4,096 bytes, unless bytes or a code are left, or it is closed.
     pub fn ready<H: Host>(&mut self, host: &mut H) -> Result<(), AllocError>
         requires live { contains (H.live host.old) self.old.file ≡ true }
         ensures file { self.new.file ≡ self.old.file }
@@ -202,8 +202,8 @@ impl FileInputStream {
         Ok(())
     }
 
-    /// Makes the read that was asked for, or else one of so many bytes, unless what a read gave isn't taken yet, and
-    /// gives the first of the bytes. No bytes at all are the end: `Closed`.
+    /// Makes the read that was asked for, or else one of so many bytes, unless bytes or a code are left, or it is
+    /// closed; and gives the first of the bytes. No bytes at all are the end: `Closed`.
     pub fn blocking_read<H: Host>(
         &mut self,
         host: &mut H,

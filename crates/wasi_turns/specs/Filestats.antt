@@ -1,4 +1,4 @@
--- What `path_filestat_get` tells of a node.
+-- What `path_filestat_get` and `fd_filestat_get` tell of a node.
 use Rattle.std.specs.Prelude.{ℕ, ◌≡◌, ◌+◌, ◌*◌, ◌^◌, ℤ, pos, negsuc, nat_lt, if◌then◌else◌, Option, Some, None, Ok, Err}
 use Rattle.wasi_fs.specs.declared.descriptor_stat.Datetime.{Datetime}
 use Rattle.wasi_fs.specs.declared.descriptor_stat.DescriptorType.{DescriptorType}

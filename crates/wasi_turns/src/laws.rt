@@ -131,8 +131,8 @@ pub fn bytes_put_are_got()
     ensures same { PutBytesAreGot }
 {}
 
-/// A run from a state whose tree is valid and whose memory are bytes leads to such a state, however often the host
-/// fails.
+/// A run from a state whose tree is valid, and in which memory and what was handed in are bytes, leads to such a state,
+/// however often the host fails.
 pub fn runs_stay_valid()
     ensures valid { RunsStayValid }
 {}

@@ -17,10 +17,10 @@ impl<H: Host> WasiP1Ctx<H> {
     /// buffer is cut at its length, so that the last record may not be whole; and fewer bytes than it has say that no
     /// more are left. From a cookie past the last record nothing is written. Refusals, in this order: Badf where the
     /// number isn't a directory's; trap TableFull where as many descriptors are live as may be; those of the host's
-    /// `open_at` of `.` and of its `list`, which want the directory's read bit; then those of the look at each name, as
-    /// POSIX's `fstatat`: Acces where the directory has a name and no search bit; trap Pointer where what is to be written
-    /// leaves the memory. What was opened is closed again. Each page costs a listing, a look at each name included, and
-    /// memory by its length.
+    /// `open_at` of `.`, as POSIX's `openat`: Acces where the directory may not be searched, or not be read; trap
+    /// Pointer where what is to be written leaves the memory. No host that tells its tree refuses the listing behind
+    /// the open, or the look at a name of it. What was opened is closed again. Each page costs a listing, a look at
+    /// each name included, and memory by its length.
     #[tactic(auto, using(wasi_turns::proofs::Taking::refusals, wasi_turns::proofs::CallTracing::traced_below), unfolding(wasi_turns::specs::Rows::Listing::fd_readdir))]
     pub fn fd_readdir(
         &mut self,

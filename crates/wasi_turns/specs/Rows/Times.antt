@@ -10,9 +10,9 @@ use Rattle.wasi_turns.specs.RawFlags.{follow_asked}
 use Rattle.wasi_turns.specs.Request.{Path, Direct}
 use Rattle.wasi_resolve.specs.PathRequest.{TimesPath}
 
--- Of each time, in order, one that is both given and the wall clock's is refused `inval`, and a wall clock that is past
--- what a time holds, where it is asked for, `overflow`; then a number that isn't a directory's or file's; then what
--- isn't permitted of it. No host refuses it
+-- An unknown flag is refused `inval`; then of each time, in order, one that is both given and the wall clock's, and a
+-- wall clock past what a time holds, where it is asked for, `overflow`; then a number that isn't a directory's or
+-- file's; then what isn't permitted of it. No host refuses it
 unfoldable pub fd_filestat_set_times : Guest → ℕ → ℕ → ℕ → ℕ → CallFront
 fd_filestat_set_times g fd atim mtim fst_flags = do
   times ← free (times_asked g.holdings.wall atim mtim fst_flags)

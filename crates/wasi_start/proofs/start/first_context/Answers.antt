@@ -9,6 +9,7 @@ pub given_handles-requires : goal.given_handles-requires
 given_handles-requires c = record {
   directories = rw c.in_ok-tree.ensures.tree
       (directories_given c.args.nodes.nodes c.args.nodes.limits c.args.preopens.now c.requires.directories);
+  none = c.in_ok-tree.ensures.live;
 }
 
 pub returns-in-Ok : goal.returns-in-Ok
@@ -18,7 +19,8 @@ returns-in-Ok c =
     let host = c.new-host.ensures in
     record {
       begun = rw c.in-Ok.ensures.made (begun_by (ap (λ (t : MemState). t.tree) host.inner ∙ given.tree ∙ tree.tree)
-          (ap (λ (t : MemState). t.touched) host.inner ∙ given.touched ∙ tree.touched) (rw host.inner given.given));
+          (ap (λ (t : MemState). t.touched) host.inner ∙ given.touched ∙ tree.touched)
+          (ap (λ (t : MemState). t.lookups) host.inner ∙ given.lookups ∙ tree.lookups) (rw host.inner given.given));
       faults = rw c.in-Ok.ensures.made host.calls;
     }
 

@@ -1,8 +1,16 @@
 use Rattle.std.proofs.Common.{◌∙◌, refl}
 use Rattle.std.proofs.lemmas.List.{map-append, take_more}
 use Rattle.wasi_form.specs.Plan.{planned_preopen}
-use Rattle.wasi_start.proofs.Starts.{given_more, IsGivenTo}
+use Rattle.wasi_start.proofs.Starts.{given_more, none_given, IsGivenTo}
 use Rattle.wasi_start.proofs.start.given_handles.Goals as goal
+
+pub loop-preopen-init : goal.loop-preopen-init
+loop-preopen-init c = record {
+  tree = refl;
+  touched = refl;
+  lookups = refl;
+  given = rw c.new-given.ensures.items (none_given c.requires.none);
+}
 
 pub loop-preopen-preserved : goal.loop-preopen-preserved
 loop-preopen-preserved c =
@@ -10,6 +18,7 @@ loop-preopen-preserved c =
     record {
       tree = handle.tree ∙ c.loop-preopen.invariant.tree;
       touched = handle.touched ∙ c.loop-preopen.invariant.touched;
+      lookups = handle.lookups ∙ c.loop-preopen.invariant.lookups;
       given =
           let is : IsGivenTo c.loop-preopen.tree.handles c.handle.new.self.handles (planned_preopen c.preopen-item.result) _ = record {
             fresh = handle.fresh;
