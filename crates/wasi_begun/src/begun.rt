@@ -1,12 +1,10 @@
 //! A script that has begun.
 use std::alloc::{AllocError, Global};
-use wasi_faults::FailAt;
 use wasi_form::read_script;
-use wasi_guest::{Answers, Call, GuestMemory, slice_at};
-use wasi_p1::{RunError, WasiP1Ctx, run_calls};
+use wasi_guest::{Answers, Call, slice_at};
+use wasi_p1::{RunError, run_calls};
 use wasi_report::{Outcome, report};
 use wasi_start::{Beginning, begin};
-use wasi_tree::MemTree;
 
 /// A script that has begun, and the calls that are left to be made.
 #[derive(Drop)]
@@ -16,12 +14,12 @@ pub struct Begun {
 }
 
 /// What became of a script: its answers; its report, with no answers, nothing shown of the memory and no nodes touched; and
-/// the memory.
+/// the bytes of the memory.
 #[derive(Drop)]
 pub struct Ended {
     answers: Answers,
     report: Vec<u8>,
-    memory: GuestMemory,
+    memory: Vec<u8>,
 }
 
 impl Ended {
@@ -29,7 +27,7 @@ impl Ended {
     pub fn agrees(&self, whole: &Ended, place: usize) -> bool {
         ends(&whole.answers, place, &self.answers)
             && self.report.as_slice() == whole.report.as_slice()
-            && self.memory.bytes() == whole.memory.bytes()
+            && self.memory.as_slice() == whole.memory.as_slice()
     }
 }
 
@@ -50,26 +48,6 @@ fn ends(whole: &Answers, place: usize, last: &Answers) -> bool {
 fn without_first(alloc: Global, calls: &Vec<Call>, count: usize) -> Result<Vec<Call>, AllocError> {
     let left = calls.as_slice().get(count..).unwrap_or(&[]);
     left.to_vec(alloc)
-}
-
-// The report of what a context came to.
-fn told(
-    alloc: Global,
-    context: WasiP1Ctx<FailAt<MemTree>>,
-    answers: Answers,
-    shown: Vec<Vec<u8>>,
-    touched: Vec<u64>,
-) -> Result<Vec<u8>, AllocError> {
-    let ended = context.into_parts();
-    let outputs = ended.holdings.into_outputs();
-    let outcome = Outcome {
-        answers,
-        shown,
-        stdout: outputs.stdout,
-        stderr: outputs.stderr,
-        touched,
-    };
-    report(alloc, &outcome, ended.host.inner())
 }
 
 impl Begun {
@@ -114,33 +92,46 @@ impl Begun {
         Ok(list)
     }
 
+    // The report of how it stands, with these answers, these bytes of its memory, and these nodes touched.
+    fn told(
+        &self,
+        answers: Answers,
+        shown: Vec<Vec<u8>>,
+        touched: Vec<u64>,
+    ) -> Result<Vec<u8>, AllocError> {
+        let context = &self.begun.context;
+        let outcome = Outcome {
+            answers,
+            shown,
+            stdout: context.stdout().to_vec(self.alloc)?,
+            stderr: context.stderr().to_vec(self.alloc)?,
+            touched,
+        };
+        report(self.alloc, &outcome, context.host().inner())
+    }
+
     /// Makes the calls that are left: their report.
-    pub fn report(mut self) -> Result<Vec<u8>, AllocError> {
+    pub fn report(&mut self) -> Result<Vec<u8>, AllocError> {
         let Ok(answers) = self.run() else {
             return Err(AllocError);
         };
         let shown = self.shown()?;
-        let Begun { alloc, begun } = self;
-        let touched = begun.context.host().inner().touched(alloc)?;
-        told(alloc, begun.context, answers, shown, touched)
-    }
-
-    // What became of it, of which these are the answers.
-    fn ended(self, answers: Answers) -> Result<Ended, AllocError> {
-        let Begun { alloc, begun } = self;
-        let none = Answers::with_room(alloc, 0)?;
-        Ok(Ended {
-            answers,
-            report: told(alloc, begun.context, none, Vec::new(alloc), Vec::new(alloc))?,
-            memory: begun.memory,
-        })
+        let touched = self.begun.context.host().inner().touched(self.alloc)?;
+        self.told(answers, shown, touched)
     }
 
     /// Makes the calls that are left: what became of it.
-    pub fn end(mut self) -> Result<Ended, AllocError> {
-        match self.run() {
-            Ok(answers) => self.ended(answers),
-            Err(_) => Err(AllocError),
-        }
+    pub fn end(&mut self) -> Result<Ended, AllocError> {
+        let Ok(answers) = self.run() else {
+            return Err(AllocError);
+        };
+        let none = Answers::with_room(self.alloc, 0)?;
+        let report = self.told(none, Vec::new(self.alloc), Vec::new(self.alloc))?;
+        let memory = self.begun.memory.bytes().to_vec(self.alloc)?;
+        Ok(Ended {
+            answers,
+            report,
+            memory,
+        })
     }
 }

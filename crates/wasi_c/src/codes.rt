@@ -1,15 +1,47 @@
-//! The numbers that C is given: 0 where a call was answered, preview1's error numbers, and from 256 on what no error number
-//! says.
+//! The numbers that C is given: 0 where a call was answered Ok, preview1's error numbers, and from 256 on what no error
+//! number says. `embed/wasi.h` has these names with `WASI_` before them, and of its own 261 and 263, which no function
+//! here answers.
 ghost use Rattle.std.specs.Prelude.{◌≡◌};
 ghost use Rattle.wasi_c.specs.Codes.{code_of, refusal_code, start_code};
 
 use wasi_embed::{P1Error, StartError, TrapKind, Value};
 use wasi_form::Refusal;
 
+/// The guest gave an address outside its memory, or one that isn't aligned.
+const TRAP_POINTER: u32 = 256;
+
+/// There would be more descriptors than the script's table has room for.
+const TRAP_TABLE: u32 = 257;
+
+/// The guest ended with a status of 126 or more.
+const TRAP_EXIT: u32 = 258;
+
+/// The guest ended, with the status that it gave `proc_exit`.
+const EXIT: u32 = 259;
+
+/// Memory was wanted.
 pub const NO_MEMORY: u32 = 260;
 
 /// The report is longer than the bytes that are lent for it.
 pub const SHORT: u32 = 262;
+
+/// The script has more than 16,777,216 bytes.
+const REFUSED_LONG: u32 = 270;
+
+/// The script isn't JSON.
+const REFUSED_JSON: u32 = 271;
+
+/// The script is JSON, and isn't of a script's shape.
+const REFUSED_SHAPE: u32 = 272;
+
+/// The script's nodes are no tree.
+const REFUSED_TREE: u32 = 273;
+
+/// The script passes a limit.
+const REFUSED_LIMIT: u32 = 274;
+
+/// The script has calls, a memory, or ranges of it to be shown.
+const REFUSED_GUEST: u32 = 275;
 
 /// The number of a call's answer.
 pub fn code_of(outcome: Result<Value, P1Error>) -> u32
@@ -18,23 +50,24 @@ pub fn code_of(outcome: Result<Value, P1Error>) -> u32
     match outcome {
         Ok(_) => 0,
         Err(P1Error::Errno(errno)) => errno.number() as u32,
-        Err(P1Error::Trap(TrapKind::Pointer)) => 256,
-        Err(P1Error::Trap(TrapKind::TableFull)) => 257,
-        Err(P1Error::Trap(TrapKind::ExitStatus)) => 258,
-        Err(P1Error::Exit(_)) => 259,
+        Err(P1Error::Trap(TrapKind::Pointer)) => TRAP_POINTER,
+        Err(P1Error::Trap(TrapKind::TableFull)) => TRAP_TABLE,
+        Err(P1Error::Trap(TrapKind::ExitStatus)) => TRAP_EXIT,
+        Err(P1Error::Exit(_)) => EXIT,
         Err(P1Error::Memory) => NO_MEMORY,
     }
 }
 
+/// The number of why a script is refused.
 fn refusal_code(refusal: Refusal) -> u32
     ensures { result ≡ refusal_code refusal }
 {
     match refusal {
-        Refusal::Long => 270,
-        Refusal::Json => 271,
-        Refusal::Shape => 272,
-        Refusal::Tree => 273,
-        Refusal::Limit => 274,
+        Refusal::Long => REFUSED_LONG,
+        Refusal::Json => REFUSED_JSON,
+        Refusal::Shape => REFUSED_SHAPE,
+        Refusal::Tree => REFUSED_TREE,
+        Refusal::Limit => REFUSED_LIMIT,
     }
 }
 
@@ -44,7 +77,7 @@ pub fn start_code(error: StartError) -> u32
 {
     match error {
         StartError::Refused(refusal) => refusal_code(refusal),
-        StartError::Guest => 275,
+        StartError::Guest => REFUSED_GUEST,
         StartError::Memory => NO_MEMORY,
     }
 }

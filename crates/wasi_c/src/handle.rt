@@ -8,9 +8,9 @@ use std::marker::Model;
 use std::mem;
 use wasi_embed::Sandbox;
 
-/// A sandbox on the heap, or nothing, which C writes as all zeros.
+/// A sandbox on the heap; or nothing, and then the pointer is null (`owned_by`), which C writes as all zeros. It isn't
+/// `Drop`, so none is let go or written over but by `let_go`, which takes an empty one.
 #[repr(C)]
-#[derive(Drop)]
 pub struct SandboxHandle {
     at: *mut u8,
     alloc: Global,
@@ -43,6 +43,7 @@ impl SandboxHandle {
         }
     }
 
+    /// The sandbox of a handle that isn't empty.
     fn into_box(self) -> Box<Sandbox, Global>
         requires { IsSome self.value }
         ensures { self.value ≡ Some result.value }
@@ -50,20 +51,30 @@ impl SandboxHandle {
         self.into_parts().into_box()
     }
 
-    /// Takes the sandbox, which `put` gives back, and leaves an empty handle.
+    /// Lets an empty handle go, which owns nothing.
+    pub(crate) fn let_go(self)
+        requires { self.value ≡ None }
+    {
+        let SandboxHandle { at: _, alloc: _ } = self;
+    }
+
+    /// Takes the sandbox, which `put` gives back, and leaves the empty handle that was handed in.
     pub(crate) fn take(&mut self, empty: SandboxHandle) -> Box<Sandbox, Global>
         requires held { IsSome self.old.value }
         requires empty { empty.value ≡ None }
         ensures taken { self.old.value ≡ Some result.value }
+        ensures left { self.new ≡ empty }
         ensures empty { self.new.value ≡ None }
     {
         mem::replace(self, empty).into_box()
     }
 
-    /// Puts a sandbox in place of what there was.
+    /// Puts a sandbox into an empty handle.
     pub(crate) fn put(&mut self, sandbox: Box<Sandbox, Global>)
+        requires { self.old.value ≡ None }
         ensures { self.new.value ≡ Some sandbox.value }
     {
-        *self = SandboxHandle::of_parts(Parts::of(sandbox));
+        let filled = SandboxHandle::of_parts(Parts::of(sandbox));
+        mem::replace(self, filled).let_go();
     }
 }

@@ -1,5 +1,9 @@
 //! The calls of a sandbox for C, and for each program that calls C's functions. `embed/wasi.h` declares them, and
 //! `docs/EMBEDDING.md` says what a caller owes.
+//!
+//! Each of these functions takes a `Global`, by which an export of the kit says that C's `malloc` and `free` may be
+//! called: it has no bytes, and C hands in nothing for it. `wasi_c_start` and `wasi_c_report` use theirs; in the others
+//! what the sandbox holds has its own.
 #![tactic(auto)]
 
 mod calls;

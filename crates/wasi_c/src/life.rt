@@ -7,11 +7,13 @@ use crate::handle::SandboxHandle;
 use std::alloc::Global;
 use wasi_embed::start;
 
-/// Begins a sandbox by the text of a script, in place of an empty one.
+/// Begins a sandbox by the text of a script, in place of an empty one. 0; or NO_MEMORY (260); or why the script is
+/// refused, one of the REFUSED_ numbers (270 to 275). Where it isn't 0 the handle stays as it was.
 #[unsafe(no_mangle)]
 pub extern "C" fn wasi_c_start(alloc: Global, sandbox: &mut SandboxHandle, script: &[u8]) -> u32
     requires { sandbox.old.value ≡ None }
-    ensures { TellsStart script.now sandbox.new.value result }
+    ensures told { TellsStart script.now sandbox.new.value result }
+    ensures left { result ≢ 0 → sandbox.new ≡ sandbox.old }
 {
     let begun = match start(alloc, script) {
         Ok(begun) => begun,
@@ -24,7 +26,8 @@ pub extern "C" fn wasi_c_start(alloc: Global, sandbox: &mut SandboxHandle, scrip
     0
 }
 
-/// How many calls were answered.
+/// How many calls were answered, refusals, traps and the guest's end among them; 2^64 - 1 where they are more. A call
+/// that wanted memory isn't counted, and neither is one that wasn't made since a result had no room.
 #[unsafe(no_mangle)]
 pub extern "C" fn wasi_c_answered(
     alloc: Global,
@@ -42,7 +45,8 @@ pub extern "C" fn wasi_c_answered(
     answered
 }
 
-/// Writes the report of the sandbox as it stands to the front of the bytes that are lent, and how many bytes it has.
+/// Writes the report of the sandbox as it stands to the front of the bytes that are lent, and to `len` how many bytes
+/// it has. 0; or SHORT (262), and then only `len` is written; or NO_MEMORY (260), and then nothing is.
 #[unsafe(no_mangle)]
 pub extern "C" fn wasi_c_report(
     alloc: Global,
@@ -70,12 +74,13 @@ pub extern "C" fn wasi_c_report(
     0
 }
 
-/// Ends the sandbox, and leaves an empty one.
+/// Ends the sandbox, and leaves the empty one that is handed in.
 #[unsafe(no_mangle)]
 pub extern "C" fn wasi_c_end(alloc: Global, sandbox: &mut SandboxHandle, empty: SandboxHandle)
     requires held { IsSome sandbox.old.value }
     requires empty { empty.value ≡ None }
-    ensures { sandbox.new.value ≡ None }
+    ensures left { sandbox.new ≡ empty }
+    ensures empty { sandbox.new.value ≡ None }
 {
     drop(sandbox.take(empty));
 }

@@ -15,7 +15,7 @@ pub enum StartError {
     Refused(Refusal),
     /// The script has calls, a memory or ranges of it to be shown. A sandbox's guest makes its own calls, and its engine
     /// has its memory.
-    #[error("the script has calls or a memory")]
+    #[error("the script has calls, a memory or ranges of it to be shown")]
     Guest,
     /// Memory was wanted.
     #[error("out of memory")]

@@ -9,6 +9,6 @@ mod writing;
 
 pub use bytes_ends::{BytesSink, BytesSource};
 pub use ends::{Failed, Sink, Source};
-pub use reading::{MOST, Unfinished, read_all};
+pub use reading::{MOST_BYTES, Unfinished, read_all};
 pub use standard_ends::{ReaderSource, StdinSource, StdoutSink, WriterSink};
 pub use writing::write_all;

@@ -1,17 +1,14 @@
 //! Reading to the end, up to a limit.
-ghost use Rattle.std.specs.Prelude.{◌≤◌, ◌<◌, IsTrue, length, IsErrOf};
+ghost use Rattle.std.specs.Prelude.{◌≤◌, ◌<◌, IsTrue, length, IfOk, IsErrOf};
 ghost use Rattle.std.specs.Result.{result_map_both};
 ghost use Rattle.wasi_host.specs.Meaning.{Risen};
-ghost use Rattle.wasi_ends.specs.Ends.{ReadAll};
+ghost use Rattle.wasi_ends.specs.Ends.{most_bytes, ReadAll};
 
-use crate::ends::Source;
+use crate::ends::{CHUNK, Source};
 use std::alloc::Global;
 
 /// How many bytes are read at most: 16,777,216, as many as the largest script has.
-pub const MOST: usize = 16_777_216;
-
-// How many bytes are read at once.
-const CHUNK: usize = 65_536;
+pub const MOST_BYTES: usize = 16_777_216;
 
 /// Why a source wasn't read to its end.
 #[derive(Clone, Copy, Debug, PartialEq, Eq)]
@@ -24,9 +21,11 @@ pub enum Unfinished {
     Memory,
 }
 
-/// All that is left of a source, at most 16,777,216 bytes. Whatever the answer, at most one more byte is taken of it.
+/// All that is left of a source, at most 16,777,216 bytes. Of one that tells its bytes at most one more is taken, whatever
+/// the answer.
 pub fn read_all<S: Source>(alloc: Global, source: &mut S) -> Result<Vec<u8>, Unfinished>
     ensures bytes { IsTrue S.told → ReadAll (result_map_both (λ v. v.items) (λ e. e) result) (S.left source.old) (S.left source.new) }
+    ensures most { IfOk result (λ v. length v.items ≤ most_bytes) }
     ensures count { S.faults source.old ≤ S.faults source.new }
     ensures cause { IsErrOf result Unfinished.Fault → Risen (S.faults source.old) (S.faults source.new) }
 {
@@ -45,14 +44,15 @@ fn read_by<S: Source>(
 ) -> Result<Vec<u8>, Unfinished>
     requires { 0 < length chunk.old }
     ensures bytes { IsTrue S.told → ReadAll (result_map_both (λ v. v.items) (λ e. e) result) (S.left source.old) (S.left source.new) }
+    ensures most { IfOk result (λ v. length v.items ≤ most_bytes) }
     ensures count { S.faults source.old ≤ S.faults source.new }
     ensures cause { IsErrOf result Unfinished.Fault → Risen (S.faults source.old) (S.faults source.new) }
 {
-    let Ok(mut all) = Vec::with_capacity(alloc, MOST + 1) else {
+    let Ok(mut all) = Vec::with_capacity(alloc, MOST_BYTES + 1) else {
         return Err(Unfinished::Memory);
     };
-    while all.len() <= MOST {
-        let want = (MOST + 1 - all.len()).min(chunk.len());
+    while all.len() <= MOST_BYTES {
+        let want = (MOST_BYTES + 1 - all.len()).min(chunk.len());
         let Ok(count) = source.read(&mut chunk[..want]) else {
             return Err(Unfinished::Fault);
         };

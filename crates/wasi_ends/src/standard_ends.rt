@@ -1,15 +1,12 @@
 //! Readers and writers of the system as ends: the program's standard input and output.
-ghost use Rattle.std.specs.Prelude.{◌≡◌, ◌≤◌, ◌<◌, false, [], length, drop, IfOk, OnErr};
+ghost use Rattle.std.specs.Prelude.{◌≡◌, ◌≤◌, ◌<◌, ◌&&◌, if◌then◌else◌, nat_eq, nat_lt, false, [], length, drop, IfOk, OnOk, OnErr};
 ghost use Rattle.std.specs.Io.KnownBytes.{ReadConsumes, WriteAppends};
 ghost use Rattle.wasi_host.specs.Meaning.{Risen};
-ghost use Rattle.wasi_ends.specs.Ends.{KnownLeft, KnownTaken};
+ghost use Rattle.wasi_ends.specs.Ends.{KnownLeft, KnownTaken, one_more};
 
-use crate::ends::{Failed, Sink, Source};
+use crate::ends::{CHUNK, Failed, Sink, Source};
 use std::io::{Read, Stdin, Stdout, Write};
 use std::marker::Model;
-
-// How many bytes are read at once.
-const CHUNK: usize = 65_536;
 
 /// The standard input, made of `rt.stdin()`: each read is one call of the system, and a call that is interrupted failed.
 pub type StdinSource = ReaderSource<Stdin>;
@@ -56,6 +53,8 @@ impl<R: Read> Source for ReaderSource<R> {
         ensures kept { OnErr result (buf.new ≡ buf.old) }
         ensures count { self.old.faults ≤ self.new.faults }
         ensures cause { OnErr result (Risen self.old.faults self.new.faults) }
+        ensures read { OnOk result (self.new.faults ≡ self.old.faults) }
+        ensures failed { OnErr result (self.new.faults ≡ one_more self.old.faults) }
         ensures gives { ReadConsumes self.old.left self.new.left result buf.new }
     {
         // What the system leaves in a buffer after a failure isn't known.
@@ -111,6 +110,9 @@ impl<W: Write> Sink for WriterSink<W> {
         ensures count { self.old.faults ≤ self.new.faults }
         ensures cause { OnErr result (Risen self.old.faults self.new.faults) }
         ensures stuck { IfOk result (λ n. n ≡ 0 → 0 < length piece.now → Risen self.old.faults self.new.faults) }
+        ensures wrote { IfOk result (λ n. self.new.faults ≡ (if nat_eq n 0 && nat_lt 0 (length piece.now)
+            then one_more self.old.faults else self.old.faults)) }
+        ensures failed { OnErr result (self.new.faults ≡ one_more self.old.faults) }
         ensures takes { WriteAppends self.old.taken self.new.taken result piece.now }
     {
         match self.writer.write(piece) {

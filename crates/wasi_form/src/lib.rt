@@ -21,5 +21,6 @@ mod verdict;
 mod within;
 
 pub use limits::DEFAULT_LIMITS;
+pub use parts::{DEFAULT_FUEL, DEFAULT_TABLE};
 pub use script::{Piece, PieceBytes, Script, ScriptPreopen, Session, Shown};
 pub use verdict::{Refusal, ScriptError, read_script, verdicts_are_one};

@@ -28,11 +28,11 @@ use wasi_tree::NewNode;
 // How deep lists and objects nest in a script.
 const DEPTH: usize = 127;
 
-// How much fuel each call has in a script that doesn't say it.
-const DEFAULT_FUEL: u64 = 134_217_728;
+/// How much fuel each call has in a script that doesn't say it.
+pub const DEFAULT_FUEL: u64 = 134_217_728;
 
-// How many descriptors may be live in a script that doesn't say it.
-const DEFAULT_TABLE: u32 = 1_024;
+/// How many descriptors may be live in a script that doesn't say it.
+pub const DEFAULT_TABLE: u32 = 1_024;
 
 // Whether all keys are those of a script, and what stands at them, or counts where nothing does.
 #[derive(Drop)]

@@ -17,7 +17,7 @@ use json::{Reader, Scratch};
 use simdutf8::compat::from_utf8;
 use std::alloc::{AllocError, Allocator, Global};
 use thiserror::Error;
-use wasi_ends::MOST;
+use wasi_ends::MOST_BYTES;
 use wasi_tree::{FitNodes, TreeError};
 
 /// Why bytes aren't taken as a script. The first that holds is the refusal.
@@ -76,8 +76,8 @@ impl From<AllocError> for ScriptError {
 /// The faults are a list of `[NUMBER, "before"]` or `[NUMBER, "after"]`, of calls of the host that fail, by numbers that rise
 /// from 1 or more on; where they aren't said, none does.
 ///
-/// More than 16,777,216 bytes are refused unread. What is kept only while the text is read, as many bytes as it has, is
-/// taken of `room` and given back to it.
+/// More than 16,777,216 bytes are `Long`. (No clause says that they aren't looked at, nor that what is kept only while
+/// the text is read is of `room`: the code does so.)
 pub fn read_script<A: Allocator + Copy>(
     alloc: Global,
     room: A,
@@ -119,7 +119,7 @@ fn read_draft<A: Allocator + Copy>(
 ) -> Result<Draft, ScriptError>
     ensures { ReadsDraft result (λ verdict. read_plan bytes.now ≡ verdict) }
 {
-    if bytes.len() > MOST {
+    if bytes.len() > MOST_BYTES {
         return Err(ScriptError::Refused(Refusal::Long));
     }
     draft_in(alloc, room, bytes)

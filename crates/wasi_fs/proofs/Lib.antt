@@ -1,5 +1,5 @@
 pub mod Flagging
-mod Looking
+pub mod Looking
 mod Once
 mod Opening
 mod Syncing

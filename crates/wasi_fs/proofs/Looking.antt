@@ -30,7 +30,7 @@ pub kind_known : (t : Tree) (n : ℕ) {metadata : Metadata} → stat_answer t n 
 unfolding metadata_of
 kind_known t n answer = sym (ap (λ m. m.kind) (given t n answer))
 
-node_known : (t : Tree) (n : ℕ) {metadata : Metadata} → stat_answer t n ≡ Ok metadata → metadata.node ≡ n
+pub node_known : (t : Tree) (n : ℕ) {metadata : Metadata} → stat_answer t n ≡ Ok metadata → metadata.node ≡ n
 unfolding metadata_of
 node_known t n answer = sym (ap (λ m. m.node) (given t n answer))
 

@@ -1,5 +1,5 @@
 -- How a path is opened: what the flags of an open ask for.
-use Rattle.std.specs.Prelude.{Bool, true, false, not, ◌&&◌, ◌||◌, List, [], ◌∷◌, Option}
+use Rattle.std.specs.Prelude.{ℕ, Bool, true, false, not, ◌&&◌, ◌||◌, List, [], ◌∷◌, Option}
 use Rattle.wasi_host.specs.Options.{Options, no_options}
 use Rattle.wasi_host.specs.Refusal.{first_row}
 use Rattle.wasi_host.specs.declared.errors.ErrorCode.{ErrorCode}
@@ -12,9 +12,6 @@ use Rattle.wasi_fs.specs.Perms.{is_read_only}
 use Rattle.wasi_fs.specs.declared.open_flags.PathFlags.{PathFlags}
 use Rattle.wasi_fs.specs.declared.open_flags.OpenFlags.{OpenFlags}
 use Rattle.wasi_fs.specs.declared.open_flags.DescriptorFlags.{DescriptorFlags}
-use Rattle.wasi_fs.specs.declared.open_flags.TheConstants.PathFlags as of_path
-use Rattle.wasi_fs.specs.declared.open_flags.TheConstants.OpenFlags as of_open
-use Rattle.wasi_fs.specs.declared.open_flags.TheConstants.DescriptorFlags as of_descriptor
 use Rattle.wasi_fs.specs.declared.open_mode.OpenMode.{OpenMode}
 use Rattle.wasi_fs.specs.declared.perms.FsPerms.{FsPerms}
 
@@ -29,32 +26,31 @@ pub record OpenHow : Type 0 where
   pub write : Bool
   pub sync : Bool
 
-abbrev has_path_flag : PathFlags → PathFlags → Bool
-has_path_flag set flag = includes (path_flag_bits set) (path_flag_bits flag)
+abbrev has_path_flag : PathFlags → ℕ → Bool
+has_path_flag set flag = includes (path_flag_bits set) flag
 
-abbrev has_open_flag : OpenFlags → OpenFlags → Bool
-has_open_flag set flag = includes (open_flag_bits set) (open_flag_bits flag)
+abbrev has_open_flag : OpenFlags → ℕ → Bool
+has_open_flag set flag = includes (open_flag_bits set) flag
 
-abbrev has_descriptor_flag : DescriptorFlags → DescriptorFlags → Bool
-has_descriptor_flag set flag = includes (descriptor_flag_bits set) (descriptor_flag_bits flag)
+abbrev has_descriptor_flag : DescriptorFlags → ℕ → Bool
+has_descriptor_flag set flag = includes (descriptor_flag_bits set) flag
 
--- a link under the last name is followed
+-- a link under the last name is followed: SYMLINK_FOLLOW
 abbrev pub is_followed : PathFlags → Bool
-is_followed flags = has_path_flag flags of_path.SYMLINK_FOLLOW
+is_followed flags = has_path_flag flags 1
 
--- what the flags ask for; MUTATE_DIRECTORY asks for nothing
+-- What the flags ask for: CREATE, DIRECTORY, EXCLUSIVE and TRUNCATE; READ and WRITE; and any of FILE_INTEGRITY_SYNC,
+-- DATA_INTEGRITY_SYNC and REQUESTED_WRITE_SYNC. MUTATE_DIRECTORY, which is 32, asks for nothing
 abbrev pub how_of : PathFlags → OpenFlags → DescriptorFlags → OpenHow
 how_of path_flags open_flags flags = record {
   follow = is_followed path_flags;
-  create = has_open_flag open_flags of_open.CREATE;
-  directory = has_open_flag open_flags of_open.DIRECTORY;
-  exclusive = has_open_flag open_flags of_open.EXCLUSIVE;
-  truncate = has_open_flag open_flags of_open.TRUNCATE;
-  read = has_descriptor_flag flags of_descriptor.READ;
-  write = has_descriptor_flag flags of_descriptor.WRITE;
-  sync = has_descriptor_flag flags of_descriptor.FILE_INTEGRITY_SYNC
-      || has_descriptor_flag flags of_descriptor.DATA_INTEGRITY_SYNC
-      || has_descriptor_flag flags of_descriptor.REQUESTED_WRITE_SYNC;
+  create = has_open_flag open_flags 1;
+  directory = has_open_flag open_flags 2;
+  exclusive = has_open_flag open_flags 4;
+  truncate = has_open_flag open_flags 8;
+  read = has_descriptor_flag flags 1;
+  write = has_descriptor_flag flags 2;
+  sync = has_descriptor_flag flags 4 || has_descriptor_flag flags 8 || has_descriptor_flag flags 16;
 }
 
 -- what is refused of an open below a directory of these permissions, before its path is looked at

@@ -4,13 +4,12 @@ ghost use Rattle.std.specs.FinSet.{contains};
 ghost use Rattle.wasi_host.specs.HostCall.{Sync};
 ghost use Rattle.wasi_host.specs.Meaning.{HasCause};
 ghost use Rattle.wasi_host.specs.Lineage.{Traced, Only, Nothing};
-ghost use Rattle.wasi_resolve.specs.Paths.{reading};
 ghost use Rattle.wasi_resolve.specs.Resolved.{Resolved};
 ghost use Rattle.wasi_fs.specs.Calls.{asks_at, handle_of, syncs, syncs_directory, LooksAnew, NeedsNone, NotMemory};
 
 use crate::Descriptor;
 use std::alloc::Global;
-use wasi_host::{Handle, Host, HostError, OpenOptions};
+use wasi_host::{Handle, Host, HostError, read_options};
 
 /// Each call needs the descriptor's handle to be live, and leaves what is live. Of a file it takes no memory and makes no
 /// look-up of a name. A directory is opened anew for reading, as the path `.` below it, so it needs its read bit and its
@@ -71,7 +70,7 @@ fn sync_directory<H: Host>(alloc: Global, host: &mut H, directory: Handle) -> Re
     ensures told { IsTrue H.told → Resolved (H.live host.old) (H.world host.old) (H.world host.new)
         (syncs_directory (H.world host.old).tree ((H.world host.old).held directory).node) (λ unit. unit) result }
 {
-    let handle = match wasi_resolve::open(alloc, host, directory, ".", &reading()) {
+    let handle = match wasi_resolve::open(alloc, host, directory, ".", &read_options()) {
         Ok(handle) => handle,
         Err(error) => return Err(error),
     };
@@ -81,12 +80,4 @@ fn sync_directory<H: Host>(alloc: Global, host: &mut H, directory: Handle) -> Re
         Ok(()) => Ok(()),
         Err(code) => Err(HostError::Code(code)),
     }
-}
-
-fn reading() -> OpenOptions
-    ensures { result ≡ reading }
-{
-    let mut options = OpenOptions::new();
-    options.read(true);
-    options
 }

@@ -8,7 +8,7 @@ ghost use Rattle.wasi_gen.specs.GenScript as specs;
 use crate::nodes::gen_nodes;
 use crate::turns::{Turns, all_turns};
 use std::alloc::{AllocError, Global};
-use wasi_form::{DEFAULT_LIMITS, Script, ScriptPreopen, Session};
+use wasi_form::{DEFAULT_FUEL, DEFAULT_LIMITS, DEFAULT_TABLE, Script, ScriptPreopen, Session};
 use wasi_fs::FsPerms;
 use wasi_guest::{Services, WallDatetime};
 
@@ -71,8 +71,8 @@ pub fn gen_script(alloc: Global, n: u64) -> Result<Script, AllocError>
             pieces,
             show: Vec::new(alloc),
             calls,
-            fuel: 134_217_728,
-            table: 1024,
+            fuel: DEFAULT_FUEL,
+            table: DEFAULT_TABLE,
             faults: Vec::new(alloc),
             services: services(alloc),
         },

@@ -41,6 +41,12 @@ all_eventtypes =
 abbrev pub eventtype_of : ℕ → Option Eventtype
 eventtype_of n = slice_get all_eventtypes n
 
+-- preview1's number
+abbrev pub eventtype_number : Eventtype → ℕ
+eventtype_number eventtypes.Clock = 0
+eventtype_number eventtypes.FdRead = 1
+eventtype_number eventtypes.FdWrite = 2
+
 -- preview1's signals are numbered from 0 to 30
 abbrev pub is_signal : ℕ → Bool
 is_signal n = nat_le n 30

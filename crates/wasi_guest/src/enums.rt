@@ -1,6 +1,6 @@
 //! The enumerations of preview1 that come as raw numbers.
 ghost use Rattle.std.specs.Prelude.{◌≡◌};
-ghost use Rattle.wasi_guest.specs.Enums.{whence_of, clockid_of, advice_of, eventtype_of, is_signal};
+ghost use Rattle.wasi_guest.specs.Enums.{whence_of, clockid_of, advice_of, eventtype_of, eventtype_number, is_signal};
 
 /// From where a position is counted: preview1's `whence`.
 #[derive(Clone, Copy, Debug, PartialEq, Eq)]
@@ -105,6 +105,17 @@ impl Eventtype {
         ensures named { result ≡ eventtype_of number }
     {
         Eventtype::ALL.get(number as usize).copied()
+    }
+
+    /// Preview1's number: 0 to 2 in the order of the variants.
+    pub fn number(self) -> u8
+        ensures number { result ≡ eventtype_number self }
+    {
+        match self {
+            Eventtype::Clock => 0,
+            Eventtype::FdRead => 1,
+            Eventtype::FdWrite => 2,
+        }
     }
 }
 

@@ -15,6 +15,11 @@ pub struct Subscription {
     pub what: SubscriptionKind,
 }
 
+impl Subscription {
+    /// How many bytes the record has. It is aligned to 8.
+    pub const SIZE: usize = 48;
+}
+
 /// What is waited for: the end of a time, or that a descriptor can be read or written.
 #[derive(Clone, Copy, Debug, PartialEq, Eq)]
 pub enum SubscriptionKind {

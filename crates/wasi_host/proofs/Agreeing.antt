@@ -19,8 +19,8 @@ use Rattle.wasi_host.specs.Answer.{kind_of, reached, or_next, unless, metadata_o
 use Rattle.wasi_host.specs.declared.errors.ErrorCode.{ErrorCode}
 use Rattle.wasi_host.specs.declared.system_time.SystemTime.{SystemTime}
 use Rattle.wasi_host.proofs.EntryLemmas.{get_entry}
-use Rattle.wasi_host.proofs.Changes.{node_at-past}
-use Rattle.wasi_host.proofs.Leaving.{LeavesNear, next_of-moved, next_of-dropped_step, Contains-here, named_in, no_name, made_next, next_is_made, rewritten, node_put}
+use Rattle.wasi_host.proofs.Changes.{changed, node_at-past}
+use Rattle.wasi_host.proofs.Leaving.{LeavesNear, next_of-moved, next_of-dropped_step, Contains-here, named_in, no_name, made_next, next_is_made, rewritten}
 
 map_same : {X Y : Type 0} (f g : X → Y) (xs : List X)
     → ((i : ℕ) (d : X) → i < length xs → f (get_or xs i d) ≡ g (get_or xs i d)) → map f xs ≡ map g xs
@@ -118,7 +118,7 @@ one {m} {n} has = elim (Contains-push_cases [] m n has) [ inl none ↦ absurd (o
 
 -- the same one, in both trees
 put_same : {Seen : ℕ → Type 0} {t u : Tree} → AgreeOn Seen t u → (m : ℕ) (x y : Node) (worked worked' : Nodes) → x ≡ y
-    → AgreeOn Seen (node_put t m x worked) (node_put u m y worked')
+    → AgreeOn Seen (changed t m x worked) (changed u m y worked')
 unfolding node_at
 put_same {t = t} {u = u} agree m x y worked worked' same = record {
   nodes = λ n seen. set_same t.nodes u.nodes m n x stray agree.next (agree.nodes n seen)
@@ -433,8 +433,8 @@ module _ {Seen : ℕ → Type 0} {t u : Tree} (closed : IsClosed Seen t) (agree 
 
   -- a node is changed alike
   put_agree : (m : ℕ) (change : Node → Node) (worked worked' : Nodes) → Seen m
-      → AgreeOn (OrMade Seen t (node_put t m (change (node_at t m)) worked))
-      (node_put t m (change (node_at t m)) worked) (node_put u m (change (node_at u m)) worked')
+      → AgreeOn (OrMade Seen t (changed t m (change (node_at t m)) worked))
+      (changed t m (change (node_at t m)) worked) (changed u m (change (node_at u m)) worked')
   put_agree m change worked worked' seen =
       let x : Node = change (node_at t m) in
       unmade_agree t (length-set t.nodes m x)
@@ -442,9 +442,9 @@ module _ {Seen : ℕ → Type 0} {t u : Tree} (closed : IsClosed Seen t) (agree 
 
   -- two nodes are
   both_agree : (d n : ℕ) (first second : Node → Node) (worked worked' : Nodes) → Seen d → Seen n
-      → AgreeOn (OrMade Seen t (node_put (node_put t d (first (node_at t d)) t.worked) n (second (node_at t n)) worked))
-      (node_put (node_put t d (first (node_at t d)) t.worked) n (second (node_at t n)) worked)
-      (node_put (node_put u d (first (node_at u d)) u.worked) n (second (node_at u n)) worked')
+      → AgreeOn (OrMade Seen t (changed (changed t d (first (node_at t d)) t.worked) n (second (node_at t n)) worked))
+      (changed (changed t d (first (node_at t d)) t.worked) n (second (node_at t n)) worked)
+      (changed (changed u d (first (node_at u d)) u.worked) n (second (node_at u n)) worked')
   both_agree d n first second worked worked' seen has =
       let x : Node = first (node_at t d) in
       let y : Node = second (node_at t n) in

@@ -116,15 +116,16 @@ shorten t top (m ∷ ms) n way = longer t top m n way.0 (shorten t m ms n way.1)
 
 -- ---- so have fewer names than there are nodes
 
-named_content : (content : Content) (name : List ℕ) (n : ℕ) → maps.get (names_of content) name ≡ Some n
+-- what has a name in it is a directory
+pub names_directory : (content : Content) (name : List ℕ) (n : ℕ) → maps.get (names_of content) name ≡ Some n
     → is_directory content ≡ true
-named_content (File bytes links) name n is = absurd (unnamed maps.empty name n refl is)
-named_content (Directory names gone) name n is = refl
-named_content (Link text links) name n is = absurd (unnamed maps.empty name n refl is)
+names_directory (File bytes links) name n is = absurd (unnamed maps.empty name n refl is)
+names_directory (Directory names gone) name n is = refl
+names_directory (Link text links) name n is = absurd (unnamed maps.empty name n refl is)
 
 child_in : (t : Tree) (d n : ℕ) → IsValidTree t → IsChild t d n → n < next_of t
 child_in t d n valid child =
-    named_within t d valid (named_content (node_at t d).content child.0 n child.1) child.0 n child.1
+    named_within t d valid (names_directory (node_at t d).content child.0 n child.1) child.0 n child.1
 
 way_in : (t : Tree) (top : ℕ) (ms : List ℕ) (n : ℕ) → IsValidTree t → top < next_of t → IsWay t top ms n
     → (q : ℕ) → list_any (nat_eq q) (top ∷ ms) ≡ true → q < next_of t

@@ -126,7 +126,7 @@ ties_itself name = is_eq-slice_cmp name name ∙ (bytes_eq-Decides name name).1 
 below_all : List ℕ → List (List ℕ × ℕ) → Bool
 below_all name es = maps.Entries.below_all (slice_cmp nat_cmp) name es
 
-both_hold : (a b : Bool) → T (a && b) → T a × T b
+pub both_hold : (a b : Bool) → T (a && b) → T a × T b
 both_hold true b is = (tt, is)
 both_hold false b is = absurd is
 

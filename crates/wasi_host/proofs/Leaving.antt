@@ -14,6 +14,7 @@ use Rattle.wasi_host.specs.Agree.{IsMade}
 use Rattle.wasi_host.specs.HostCall.{HostCall, OpenAt, StatAt, ReadLinkAt, MakeDirAt, SymlinkAt, LinkAt, RenameAt, UnlinkAt, RemoveDirAt, TimesAt, Access, Stat, SetTimes, Pread, Pwrite, Append, SetSize, Sync, Advise, Flags, ListDir, Dup, Close}
 use Rattle.wasi_host.specs.declared.system_time.SystemTime.{SystemTime}
 use Rattle.wasi_host.specs.Step.{step, open_step, opened_step, unlink_step, remove_step, rename_step, moved_step, link_step, added_step, times_step, times_set, times_set_if, dropped_step, node_made, file_cut, name_dropped, is_cut, with_name, without_name, with_times, with_nodes, new_file, new_directory, new_link, with_content, content_changed, other_bytes, with_size, with_piece, starts_of, name_added, name_lost, name_taken, name_given, name_moved, one_name_more, one_name_less, made_gone, write_step}
+use Rattle.wasi_host.proofs.Changes.{changed}
 
 -- the node that a name of a directory holds
 abbrev pub named_in : Node → List ℕ → Option ℕ
@@ -107,13 +108,9 @@ node_made_leaves t d name node bare = record {
   grows = omega (arith, made_next t d name node);
 }
 
--- a node in the place of another
-abbrev pub node_put : Tree → ℕ → Node → Nodes → Tree
-node_put t n node worked = record t { nodes = slice_set t.nodes n node; worked = worked }
-
--- which has the names that it had
+-- a node in the place of another, which has the names that it had
 put_leaves : (t : Tree) (n : ℕ) (node : Node) (worked : Nodes) → names_of node.content ≡ names_of (node_at t n).content
-    → Leaves t (node_put t n node worked)
+    → Leaves t (changed t n node worked)
 unfolding node_at
 put_leaves t n node worked same = record {
   names = λ e m q has. inl (elim (set_cases t.nodes n e node stray) [

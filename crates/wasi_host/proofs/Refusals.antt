@@ -37,7 +37,7 @@ left_behind ((false, code) ∷ rows) more none = left_behind rows more none
 
 -- ---- codes of the table
 
-unless-err : {B : Type 0} (refused : Option ErrorCode) (x : B) {code : ErrorCode} → unless refused x ≡ Err code
+pub unless-err : {B : Type 0} (refused : Option ErrorCode) (x : B) {code : ErrorCode} → unless refused x ≡ Err code
     → refused ≡ Some code
 unless-err None x is = absurd (cc)
 unless-err (Some d) x is = cc

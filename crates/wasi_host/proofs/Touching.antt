@@ -74,7 +74,8 @@ pub reached_through : {t : Tree} {roots ds : List ℕ} → ((d : ℕ) → Contai
 reached_through each _ (root n has) = each n has
 reached_through each _ (held d n name from at) = held d n name (reached_through each d from) at
 
-to_one : {t : Tree} {roots : List ℕ} {d : ℕ} → Reached t roots d → (n : ℕ) → Contains (d ∷ []) n → Reached t roots n
+-- of the one node that is reached
+pub to_one : {t : Tree} {roots : List ℕ} {d : ℕ} → Reached t roots d → (n : ℕ) → Contains (d ∷ []) n → Reached t roots n
 to_one {t} {roots} to n has = subst (Reached t roots) (sym (same_node has)) to
 
 pub reached_on : {t : Tree} {s d n : ℕ} → Reached t (s ∷ []) d → Reached t (d ∷ []) n → Reached t (s ∷ []) n

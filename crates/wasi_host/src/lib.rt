@@ -33,7 +33,7 @@ pub use limits::{FILE_MAX, LINK_MAX, Limits};
 pub use lookup::{LookKind, Lookup};
 pub use metadata::Metadata;
 pub use open_options::{
-    FollowSymlinks, OFlags, OpenOptions, compute_oflags, dir_options, readdir_options,
+    FollowSymlinks, OFlags, OpenOptions, compute_oflags, dir_options, read_options, readdir_options,
 };
 pub use sync_flags::SyncFlags;
 pub use system_time::{SystemTime, system_time_from_rustix};

@@ -78,7 +78,8 @@ entries-names_at m d = entries-from_sorted (slice_cmp nat_cmp) _ (told (run_sort
 abbrev Names : Type 0
 Names = FinMap (slice_cmp nat_cmp) ℕ
 
-same_names : (m n : Names) → ((q : List ℕ) → get m q ≡ get n q) → m ≡ n
+-- names that find alike are the same
+pub same_names : (m n : Names) → ((q : List ℕ) → get m q ≡ get n q) → m ≡ n
 same_names m n is = same_map nat_list_cmp_total (slice_cmp-IsAntisymmetric nat_cmp-IsAntisymmetric) m n is
 
 tied_here : (d : ℕ) (q name : List ℕ) → eq_by_cmp key_cmp (d, q) (d, name) ≡ eq_by_cmp (slice_cmp nat_cmp) q name

@@ -150,8 +150,8 @@ module _ {Y : Type 0} (d : ℕ) (bs : List (Vec NameRow Y)) (h : AreBlocks bs) (
 
 -- whether there is a next one
 pub none_is : {A X : Type 0} (g : A → X) (r : Bool) (o : Option A) (xs ys : List X) → is_some o ≡ not r
-    → MatchOption o (xs ≡ []) (λ f. xs ≡ g f ∷ ys) → r ≡ nat_eq (length xs) 0
-none_is g true None xs ys is h = rw h refl
+    → MatchOption o ((xs ≡ []) × (ys ≡ [])) (λ f. xs ≡ g f ∷ ys) → r ≡ nat_eq (length xs) 0
+none_is g true None xs ys is h = rw h.0 refl
 none_is g false None xs ys is h = absurd (true≢false (sym is))
 none_is g true (Some f) xs ys is h = absurd (true≢false is)
 none_is g false (Some f) xs ys is h = rw h (sym (apart 0 (length (g f ∷ ys)) (omega arith)))

@@ -8,9 +8,8 @@ use Rattle.std.proofs.lemmas.List.{length-map, map-append}
 use Rattle.std.proofs.lemmas.List.Edits.{insert_end, length-remove}
 use Rattle.std.specs.declared.vec.Vec.{Vec}
 use Rattle.wasi_names.specs.declared.name_row.NameRow.{NameRow}
-use Rattle.wasi_names.specs.declared.blocks.TheConstants.{BLOCK}
 use Rattle.wasi_names.specs.Fronts.{list_at, with_list}
-use Rattle.wasi_names.specs.Blocks.{block_entries, with_row, has_block, HasSpace}
+use Rattle.wasi_names.specs.Blocks.{block_entries, with_row, has_block, most_rows, HasSpace}
 use Rattle.wasi_names.specs.NameRows.{row_entry}
 use Rattle.wasi_names.proofs.ListLemmas.{list_at-set, list_at-set_other, passed_on, passed_back}
 use Rattle.wasi_names.proofs.BlockLemmas.{map_insert, at_block, at_len}
@@ -20,19 +19,19 @@ pub space_stays : {Y : Type 0} (bs : List (Vec NameRow Y)) (k : ℕ) (c : Vec Na
     → HasSpace bs free → HasSpace (set bs k c) free
 space_stays bs k c free apart h = record {
   within = omega (arith, h.within, length-set bs k c);
-  space = subst (λ es. length es < BLOCK) (sym (list_at-set_other block_entries bs k free c apart)) h.space;
+  space = subst (λ es. length es < most_rows) (sym (list_at-set_other block_entries bs k free c apart)) h.space;
 }
 
 module _ {Y : Type 0} (bs : List (Vec NameRow Y)) (k : ℕ) (b : Vec NameRow Y) (lt : k < length bs)
     (is : b ≡ get_or bs k b) where
-  pub space_here : length b.items < BLOCK → HasSpace bs k
+  pub space_here : length b.items < most_rows → HasSpace bs k
   space_here space = record {
     within = lt;
     space = omega (arith, at_len bs k b lt is);
   }
 
   -- a block from which a row was taken has room for one
-  pub space_left : (c : Vec NameRow Y) (at : ℕ) → at < length b.items → length b.items ≤ BLOCK
+  pub space_left : (c : Vec NameRow Y) (at : ℕ) → at < length b.items → length b.items ≤ most_rows
       → c.items ≡ remove b.items at → HasSpace (set bs k c) k
   space_left c at within most e = record {
     within = omega (arith, length-set bs k c);
@@ -65,11 +64,11 @@ module _ {Y : Type 0} (bs : List (Vec NameRow Y)) (k : ℕ) (b : Vec NameRow Y) 
 
 module _ {Y Z : Type 0} (blocks : Vec (Vec NameRow Y) Z) (spare : Vec NameRow Y) where
   pub block_given : (free : Option ℕ) → MatchOption free (has_block blocks spare ≡ true) (HasSpace blocks.items)
-      → blocks.items ≡ [] → BLOCK ≤ vec_capacity spare
+      → blocks.items ≡ [] → most_rows ≤ vec_capacity spare
   block_given None h none = grind (arith, nat_tests)
   block_given (Some free) h none = absurd (omega (arith, h.within, ap length none))
 
-  pub block_there : vec_len blocks < vec_capacity blocks → BLOCK ≤ vec_capacity spare → has_block blocks spare ≡ true
+  pub block_there : vec_len blocks < vec_capacity blocks → most_rows ≤ vec_capacity spare → has_block blocks spare ≡ true
   block_there list block = grind (arith, nat_tests)
 
   -- a block is named where there is no room for one more

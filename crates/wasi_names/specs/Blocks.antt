@@ -5,9 +5,12 @@ use Rattle.std.specs.Vec.{vec_len, vec_capacity}
 use Rattle.std.specs.FinMap.{is_sorted}
 use Rattle.std.specs.declared.vec.Vec.{Vec}
 use Rattle.wasi_names.specs.declared.name_row.NameRow.{NameRow}
-use Rattle.wasi_names.specs.declared.blocks.TheConstants.{BLOCK}
 use Rattle.wasi_names.specs.Fronts.{list_at, with_list}
 use Rattle.wasi_names.specs.NameRows.{NameEntry, key_cmp, row_entry}
+
+-- how many rows a block has at most
+abbrev pub most_rows : ℕ
+most_rows = 128
 
 module _ {Y : Type 0} where
   abbrev pub block_entries : Vec NameRow Y → List NameEntry
@@ -24,8 +27,8 @@ module _ {Y : Type 0} where
   -- some rows, not too many, and room for as many as there may be
   pub record IsBlock (block : Vec NameRow Y) : Type 0 where
     pub some : 0 < length block.items
-    pub most : length block.items ≤ BLOCK
-    pub room : BLOCK ≤ vec_capacity block
+    pub most : length block.items ≤ most_rows
+    pub room : most_rows ≤ vec_capacity block
 
   -- blocks whose rows strictly rise
   pub record AreBlocks (blocks : List (Vec NameRow Y)) : Type 0 where
@@ -41,8 +44,8 @@ module _ {Y : Type 0} where
   -- a block that has room for a row
   pub record HasSpace (blocks : List (Vec NameRow Y)) (k : ℕ) : Type 0 where
     pub within : k < length blocks
-    pub space : length (list_at block_entries blocks k) < BLOCK
+    pub space : length (list_at block_entries blocks k) < most_rows
 
 -- whether there is room for a block more, and a spare one that has room for its rows
 abbrev pub has_block : {Y Z : Type 0} → Vec (Vec NameRow Y) Z → Vec NameRow Y → Bool
-has_block blocks spare = nat_lt (vec_len blocks) (vec_capacity blocks) && nat_le BLOCK (vec_capacity spare)
+has_block blocks spare = nat_lt (vec_len blocks) (vec_capacity blocks) && nat_le most_rows (vec_capacity spare)

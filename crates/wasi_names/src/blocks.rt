@@ -1,4 +1,5 @@
-//! Rows in blocks: each block has room for as many rows as a block may have, so one row moves less than a block's rows.
+//! Rows in blocks: each has room for as many rows as a block may have, so what is put or taken moves the rows of one
+//! block alone, but where a name is renamed and there is no room for a block more.
 ghost use Rattle.std.specs.Prelude.{◌≡◌, ℕ, ◌+◌, ◌<◌, ◌≤◌, [], ◌∷◌, ◌++◌, slice_index_or, suc, is_some, Some, None, IfSome, MatchOption, true, false, map, length, take, drop, not, All, IsTrue, if◌then◌else◌};
 ghost use Rattle.std.specs.List.{insert, remove};
 ghost use Rattle.std.specs.Vec.{vec_len, vec_capacity};
@@ -11,7 +12,7 @@ ghost use Rattle.wasi_names.specs.NameRows.{key_cmp, row_key, row_entry};
 ghost use Rattle.wasi_names.specs.NameRows.{run_of};
 ghost use Rattle.wasi_names.specs.Runs.{entries_from, IsRun};
 ghost use Rattle.std.specs.String.{string_bytes};
-ghost use Rattle.wasi_names.specs.Blocks.{block_entries, all_entries, with_row, has_block, IsBlock, AreBlocks, IsPlace, HasSpace};
+ghost use Rattle.wasi_names.specs.Blocks.{block_entries, all_entries, with_row, has_block, most_rows, IsBlock, AreBlocks, IsPlace, HasSpace};
 
 use crate::name_row::NameRow;
 use crate::near::Near;
@@ -235,7 +236,7 @@ fn start(blocks: &mut Vec<Vec<NameRow>>, mut block: Vec<NameRow>, row: NameRow)
     requires none { blocks.old.items ≡ [] }
     requires room { 0 < vec_capacity blocks.old }
     requires empty { block.items ≡ [] }
-    requires block { BLOCK ≤ vec_capacity block }
+    requires block { most_rows ≤ vec_capacity block }
     ensures each { All IsBlock blocks.new.items }
     ensures rows { all_entries blocks.new.items ≡ row_entry row ∷ [] }
 {
@@ -280,11 +281,11 @@ fn split_row(
     at: usize,
     row: NameRow,
 ) -> Vec<NameRow>
-    requires full { length block.old.items ≡ BLOCK }
-    requires capacity { BLOCK ≤ vec_capacity block.old }
-    requires at { at ≤ BLOCK }
+    requires full { length block.old.items ≡ most_rows }
+    requires capacity { most_rows ≤ vec_capacity block.old }
+    requires at { at ≤ most_rows }
     requires empty { back.items ≡ [] }
-    requires block { BLOCK ≤ vec_capacity back }
+    requires block { most_rows ≤ vec_capacity back }
     ensures rows { block.new.items ++ result.items ≡ insert block.old.items at row }
     ensures front { IsBlock block.new }
     ensures back { IsBlock result }

@@ -1,5 +1,5 @@
 //! The rows of all directories.
-ghost use Rattle.std.specs.Prelude.{◌≡◌, ℕ, List, OnOk, Some, is_some, true, false, nat_eq};
+ghost use Rattle.std.specs.Prelude.{◌≡◌, ℕ, List, OnErr, OnOk, Some, is_some, true, false, nat_eq};
 ghost use Rattle.std.specs.FinMap as maps;
 ghost use Rattle.std.specs.String.{string_bytes};
 ghost use Rattle.wasi_names.specs.NameRows.{AllNames, Key, names_at, run_of};
@@ -63,10 +63,13 @@ impl Rows {
         blocks::find(&self.blocks, &mut near, &key).is_some()
     }
 
-    /// Makes room for one more name.
+    /// Makes room for one more name. Where there is room already it takes no memory; where memory is wanted all stays as
+    /// it was.
     pub fn reserve(&mut self) -> Result<(), AllocError>
         ensures names { self.new.names ≡ self.old.names }
         ensures room { OnOk result (self.new.has_room ≡ true) }
+        ensures wanted { OnErr result (self.old.has_room ≡ false) }
+        ensures stays { OnErr result (self.new ≡ self.old) }
     {
         self.blocks.reserve(1)?;
         if self.spare.capacity() < BLOCK {

@@ -42,9 +42,10 @@ impl<'a> Run<'a> {
         }
     }
 
-    /// The next name with its node.
+    /// The next name with its node. Behind the last one there is none, however often it is asked.
     pub fn next(&mut self) -> Option<(&'a str, u64)>
-        ensures { MatchOption result (self.old ≡ []) (λ found. self.old ≡ (found.0.now, found.1) ∷ self.new) }
+        ensures { MatchOption result ((self.old ≡ []) × (self.new ≡ []))
+            (λ found. self.old ≡ (found.0.now, found.1) ∷ self.new) }
     {
         let Some((row, here)) = self.here.split_first() else {
             return None;

@@ -16,6 +16,7 @@ use Rattle.wasi_turns.specs.Slots.{is_closed_slot}
 use Rattle.wasi_turns.specs.declared.slots.Slot.{Slot}
 use Rattle.wasi_turns.specs.declared.slots.Slot.TheVariants.{Closed}
 use Rattle.wasi_turns.proofs.Numbers.{same_number, other_number, not_true, passes_within, passes_at-get_or, passes_at-set_same, passes_at-set_other, passes_at-push, new_behind, new_under}
+use Rattle.wasi_turns.proofs.Owning.{live_if}
 
 -- how often a number is in the heap
 abbrev times : ℕ → List ℕ → ℕ
@@ -24,10 +25,6 @@ times n heap = count_by (λ k. k == n) heap
 -- as one of a sum: a slot that is closed
 abbrev one_closed : Slot → ℕ
 one_closed slot = cond (is_closed_slot slot) 1 0
-
-one_true : (b : Bool) → 1 ≤ one_if b → b ≡ true
-one_true true some = refl
-one_true false some = absurd (omega arith)
 
 one_cond : (b : Bool) → cond b 1 0 ≡ one_if b
 one_cond true = refl
@@ -98,7 +95,7 @@ module _ {heap : List ℕ} {table : List Slot} (holds : HoldsClosed heap table) 
     popped n = sym (sum_by-IsPermutation (λ k. cond (k == n) 1 0) heap (top ∷ rest) moved) ∙ times-cons top n rest
 
     pub top_closed : passes_at is_closed_slot table top ≡ true
-    top_closed = one_true _ (let is = ap one_if (itself top) in omega (arith, popped top, holds.each top, is))
+    top_closed = live_if _ (let is = ap one_if (itself top) in omega (arith, popped top, holds.each top, is))
 
     pub top_within : top < length table
     top_within = passes_within is_closed_slot table top top_closed

@@ -26,7 +26,7 @@ use Rattle.wasi_p1_types.specs.declared.items.Item.{Item}
 use Rattle.wasi_p1_types.specs.declared.items.Item.TheVariants.{Closed, Stream, Directory, File}
 use Rattle.wasi_p1_types.specs.Items.{resource_in, slot_in, slots_of, directory_of_entry, file_of_entry, stream_entry, IsOfKind, NamesResource, AreNamed, Admitted, is_closed_item, without_item, put_item}
 
-one : {a b : ℕ} → Some a ≡ Some b → a ≡ b
+pub one : {a b : ℕ} → Some a ≡ Some b → a ≡ b
 one is = cc
 
 never : {a : ℕ} → (let o : Option ℕ = None in o) ≡ Some a → ⊥

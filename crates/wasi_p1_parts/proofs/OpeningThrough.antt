@@ -27,9 +27,7 @@ use Rattle.wasi_p2_types.specs.declared.flags.OpenFlags.{OpenFlags}
 use Rattle.wasi_p2_types.specs.declared.flags.PathFlags.{PathFlags}
 use Rattle.wasi_p1_parts.specs.Viewed.{Opens, OpenedBelow, PutEntry}
 use Rattle.wasi_p1_parts.proofs.Viewing.{directory_stands, lowered_err, LowerRefusal}
-
-one : {a b : ℕ} → Some a ≡ Some b → a ≡ b
-one is = cc
+use Rattle.wasi_p1_parts.proofs.Naming.{one}
 
 module _ {H : Type 0} (host : Ghosts H) (old new : Files H) (fd : ℕ) (dir : Dir) (path : List ℕ) (how : OpenHow)
     (stands : get old.table.entries fd ≡ Some (AnOpened (descriptors.Dir dir))) where

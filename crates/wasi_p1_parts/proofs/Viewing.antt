@@ -56,12 +56,9 @@ use Rattle.wasi_turns.specs.declared.error.P1Error.TheVariants.{Errno as ByNumbe
 use Rattle.wasi_p1_types.specs.declared.items.Item.{Item}
 use Rattle.wasi_p1_types.specs.declared.items.Item.TheVariants.{Closed, Stream, Directory, File}
 use Rattle.wasi_turns.proofs.Counting.{handle_at}
-use Rattle.wasi_p1_parts.proofs.Naming.{slots_get}
+use Rattle.wasi_p1_parts.proofs.Naming.{slots_get, one}
 use Rattle.wasi_turns.proofs.Owning.{owned_apart}
 use Rattle.wasi_turns.proofs.Taking.{on_err}
-
-one : {a b : ℕ} → Some a ≡ Some b → a ≡ b
-one is = cc
 
 -- the value of descriptors
 abbrev pub shown_by : Entries → List Item → ℕ → ℕ → SlotTable

@@ -151,7 +151,7 @@ pub fn sink_at<H: Host>(host: &H, descriptors: &Descriptors, fd: u32) -> Result<
     }
 }
 
-/// Trap TableFull where so many more descriptors may not be live.
+/// Trap TableFull where so many more descriptors may not be live. `host` is named by the clauses alone.
 pub fn room_at<H: Host>(host: &H, descriptors: &Descriptors, more: u32) -> Result<(), P1Error>
     ensures fits { OnOk result (live_count is_closed_slot descriptors.now.slots + more ≤ descriptors.now.max) }
     ensures row { result ≡ room_for (guest_slots (H.world host.now).held descriptors.now.slots)
@@ -322,7 +322,7 @@ pub fn stat_both<H: Host>(
     Ok(ViewedStat { stat, hash })
 }
 
-/// Closes a number, and its handle. It can't fail, and takes no memory.
+/// Closes a number, and its handle. It can't fail, and takes no memory. `slot` is named by the clauses alone.
 pub fn close_slot<H: Host>(
     fs: &mut WasiFilesystemCtx<H>,
     descriptors: &mut Descriptors,
@@ -347,7 +347,7 @@ pub fn close_slot<H: Host>(
 }
 
 /// Gives a descriptor the number of another, whose handle is closed. Equal numbers stay. It can't fail, and takes no
-/// memory.
+/// memory. `dropped` is named by the clauses alone.
 pub fn renumber_slot<H: Host>(
     fs: &mut WasiFilesystemCtx<H>,
     descriptors: &mut Descriptors,

@@ -4,9 +4,9 @@ ghost use Rattle.wasi_turns.specs.CallParts.{WantsNoMemory, is_failure};
 ghost use Rattle.wasi_p1_parts.specs.ViewedStats.{filetype_named, viewed_filestat, wall_nanoseconds};
 
 use wasi_fs::{DescriptorStat, DescriptorType, MetadataHashValue};
-use wasi_guest::{Errno, Filestat, Filetype, WallDatetime};
+use wasi_guest::{Filestat, Filetype, WallDatetime};
 use wasi_p2::types;
-use wasi_turns::P1Error;
+use wasi_turns::{P1Error, nanoseconds_of};
 
 /// What preview2 says of a node, by its two calls.
 #[derive(Clone, Copy, Debug, PartialEq, Eq)]
@@ -37,16 +37,10 @@ fn wall_nanoseconds(moment: Option<WallDatetime>) -> Result<u64, P1Error>
     ensures refusal { IfErr result (λ e. is_failure e ≡ false) }
     ensures never_wants { IfErr result WantsNoMemory }
 {
-    const OVERFLOW: P1Error = P1Error::Errno(Errno::Overflow);
-
-    let Some(moment) = moment else {
-        return Ok(0);
-    };
-    let whole = moment.seconds.checked_mul(1_000_000_000).ok_or(OVERFLOW)?;
-    let nanoseconds = whole
-        .checked_add(moment.nanoseconds as u64)
-        .ok_or(OVERFLOW)?;
-    Ok(nanoseconds)
+    match moment {
+        Some(moment) => nanoseconds_of(moment),
+        None => Ok(0),
+    }
 }
 
 impl ViewedStat {

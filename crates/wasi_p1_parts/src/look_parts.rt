@@ -26,7 +26,7 @@ use wasi_p2::{FsResult, WasiFilesystemCtx};
 use wasi_turns::{FileSlot, P1Error, directory_fdstat, file_fdstat};
 
 /// What is told of a descriptor's node: its two answers, which make one record.
-pub fn looked_at<H: Host>(
+fn looked_at<H: Host>(
     fs: &mut WasiFilesystemCtx<H>,
     descriptors: &mut Descriptors,
     fd: u32,

@@ -19,12 +19,14 @@ ghost use Rattle.wasi_turns.specs.declared.error.P1Error.TheVariants.{Memory};
 use crate::call_parts::{sink_at, source_at};
 use crate::descriptors::Descriptors;
 use std::alloc::{AllocError, Global};
-use wasi_guest::{Errno, Event, SubscriptionKind, TrapKind, Value, subscription_in, write_bytes};
+use wasi_guest::{
+    Errno, Event, Subscription, SubscriptionKind, TrapKind, Value, subscription_in, write_bytes,
+};
 use wasi_host::Host;
 use wasi_turns::{Awaited, Clocks, Holdings, INVALID, Judged, P1Error, Sink, Source, Waited};
 
 /// How many bytes a subscription has in memory.
-const SUBSCRIPTION: u32 = 48;
+const SUBSCRIPTION: u32 = Subscription::SIZE as u32;
 
 /// Inval of a poll of nothing.
 #[tactic(auto, unfolding(wasi_turns::specs::Polling::some_asked))]
@@ -51,8 +53,8 @@ pub fn lists_within(
     ensures inside { OnOk result (IsInMemory memory.now events (32 * count)) }
 {
     let size = memory.len() as u64;
-    let subscriptions_end = subscriptions as u64 + 48 * count as u64;
-    let events_end = events as u64 + 32 * count as u64;
+    let subscriptions_end = subscriptions as u64 + Subscription::SIZE as u64 * count as u64;
+    let events_end = events as u64 + Event::SIZE as u64 * count as u64;
     let aligned = subscriptions % 8 == 0 && events % 8 == 0;
     if aligned && subscriptions_end <= size && events_end <= size {
         return Ok(());
@@ -97,7 +99,7 @@ fn to_write<H: Host>(host: &H, sink: Sink) -> Result<Awaited, P1Error>
 /// What a subscription asks for: its clock's end, or the stream or file of its number. Refusals: those of `clock_end`;
 /// Badf where the number is neither a file's nor such a stream's; Perm of a file that is written under read-only
 /// permissions.
-pub fn waiting_for<H: Host>(
+fn waiting_for<H: Host>(
     host: &H,
     descriptors: &Descriptors,
     holdings: &Holdings,
@@ -320,7 +322,7 @@ fn put_event(memory: &mut [u8], at: usize, waited: Waited, size: u64, moment: u6
 
 /// Writes an event of each subscription that has come by a moment, in order, from an address on, and gives how many
 /// there are. The sizes are those of the files that are read.
-pub fn put_events(memory: &mut [u8], at: u32, waited: &[Waited], sizes: &[u64], moment: u64) -> u64
+fn put_events(memory: &mut [u8], at: u32, waited: &[Waited], sizes: &[u64], moment: u64) -> u64
     requires inside { IsInMemory memory.old at (32 * length waited.now) }
     ensures size { length memory.new ≡ length memory.old }
     ensures count { result ≡ length (events moment waited.now sizes.now) }
@@ -333,7 +335,7 @@ pub fn put_events(memory: &mut [u8], at: u32, waited: &[Waited], sizes: &[u64], 
         place = put_event(memory, place, *item, size, moment);
         read += item.what.sizes();
     }
-    (place - at as usize) as u64 / 32
+    (place - at as usize) as u64 / Event::SIZE as u64
 }
 
 /// Sets the clocks, and tells what has come by the monotonic one, as `put_events` does. The answer is how many events

@@ -70,7 +70,7 @@ pub trait PlaceCall<H: Host> {
             (Did self view.old.ctx.now.host view.new.ctx.now.host) result };
 }
 
-/// Makes a call at a path below the directory of a number.
+/// Makes a call at a path below the directory of a number. `dir` is named by the clauses alone.
 pub fn below<H: Host, C: PlaceCall<H>>(
     fs: &mut WasiFilesystemCtx<H>,
     descriptors: &mut Descriptors,
@@ -124,7 +124,7 @@ pub trait NodeCall<H: Host> {
             (Did self view.old.ctx.now.host view.new.ctx.now.host) result };
 }
 
-/// Makes a call about what a number stands for.
+/// Makes a call about what a number stands for. `descriptor` is named by the clauses alone.
 pub fn about<H: Host, C: NodeCall<H>>(
     fs: &mut WasiFilesystemCtx<H>,
     descriptors: &mut Descriptors,

@@ -168,7 +168,7 @@ fn page_size(entries: &[Entry], from: usize, buf_len: u32) -> u32
             return buf_len;
         }
         let entry = &entries[i];
-        room = room.saturating_sub(24 + entry.name.as_str().len() as u32);
+        room = room.saturating_sub(Dirent::SIZE as u32 + entry.name.as_str().len() as u32);
     }
     buf_len - room
 }

@@ -291,7 +291,7 @@ rest_given {H} {host} {old} {mid} {new} {table} {there} {now} {p} {m} {ms} ps li
 -- ---- a `dup` that is refused
 
 -- a told host refuses it no other code
-dup_code : (held : Held) (code : LowerCode) → MeansErr {B = Held} (Ok held) (hosts.Code code) → code_named code ≡ Io
+dup_code : (held : Held) (code : LowerCode) → MeansErr {B = Held} (Ok held) (hosts.Code code) → code ≡ lower.Io
 dup_code held lower.Io means = refl
 dup_code held code means = absurd (cc)
 
@@ -299,7 +299,7 @@ dup_why : (told : Bool) (table : Table) (held : Held) (e : HostError) → (IsTru
     → WhyNotAll told table 1 (fs_error e)
 dup_why told table held hosts.Memory means = inr (inl refl)
 dup_why told table held (hosts.Code code) means =
-    inr (inr (code_named code, refl, λ is. dup_code held code (means is)))
+    inr (inr (code, refl, λ is. dup_code held code (means is)))
 
 -- and leaves all as it was
 dup_left : (w v : World) (held : Held) (e : HostError) → AfterErr w (Dup held) e v

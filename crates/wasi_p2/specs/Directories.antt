@@ -5,6 +5,8 @@ use Rattle.std.specs.FinSet.{contains, insert as with_handle}
 use Rattle.std.specs.String.{string_bytes}
 use Rattle.wasi_host.specs.Lineage.{Traced, Only, Nothing}
 use Rattle.wasi_host.specs.Meaning.{Handles, World}
+use Rattle.wasi_host.specs.declared.errors.ErrorCode.{ErrorCode}
+use Rattle.wasi_host.specs.declared.errors.ErrorCode.TheVariants.{Io}
 use Rattle.wasi_host.specs.declared.host.Host.{Ghosts}
 use Rattle.wasi_fs.specs.declared.descriptor.Descriptor.TheVariants as opened
 use Rattle.wasi_streams.specs.Table.{Entries, Table}
@@ -20,8 +22,7 @@ use Rattle.wasi_p2.specs.declared.context.Preopen.{Preopen}
 use Rattle.wasi_p2_errors.specs.declared.error.FsError.{FsError}
 use Rattle.wasi_p2_errors.specs.declared.error.FsError.TheVariants.{Code, Memory, Trap}
 use Rattle.wasi_p2.specs.declared.preopens.PreopenEntry.{PreopenEntry}
-use Rattle.wasi_p2_types.specs.declared.error_code.ErrorCode.{ErrorCode}
-use Rattle.wasi_p2_types.specs.declared.error_code.ErrorCode.TheVariants.{Io}
+use Rattle.wasi_p2_types.specs.ErrorCodes.{code_named}
 
 -- the entry of a preopen, with a handle of its own
 abbrev pub preopen_entry : Preopen → ℕ → Entry
@@ -36,11 +37,11 @@ IsOfThese (p ∷ preopens) q = (q ≡ p.dir.dir) ⊎ IsOfThese preopens q
 abbrev pub IsNewlyLive : Handles → Handles → ℕ → Type 0
 IsNewlyLive live live' h = (contains live h ≡ false) × (contains live' h ≡ true)
 
--- Not all were given: there may not be so many entries; or memory was wanted; or the host refused a `dup`, which it
--- does with no code but `Io`, where it is told
+-- Not all were given: there may not be so many entries; or memory was wanted; or the host refused a `dup` with the code
+-- that is named, which is `Io`, where it is told
 abbrev pub WhyNotAll : Bool → Table → ℕ → FsError → Type 0
 WhyNotAll told table more e = ((e ≡ Trap Full) × (table.max < len table.entries + more))
-    ⊎ ((e ≡ Memory) ⊎ ((code : ErrorCode) × (e ≡ Code code) × (IsTrue told → code ≡ Io)))
+    ⊎ ((e ≡ Memory) ⊎ ((code : ErrorCode) × (e ≡ Code (code_named code)) × (IsTrue told → code ≡ Io)))
 
 -- One entry for each preopen, in order, and nothing else is new: under a number that was free, with the preopen's name,
 -- permissions and mode, and a handle that wasn't live, which stands for what the preopen's handle stands for

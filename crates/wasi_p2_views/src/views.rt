@@ -26,7 +26,7 @@ pub trait WasiFilesystemView<H: Host> {
 }
 
 /// Which one of several: a place from 0 on.
-#[derive(Clone, Copy, Debug, PartialEq, Eq)]
+#[derive(Clone, Copy, Debug, PartialEq, Eq, Hash)]
 pub struct NamedId(pub usize);
 
 /// What has the files of several guests: the crate's `WasiFilesystemNamedView`.
@@ -38,8 +38,8 @@ pub trait WasiFilesystemNamedView<H: Host> {
     fn ids(&self) -> usize
         ensures count { result ≡ length (all self.now) };
 
-    /// The view of the pair at a place, which is lent both. What becomes of them through it no contract says:
-    /// `with_filesystem` does.
+    /// The view of the pair at a place, which is lent both. What becomes of them through it, and of the other pairs
+    /// meanwhile, no contract says: `with_filesystem` does.
     fn filesystem(&mut self, id: NamedId) -> WasiFilesystemCtxView<'_, H>
         requires named { id.0 < length (all self.old) }
         ensures lent { slice_get (all self.old) id.0 ≡ Some (files_of result.ctx.now result.table.now) };

@@ -19,7 +19,7 @@ use Rattle.wasi_host.specs.declared.errors.HostError.TheVariants.{Code, Memory}
 use Rattle.wasi_resolve.specs.Resolved.{Meant, Resolved, TreeAfter, call_meant}
 use Rattle.wasi_resolve.specs.WalkSteps.{OnlyLooks, WorldStays, IsFault}
 use Rattle.wasi_host.proofs.Refusals.{answer_of}
-use Rattle.wasi_host.proofs.Touching.{touches_with, touches_same, no_ends, touches_through, same_node, found_near, made_new}
+use Rattle.wasi_host.proofs.Touching.{touches_with, touches_same, no_ends, touches_through, found_near, made_new, to_one}
 
 -- ---- a call by itself
 
@@ -172,9 +172,6 @@ means_then r next (Code code) means = ap (λ x. x >>= next) means
 
 -- ---- one behind another
 
-one_near : {t : Tree} {roots : List ℕ} {d : ℕ} → Reached t roots d → (n : ℕ) → Contains (d ∷ []) n → Reached t roots n
-one_near {t} {roots} to n has = subst (Reached t roots) (sym (same_node has)) to
-
 -- from nodes that are reached
 module _ {first live : Handles} {w v u : World} {starts ds : List ℕ} (so_far : OnlyLooks first w v starts)
     (near : (d : ℕ) → Contains ds d → Reached w.tree starts d)
@@ -207,11 +204,11 @@ module _ {first live : Handles} {w v u : World} {s d : ℕ} (so_far : OnlyLooks 
     (s ∷ []) d)
     (within : (h : ℕ) → contains first h ≡ true → contains live h ≡ true) where
   pub looks_then : OnlyLooks live v u (d ∷ []) → OnlyLooks first w u (s ∷ [])
-  looks_then next = looks_through so_far (one_near near) within next
+  looks_then next = looks_through so_far (to_one near) within next
 
   pub resolved_then : {A B : Type 0} {m : Meant B} {shown : A → B} {r : Result A HostError} → m.starts ≡ d ∷ []
       → Resolved live v u m shown r → Resolved first w u (record m { starts = s ∷ [] }) shown r
-  resolved_then at next = resolved_through so_far (one_near near) within at next
+  resolved_then at next = resolved_through so_far (to_one near) within at next
 
 pub looks_stay : {first : Handles} {w v u : World} {starts : List ℕ} → OnlyLooks first w v starts → WorldStays first v u
     → OnlyLooks first w u starts

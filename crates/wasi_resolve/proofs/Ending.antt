@@ -33,7 +33,8 @@ use Rattle.wasi_resolve.specs.declared.name_left.NameLeft.{NameLeft}
 use Rattle.wasi_host.proofs.Touching.{at_root, open_ends, name_ends}
 use Rattle.wasi_resolve.proofs.Calls.{}
 use Rattle.wasi_resolve.proofs.Calls.{call_ok, call_err, looks_of, looks_then, resolved_err, resolved_then, err_means, fault_means, same_live, still_live}
-use Rattle.wasi_resolve.proofs.Tables.{refused_by, looked_child, looked_free, looked_is, looked_link, looked_directory, open_to_read, look_to_read, look_reads, look_unread, met_reads}
+use Rattle.wasi_resolve.proofs.Tables.{looked_child, looked_free, looked_is, looked_link, looked_directory, open_to_read, look_to_read, look_reads, look_unread, met_reads}
+use Rattle.wasi_host.proofs.Refusals.{unless-err}
 
 -- ---- the same meaning in other words
 
@@ -129,10 +130,10 @@ module _ {old new : Handles} {w u : World} {d : ℕ} {name : List ℕ} (follow s
       by Memory means = inl (seen, inl refl)
       by (Code Io) means = inl (seen, inr refl)
       by (Code code) means = inr (record {
-        unread = look_unread w.tree follow slash d name code plain (refused_by _ _ means);
+        unread = look_unread w.tree follow slash d name code plain (unless-err _ _ means);
         resolved = resolved_err (meant_at w.tree Look d (Name d name slash)) (shown_found u.held) (Code code) refl
             (err_means _ code (ap (λ r. unless r (reached w.tree d name) >>= behind_slash w.tree slash >>= (λ n. Ok
-            (Seen (metadata_of w.tree n)))) (refused_by (refusal w.tree (StatAt d name)) _ means))) seen;
+            (Seen (metadata_of w.tree n)))) (unless-err (refusal w.tree (StatAt d name)) _ means))) seen;
       })
 
   module _ {m : Metadata} (told : Told {A = Metadata} old new w u (StatAt d name) (λ x. x) (Ok m)) where
@@ -278,7 +279,7 @@ module _ {old mid : Handles} {w v : World} {d : ℕ} (same : mid ≡ old) where
       by : (c : ErrorCode) → MeansErr (access_answer w.tree d) (Code c)
           → MeansErr (meant_at w.tree Look d (Dot d)).answer (Code c)
       by Io means = tt
-      by c means = dot_means w.tree d (Some c) (refused_by _ _ means)
+      by c means = dot_means w.tree d (Some c) (unless-err _ _ means)
 
   module _ {new : Handles} (here : ℕ) (at : (w.held here).node ≡ d) (live : contains old here ≡ true)
       (still : new ≡ mid) (told : Told {A = Unit {0}} old mid w v (Access d) (λ x. x) (hosted (Ok tt))) where

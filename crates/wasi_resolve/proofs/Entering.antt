@@ -23,7 +23,9 @@ use Rattle.wasi_resolve.specs.Finding.{is_loop, may_be_link, is_link_kind}
 use Rattle.wasi_resolve.specs.WalkSteps.{OnlyLooks, IsFault, OpensUnread, MeetsLink, open_meant}
 use Rattle.wasi_host.proofs.Touching.{open_ends, at_root}
 use Rattle.wasi_resolve.proofs.Calls.{call_ok, call_err, looks_of, looks_still, looks_then, resolved_err, err_means, same_live, still_live}
-use Rattle.wasi_resolve.proofs.Tables.{refused_by, looked_link, loop_link, unrequired_link, unmet_code, unmet_rule, unmet_unlooked, both as both_true}
+use Rattle.wasi_resolve.proofs.Tables.{looked_link, loop_link, unrequired_link, unmet_code, unmet_rule, unmet_unlooked}
+use Rattle.wasi_host.proofs.Refusals.{unless-err}
+use Rattle.std.proofs.lemmas.Bool.{and_parts}
 
 pub ok_free : {B : Type 0} (r : Option ErrorCode) (b : B) → is_ok (unless r b) ≡ true → r ≡ None
 ok_free None b is = refl
@@ -73,13 +75,13 @@ module _ {old mid : Handles} {w v : World} {d : ℕ} {name : List ℕ} {o : Opti
   enters_other (Code NotDirectory) plain loop other told = inr (record {
     unread =
         ap (λ b. b && (may_read && is_link_code (refusal w.tree (OpenAt d name o)))) (unrequired_link w.tree d name o plain
-        other (refused_by _ _ told.meaning));
+        other (unless-err _ _ told.meaning));
     resolved =
         call_err {call = OpenAt d name o} {shown = v.held} (Code NotDirectory) (reached w.tree d name ∷ []) same told;
   })
   enters_other (Code Loop) plain loop other told = absurd (cc)
   enters_other (Code code) plain loop other told = inr (record {
-    unread = unmet_code w.tree d name o may_read (Some code) (refused_by _ _ told.meaning) refl;
+    unread = unmet_code w.tree d name o may_read (Some code) (unless-err _ _ told.meaning) refl;
     resolved = call_err {call = OpenAt d name o} {shown = v.held} (Code code) (reached w.tree d name ∷ []) same told;
   })
 
@@ -151,7 +153,7 @@ module _ {old mid : Handles} {w v : World} (here : ℕ) {name : List ℕ} {o : O
   found = link_code refused may opens.meaning
 
   refusal_is : refusal w.tree (OpenAt d name o) ≡ Some found.0
-  refusal_is = refused_by _ _ found.3
+  refusal_is = unless-err _ _ found.3
 
   -- Loop needs no look
   pub enters_loop : is_loop refused ≡ true → may_read ≡ true → MeetsLink old w v d name o may_read
@@ -184,7 +186,7 @@ module _ {old mid : Handles} {w v : World} (here : ℕ) {name : List ℕ} {o : O
         by (Code code) means =
             let alike =
             unmet_unlooked w.tree d name o may_read found.0 code plain refusal_is found.2
-            (refused_by _ _ means) in
+            (unless-err _ _ means) in
             inr (record {
               unread = alike.0;
               resolved = resolved_err (open_meant w.tree d name o) u.held (Code code) refl
@@ -214,7 +216,7 @@ module _ {old mid : Handles} {w v : World} (here : ℕ) {name : List ℕ} {o : O
       -- it says that there is one, which is read
       pub enters_link : (is_link_kind m.kind && may_read) ≡ true → MeetsLink old w u d name o may_read
       enters_link reads =
-          let tests = both_true (is_link_kind m.kind) may_read reads in
+          let tests = and_parts (is_link_kind m.kind) may_read reads in
           record {
             reads = ap (λ b. b && (may_read && is_link_code (refusal w.tree (OpenAt d name o)))) (kind ∙ tests.0)
                 ∙ ap (λ b. true && (b && is_link_code (refusal w.tree (OpenAt d name o)))) tests.1

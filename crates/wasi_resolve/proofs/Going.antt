@@ -28,11 +28,12 @@ use Rattle.wasi_resolve.specs.declared.left.PartLeft.{PartLeft}
 use Rattle.wasi_host.proofs.Touching.{reached_on}
 use Rattle.wasi_resolve.proofs.Calls.{looks_of, looks_then}
 use Rattle.wasi_resolve.proofs.Stacks.{first_live, top_node, nodes_push, nodes_kept}
-use Rattle.wasi_resolve.proofs.Tables.{refused_by, met_reads, open_leaves, open_near}
+use Rattle.wasi_resolve.proofs.Tables.{met_reads, open_leaves, open_near}
 use Rattle.wasi_resolve.proofs.Legs.{same_here, same_then, same_nodes, down_same, down_refused, down_linked, top_near}
 use Rattle.wasi_resolve.proofs.Ascending.{fails_here}
 use Rattle.wasi_resolve.proofs.Entering.{ok_free}
 use Rattle.wasi_resolve.proofs.Putting.{length-parts}
+use Rattle.wasi_host.proofs.Refusals.{unless-err}
 
 -- ---- from the handle on top
 
@@ -154,7 +155,7 @@ module _ {b : Begin} {now : Handles} {v : World} {stack : List ℕ} {here : ℕ}
   down_err name next rest unread (Code Io) means = inl (inr refl)
   down_err name next rest unread (Code code) means =
       inr (down_refused w.tree (w.held start).node name next rest (nodes_under v.held stack) code unread
-      (refused_by _ _ means))
+      (unless-err _ _ means))
 
   pub goes_err : {u : World} {after : List ℕ} (name : List ℕ) (next : Component) (rest : List Component) (e : HostError)
       → (OnlyLooks now v u ((v.held here).node ∷ []) × IsFault e) ⊎ OpensUnread now v u

@@ -1,6 +1,6 @@
 -- What the host's table says of a name: whether it holds a link, and what an open, a look and a read of it say
 -- together.
-use Rattle.std.proofs.Common.{◌≡◌, ◌≢◌, ◌⊎◌, inl, inr, ℕ, Bool, true, false, cond, not, ◌&&◌, ◌||◌, List, [], ◌∷◌, Option, Some, None, Ok, Err, IsTrue, refl, sym, ap, ◌∙◌, arith}
+use Rattle.std.proofs.Common.{◌≡◌, ◌≢◌, ◌⊎◌, inl, inr, ℕ, Bool, true, false, cond, not, ◌&&◌, ◌||◌, List, [], ◌∷◌, Option, Some, None, Ok, IsTrue, refl, sym, ap, ◌∙◌, arith}
 use Rattle.std.specs.Prelude.{is_none}
 use Rattle.std.specs.FinMap as map
 use Rattle.wasi_paths.specs.Text.{is_dot_text, is_plain}
@@ -19,11 +19,7 @@ use Rattle.wasi_resolve.specs.Walk.{Aim, Open, Look, is_to_be_read, is_link_code
 use Rattle.wasi_resolve.specs.Finding.{is_link_kind, is_directory_kind}
 use Rattle.wasi_resolve.specs.WalkSteps.{is_met_link}
 use Rattle.wasi_host.proofs.Touching.{child_reached}
-
-pub refused_by : {B : Type 0} (refused : Option ErrorCode) (x : B) {code : ErrorCode} → unless refused x ≡ Err code
-    → refused ≡ Some code
-refused_by None x is = absurd (cc)
-refused_by (Some d) x is = cc
+use Rattle.std.proofs.lemmas.Bool.{and_parts}
 
 pub kind_says : (content : Content) → is_link_kind (kind_of content) ≡ is_link content
 kind_says (File bytes links) = refl
@@ -185,17 +181,13 @@ looked_reads : (t : Tree) (d : ℕ) (name : List ℕ) → holds t d name (λ n. 
 unfolding refusal
 looked_reads t d name held none = grind (arith)
 
-pub both : (a b : Bool) → (a && b) ≡ true → (a ≡ true) × (b ≡ true)
-both true b is = (refl, is)
-both false b is = absurd (cc)
-
 pub met_reads : (t : Tree) (d : ℕ) (name : List ℕ) (o : Options) (may_read : Bool) → IsTrue (is_plain name)
     → is_met_link t d name o may_read ≡ true
     → refusal t (ReadLinkAt d name) ≡ None
 met_reads t d name o may_read plain met =
     let parts =
-    both (holds t d name (λ n. is_link n.content)) (may_read && is_link_code (refusal t (OpenAt d name o))) met in
-    let tests = both may_read (is_link_code (refusal t (OpenAt d name o))) parts.1 in
+    and_parts (holds t d name (λ n. is_link n.content)) (may_read && is_link_code (refusal t (OpenAt d name o))) met in
+    let tests = and_parts may_read (is_link_code (refusal t (OpenAt d name o))) parts.1 in
     by (is_directory (node_at t d).content) refl parts.0 tests.1
   where
     by : (b : Bool) → is_directory (node_at t d).content ≡ b → holds t d name (λ n. is_link n.content) ≡ true

@@ -19,7 +19,7 @@ pub(crate) fn top_of(start: Handle, stack: &Vec<Handle>) -> Handle
     }
 }
 
-/// A `..`: the directory on top is left, which must have its search bit.
+/// A `..`: the directory on top is left, which must have its search bit. `start` is named by the clauses alone.
 pub(crate) fn leave<H: Host>(
     host: &mut H,
     start: Handle,
@@ -47,7 +47,7 @@ pub(crate) fn leave<H: Host>(
     }
 }
 
-/// Closes the handles of a stack.
+/// Closes the handles of a stack. `start` is named by the clauses alone.
 pub(crate) fn close_all<H: Host>(host: &mut H, start: Handle, stack: &mut Vec<Handle>)
     requires { (first : _) × Stands first (H.live host.old) start stack.old.items }
     ensures faults { H.faults host.new ≡ H.faults host.old }

@@ -11,7 +11,7 @@ ghost use Rattle.wasi_resolve.specs.Timed.{reads_after, read_refused, timed_at};
 
 use crate::resolver::open;
 use std::alloc::Global;
-use wasi_host::{ErrorCode, Handle, Host, HostError, OpenOptions, SystemTime};
+use wasi_host::{ErrorCode, Handle, Host, HostError, OpenOptions, SystemTime, read_options};
 
 /// Sets the given times of what a path leads to below a start directory, links followed: that of its last read, and
 /// that of its last change. One that isn't given stays. The crate's `set_times` of `manually`: what the path leads to
@@ -80,7 +80,7 @@ fn open_to_set<H: Host>(
     if !reads_after(refused) {
         return Err(refused);
     }
-    match open(alloc, host, start, path, &reading()) {
+    match open(alloc, host, start, path, &read_options()) {
         Ok(handle) => Ok(handle),
         Err(failed) => Err(read_refused(failed)),
     }
@@ -114,13 +114,5 @@ fn writing() -> OpenOptions
 {
     let mut options = OpenOptions::new();
     options.write(true);
-    options
-}
-
-fn reading() -> OpenOptions
-    ensures { result ≡ reading }
-{
-    let mut options = OpenOptions::new();
-    options.read(true);
     options
 }

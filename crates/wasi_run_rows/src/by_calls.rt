@@ -5,7 +5,7 @@ use wasi_begun::Begun;
 /// The report of a script's calls, made over a tree in memory whose calls fail as it says, if it can be run.
 pub fn report_by_calls(alloc: Global, script: &[u8]) -> Result<Option<Vec<u8>>, AllocError> {
     match Begun::of(alloc, script)? {
-        Some(begun) => Ok(Some(begun.report()?)),
+        Some(mut begun) => Ok(Some(begun.report()?)),
         None => Ok(None),
     }
 }

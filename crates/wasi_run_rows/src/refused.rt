@@ -5,33 +5,57 @@ use wasi_begun::Begun;
 use wasi_p1::RunError;
 use wasi_table::Tally;
 
+/// What came of a script in which memory may have been refused.
+#[derive(Clone, Copy)]
+enum Tried {
+    /// It is no script.
+    NoScript,
+    /// All its calls were answered.
+    Answered,
+    /// Memory was wanted behind so many answers. Whether it went on from there as a run in which nothing was refused.
+    Wanted { answered: usize, went_on: bool },
+}
+
 // Makes the calls that weren't answered, and says whether all is as in a run in which nothing was refused.
 fn goes_on(
     alloc: Global,
     script: &[u8],
-    mut run: Begun,
+    run: &mut Begun,
     answered: usize,
 ) -> Result<bool, AllocError> {
     run.skip(answered)?;
     let one = run.end()?;
     match Begun::of(alloc, script)? {
-        Some(other) => Ok(one.agrees(&other.end()?, answered)),
+        Some(mut other) => Ok(one.agrees(&other.end()?, answered)),
         None => Ok(false),
+    }
+}
+
+// Runs a script, and goes on where memory was wanted.
+fn try_script(alloc: Global, script: &[u8]) -> Result<Tried, AllocError> {
+    let Some(mut run) = Begun::of(alloc, script)? else {
+        return Ok(Tried::NoScript);
+    };
+    match run.run() {
+        Ok(_) => Ok(Tried::Answered),
+        Err(RunError::Memory { answered }) => {
+            let went_on = goes_on(alloc, script, &mut run, answered)?;
+            Ok(Tried::Wanted { answered, went_on })
+        }
     }
 }
 
 /// Tries a script.
 pub fn try_refused(rt: &HostRuntime, tally: Tally, line: &str) -> io::Result<Tally> {
-    let Some(mut run) = Begun::of(rt.alloc(), line.as_bytes())? else {
-        println!(rt; "a line is no script")?;
-        return Ok(tally.with(false));
-    };
-    match run.run() {
-        Ok(_) => Ok(tally.with(true)),
-        Err(RunError::Memory { answered }) => {
-            let goes_on = goes_on(rt.alloc(), line.as_bytes(), run, answered)?;
+    match try_script(rt.alloc(), line.as_bytes())? {
+        Tried::NoScript => {
+            println!(rt; "a line is no script")?;
+            Ok(tally.with(false))
+        }
+        Tried::Answered => Ok(tally.with(true)),
+        Tried::Wanted { answered, went_on } => {
             println!(rt; "memory was wanted behind {answered} answers")?;
-            Ok(tally.with(goes_on))
+            Ok(tally.with(went_on))
         }
     }
 }

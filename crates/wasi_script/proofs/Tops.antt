@@ -1,7 +1,7 @@
 -- What the program has written, by its status.
-use Rattle.std.proofs.Common.{ℕ, ◌+◌, ◌≤◌, ◌≡◌, List, [], length, take}
+use Rattle.std.proofs.Common.{ℕ, ◌+◌, ◌<◌, ◌≤◌, ◌≡◌, List, [], length, replicate, take}
 use Rattle.std.proofs.Common.{◌⊎◌, inl, inr, refl, sym, ◌∙◌, subst, arith, Result, Err}
-use Rattle.std.proofs.lemmas.List.{drop_all, length-take, take-append-drop}
+use Rattle.std.proofs.lemmas.List.{drop_all, length-replicate, length-take, take-append-drop}
 use Rattle.wasi_ends.specs.Ends.{ReadAll, ReadFront}
 use Rattle.wasi_form.specs.Plan.{Plan}
 use Rattle.wasi_form.specs.Verdict.{Reads, most_script, IsVerdict}
@@ -12,7 +12,7 @@ use Rattle.wasi_form.specs.declared.verdict.ScriptError.{ScriptError}
 use Rattle.wasi_form.specs.declared.verdict.ScriptError.TheVariants as scripts
 use Rattle.wasi_form.proofs.Accepted.{too_many, refused_before}
 use Rattle.wasi_script.specs.Exit.{unfinished_status, script_status}
-use Rattle.wasi_script.specs.Due.{Due, the_usage, the_refusal, the_report, the_line, EndsGenerated, IsOwed, OfDue, left_unread, LeavesBytes, KeepsSink, NotRead}
+use Rattle.wasi_script.specs.Due.{Due, the_usage, the_refusal, the_report, the_line, EndsGenerated, EndsReading, IsOwed, OfDue, left_unread, LeavesBytes, KeepsSink, NotRead, RefusesSome, WritesOfSome}
 use Rattle.wasi_script.specs.Due.{IsText, IsDue, Writes, Written, whole, in_part, status_of}
 use Rattle.wasi_script.specs.declared.status.Status.{Status}
 use Rattle.wasi_script.specs.declared.status.Status.TheVariants as statuses
@@ -58,6 +58,23 @@ pub no_script : {bytes left rest : List ℕ} (error : ScriptError) → Reads (Er
 no_script (scripts.Refused refusal) reads whole-is none fits = judged (Err refusal) reads whole-is none fits
 no_script scripts.Memory reads whole-is none fits = front_read _ (none_unread whole-is none fits)
 
+-- there are more bytes than any number
+some_longer : (n : ℕ) → (left : List ℕ) × (n < length left)
+some_longer n = (replicate (n + 1) 0, omega (arith, length-replicate {A = ℕ} (n + 1) 0))
+
+-- where a source wasn't read to its end, bytes that are too many are refused so
+pub unread_some : (error : Unfinished) → RefusesSome (unfinished_status error)
+unread_some errors.Long =
+    let (left, over) = some_longer most_script in (left, refused_before (too_many left over))
+unread_some errors.Fault = tt
+unread_some errors.Memory = tt
+
+-- and bytes that aren't a script are
+pub no_script_some : (bytes : List ℕ) (error : ScriptError) → Reads (Err error) (IsVerdict bytes)
+    → RefusesSome (script_status error)
+no_script_some bytes (scripts.Refused refusal) reads = (bytes, reads)
+no_script_some bytes scripts.Memory reads = tt
+
 -- what reading left of a script, whose report was written
 pub leaves_unread : {told rose : Type 0} {taken now text rest : List ℕ} {status : Status} (left : List ℕ)
     → rest ≡ left_unread left → Written told rose taken now text statuses.Done status → LeavesBytes status left rest
@@ -71,6 +88,12 @@ pub no_read_fault : {told rose Anything : Type 0} {taken now text : List ℕ} {s
     → Written told rose taken now text statuses.Done status → status ≡ statuses.ReadFault → Anything
 no_read_fault (whole took) is = absurd (cc)
 no_read_fault (in_part failed took) is = absurd (cc)
+
+-- where it is a fault of writing the sink has failed
+pub write_failed : {told rose : Type 0} {taken now text : List ℕ} {status : Status}
+    → Written told rose taken now text statuses.Done status → status ≡ statuses.WriteFault → rose
+write_failed (whole took) is = absurd (cc)
+write_failed (in_part failed took) is = failed
 
 -- nor is it the usage line's
 pub no_usage : {told rose Anything : Type 0} {taken now text : List ℕ} {status : Status}

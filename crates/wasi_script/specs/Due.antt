@@ -104,6 +104,10 @@ Writes statuses.ReadFault d taken now = now ≡ taken
 Writes statuses.NoMemory d taken now = now ≡ taken
 Writes statuses.WriteFault d taken now = WroteFront d taken now
 
+-- what is due of some bytes was written, whatever the source tells of its own
+abbrev pub WritesOfSome : Status → Task → List ℕ → List ℕ → Type 0
+WritesOfSome status task taken now = (left : List ℕ) × OfDue status task left (λ due. Writes status due taken now)
+
 -- of a report whose script gives the guest read-only directories alone, the sink took a text that tells the script's own
 -- tree
 abbrev pub TookOwnTree : Due → (List ℕ → Type 0) → Type 0
@@ -176,3 +180,17 @@ NotRead statuses.WriteFault left rest = ⊥
 abbrev pub ReadsScript : Result Script Status → List ℕ → List ℕ → Type 0
 ReadsScript (Ok script) left rest = IsVerdict left (Ok (plan script)) × (rest ≡ left_unread left)
 ReadsScript (Err status) left rest = NotRead status left rest
+
+-- some bytes are refused so; a fault and want of memory are free
+abbrev pub RefusesSome : Status → Type 0
+RefusesSome (statuses.Refused refusal) = (left : List ℕ) × IsVerdict left (Err refusal)
+RefusesSome statuses.ReadFault = ⊤
+RefusesSome statuses.NoMemory = ⊤
+RefusesSome statuses.Done = ⊥
+RefusesSome statuses.Usage = ⊥
+RefusesSome statuses.WriteFault = ⊥
+
+-- some bytes were read as the script, or refused, whatever the source tells of its own
+abbrev pub ReadsSome : Result Script Status → Type 0
+ReadsSome (Ok script) = (left : List ℕ) × IsVerdict left (Ok (plan script))
+ReadsSome (Err status) = RefusesSome status

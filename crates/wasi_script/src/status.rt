@@ -1,6 +1,6 @@
 //! How the program ends.
-ghost use Rattle.std.specs.Prelude.{◌≡◌, ◌↔◌, ◌⊎◌, IsNone};
-ghost use Rattle.wasi_script.specs.Exit.{exit_code, unfinished_status, script_status};
+ghost use Rattle.std.specs.Prelude.{◌≡◌, ◌↔◌, ◌⊎◌, option_map, IsNone};
+ghost use Rattle.wasi_script.specs.Exit.{exit_code, message_of, why_refused, unfinished_status, script_status};
 
 use wasi_ends::Unfinished;
 use wasi_form::{Refusal, ScriptError};
@@ -38,8 +38,10 @@ impl Status {
         }
     }
 
-    /// One line for a person: what happened, and where to read more. `None` where what was written says it.
+    /// One line for a person, without its end: what happened, and of a script that can't be run where to read more. `None`
+    /// where a report, a line or the usage line was written.
     pub fn message(self) -> Option<&'static str>
+        ensures text { option_map (λ text. text.now) result ≡ message_of self }
         ensures silent { IsNone result ↔ ((self ≡ Status.Done) ⊎ (self ≡ Status.Usage)) }
     {
         match self {
@@ -57,7 +59,9 @@ impl Status {
     }
 }
 
-fn why_refused(refusal: Refusal) -> &'static str {
+fn why_refused(refusal: Refusal) -> &'static str
+    ensures { result.now ≡ why_refused refusal }
+{
     match refusal {
         Refusal::Long => {
             "wasirun: the script has more than 16,777,216 bytes; docs/SCRIPT.md says what a script is"

@@ -7,7 +7,7 @@ ghost use Rattle.wasi_form.specs.Plan.{plan};
 ghost use Rattle.wasi_form.specs.Within.{is_within_limits};
 ghost use Rattle.wasi_script.specs.Headline.{Reports};
 ghost use Rattle.wasi_script.specs.Words.{task_of};
-ghost use Rattle.wasi_script.specs.Due.{the_usage, the_line, refusal_line, OfDue, IsDue, Writes, KeepsTree, LeavesBytes, KeepsSink, EndsReading, EndsGenerated, ReadsScript, Written};
+ghost use Rattle.wasi_script.specs.Due.{the_usage, the_line, refusal_line, OfDue, IsDue, Writes, WritesOfSome, KeepsTree, LeavesBytes, KeepsSink, EndsReading, EndsGenerated, ReadsSome, ReadsScript, Written};
 
 use crate::ran::run;
 use crate::status::Status;
@@ -47,6 +47,7 @@ fn read_from<S: Source, A: Allocator + Copy>(
     ensures ends { IfErr result EndsReading }
     ensures within { IfOk result (λ script. is_within_limits (plan script) ≡ true) }
     ensures rising { IfOk result (λ script. IsTrue (numbers_rise script.session.faults.items)) }
+    ensures some { ReadsSome result }
     ensures read { IsTrue S.told → ReadsScript result (S.left source.old) (S.left source.new) }
 {
     *buffer = read_all(alloc, source)?;
@@ -102,6 +103,7 @@ fn run_source<S: Source, K: Sink>(alloc: Global, source: &mut S, sink: &mut K) -
     ensures exact { IsTrue S.told → OfDue result Task.Run (S.left source.old) (IsDue result) }
     ensures left { IsTrue S.told → LeavesBytes result (S.left source.old) (S.left source.new) }
     ensures nothing { IsTrue K.told → KeepsSink result (K.taken sink.old) (K.taken sink.new) }
+    ensures some { IsTrue K.told → WritesOfSome result Task.Run (K.taken sink.old) (K.taken sink.new) }
     ensures writes { IsTrue S.told → IsTrue K.told → OfDue result Task.Run (S.left source.old)
         (λ due. Writes result due (K.taken sink.old) (K.taken sink.new)) }
     ensures read_only { IsTrue S.told → IsTrue K.told → OfDue result Task.Run (S.left source.old)
@@ -148,8 +150,8 @@ fn run_generated<K: Sink>(alloc: Global, n: u64, sink: &mut K) -> Status
 /// is written that says how many calls it has, how many were answered Ok, how many bytes `fd_read` was answered, and how
 /// many nodes the tree has then. With any others the usage line is written. A script has at most 16,777,216 bytes, and at
 /// most one more is read. What is written is due by the words and the bytes that the source has left: the usage line; the
-/// line of `gen N`; the line that names the refusal, as `refused: json`; or the report's text. Faults come from the
-/// source and the sink alone.
+/// line of `gen N`; the line that names the refusal, as `refused: json`; or the report's text. Of a source that doesn't
+/// tell its bytes it is what is due of some bytes. Faults come from the source and the sink alone.
 pub fn run_script<S: Source, K: Sink>(
     alloc: Global,
     words: &Vec<String>,
@@ -175,6 +177,8 @@ pub fn run_script<S: Source, K: Sink>(
     ensures line { IsTrue K.told → (n : ℕ) → task_of (map string_bytes words.now.items) ≡ Task.Generate n
         → Writes result (the_line n) (K.taken sink.old) (K.taken sink.new) }
     ensures nothing { IsTrue K.told → KeepsSink result (K.taken sink.old) (K.taken sink.new) }
+    ensures some { IsTrue K.told
+        → WritesOfSome result (task_of (map string_bytes words.now.items)) (K.taken sink.old) (K.taken sink.new) }
     ensures writes { IsTrue S.told → IsTrue K.told
         → OfDue result (task_of (map string_bytes words.now.items)) (S.left source.old)
         (λ due. Writes result due (K.taken sink.old) (K.taken sink.new)) }

@@ -1,5 +1,5 @@
 -- How the calls of a script begin.
-use Rattle.std.proofs.Common.{ℕ, zero, suc, ◌+◌, ◌<◌, ◌≤◌, ◌≡◌, ◌≢◌, inl, inr, Bool, true, false, subst, ap, List, [], ◌∷◌, ◌++◌, length, map, take, refl, sym, ◌∙◌, arith, get_or, slice_get, slice_index_or, None, Some, ◌==◌}
+use Rattle.std.proofs.Common.{ℕ, zero, suc, ◌+◌, ◌<◌, ◌≤◌, ◌≡◌, ◌≢◌, inl, inr, Bool, true, false, subst, ap, List, [], ◌∷◌, ◌++◌, length, map, take, refl, sym, ◌∙◌, arith, get_or, slice_get, slice_index_or, Some, ◌==◌}
 use Rattle.std.specs.List.{list_all}
 use Rattle.std.specs.Ordering.{nat_cmp}
 use Rattle.std.specs.String.{string_bytes}
@@ -29,16 +29,12 @@ use Rattle.wasi_form.specs.Within.{are_preopens_directories, is_directory_given,
 use Rattle.wasi_turns.specs.Slots.{first_slots, given_mode, given_directory, given_name, given_slot, given_slots}
 use Rattle.wasi_turns.specs.Stock.{first_stock}
 use Rattle.wasi_turns.specs.Owners.{handles, one_if, uses, uses_in, IsHandle}
-use Rattle.wasi_turns.specs.declared.slots.Slot.{Slot}
-use Rattle.wasi_turns.specs.declared.slots.Slot.TheVariants.{Stream}
-use Rattle.wasi_turns.specs.declared.slots.Stream.{Stream as StandardStream}
-use Rattle.wasi_turns.specs.declared.slots.Stream.TheVariants.{Input, Output, Error}
-use Rattle.wasi_turns.proofs.Counting.{uses-cons, handles-cons}
 use Rattle.wasi_turns.specs.declared.slots.P1Preopen.{P1Preopen}
 use Rattle.wasi_start.specs.Start.{given_guest_slot, given_guest_slots, AreGiven, IsBegun, with_pieces}
 use Rattle.wasi_turns.specs.Guest.{State, directory as directory_slot, directory_by, guest_slot}
 use Rattle.wasi_form.specs.declared.script.Piece.{Piece}
 use Rattle.wasi_form.specs.declared.script.ScriptPreopen.{ScriptPreopen}
+use Rattle.wasi_turns.proofs.Owning.{first_uses, uses-given}
 
 -- each element passes
 pub passes_at : {X : Type 0} (p : X → Bool) (xs : List X) (i : ℕ) (d : X) → i < length xs → list_all p xs ≡ true → p (get_or xs i d) ≡ true
@@ -118,30 +114,9 @@ none_given none = record {
 uses_given : (place : ℕ) (given : List P1Preopen) (p : P1Preopen) (q : ℕ)
     → uses (handles (given_slots place (given ++ p ∷ []))) q
     ≡ uses (handles (given_slots place given)) q + uses_in (Some p.handle) q
-uses_given place [] p q =
-    let cons = ap (λ os. uses os q) (handles-cons (given_slot place p) []) in
-    omega (arith, cons, uses-cons (Some p.handle) (handles []) q)
+uses_given place [] p q = omega (arith, uses-given place p [] q)
 uses_given place (g ∷ gs) p q =
-    let after = ap (λ os. uses os q) (handles-cons (given_slot place g) (given_slots (suc place) (gs ++ p ∷ []))) in
-    let before = ap (λ os. uses os q) (handles-cons (given_slot place g) (given_slots (suc place) gs)) in
-    omega (
-      arith,
-      after,
-      before,
-      uses-cons (Some g.handle) (handles (given_slots (suc place) (gs ++ p ∷ []))) q,
-      uses-cons (Some g.handle) (handles (given_slots (suc place) gs)) q,
-      uses_given (suc place) gs p q,
-    )
-
--- the standard streams have none
-uses_first : (given : List P1Preopen) (q : ℕ)
-    → uses (handles (first_slots given)) q ≡ uses (handles (given_slots 0 given)) q
-uses_first given q = of Input _ ∙ of Output _ ∙ of Error _
-  where
-    of : (s : StandardStream) (table : List Slot) → uses (handles (Stream s ∷ table)) q ≡ uses (handles table) q
-    of s table =
-        let cons = ap (λ os. uses os q) (handles-cons (Stream s) table) in
-        omega (arith, cons, uses-cons None (handles table) q)
+    omega (arith, uses-given place g (gs ++ p ∷ []) q, uses-given place g gs q, uses_given (suc place) gs p q)
 
 abbrev planned_name : PlannedPreopen → List ℕ
 planned_name preopen = preopen.name
@@ -214,7 +189,7 @@ begun_by {list = list} tree-is none unasked are = record {
   state = λ memory. rw (tree-is, are.slots, are.names) refl;
   untouched = none;
   unasked = unasked;
-  alone = λ h live. omega (arith, are.all h live, uses_first list h);
+  alone = λ h live. omega (arith, are.all h live, first_uses list h);
 }
 
 -- at the start, where nothing was touched, all that was come to is in reach

@@ -16,8 +16,9 @@ use std::alloc::{AllocError, Global};
 use wasi_faults::{FailAt, Fault};
 use wasi_form::{Piece, Script, ScriptPreopen, Shown};
 use wasi_guest::{Call, GuestMemory, Services, slice_at};
-use wasi_p1::{CtxError, P1Preopen, WasiP1Ctx};
+use wasi_p1_context::WasiP1Ctx;
 use wasi_tree::{FitNodes, HandleError, MemTree};
+use wasi_turns::{CtxError, P1Preopen};
 
 /// Where the calls of a script begin: the memory and the context, and what of the script is left to be done.
 #[derive(Drop)]

@@ -14,7 +14,7 @@ use std::marker::Model;
 use wasi_fs::File;
 use wasi_host::{ErrorCode, Handle, Host, HostError, LookKind};
 
-/// The most bytes that one read of a stream asks for.
+/// The most bytes that one read of a file or a stream asks for.
 pub const MAX_READ_SIZE_ALLOC: usize = 65_536;
 
 /// How many bytes `ready` reads ahead where nothing was asked for.
@@ -95,7 +95,8 @@ impl ReadState {
 }
 
 /// A stream of a file's bytes from an offset on: the crate's `FileInputStream`. Contracts see the handle that it reads
-/// from, the offset of the next byte that it gives, and how its read stands.
+/// from, the offset of the next byte that it gives, and how its read stands. Let go, it leaves its handle live: `close`
+/// closes it.
 #[derive(Drop)]
 pub struct FileInputStream {
     alloc: Global,

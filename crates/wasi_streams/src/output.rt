@@ -17,7 +17,7 @@ use wasi_fs::File;
 use wasi_host::{ErrorCode, Handle, Host, HostError, LookKind};
 
 /// The most bytes that one `write` takes.
-pub const FILE_WRITE_CAPACITY: usize = 65_536;
+const FILE_WRITE_CAPACITY: usize = 65_536;
 
 /// Where an output stream puts its bytes: the crate's `FileOutputMode`.
 #[derive(Clone, Copy, Debug, PartialEq, Eq)]
@@ -109,7 +109,8 @@ impl OutputState {
 }
 
 /// A stream of bytes into a file, from an offset on or behind its last byte: the crate's `FileOutputStream`. Contracts see
-/// the handle that it writes to, where its next byte goes, and how its write stands.
+/// the handle that it writes to, where its next byte goes, and how its write stands. Let go, it leaves its handle live:
+/// `close` closes it.
 #[derive(Drop)]
 pub struct FileOutputStream {
     file: Handle,

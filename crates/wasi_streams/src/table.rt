@@ -139,7 +139,8 @@ impl ResourceTable {
         }
     }
 
-    /// Adds an entry under a number that isn't live; Full, with the entry, exactly where there may not be one more.
+    /// Adds an entry under a number that isn't live; Full exactly where there may not be one more. A refusal gives the entry
+    /// back.
     pub fn push(&mut self, entry: Entry) -> Result<Resource, TableRefused>
         ensures fresh { IfOk result (λ resource. get self.old.entries resource.number ≡ None) }
         ensures entries { IfOk result (λ resource. self.new.entries ≡ insert self.old.entries resource.number entry) }
@@ -150,6 +151,7 @@ impl ResourceTable {
         ensures few { OnOk result (len self.old.entries < self.old.max) }
         ensures refusal { IfErr result (λ refused. (refused.error ≡ Wanted)
             ⊎ ((refused.error ≡ Full) × (self.old.max ≤ len self.old.entries))) }
+        ensures full { self.old.max ≤ len self.old.entries → IfErr result (λ refused. refused.error ≡ Full) }
         ensures given_back { IfErr result (λ refused. refused.entry ≡ entry) }
         ensures kept { OnErr result (self.new.entries ≡ self.old.entries) }
         ensures keeps_spare { OnErr result (self.old.spare ≤ self.new.spare) }

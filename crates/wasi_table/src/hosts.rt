@@ -45,7 +45,7 @@ pub fn told_node(alloc: Global, answer: Result<Metadata, HostError>) -> Told {
     }
 }
 
-/// The times of the node's last read and of its last change; or the code of the refusal.
+/// The node's times of last read, last change and creation; or the code of the refusal.
 pub fn told_times(alloc: Global, answer: Result<Metadata, HostError>) -> Told {
     match answer {
         Ok(is) => told(alloc, &(is.accessed(), is.modified(), is.created())),
@@ -53,7 +53,7 @@ pub fn told_times(alloc: Global, answer: Result<Metadata, HostError>) -> Told {
     }
 }
 
-/// The same of a call that takes no memory.
+/// The answer of a call that takes no memory, its code as a `HostError`.
 pub fn coded<T>(answer: Result<T, ErrorCode>) -> Result<T, HostError> {
     match answer {
         Ok(value) => Ok(value),

@@ -1,5 +1,5 @@
 -- The test of a node decides whether its number keeps the rules.
-use Rattle.std.proofs.Common.{◌≡◌, ℕ, zero, suc, ◌+◌, ◌<◌, ◌≤◌, ◌⊎◌, inl, inr, ⊎_elim, Bool, true, false, List, [], ◌∷◌, map, length, nat_le, slice_get, slice_index_or, Some, refl, sym, ap, ◌∙◌, subst, arith, zero-add, add-zero}
+use Rattle.std.proofs.Common.{◌≡◌, ℕ, zero, suc, ◌+◌, ◌<◌, ◌≤◌, ◌⊎◌, inl, inr, ⊎_elim, Bool, true, false, List, [], ◌∷◌, map, length, nat_le, slice_get, slice_index_or, Some, refl, sym, ap, ◌∙◌, subst, arith, zero-add}
 use Rattle.std.specs.Bool.{Decides}
 use Rattle.std.proofs.lemmas.Bool.{cases_eq, true≢false}
 use Rattle.std.proofs.lemmas.Bool.Decides.{Decides-and, Decides-or, Decides-like, Decides-eqb, Decides-ltb, nat_tests}
@@ -13,6 +13,7 @@ use Rattle.wasi_tree.specs.GivenTests.{numbers_from, are_distinct, starts_with_d
 use Rattle.wasi_tree.specs.Fit.{is_fit_file, is_fit_text, is_fit_entry, IsFound, HasPlace, IsFitContent, IsFit, KeepsRules, AreFit, IsLowestUnfit, name_counts}
 use Rattle.wasi_tree.specs.FitTests.{TellFound, has_place, is_fit_content, is_fit}
 use Rattle.wasi_tree.specs.declared.fit.Place.{Place}
+use Rattle.wasi_tree.proofs.NewTreeLemmas.{length-numbers, value_at}
 
 -- what is known of a number is so
 pub record IsKnown (nodes : List Given) (place : Place) : Type 0 where
@@ -91,16 +92,6 @@ pub fit_decides : (limits : Limits) (nodes : List Given) (place : Place) (g : Gi
     → Decides (is_fit limits (length nodes) place g) (IsFit limits nodes place.number g)
 fit_decides limits nodes place g is =
     Decides-and _ _ (Decides-ltb place.number limits.nodes) (content_decides limits nodes place g.content is)
-
--- what counts and marks say of a number
-value_at : (f : ℕ → ℕ) (k c i d : ℕ) → i < c → slice_index_or (map f (numbers_from k c)) i d ≡ f (k + i)
-value_at f k zero i d h = absurd (omega arith)
-value_at f k (suc c) zero d h = ap f (sym (add-zero k))
-value_at f k (suc c) (suc i) d h = value_at f (k + 1) c i d (omega arith) ∙ ap f (omega arith)
-
-length-numbers : (k c : ℕ) → length (numbers_from k c) ≡ c
-length-numbers k zero = refl
-length-numbers k (suc c) = ap suc (length-numbers (k + 1) c)
 
 pub length-counts : (nodes : List NewNode) (counts : List ℕ) → counts ≡ name_counts (map given nodes)
     → length counts ≡ length nodes

@@ -22,6 +22,7 @@ use Rattle.wasi_tree.specs.GivenTests.{is_dir_content, are_distinct, starts_with
 use Rattle.wasi_tree.specs.Fit.{is_fit_entry, IsFound, at_zero, by_entry, entries_held, HasPlace, IsFitContent, AreFit}
 use Rattle.wasi_tree.proofs.CountLemmas.{times-numbers}
 use Rattle.wasi_tree.proofs.GivenNames.{texts, names_from, times-from, All-from, find_held}
+use Rattle.wasi_tree.proofs.NewTreeLemmas.{length-nodes_from}
 
 -- the nodes of the tree
 nodes_at : (all : List Given) (k : ℕ) (gs : List Given) (n : ℕ) (s : Node) (g : Given) → slice_get gs n ≡ Some g
@@ -34,10 +35,6 @@ nodes_at all k (h ∷ gs) (suc n) s g at =
     let place : (k + 1) + n ≡ k + suc n = omega arith in
     nodes_at all (k + 1) gs n s g at ∙ ap (λ j. node_from all j g) place
 
-length-nodes : (all : List Given) (k : ℕ) (gs : List Given) → length (nodes_from all k gs) ≡ length gs
-length-nodes all k [] = refl
-length-nodes all k (g ∷ gs) = ap suc (length-nodes all (k + 1) gs)
-
 pub node_is : (nodes : List Given) (limits : Limits) (n : ℕ) (g : Given) → slice_get nodes n ≡ Some g
     → node_at (tree_of nodes limits) n ≡ node_from nodes n g
 unfolding node_at tree_of
@@ -45,7 +42,7 @@ node_is nodes limits n g at = nodes_at nodes 0 nodes n stray g at ∙ ap (λ j. 
 
 pub next_is : (nodes : List Given) (limits : Limits) → next_of (tree_of nodes limits) ≡ length nodes
 unfolding tree_of
-next_is nodes limits = length-nodes nodes 0 nodes
+next_is nodes limits = length-nodes_from nodes 0 nodes
 
 limits_are : (nodes : List Given) (limits : Limits) → (tree_of nodes limits).limits ≡ limits
 unfolding tree_of

@@ -14,8 +14,8 @@ use Rattle.wasi_host.proofs.Changes.{changed, directory_within, next_of-changed,
 use Rattle.wasi_host.proofs.EntryLemmas.{nat_eq-refl}
 use Rattle.wasi_tree.specs.ParentOf.{named_at}
 use Rattle.wasi_tree.specs.Move.{IsMove, found_lost}
-use Rattle.wasi_tree.proofs.NameLemmas.{same_names}
 use Rattle.wasi_tree.proofs.TextEntries.{same_name}
+use Rattle.wasi_names.proofs.NamesLemmas.{same_names}
 
 -- ---- names
 

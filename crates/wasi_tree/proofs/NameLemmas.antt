@@ -5,16 +5,14 @@ use Rattle.std.specs.Option.{option_or}
 use Rattle.std.specs.Ordering.{nat_cmp, eq_by_cmp}
 use Rattle.std.specs.Cmp.Lexicographic.{slice_cmp, nat_list_cmp_total}
 use Rattle.std.specs.FinMap.Entries.{find}
-use Rattle.std.specs.FinMap.{get, empty, insert, from_entries, get-from_entries, same_map, get-empty, get-insert, nat_cmp-IsAntisymmetric, slice_cmp-IsAntisymmetric}
+use Rattle.std.specs.FinMap.{get, empty, insert, from_entries, get-from_entries, get-empty, get-insert}
 use Rattle.wasi_host.specs.Tree.{Names}
 use Rattle.wasi_tree.specs.StoredTree.{with_first}
 use Rattle.wasi_tree.proofs.TextEntries.{same_name}
+use Rattle.wasi_names.proofs.NamesLemmas.{same_names}
 
 pub get-no_names : (name : List ℕ) → get {X = ℕ} (from_entries {R = slice_cmp nat_cmp} []) name ≡ None
 get-no_names name = get-empty (slice_cmp nat_cmp) name
-
-pub same_names : (m n : Names) → ((q : List ℕ) → get m q ≡ get n q) → m ≡ n
-same_names m n is = same_map nat_list_cmp_total (slice_cmp-IsAntisymmetric nat_cmp-IsAntisymmetric) m n is
 
 -- names with some entries more, one after another, unless one of its name is there
 abbrev pub with_firsts : Names → List (List ℕ × ℕ) → Names

@@ -20,7 +20,7 @@ use Rattle.wasi_tree.proofs.FitValid.{node_is, next_is, names_given, given_names
 use Rattle.wasi_tree.proofs.FoundLemmas.{entry_of}
 use Rattle.wasi_tree.proofs.NewTreeLemmas.{content_named}
 use Rattle.wasi_tree.proofs.ParentLemmas.{without_name_gone}
-use Rattle.wasi_tree.proofs.WayLemmas.{named_content}
+use Rattle.wasi_host.proofs.BelowLemmas.{names_directory}
 
 -- ---- a node with one name has one holder
 
@@ -29,7 +29,7 @@ counted_name : (t : Tree) (d n : ℕ) (name : List ℕ) → named_at t d name �
     → name_count t n ≡ 1 + name_count (changed t d (without_name (node_at t d) name) t.worked) n
 unfolding node_at
 counted_name t d n name named =
-    let within : d < next_of t = directory_within t d (named_content (node_at t d).content name n named) in
+    let within : d < next_of t = directory_within t d (names_directory (node_at t d).content name n named) in
     omega (
       arith,
       times-removed (names_of (node_at t d).content) name n named n,
@@ -41,7 +41,7 @@ pub one_holder : (t : Tree) (d e n : ℕ) (name other : List ℕ) → name_count
     → named_at t e other ≡ Some n → (e ≡ d) × (other ≡ name)
 one_holder t d e n name other few first second =
     let less : Tree = changed t d (without_name (node_at t d) name) t.worked in
-    let within : d < next_of t = directory_within t d (named_content (node_at t d).content name n first) in
+    let within : d < next_of t = directory_within t d (names_directory (node_at t d).content name n first) in
     let gone : named_at less e other ≡ Some n → ⊥ = λ still.
     absurd (omega (arith, few, counted_name t d n name first, counted_name less e n other still)) in
     elim (cases_eq e d) [

@@ -28,11 +28,11 @@ use Rattle.wasi_tree.proofs.SoundLemmas.{bare}
 
 -- ---- the counts, by number
 
-length-numbers : (k n : ℕ) → length (numbers_from k n) ≡ n
+pub length-numbers : (k n : ℕ) → length (numbers_from k n) ≡ n
 length-numbers k zero = refl
 length-numbers k (suc n) = ap suc (length-numbers (k + 1) n)
 
-value_at : (f : ℕ → ℕ) (k n i d : ℕ) → i < n → slice_index_or (map f (numbers_from k n)) i d ≡ f (k + i)
+pub value_at : (f : ℕ → ℕ) (k n i d : ℕ) → i < n → slice_index_or (map f (numbers_from k n)) i d ≡ f (k + i)
 value_at f k zero i d within = absurd (omega arith)
 value_at f k (suc n) zero d within = ap f (omega arith)
 value_at f k (suc n) (suc i) d within = value_at f (k + 1) n i d (omega arith) ∙ ap f (omega arith)
@@ -94,7 +94,7 @@ row_more {all} {rows} {now} {names} {more} {n} {left} {rest} {g} row number push
 
 -- ---- fit nodes are sound
 
-length-nodes_from : (all : List Given) (k : ℕ) (gs : List Given) → length (nodes_from all k gs) ≡ length gs
+pub length-nodes_from : (all : List Given) (k : ℕ) (gs : List Given) → length (nodes_from all k gs) ≡ length gs
 length-nodes_from all k [] = refl
 length-nodes_from all k (g ∷ gs) = ap suc (length-nodes_from all (k + 1) gs)
 

@@ -8,9 +8,10 @@ use Rattle.wasi_host.proofs.Changes.{changed, next_of-changed, node_at-changed, 
 use Rattle.wasi_host.proofs.EntryLemmas.{unnamed}
 use Rattle.wasi_host.proofs.Leaving.{each_kind, without_name_names}
 use Rattle.wasi_paths.specs.Text.{is_entry_name}
-use Rattle.wasi_tree.proofs.NameLemmas.{get-no_names, same_names}
+use Rattle.wasi_tree.proofs.NameLemmas.{get-no_names}
 use Rattle.wasi_tree.proofs.ParentLemmas.{with_name_cases}
 use Rattle.wasi_tree.specs.Sound.{IsSound, IsSoundNode, IsSoundText, NodesStay}
+use Rattle.wasi_names.proofs.NamesLemmas.{same_names}
 
 -- what is sound of a content: its names, which only a directory has, and the text of a link
 abbrev pub Seen : Type 0

@@ -28,7 +28,7 @@ same_name q name tie = (bytes_eq-Decides q name).0 (sym (is_eq-slice_cmp q name)
 
 -- ---- in order
 
-both : (a b : Bool) → T a → T b → T (a && b)
+pub both : (a b : Bool) → T a → T b → T (a && b)
 both true b p q = q
 both false b p q = p
 

@@ -17,10 +17,10 @@ use Rattle.std.proofs.lemmas.Map.Text.{is_eq-slice_cmp}
 use Rattle.std.proofs.lemmas.Slice.Eq.{bytes_eq-Decides}
 use Rattle.std.proofs.lemmas.Str.{is_utf8-from_IsUtf8}
 use Rattle.wasi_host.specs.Tree.{Tree, Node, Names, Content, File, Directory, Link, node_at, next_of, names_of, is_directory, is_gone, stray}
-use Rattle.wasi_host.specs.ValidTree.{are_bytes, names_for, name_count, Reached, IsEntry, IsPlaced, IsValidContent, IsValidTree}
+use Rattle.wasi_host.specs.ValidTree.{names_for, name_count, Reached, IsEntry, IsPlaced, IsValidContent, IsValidTree}
 use Rattle.wasi_host.specs.ValidTree as valid
 use Rattle.wasi_host.specs.declared.limits.TheConstants.{FILE_MAX, LINK_MAX}
-use Rattle.wasi_host.proofs.EntryLemmas.{times, numbers, find_in, entries-no_names}
+use Rattle.wasi_host.proofs.EntryLemmas.{times, numbers, find_in, entries-no_names, both_hold}
 use Rattle.wasi_tree.specs.Given.{Given, given_entries, entry_count, content_from, node_from, nodes_from, tree_of, content_given, given_of}
 use Rattle.wasi_tree.specs.GivenTests.{is_dir_content, are_distinct, starts_with_directory}
 use Rattle.wasi_tree.specs.Fit.{is_fit_entry, entries_held, entries_at, IsFound, at_zero, by_entry, HasPlace, IsFitContent, IsFit, AreFit}
@@ -34,10 +34,6 @@ made_again : (names : Names) → maps.from_entries (maps.entries names) ≡ name
 made_again names =
     maps.same_map nat_list_cmp_total (maps.slice_cmp-IsAntisymmetric maps.nat_cmp-IsAntisymmetric) _ names (λ q.
     maps.get-from_entries nat_list_cmp_total (maps.entries names) q ∙ sym (maps.get-entries names q))
-
-both_hold : (a b : Bool) → T (a && b) → T a × T b
-both_hold true b is = (tt, is)
-both_hold false b is = absurd is
 
 lesser : (r : Ordering) → T (is_lt r) → is_eq r ≡ false
 lesser Less is = refl

@@ -5,10 +5,10 @@ use Rattle.std.specs.Ordering.{nat_cmp, eq_by_cmp}
 use Rattle.std.specs.Cmp.Lexicographic.{slice_cmp}
 use Rattle.std.specs.FinMap as maps
 use Rattle.std.proofs.lemmas.Bool.{eqb-true, ne_eqb}
-use Rattle.wasi_host.specs.Tree.{Tree, Content, File, Directory, Link, node_at, next_of, names_of, is_directory}
+use Rattle.wasi_host.specs.Tree.{Tree, node_at, next_of, names_of, is_directory}
 use Rattle.wasi_host.specs.Below.{is_within, is_below}
-use Rattle.wasi_host.proofs.BelowLemmas.{any_where}
-use Rattle.wasi_host.proofs.EntryLemmas.{find_in, unnamed, get_entry, nat_eq-refl}
+use Rattle.wasi_host.proofs.BelowLemmas.{any_where, names_directory}
+use Rattle.wasi_host.proofs.EntryLemmas.{find_in, get_entry, nat_eq-refl}
 use Rattle.wasi_host.proofs.Touching.{or_left, or_right, one_of}
 use Rattle.wasi_tree.specs.ParentOf.{parent_of, named_at, AreParents, goes_up, is_on_way}
 
@@ -34,12 +34,6 @@ some_too p q (e ∷ es) follows is = elim (one_of (p e.1) (list_any (λ e. p e.1
 ]
 
 -- ---- ways, one name longer
-
-pub named_content : (content : Content) (name : List ℕ) (n : ℕ) → maps.get (names_of content) name ≡ Some n
-    → is_directory content ≡ true
-named_content (File bytes links) name n is = absurd (unnamed maps.empty name n refl is)
-named_content (Directory names gone) name n is = refl
-named_content (Link text links) name n is = absurd (unnamed maps.empty name n refl is)
 
 module _ (t : Tree) where
   abbrev below_of : ℕ → List (List ℕ × ℕ)
@@ -78,7 +72,7 @@ module _ (t : Tree) where
       elim (one_of (nat_eq n top) (list_any (λ e. is_within t k e.1 n) (below_of top)) is) [
         | inl later ↦
             let found = any_where (λ e. is_within t k e.1 n) (below_of top) ([], 0) later in
-            named_content (node_at t top).content (get_or (below_of top) found.0 ([], 0)).0
+            names_directory (node_at t top).content (get_or (below_of top) found.0 ([], 0)).0
             (get_or (below_of top) found.0 ([], 0)).1
             (get_entry (names_of (node_at t top).content) found.0 ([], 0) found.1)
         | inr here ↦ subst (λ j. is_directory (node_at t j).content ≡ true) (eqb-true n top here) directory
@@ -157,7 +151,7 @@ module _ {t : Tree} {parents : List (Option ℕ)} (are : AreParents t parents) w
       by (Some p) up on rest =
           let found = are.down p n directory up in
           within_longer t k top p n found.0 found.1
-          (on p (named_content (node_at t p).content found.0 n found.1) rest)
+          (on p (names_directory (node_at t p).content found.0 n found.1) rest)
 
   within_way : (k top n : ℕ) → is_directory (node_at t n).content ≡ true → is_within t k top n ≡ true
       → is_on_way parents k top n ≡ true

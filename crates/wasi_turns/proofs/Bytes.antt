@@ -3,7 +3,7 @@ use Rattle.std.proofs.Common.{zero, suc, ◌*◌, ◌/◌, ◌%◌, nat_lt, [], 
 use Rattle.std.specs.Prelude.{IsUtf8, ◌==◌, All}
 use Rattle.std.specs.Int.{to_le_bytes, w32}
 use Rattle.std.specs.List.{range_with_len}
-use Rattle.std.proofs.lemmas.Bool.{leb-true}
+use Rattle.std.proofs.lemmas.Bool.{leb-true, and_parts}
 use Rattle.std.proofs.lemmas.Bool.Decides.{nat_tests}
 use Rattle.wasi_turns.specs.Row.{give}
 use Rattle.wasi_turns.specs.Services.{next_input, input_into, written, aligned, total_of, with_texts, put_texts, texts_at, random_bytes, random_taken}
@@ -35,12 +35,8 @@ use Rattle.wasi_turns.proofs.Near.{AreBytes}
 
 -- ---- bytes
 
-both : (a b : Bool) → (a && b) ≡ true → (a ≡ true) × (b ≡ true)
-both true b is = (refl, is)
-both false b is = absurd (cc)
-
 apart : (xs ys : List ℕ) → AreBytes (xs ++ ys) → AreBytes xs × AreBytes ys
-apart xs ys bytes = both (are_bytes xs) (are_bytes ys) (sym (list_all-append _ xs ys) ∙ bytes)
+apart xs ys bytes = and_parts (are_bytes xs) (are_bytes ys) (sym (list_all-append _ xs ys) ∙ bytes)
 
 pub joined : (xs ys : List ℕ) → AreBytes xs → AreBytes ys → AreBytes (xs ++ ys)
 joined xs ys first second = list_all-append _ xs ys ∙ rw (first, second) refl
@@ -199,8 +195,8 @@ written_stock stock outputs.Stderr piece is =
 
 random_byte : (bytes : List ℕ) (i : ℕ) → AreBytes bytes → nat_lt (slice_index_or bytes i 0) 256 ≡ true
 random_byte [] i are = refl
-random_byte (b ∷ bytes) zero are = (both (nat_lt b 256) (are_bytes bytes) are).0
-random_byte (b ∷ bytes) (suc i) are = random_byte bytes i ((both (nat_lt b 256) (are_bytes bytes) are).1)
+random_byte (b ∷ bytes) zero are = (and_parts (nat_lt b 256) (are_bytes bytes) are).0
+random_byte (b ∷ bytes) (suc i) are = random_byte bytes i ((and_parts (nat_lt b 256) (are_bytes bytes) are).1)
 
 -- what is given round and round are bytes
 pub random_are : (stock : Stock) (n : ℕ) → IsStock stock → AreBytes (random_bytes stock n)

@@ -23,6 +23,7 @@ use Rattle.wasi_turns.specs.Errnos.{errno_of}
 use Rattle.wasi_turns.specs.ErrorNumbers.{may_be_answered}
 use Rattle.wasi_turns.specs.Listing.{all_numbered_at, listing_at, numbered_at}
 use Rattle.wasi_turns.specs.Request.{Behind, Direct, ListDirectory, Path, Request, Sizes, reply_of}
+use Rattle.std.proofs.lemmas.Bool.{and_parts}
 
 abbrev pub is_known : ErrorCode → Bool
 is_known code = may_be_answered (errno_of code)
@@ -40,14 +41,10 @@ abbrev all_known : List (Bool × ErrorCode) → Bool
 all_known [] = true
 all_known (row ∷ rows) = is_known row.1 && all_known rows
 
-both : (x y : Bool) → IsTrue (x && y) → IsTrue x × IsTrue y
-both true y is = (refl, is)
-both false y is = absurd (cc)
-
 pub first_known : (rows : List (Bool × ErrorCode)) → IsTrue (all_known rows) → IfSome (first_row rows) IsKnown
 first_known [] known = tt
-first_known ((true, code) ∷ rows) known = (both (is_known code) (all_known rows) known).0
-first_known ((false, code) ∷ rows) known = first_known rows (both (is_known code) (all_known rows) known).1
+first_known ((true, code) ∷ rows) known = (and_parts (is_known code) (all_known rows) known).0
+first_known ((false, code) ∷ rows) known = first_known rows (and_parts (is_known code) (all_known rows) known).1
 
 rows_known : (t : Tree) (call : HostCall) → IsTrue (all_known (rows_of t call))
 rows_known t (RenameAt old old_name new new_name requires_dir) =

@@ -1,5 +1,5 @@
 -- What is listed of a valid tree fits into records: its numbers, the lengths of its names, and how many entries there are.
-use Rattle.std.proofs.Common.{◌≡◌, refl, ap, sym, ◌∙◌, subst, ℕ, zero, suc, ◌+◌, ◌-◌, ◌*◌, ◌^◌, ◌<◌, ◌≤◌, Bool, true, false, cond, nat_eq, nat_lt, count_by, List, [], ◌∷◌, ◌++◌, length, inl, inr, Some, Result, Ok, arith, mul-le-mul}
+use Rattle.std.proofs.Common.{◌≡◌, refl, ap, sym, ◌∙◌, subst, ℕ, zero, suc, ◌+◌, ◌-◌, ◌*◌, ◌^◌, ◌<◌, ◌≤◌, Bool, true, false, cond, nat_eq, nat_lt, count_by, List, [], ◌∷◌, ◌++◌, length, inl, inr, Result, Ok, arith, mul-le-mul}
 use Rattle.std.specs.Prelude.{All, IsTrue, codes}
 use Rattle.std.specs.FinMap as maps
 use Rattle.std.proofs.lemmas.Bool.{cases_eq, cases_lt, lt-ltb}
@@ -8,7 +8,7 @@ use Rattle.std.proofs.lemmas.List.{length-map}
 use Rattle.std.proofs.lemmas.List.Elements.{All-nil, All-cons, All-head, All-tail, All-weaker, All-map}
 use Rattle.std.proofs.lemmas.List.Sums.{sum_by-cons, get_or-le-sum_by}
 use Rattle.wasi_host.specs.Answer.{Listed, reached, listed, listing, metadata_of, open_answer, stat_answer}
-use Rattle.wasi_host.specs.HostCall.{ListDir, OpenAt, Stat}
+use Rattle.wasi_host.specs.HostCall.{ListDir, OpenAt}
 use Rattle.wasi_host.specs.Refusal.{refusal}
 use Rattle.wasi_host.specs.Tree.{Tree, Content, File, Directory, Link, node_at, next_of, names_of, child, is_directory, stray}
 use Rattle.wasi_host.specs.ValidTree.{IsEntry, IsPlaced, IsValidContent, IsValidTree, name_count, names_for}
@@ -22,7 +22,6 @@ use Rattle.wasi_host.proofs.Chain.{free}
 use Rattle.wasi_host.proofs.Carrying.{valid_entries, named_within}
 use Rattle.wasi_host.proofs.Changes.{directory_within}
 use Rattle.wasi_host.proofs.EntryLemmas.{times}
-use Rattle.wasi_host.proofs.Leaving.{no_name}
 use Rattle.wasi_host.proofs.ValidSteps.{can_open}
 use Rattle.wasi_paths.specs.Text.{is_entry_name}
 use Rattle.wasi_resolve.specs.Laws.{GivesIn}
@@ -33,6 +32,8 @@ use Rattle.wasi_resolve.proofs.PathAgreeing.{looked_seen}
 use Rattle.wasi_turns.specs.Listing.{Entry, dots, numbered_at, all_numbered_at, listing_at}
 use Rattle.wasi_turns.specs.PageLaws.{EntryFits, ListingFits, ListingsFit}
 use Rattle.wasi_turns.proofs.Listings.{both_ok, entry_is_short}
+use Rattle.wasi_fs.proofs.Looking.{node_known}
+use Rattle.wasi_host.proofs.BelowLemmas.{names_directory}
 
 -- ---- how many numbers a list has, by how often each stands in it
 
@@ -114,14 +115,8 @@ module _ (t : Tree) (valid : IsValidTree t) where
   -- what a name of the tree holds is a node of it
   names_within : IsClosed (λ n. n < next_of t) t
   names_within = record {
-    under = λ d n name within is. named_within t d valid (named_directory name n (node_at t d).content is) name n is;
+    under = λ d n name within is. named_within t d valid (names_directory (node_at t d).content name n is) name n is;
   }
-    where
-      named_directory : (name : List ℕ) (n : ℕ) (content : Content) → maps.get (names_of content) name ≡ Some n
-          → is_directory content ≡ true
-      named_directory name n (File bytes links) is = absurd (no_name name n is)
-      named_directory name n (Directory names gone) is = refl
-      named_directory name n (Link text links) is = absurd (no_name name n is)
 
   module _ (d : ℕ) (directory : is_directory (node_at t d).content ≡ true) where
     within : d < next_of t
@@ -215,10 +210,6 @@ listing_length : (t : Tree) (d : ℕ) → length (listing t d) ≡ length (maps.
 unfolding listing
 listing_length t d = length-map (maps.entries (names_of (node_at t d).content)) (listed t)
 
-own_node : (t : Tree) (d : ℕ) {own : Metadata} → stat_answer t d ≡ Ok own → own.node ≡ d
-unfolding metadata_of
-own_node t d is = ap (λ (m : Metadata). m.node) (sym (unless_value (refusal t (Stat d)) is))
-
 dot_fits : (d : ℕ) (name : List ℕ) → d < 2 ^ 64 → length name ≤ 2
     → EntryFits (record { name = name; node = d; kind = types.Directory })
 dot_fits d name less short = record { node = less; name = omega arith }
@@ -240,7 +231,7 @@ listings_fit t d told_of valid is =
     let good = subst (All (λ (e : Listed). IsTrue (is_entry_name e.0))) (sym all) (listing_named t d (valid_entries t d valid directory)) in
     let fit = all_fit t valid d directory names good numbered in
     let number : own.node < 2 ^ 64 =
-    subst (λ n. n < 2 ^ 64) (sym (own_node t d stated)) (number_fits t valid d directory d (within t valid d directory)) in
+    subst (λ n. n < 2 ^ 64) (sym (node_known t d stated)) (number_fits t valid d directory d (within t valid d directory)) in
     let same : dots own.node ++ entries ≡ told_of = (cc) in
     subst ListingFits same (record {
       entries = dots_fit own.node entries number fit.0;

@@ -27,7 +27,7 @@ use Rattle.wasi_turns.proofs.Counting.{uses-cons, uses-push, uses-set, uses_here
 
 -- ---- what is owned is live
 
-live_if : (b : Bool) → 1 ≤ one_if b → b ≡ true
+pub live_if : (b : Bool) → 1 ≤ one_if b → b ≡ true
 live_if true some = refl
 live_if false some = absurd (omega arith)
 
@@ -233,7 +233,7 @@ abbrev Apart : P1Preopen → P1Preopen → Type 0
 Apart one other = one.handle ≢ other.handle
 
 -- one more
-uses-given : (place : ℕ) (p : P1Preopen) (ps : List P1Preopen) (q : ℕ)
+pub uses-given : (place : ℕ) (p : P1Preopen) (ps : List P1Preopen) (q : ℕ)
     → uses (handles (given_slots place (p ∷ ps))) q
     ≡ one_if (q == p.handle) + uses (handles (given_slots (suc place) ps)) q
 uses-given place p ps q =
@@ -285,7 +285,8 @@ uses-stream s table q =
     let cons = ap (λ os. uses os q) (handles-cons (slots.Stream s) table) in
     omega (arith, cons, uses-cons None (handles table) q)
 
-first_uses : (preopens : List P1Preopen) (q : ℕ)
+-- the standard streams have none
+pub first_uses : (preopens : List P1Preopen) (q : ℕ)
     → uses (handles (first_slots preopens)) q ≡ uses (handles (given_slots 0 preopens)) q
 first_uses preopens q = uses-stream Input _ q ∙ uses-stream Output _ q ∙ uses-stream Error _ q
 

@@ -5,13 +5,6 @@ use Rattle.std.proofs.lemmas.Bool.Decides.{nat_tests}
 use Rattle.wasi_turns.proofs.Bytes.{joined}
 use Rattle.wasi_turns.proofs.Near.{AreBytes}
 use Rattle.std.specs.Prelude.{IsUtf8}
-use Rattle.std.specs.Str.{is_utf8}
-use Rattle.std.proofs.lemmas.Str.{IsUtf8-from_is_utf8}
-use Rattle.wasi_turns.proofs.Numbers.{not_true}
-
--- the test fails where bytes are no text
-pub is_utf8_false : (bs : List ℕ) → ¬ (IsUtf8 bs) → is_utf8 bs ≡ false
-is_utf8_false bs h = not_true (is_utf8 bs) (λ e. h (IsUtf8-from_is_utf8 bs e))
 
 -- ---- a text's bytes are bytes
 

@@ -26,7 +26,8 @@ stream_fdstat streams.Error = record { filetype = 0; flags = 0; base = 64; inher
 abbrev pub preopen_fdstat : Fdstat
 preopen_fdstat = record { filetype = 3; flags = 0; base = 129498624; inheriting = 267911167 }
 
--- of another directory
+-- of another directory, for it and for what is opened below it: all rights but FD_SEEK, FD_WRITE,
+-- PATH_FILESTAT_SET_SIZE and FD_FILESTAT_SET_SIZE
 abbrev pub directory_fdstat : Fdstat
 directory_fdstat = record { filetype = 3; flags = 0; base = 1069023163; inheriting = 1069023163 }
 

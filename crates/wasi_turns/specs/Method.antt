@@ -1,4 +1,4 @@
--- What is said of each method of a context, by its call.
+-- What is said of each call, over a context before and after it.
 use Rattle.std.specs.Prelude.{ℕ, List, Result}
 use Rattle.wasi_host.specs.declared.host.Host.{Ghosts}
 use Rattle.wasi_guest.specs.declared.answer.Value.{Value}

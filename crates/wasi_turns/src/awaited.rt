@@ -2,7 +2,8 @@
 ghost use Rattle.std.specs.Prelude.{◌≡◌, ◌+◌, ◌^◌, ◌<◌, ◌≤◌, length, min};
 ghost use Rattle.wasi_turns.specs.Polling.{comes_at, event_flags, event_of, files_in, nbytes_in, nodes_in, type_of};
 
-use wasi_guest::Event;
+use bitflags::Flags;
+use wasi_guest::{Event, EventRwFlags, Eventtype};
 use wasi_host::Handle;
 
 /// What is waited for.
@@ -81,11 +82,11 @@ impl Awaited {
         ensures { result ≡ type_of self }
     {
         match self {
-            Awaited::Clock { .. } => 0,
-            Awaited::Input => 1,
-            Awaited::Output => 2,
-            Awaited::FileToWrite => 2,
-            Awaited::FileToRead { .. } => 1,
+            Awaited::Clock { .. } => Eventtype::Clock.number(),
+            Awaited::Input => Eventtype::FdRead.number(),
+            Awaited::Output => Eventtype::FdWrite.number(),
+            Awaited::FileToWrite => Eventtype::FdWrite.number(),
+            Awaited::FileToRead { .. } => Eventtype::FdRead.number(),
         }
     }
 
@@ -111,7 +112,13 @@ impl Awaited {
             Awaited::Input => 0,
             Awaited::Output => 0,
             Awaited::FileToWrite => 0,
-            Awaited::FileToRead { position, .. } => { if size <= position { 1 } else { 0 } }
+            Awaited::FileToRead { position, .. } => {
+                if size <= position {
+                    EventRwFlags::FD_READWRITE_HANGUP.bits()
+                } else {
+                    0
+                }
+            }
         }
     }
 }

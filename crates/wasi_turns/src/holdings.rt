@@ -1,6 +1,6 @@
 //! What a guest has beside its descriptors and its memory.
 ghost use Rattle.std.specs.Prelude.{◌≡◌, ◌+◌, ◌-◌, ◌^◌, ◌≤◌, ◌<◌, ◌*◌, ◌%◌, ◌==◌, ◌&&◌, slice_index_or, slice_get, option_map, min, false, IfOk, IfErr, OnOk, OnErr, map, length};
-ghost use Rattle.wasi_turns.specs.CallParts.{with_after, is_failure};
+ghost use Rattle.wasi_turns.specs.CallParts.{WantsNoMemory, with_after, is_failure};
 ghost use Rattle.std.specs.List.{range_with_len};
 ghost use Rattle.std.specs.String.{string_bytes};
 ghost use Rattle.std.specs.Result.{result_map_both};
@@ -380,7 +380,7 @@ impl Holdings {
 
     /// Fills a buffer with the next random bytes, which are given round and round: with zeros where there are none.
     #[tactic(auto, unfolding(crate::specs::Services::random_bytes, crate::specs::Services::random_taken))]
-    pub fn fill_random(&mut self, part: &mut [u8])
+    fn fill_random(&mut self, part: &mut [u8])
         ensures bytes { part.new ≡ random_bytes self.old (length part.old) }
         ensures taken { self.new ≡ random_taken self.old (length part.old) }
     {
@@ -501,11 +501,12 @@ fn put_address(memory: &mut [u8], place: usize, address: usize)
 }
 
 /// In nanoseconds: Overflow of what 64 bits don't hold.
-fn nanoseconds_of(moment: WallDatetime) -> Result<u64, P1Error>
+pub fn nanoseconds_of(moment: WallDatetime) -> Result<u64, P1Error>
     ensures row { result ≡ nanoseconds_of moment }
     ensures refusal { IfErr result (λ e. is_failure e ≡ false) }
+    ensures never_wants { IfErr result WantsNoMemory }
 {
-    let whole = moment.seconds as u128 * 1_000_000_000 + moment.nanoseconds as u128;
+    let whole = moment.seconds as u128 * SECOND + moment.nanoseconds as u128;
     if whole > u64::MAX as u128 {
         return Err(P1Error::Errno(Errno::Overflow));
     }

@@ -15,11 +15,14 @@ use wasi_guest::{Advice, Errno, FdFlags, Rights, TrapKind, Whence, is_signal};
 /// The refusal of a raw number that names nothing, or has a bit that is no flag.
 pub const INVALID: P1Error = P1Error::Errno(Errno::Inval);
 
-/// How a guest ends with a status.
+/// The first status with which an exit is a trap.
+const FIRST_TRAPPED_STATUS: u32 = 126;
+
+/// An exit with this status; trap ExitStatus from 126 on, as the crate.
 pub fn exit_with(status: u32) -> P1Error
     ensures { result ≡ exit_with status }
 {
-    if 126 <= status {
+    if FIRST_TRAPPED_STATUS <= status {
         return P1Error::Trap(TrapKind::ExitStatus);
     }
     P1Error::Exit(status)

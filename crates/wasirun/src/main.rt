@@ -16,7 +16,7 @@ fn command_line(rt: &HostRuntime) -> Option<Vec<String>> {
     }
 }
 
-// Says why there is no report, where no line that was written says it.
+// Says for a person what happened, where no report and no line of `gen N` was written.
 #[cold]
 #[inline(never)]
 fn tell(rt: &HostRuntime, status: Status) {

@@ -92,7 +92,7 @@ pub extern "C" fn wasi_c_fd_sync(
     call_in(sandbox, empty, memory, Call::FdSync { fd }, NOWHERE)
 }
 
-/// Sets the size of a file.
+/// Sets the size of a file, in bytes.
 #[unsafe(no_mangle)]
 pub extern "C" fn wasi_c_fd_filestat_set_size(
     alloc: Global,
@@ -116,7 +116,7 @@ pub extern "C" fn wasi_c_fd_filestat_set_size(
     )
 }
 
-/// Sets where the next read or write of a file begins.
+/// Sets where the next read or write of a file begins, in bytes.
 #[unsafe(no_mangle)]
 pub extern "C" fn wasi_c_fd_seek(
     alloc: Global,
@@ -142,7 +142,7 @@ pub extern "C" fn wasi_c_fd_seek(
     )
 }
 
-/// Where the next read or write of a file begins.
+/// Where the next read or write of a file begins, in bytes.
 #[unsafe(no_mangle)]
 pub extern "C" fn wasi_c_fd_tell(
     alloc: Global,

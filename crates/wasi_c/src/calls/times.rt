@@ -8,7 +8,7 @@ use crate::told::{NOWHERE, call_in};
 use std::alloc::Global;
 use wasi_embed::Call;
 
-/// Sets the times of a descriptor's node.
+/// Sets the times of a descriptor's node, `atim` and `mtim` in nanoseconds.
 #[unsafe(no_mangle)]
 pub extern "C" fn wasi_c_fd_filestat_set_times(
     alloc: Global,
@@ -34,7 +34,7 @@ pub extern "C" fn wasi_c_fd_filestat_set_times(
     call_in(sandbox, empty, memory, request, NOWHERE)
 }
 
-/// Sets the times of a path's node.
+/// Sets the times of a path's node, `atim` and `mtim` in nanoseconds.
 #[unsafe(no_mangle)]
 pub extern "C" fn wasi_c_path_filestat_set_times(
     alloc: Global,

@@ -11,10 +11,7 @@ use crate::types::ErrorCode;
 use crate::{FsError, FsResult, ReadResult, WasiFilesystemCtxView};
 use std::alloc::{AllocError, Global};
 use wasi_host::{Handle, Host};
-use wasi_streams::Resource;
-
-/// The most bytes that one `read` asks for: the crate's `MAX_READ_SIZE_ALLOC`.
-const MAX_READ_SIZE_ALLOC: u64 = 65_536;
+use wasi_streams::{MAX_READ_SIZE_ALLOC, Resource};
 
 /// One read of at most `len` and at most 65,536 bytes of a file from `offset` on. Memory is taken before the host is
 /// asked.
@@ -32,7 +29,7 @@ fn read_bytes<H: Host>(
         (host_seen H.faults H.live H.lookups H.world host.new)
         file offset len (result_map_both (λ bytes. bytes.items) (λ code. code) reply)) }
 {
-    let mut bytes = vec![in alloc; 0; len.min(MAX_READ_SIZE_ALLOC) as usize]?;
+    let mut bytes = vec![in alloc; 0; len.min(MAX_READ_SIZE_ALLOC as u64) as usize]?;
     let count = match host.pread(file, &mut bytes, offset) {
         Ok(count) => count,
         Err(code) => return Ok(Err(code)),

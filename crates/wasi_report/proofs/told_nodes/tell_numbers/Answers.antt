@@ -26,4 +26,4 @@ loop-name-preserved c = record {
 pub returns-clause-fits : goal.returns-clause-fits
 returns-clause-fits c =
     on_ok_weaker c.end_object.result
-    (λ _. names_fit c.again-left.ensures.rising c.in_default.ensures c.loop-name.invariant.told) c.end_object.ensures.ok
+    (λ _. names_fit c.again-left.ensures.rising c.in_default.ensures.0 c.loop-name.invariant.told) c.end_object.ensures.ok

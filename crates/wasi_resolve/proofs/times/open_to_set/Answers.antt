@@ -23,7 +23,7 @@ returns-in-Ok-open-clause-told g c told =
     timed_by_read c.args.start c.args.path.now c.in-Err.refused c.requires.live
     (sym c.reads_after.ensures ∙ c.if-not-reads_after.false) (rw c.writing.ensures at (c.in-Err.ensures.told told))
     (read_ok _ c.args.path.now c.in-Ok-open.handle
-    (rw (c.in-Err.ensures.live, c.reading.ensures) at (c.in-Ok-open.ensures.told told)))
+    (rw (c.in-Err.ensures.live, c.read_options.ensures.options) at (c.in-Ok-open.ensures.told told)))
 
 pub returns-in-Err-open-clause-told : goal.returns-in-Err-open-clause-told
 returns-in-Err-open-clause-told g c told =
@@ -31,4 +31,4 @@ returns-in-Err-open-clause-told g c told =
     (timed_by_read c.args.start c.args.path.now c.in-Err.refused c.requires.live
     (sym c.reads_after.ensures ∙ c.if-not-reads_after.false) (rw c.writing.ensures at (c.in-Err.ensures.told told))
     (read_err _ c.args.path.now c.in-Err-open.failed
-    (rw (c.in-Err.ensures.live, c.reading.ensures) at (c.in-Err-open.ensures.told told))))
+    (rw (c.in-Err.ensures.live, c.read_options.ensures.options) at (c.in-Err-open.ensures.told told))))

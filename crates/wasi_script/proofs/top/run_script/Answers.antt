@@ -1,4 +1,4 @@
-use Rattle.std.proofs.Common.{◌≡◌, ◌∙◌, sym, inl, inr}
+use Rattle.std.proofs.Common.{◌≡◌, ◌∙◌, [], sym, inl, inr}
 use Rattle.wasi_script.specs.Due.{the_usage}
 use Rattle.wasi_script.specs.declared.words.Task.TheVariants as tasks
 use Rattle.wasi_script.proofs.OwnTrees.{keeps_tree}
@@ -26,6 +26,11 @@ pub returns-in-Run-clause-read_only : goal.returns-in-Run-clause-read_only
 returns-in-Run-clause-read_only g c = λ tells takes.
     let is = rw c.as_slice.ensures.value at (sym c.task_of.ensures.task ∙ c.in-Run.is) in
     rw is (c.run_source.ensures.read_only tells takes)
+
+pub returns-in-Run-clause-some : goal.returns-in-Run-clause-some
+returns-in-Run-clause-some g c = λ takes.
+    let is = rw c.as_slice.ensures.value at (sym c.task_of.ensures.task ∙ c.in-Run.is) in
+    rw is (c.run_source.ensures.some takes)
 
 -- ---- `gen N`
 
@@ -59,6 +64,11 @@ pub returns-in-Generate-clause-read_only : goal.returns-in-Generate-clause-read_
 returns-in-Generate-clause-read_only g c = λ tells takes.
     keeps_tree _ _ _ _ _ (returns-in-Generate-clause-writes g c tells takes)
 
+pub returns-in-Generate-clause-some : goal.returns-in-Generate-clause-some
+returns-in-Generate-clause-some g c = λ takes.
+    let is = rw c.as_slice.ensures.value at (sym c.task_of.ensures.task ∙ c.in-Generate.is) in
+    rw is (([], line_due _ c.in-Generate.n [] _ _ c.run_generated.ensures.ends (c.run_generated.ensures.writes takes)))
+
 -- ---- other words
 
 pub returns-in-Usage-clause-usage_line : goal.returns-in-Usage-clause-usage_line
@@ -78,3 +88,8 @@ returns-in-Usage-clause-writes g c = λ tells takes.
 pub returns-in-Usage-clause-read_only : goal.returns-in-Usage-clause-read_only
 returns-in-Usage-clause-read_only g c = λ tells takes.
     keeps_tree _ _ _ _ _ (returns-in-Usage-clause-writes g c tells takes)
+
+pub returns-in-Usage-clause-some : goal.returns-in-Usage-clause-some
+returns-in-Usage-clause-some g c = λ takes.
+    let is = rw c.as_slice.ensures.value at (sym c.task_of.ensures.task ∙ c.in-Usage.is) in
+    rw is (([], writes_due tasks.Usage [] the_usage tt takes c.as_bytes.ensures.value c.written.ensures.written))

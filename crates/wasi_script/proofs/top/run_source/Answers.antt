@@ -3,7 +3,7 @@ use Rattle.wasi_form.specs.Plan.{plan}
 use Rattle.wasi_script.specs.Due.{refusal_line, the_refusal, the_report}
 use Rattle.wasi_script.specs.declared.words.Task.TheVariants as tasks
 use Rattle.wasi_script.proofs.OwnTrees.{keeps_tree}
-use Rattle.wasi_script.proofs.Tops.{front_read, leaves_unread, no_read_fault, no_usage, may_take, writes_due, is_due_by}
+use Rattle.wasi_script.proofs.Tops.{front_read, leaves_unread, no_read_fault, no_usage, may_take, write_failed, writes_due, is_due_by}
 use Rattle.wasi_script.proofs.top.run_source.Goals as goal
 
 pub returns-in-Err-Refused-clause-exact : goal.returns-in-Err-Refused-clause-exact
@@ -41,6 +41,9 @@ returns-in-Ok-report_of-clause-read_only g c = λ tells takes.
 pub returns-in-Ok-report_of-clause-read_fault : goal.returns-in-Ok-report_of-clause-read_fault
 returns-in-Ok-report_of-clause-read_fault g c = no_read_fault c.written-in-Ok-report_of.ensures.written
 
+pub returns-in-Ok-report_of-clause-write_fault : goal.returns-in-Ok-report_of-clause-write_fault
+returns-in-Ok-report_of-clause-write_fault g c = write_failed c.written-in-Ok-report_of.ensures.written
+
 pub returns-in-Ok-report_of-clause-usage : goal.returns-in-Ok-report_of-clause-usage
 returns-in-Ok-report_of-clause-usage g c = no_usage c.written-in-Ok-report_of.ensures.written
 
@@ -53,3 +56,18 @@ returns-in-Ok-report_of-clause-left g c = λ tells.
 
 pub returns-clause-left : goal.returns-clause-left
 returns-clause-left g c = λ tells. front_read _ (c.in-Ok.ensures.read tells).1
+
+pub returns-in-Err-Refused-clause-some : goal.returns-in-Err-Refused-clause-some
+returns-in-Err-Refused-clause-some g c = λ takes.
+    let (left, verdict) = rw c.in-Err-Refused.field-0-is at c.in-Err-Refused.ensures.some in
+    let line = c.refusal_line.ensures ∙ ap refusal_line c.in-Err-Refused.refusal-is in
+    let was = rw c.in-Err-Refused.refusal-is at c.written.ensures.written in
+    (left, writes_due tasks.Run left (the_refusal c.in-Err-Refused.refusal) verdict takes (c.as_bytes.ensures.value ∙ line) was)
+
+pub returns-in-Ok-report_of-clause-some : goal.returns-in-Ok-report_of-clause-some
+returns-in-Ok-report_of-clause-some g c = λ takes.
+    let (left, verdict) = c.in-Ok.ensures.some in (
+      left,
+      writes_due tasks.Run left (the_report (plan c.in-Ok.script)) verdict takes
+          (rw c.as_slice.ensures.value c.in-Ok-report_of.ensures) c.written-in-Ok-report_of.ensures.written,
+    )

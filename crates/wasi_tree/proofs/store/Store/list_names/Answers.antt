@@ -21,6 +21,6 @@ returns-clause-named c =
     let t : Tree = c.args.self.now in
     let all : map entry_of c.loop-name.entries.items ≡ map (listed t) (maps.entries (names_of (node_at t c.args.directory).content)) =
     sym (append-nil (map entry_of c.loop-name.entries.items))
-    ∙ ap (λ ns. map entry_of c.loop-name.entries.items ++ map (listed t) ns) (sym c.in_default.ensures) ∙ c.loop-name.invariant in
+    ∙ ap (λ ns. map entry_of c.loop-name.entries.items ++ map (listed t) ns) (sym c.in_default.ensures.0) ∙ c.loop-name.invariant in
     subst (λ (l : List Listed). All (λ (entry : Listed). is_entry_name entry.0 ≡ true) l) (sym all)
     (listed_good t (next_of t) (node_at t c.args.directory) ((sound_at c.self.view_is c.self.invariant).nodes c.args.directory))

@@ -1,0 +1,189 @@
+//! The context of a guest's calls: its descriptors over a host.
+ghost use Rattle.std.specs.Prelude.{◌≡◌, ◌≢◌, ◌<◌, ◌≤◌, ◌+◌, ◌↔◌, true, length, map, All, AllPairs, IfOk, IfErr, IsErrAnd};
+ghost use Rattle.std.specs.FinSet.{contains};
+
+use std::alloc::Global;
+use std::marker::Model;
+use wasi_guest::Services;
+use wasi_host::{Host, SystemTime};
+use wasi_p1_parts::descriptors::Descriptors;
+use wasi_p2::WasiFilesystemCtx;
+use wasi_streams::ResourceTable;
+use wasi_turns::{CtxError, Holdings, P1Preopen};
+
+/// The calls of one guest over preview2's files of a host, with its descriptors, and what it has beside them: the
+/// crate's `WasiP1Ctx` of `preview1.rs`. The directories that the guest is given are descriptors from the first, so the
+/// files have none of their own. The calls are functions over it, each with the name and the rule of the call in
+/// `wasi_snapshot_preview1`; for them its fields are public.
+#[derive(Drop)]
+pub struct WasiP1Ctx<H: Host> {
+    /// The host, and no preopens.
+    pub fs: WasiFilesystemCtx<H>,
+    /// What stands under each number.
+    pub descriptors: Descriptors,
+    /// What the guest is handed in, and what it wrote.
+    pub holdings: Holdings,
+    /// What is left for calls to take.
+    pub fuel: u64,
+}
+
+impl<H: Host> Model for WasiP1Ctx<H> {
+    ghost use Rattle.wasi_turns.specs.Slots.{View};
+    ghost use Rattle.wasi_p1_parts.specs.Held.{HoldsHandles};
+    ghost use Rattle.wasi_turns.specs.Owners.{handles};
+
+    ghost Value = { View H };
+
+    ghost view = { λ c. record {
+      host = c.fs.host;
+      slots = c.descriptors.slots;
+      table_max = c.descriptors.max;
+      holdings = c.holdings;
+      fuel = c.fuel;
+    } };
+
+    ghost invariant = { λ c. HoldsHandles (H.live c.fs.host) (handles c.descriptors.slots) c.fs.preopens.items };
+}
+
+/// The fuel of a new context.
+pub const FUEL: u64 = 134_217_728;
+
+/// No context was made, and why. The host is handed back.
+#[derive(Drop)]
+pub struct CtxRefused<H: Host> {
+    pub host: H,
+    pub error: CtxError,
+}
+
+/// What stays of a context when its guest has ended.
+#[derive(Drop)]
+pub struct Ended<H: Host> {
+    pub host: H,
+    /// What the guest has left of what it was handed in, and what it wrote.
+    pub holdings: Holdings,
+}
+
+impl<H: Host> WasiP1Ctx<H> {
+    ghost use Rattle.wasi_p1_parts.specs.LiveEntries.{AreLiveDescriptors};
+    ghost use Rattle.wasi_turns.specs.Numbering.{live_count};
+    ghost use Rattle.wasi_turns.specs.Owners.{OwnedApart, handles};
+    ghost use Rattle.wasi_turns.specs.Slots.{first_slots, given_name, is_closed_slot};
+    ghost use Rattle.wasi_turns.specs.declared.error.CtxError.TheVariants.{Full};
+    ghost use Rattle.wasi_guest.specs.Services.{handed};
+    ghost use Rattle.wasi_turns.specs.Stock.{first_fuel, first_stock};
+
+    /// A context with the three standard streams as descriptors 0 to 2, and then the directories that the guest is
+    /// given, in order, which takes their handles over. Each handle is live, and given once. Nothing is asked of the
+    /// host. The names are kept for `fd_prestat_get` and `fd_prestat_dir_name`. The fuel left is `FUEL`.
+    ///
+    /// Each live descriptor is an entry of the resource table, which has `table_max` entries at most: Full exactly where
+    /// the streams and the directories are more.
+    ///
+    /// The two moments of the wall clock may be any: whole seconds are carried out of their nanoseconds, and a call is
+    /// refused Overflow where it can't tell or set one.
+    pub fn new(
+        alloc: Global,
+        host: H,
+        preopens: Vec<P1Preopen>,
+        services: Services,
+        table_max: u32,
+    ) -> Result<WasiP1Ctx<H>, CtxRefused<H>>
+        requires live { All (λ preopen. contains (H.live host) preopen.handle ≡ true) preopens.items }
+        requires once { AllPairs (λ one other. one.handle ≢ other.handle) preopens.items }
+        ensures made { IfOk result (λ c. c
+            ≡ record {
+              host = host;
+              slots = first_slots preopens.items;
+              table_max = table_max;
+              holdings = first_stock (handed services) (map given_name preopens.items);
+              fuel = first_fuel;
+            }) }
+        ensures handed_back { IfErr result (λ refused. refused.host ≡ host) }
+        ensures full { IsErrAnd result (λ refused. refused.error ≡ Full) ↔ table_max < 3 + length preopens.items }
+    {
+        let descriptors = match Descriptors::first(alloc, table_max, &preopens) {
+            Ok(descriptors) => descriptors,
+            Err(error) => return Err(CtxRefused { host, error }),
+        };
+        let Ok(holdings) = Holdings::new(alloc, services, preopens) else {
+            let error = CtxError::Memory;
+            return Err(CtxRefused { host, error });
+        };
+        Ok(WasiP1Ctx {
+            fs: WasiFilesystemCtx {
+                alloc,
+                host,
+                preopens: Vec::new(alloc),
+                now: SystemTime::EPOCH,
+            },
+            descriptors,
+            holdings,
+            fuel: FUEL,
+        })
+    }
+
+    /// Sets the fuel that is left. Of it a call takes a text's length; a read or write 8 for each buffer of its list,
+    /// and the length of the one it takes; a poll 80 for each subscription. It stays taken, whatever is answered.
+    pub fn set_hostcall_fuel(&mut self, fuel: u64)
+        ensures set { self.new ≡ record self.old { fuel = fuel } }
+    {
+        self.fuel = fuel;
+    }
+
+    /// The descriptors have live handles, each its own.
+    pub fn handles_are_owned(&self)
+        ensures apart { OwnedApart (H.live self.now.host) (handles self.now.slots) }
+    {
+        let _descriptors = &self.descriptors;
+    }
+
+    /// The resource table. Its live entries are the live descriptors: each has one of its own, of what it stands for, and
+    /// there are no others.
+    pub fn table(&self) -> &ResourceTable
+        ensures entries { AreLiveDescriptors result.now.entries self.now.slots }
+        ensures max { result.now.max ≡ self.now.table_max }
+    {
+        self.descriptors.table()
+    }
+
+    /// How many entries of the resource table are live: one for each live descriptor, and never more than there may be.
+    pub fn live_entries(&self) -> u32
+        ensures count { result ≡ live_count is_closed_slot self.now.slots }
+        ensures most { result ≤ self.now.table_max }
+    {
+        self.descriptors.live()
+    }
+
+    /// The host, as the calls so far left it.
+    pub fn host(&self) -> &H
+        ensures host { result.now ≡ self.now.host }
+    {
+        &self.fs.host
+    }
+
+    /// What the guest wrote to the standard output so far.
+    pub fn stdout(&self) -> &[u8]
+        ensures bytes { result.now ≡ self.now.holdings.stdout }
+    {
+        self.holdings.stdout()
+    }
+
+    /// What the guest wrote to the standard error so far.
+    pub fn stderr(&self) -> &[u8]
+        ensures bytes { result.now ≡ self.now.holdings.stderr }
+    {
+        self.holdings.stderr()
+    }
+
+    /// The host, and what the guest wrote. Its handles stay live.
+    pub fn into_parts(self) -> Ended<H>
+        ensures host { result.host ≡ self.host }
+        ensures holdings { result.holdings ≡ self.holdings }
+    {
+        let fs = self.fs;
+        Ended {
+            host: fs.host,
+            holdings: self.holdings,
+        }
+    }
+}

@@ -1,0 +1,15 @@
+//! The calls of `wasi_snapshot_preview1` that take a path.
+#![tactic(auto)]
+
+mod opening;
+mod places;
+mod times;
+mod two_places;
+
+pub use opening::path_open;
+pub use places::{
+    path_create_directory, path_filestat_get, path_readlink, path_remove_directory, path_symlink,
+    path_unlink_file,
+};
+pub use times::path_filestat_set_times;
+pub use two_places::{path_link, path_rename};
