@@ -1,6 +1,6 @@
 // Refuses one request for memory of a run after another, from the first to the last. The function that wanted it has to
-// answer WASI_NO_MEMORY, and asked again it has to answer as a run does that is refused nothing. Link it with
-// -Wl,--wrap=malloc,--wrap=realloc.
+// answer as a run does that is refused nothing; or it answers WASI_NO_MEMORY, and then it has to answer so asked again.
+// Link it with -Wl,--wrap=malloc,--wrap=realloc.
 #include <stdio.h>
 #include <stdlib.h>
 #include <string.h>
@@ -72,8 +72,9 @@ static int run(unsigned number, uint8_t *report, size_t room, unsigned *differed
         uint32_t code = step(&sandbox, memory, at, report, room);
         if (before != 0 && refused == 0) {
             met = 1;
-            *differed += code != WASI_NO_MEMORY;
-            code = step(&sandbox, memory, at, report, room);
+            if (code == WASI_NO_MEMORY) {
+                code = step(&sandbox, memory, at, report, room);
+            }
         }
         *differed += code != 0;
     }

@@ -1,10 +1,11 @@
 /// The calls of `wasi_snapshot_preview1` over a tree of files in memory, for an engine of WebAssembly. Plain C99.
 ///
-/// A sandbox is begun by the text of a script (docs/SCRIPT.md) that has no calls and no memory. Each call of a guest
-/// is then one function, with the parameters of preview1's C interface behind three of the engine's: the sandbox,
-/// and the guest's memory as a pointer and a length, which is lent for the call and never copied. Results are
-/// written into it at the addresses that the guest gave. What is proved of this, and what the caller owes, stands in
-/// docs/EMBEDDING.md.
+/// A sandbox is begun by the text of a script (docs/SCRIPT.md) that has no calls, no memory and no ranges of it to be
+/// shown. Each call of a guest is then one function, with the parameters of preview1's C interface behind three of the
+/// engine's: the sandbox, and the guest's memory as a pointer and a length, which is lent for the call and never
+/// copied. Results are written into it at the addresses that the guest gave. Sizes, offsets, positions and lengths are
+/// in bytes, but `iovs_len` and `count`, which are in records; times are in nanoseconds. What is proved of this, and
+/// what the caller owes, stands in docs/EMBEDDING.md.
 #ifndef WASI_EMBED_H
 #define WASI_EMBED_H
 
@@ -21,17 +22,22 @@ typedef struct {
 } wasi_sandbox;
 
 /// What each function answers: 0; or preview1's error number, from 1 to 76; or one of these.
+///
+/// After an error number but `io`, and after the numbers from WASI_TRAP_POINTER to WASI_NO_MEMORY, these stand as
+/// before the call: the descriptors and how many there may be, the guest's memory, what it was handed in and has
+/// written, and the tree. The host calls that were made keep their numbers for the script's `faults`, the nodes that
+/// they came to are told as touched, and one answer more is counted, but for WASI_NO_MEMORY. A call whose result has
+/// no place in the memory isn't made: it is WASI_TRAP_POINTER too, and nothing changes.
 enum {
-    /// The guest gave an address outside its memory, or one that isn't aligned. All stands as before the call, but that
-    /// more nodes may be told as touched.
+    /// The guest gave an address outside its memory, or one that isn't aligned.
     WASI_TRAP_POINTER = 256,
-    /// There would be more descriptors than the script's table has room for. All stands as before, as said above.
+    /// There would be more descriptors than the script's table has room for.
     WASI_TRAP_TABLE = 257,
     /// The guest ended with a status of 126 or more.
     WASI_TRAP_EXIT = 258,
     /// The guest ended, with the status that it gave `proc_exit`.
     WASI_EXIT = 259,
-    /// Memory was wanted. All stands as before, as said above.
+    /// Memory was wanted.
     WASI_NO_MEMORY = 260,
     /// The sandbox is empty.
     WASI_EMPTY = 261,
@@ -59,7 +65,8 @@ static inline wasi_sandbox wasi_nothing(void) {
     return nothing;
 }
 
-/// Whether an answer is one after which the guest must not go on: a trap, or its own end.
+/// Whether a call's answer is one after which the guest must not go on: a trap, its own end, want of memory
+/// (WASI_NO_MEMORY), or that the sandbox is empty (WASI_EMPTY). It is so of each number from 256 on.
 static inline int wasi_ends_guest(uint32_t code) {
     return code >= WASI_TRAP_POINTER;
 }
@@ -77,8 +84,9 @@ static inline uint32_t wasi_start(wasi_sandbox *sandbox, const uint8_t *script, 
 
 uint64_t wasi_c_answered(wasi_sandbox *sandbox, wasi_sandbox empty);
 
-/// How many calls were answered so far, refusals and traps among them, but for calls that weren't made since a result
-/// had no place in the memory; 0 of an empty sandbox.
+/// How many calls were answered so far, refusals, traps and the guest's end among them; 2^64 - 1 where they are more.
+/// A call that wanted memory isn't counted, and neither is one that wasn't made since a result had no place in the
+/// guest's memory. 0 of an empty sandbox.
 static inline uint64_t wasi_answered(wasi_sandbox *sandbox) {
     return sandbox->at ? wasi_c_answered(sandbox, wasi_nothing()) : 0;
 }
@@ -286,7 +294,7 @@ static inline uint32_t wasi_fd_filestat_get(wasi_sandbox *sandbox, uint8_t *memo
 uint32_t wasi_c_fd_filestat_set_size(wasi_sandbox *sandbox, wasi_sandbox empty, uint8_t *memory,
         size_t memory_len, uint32_t fd, uint64_t size);
 
-/// Sets the size of a file.
+/// Sets the size of a file, in bytes.
 static inline uint32_t wasi_fd_filestat_set_size(wasi_sandbox *sandbox, uint8_t *memory, size_t memory_len,
         uint32_t fd, uint64_t size) {
     if (!sandbox->at) {
@@ -298,7 +306,7 @@ static inline uint32_t wasi_fd_filestat_set_size(wasi_sandbox *sandbox, uint8_t 
 uint32_t wasi_c_fd_filestat_set_times(wasi_sandbox *sandbox, wasi_sandbox empty, uint8_t *memory,
         size_t memory_len, uint32_t fd, uint64_t atim, uint64_t mtim, uint32_t fst_flags);
 
-/// Sets the times of a descriptor's node.
+/// Sets the times of a descriptor's node, `atim` and `mtim` in nanoseconds from the epoch on.
 static inline uint32_t wasi_fd_filestat_set_times(wasi_sandbox *sandbox, uint8_t *memory, size_t memory_len,
         uint32_t fd, uint64_t atim, uint64_t mtim, uint32_t fst_flags) {
     if (!sandbox->at) {
@@ -311,7 +319,7 @@ static inline uint32_t wasi_fd_filestat_set_times(wasi_sandbox *sandbox, uint8_t
 uint32_t wasi_c_fd_pread(wasi_sandbox *sandbox, wasi_sandbox empty, uint8_t *memory, size_t memory_len,
         uint32_t fd, uint32_t iovs, uint32_t iovs_len, uint64_t offset, uint32_t nread_at);
 
-/// Reads from a place of a file into the first buffer that has bytes.
+/// Reads from a place of a file, an offset in bytes, into the first buffer that has bytes.
 static inline uint32_t wasi_fd_pread(wasi_sandbox *sandbox, uint8_t *memory, size_t memory_len, uint32_t fd,
         uint32_t iovs, uint32_t iovs_len, uint64_t offset, uint32_t nread_at) {
     if (!sandbox->at) {
@@ -347,7 +355,7 @@ static inline uint32_t wasi_fd_prestat_dir_name(wasi_sandbox *sandbox, uint8_t *
 uint32_t wasi_c_fd_pwrite(wasi_sandbox *sandbox, wasi_sandbox empty, uint8_t *memory, size_t memory_len,
         uint32_t fd, uint32_t iovs, uint32_t iovs_len, uint64_t offset, uint32_t nwritten_at);
 
-/// Writes the first buffer that has bytes to a place of a file.
+/// Writes the first buffer that has bytes to a place of a file, an offset in bytes.
 static inline uint32_t wasi_fd_pwrite(wasi_sandbox *sandbox, uint8_t *memory, size_t memory_len, uint32_t fd,
         uint32_t iovs, uint32_t iovs_len, uint64_t offset, uint32_t nwritten_at) {
     if (!sandbox->at) {
@@ -396,7 +404,7 @@ static inline uint32_t wasi_fd_renumber(wasi_sandbox *sandbox, uint8_t *memory, 
 uint32_t wasi_c_fd_seek(wasi_sandbox *sandbox, wasi_sandbox empty, uint8_t *memory, size_t memory_len,
         uint32_t fd, int64_t offset, uint32_t whence, uint32_t position_at);
 
-/// Sets where the next read or write of a file begins.
+/// Sets where the next read or write of a file begins, by an offset in bytes.
 static inline uint32_t wasi_fd_seek(wasi_sandbox *sandbox, uint8_t *memory, size_t memory_len, uint32_t fd,
         int64_t offset, uint32_t whence, uint32_t position_at) {
     if (!sandbox->at) {
@@ -408,7 +416,7 @@ static inline uint32_t wasi_fd_seek(wasi_sandbox *sandbox, uint8_t *memory, size
 uint32_t wasi_c_fd_tell(wasi_sandbox *sandbox, wasi_sandbox empty, uint8_t *memory, size_t memory_len,
         uint32_t fd, uint32_t position_at);
 
-/// Where the next read or write of a file begins.
+/// Where the next read or write of a file begins, in bytes from the file's start.
 static inline uint32_t wasi_fd_tell(wasi_sandbox *sandbox, uint8_t *memory, size_t memory_len, uint32_t fd,
         uint32_t position_at) {
     if (!sandbox->at) {
@@ -458,7 +466,7 @@ uint32_t wasi_c_path_filestat_set_times(wasi_sandbox *sandbox, wasi_sandbox empt
         size_t memory_len, uint32_t fd, uint32_t flags, uint32_t path, uint32_t path_len, uint64_t atim,
         uint64_t mtim, uint32_t fst_flags);
 
-/// Sets the times of a path's node.
+/// Sets the times of a path's node, `atim` and `mtim` in nanoseconds from the epoch on.
 static inline uint32_t wasi_path_filestat_set_times(wasi_sandbox *sandbox, uint8_t *memory, size_t memory_len,
         uint32_t fd, uint32_t flags, uint32_t path, uint32_t path_len, uint64_t atim, uint64_t mtim,
         uint32_t fst_flags) {

@@ -44,7 +44,7 @@ class SandboxError extends Error {
 /** The script was refused: no sandbox was begun. */
 class Refused extends SandboxError {}
 
-/** The guest was stopped by a trap. The call that it came by did nothing. */
+/** The guest was stopped: by a trap, or since memory was wanted. What it has and its tree are as before the call. */
 class Trap extends SandboxError {}
 
 /** The guest ended by proc_exit, with `status`. */
@@ -76,7 +76,7 @@ class Sandbox {
   #held;
   #imports;
 
-  /** Begins a sandbox by the text of a script that has no calls and no memory. Throws `Refused`. */
+  /** Begins a sandbox by the text of a script without calls, memory and ranges to be shown. Throws `Refused`. */
   constructor(script) {
     if (typeof script !== "string") throw new TypeError("a script is a text");
     const begun = native.begin(new TextEncoder().encode(script), stop);

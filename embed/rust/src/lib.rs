@@ -128,7 +128,7 @@ extern "C" {
 }
 
 impl Sandbox {
-    /// Begins a sandbox by the text of a script (docs/SCRIPT.md) that has no calls and no memory.
+    /// Begins a sandbox by the text of a script (docs/SCRIPT.md) without calls, memory and ranges to be shown.
     pub fn start(script: &str) -> Result<Sandbox, Refused> {
         let mut raw = nothing();
         // SAFETY: the sandbox is the empty one, and the text is there for the call.
@@ -242,9 +242,9 @@ calls! {
     fd_fdstat_set_rights as wasi_c_fd_fdstat_set_rights(fd: u32, base: u64, inheriting: u64);
     /// What is told of the node of a descriptor: 64 bytes, aligned to 8.
     fd_filestat_get as wasi_c_fd_filestat_get(fd: u32, stat_at: u32);
-    /// Sets the size of a file.
+    /// Sets the size of a file, in bytes.
     fd_filestat_set_size as wasi_c_fd_filestat_set_size(fd: u32, size: u64);
-    /// Sets the times of a descriptor's node.
+    /// Sets the times of a descriptor's node, `atim` and `mtim` in nanoseconds.
     fd_filestat_set_times as wasi_c_fd_filestat_set_times(fd: u32, atim: u64, mtim: u64, fst_flags: u32);
     /// Reads from a place of a file into the first buffer that has bytes.
     fd_pread as wasi_c_fd_pread(fd: u32, iovs: u32, iovs_len: u32, offset: u64, nread_at: u32);
@@ -260,9 +260,9 @@ calls! {
     fd_readdir as wasi_c_fd_readdir(fd: u32, buf: u32, buf_len: u32, cookie: u64, used_at: u32);
     /// Gives a descriptor another's number, which is closed before.
     fd_renumber as wasi_c_fd_renumber(from: u32, to: u32);
-    /// Sets where the next read or write of a file begins.
+    /// Sets where the next read or write of a file begins, in bytes.
     fd_seek as wasi_c_fd_seek(fd: u32, offset: i64, whence: u32, position_at: u32);
-    /// Where the next read or write of a file begins.
+    /// Where the next read or write of a file begins, in bytes.
     fd_tell as wasi_c_fd_tell(fd: u32, position_at: u32);
     /// Writes the first buffer that has bytes to a file or an output.
     fd_write as wasi_c_fd_write(fd: u32, iovs: u32, iovs_len: u32, nwritten_at: u32);
@@ -270,7 +270,7 @@ calls! {
     path_create_directory as wasi_c_path_create_directory(fd: u32, path: u32, path_len: u32);
     /// What is told of the node of a path: 64 bytes, aligned to 8.
     path_filestat_get as wasi_c_path_filestat_get(fd: u32, flags: u32, path: u32, path_len: u32, stat_at: u32);
-    /// Sets the times of a path's node.
+    /// Sets the times of a path's node, `atim` and `mtim` in nanoseconds.
     path_filestat_set_times as wasi_c_path_filestat_set_times(
         fd: u32,
         flags: u32,
