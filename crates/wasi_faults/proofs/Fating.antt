@@ -1,11 +1,12 @@
 -- What becomes of the calls of a host that fails at listed ones.
-use Rattle.std.proofs.Common.{arith, ◌≡◌, ◌∙◌, inl, inr, refl, ap, ℕ, zero, suc, ◌+◌, Bool, true, IsTrue, Result, Ok, Err}
+use Rattle.std.proofs.Common.{arith, ◌≡◌, ◌∙◌, inl, inr, refl, ap, sym, subst, ℕ, zero, suc, ◌+◌, Bool, true, false, IsTrue, Result, Ok, Err}
 use Rattle.std.specs.FinSet.{contains}
 use Rattle.wasi_host.specs.Answer.{HostAnswer}
-use Rattle.wasi_host.specs.Fates.{Fated, Fates, Finds, Follow, Others, is_failing}
+use Rattle.wasi_host.specs.Fates.{EffectOf, Fated, Fates, Finds, Follow, Leaves, MayTakeEffect, Others, TakesEffect, changed_to, has_failed, is_failing}
 use Rattle.wasi_host.specs.HostCall.{HostCall, Close}
-use Rattle.wasi_host.specs.Meaning.{Handles, Told, World, answered}
+use Rattle.wasi_host.specs.Meaning.{Handles, Told, World, answered, hosted}
 use Rattle.wasi_host.specs.Tree.{Tree}
+use Rattle.wasi_host.specs.declared.errors.ErrorCode.{ErrorCode}
 use Rattle.wasi_host.specs.declared.errors.ErrorCode.TheVariants.{Io}
 use Rattle.wasi_host.specs.declared.errors.HostError.{HostError}
 use Rattle.wasi_host.specs.declared.errors.HostError.TheVariants.{Code, Memory}
@@ -159,4 +160,92 @@ pub finds_lost : {A B : Type 0} {old new : Handles} {left after : World} {found 
 finds_lost r (inl told) = inl (told_lost r told)
 finds_lost r (inr failed) = inr (refl, failed.1)
 
-pub ruleset fate_rules = (fated_passed, fated_before, fated_after, fated_closed, follow_passed, follow_before, follow_after, told_lost, finds_lost)
+-- ---- what a call leaves that fails
+
+-- a call that didn't fail did what its row says, or memory was wanted
+effect_told : {A : Type 0} {old new : Handles} {w v : World} {call : HostCall} {shown : A → HostAnswer call}
+    (r : Result A HostError) → has_failed r ≡ false → Told old new w v call shown r → MayTakeEffect call w v
+effect_told {w = w} {v = v} {call = call} (Ok a) is told =
+    inl (subst (λ a. EffectOf a call w v) (sym told.meaning) told.after)
+effect_told (Err Memory) is told = inr told.after
+effect_told (Err (Code Io)) is told = absurd (cc)
+effect_told {w = w} {v = v} {call = call} (Err (Code code)) is told =
+    inl (subst (λ a. EffectOf a call w v) (sym told.meaning) told.after)
+
+-- and where it takes no memory, it did
+effect_hosted : {A : Type 0} {old new : Handles} {w v : World} {call : HostCall} {shown : A → HostAnswer call}
+    (r : Result A ErrorCode) → has_failed (hosted r) ≡ false → Told old new w v call shown (hosted r)
+    → TakesEffect call w v
+effect_hosted {w = w} {v = v} {call = call} (Ok a) is told =
+    subst (λ a. EffectOf a call w v) (sym told.meaning) told.after
+effect_hosted (Err Io) is told = absurd (cc)
+effect_hosted {w = w} {v = v} {call = call} (Err code) is told =
+    subst (λ a. EffectOf a call w v) (sym told.meaning) told.after
+
+-- a call that didn't fail was made
+unfailed : {A : Type 0} {old new : Handles} {left after : World} {found : Tree} {call : HostCall}
+    {shown : A → HostAnswer call} {r : Result A HostError} → has_failed r ≡ false
+    → Finds old new left found after call shown r → Told old new (changed_to found left) after call shown r
+unfailed is (inl told) = told
+unfailed is (inr failed) = absurd (cc)
+
+-- what is left by the list and by the inner host, of a call that is made
+left_after : (left after : World) (found : Tree) (Effect : World → World → Type 0) (fate : Fate)
+    → (fate ≡ Passes → Effect (changed_to found left) after) → Leaves fate left found after Effect
+    → Leaves (joined FailsAfter fate) left found after Effect
+left_after left after found Effect Passes passed leaves = passed refl
+left_after left after found Effect FailsBefore passed leaves = leaves
+left_after left after found Effect FailsAfter passed leaves = leaves
+
+module _ (fails finds : Bool) (inner : Fates) (s : Calls) (left after : World) (found : Tree) where
+  abbrev Inner : (World → World → Type 0) → Type 0
+  Inner Effect = IsTrue fails → IsTrue finds → Leaves (inner 0) left found after Effect
+
+  abbrev Listed : Fate → (World → World → Type 0) → Type 0
+  Listed fate Effect = IsTrue fails → IsTrue finds → Leaves (joined fate (inner 0)) left found after Effect
+
+  -- one that isn't listed
+  pub made_passed : (Effect : World → World → Type 0) → Passes ≡ next_fate s → Inner Effect
+      → Listed (next_fate s) Effect
+  made_passed Effect is made = subst (λ f. Listed f Effect) is made
+
+  -- one that is made, and its answer lost
+  pub made_after : {A : Type 0} {old new : Handles} (call : HostCall) {shown : A → HostAnswer call}
+      {inner' : Fates} (r : Result A HostError) → FailsAfter ≡ next_fate s → (IsTrue fails → Fated inner inner' r)
+      → (IsTrue finds → Finds old new left found after call shown r)
+      → Inner (MayTakeEffect call) → Listed (next_fate s) (MayTakeEffect call)
+  made_after call r is fated did made = subst (λ f. Listed f (MayTakeEffect call)) is (λ fails finds.
+      left_after left after found (MayTakeEffect call) (inner 0) (λ passes.
+      let well : has_failed r ≡ false = (fated fails).failed ∙ ap is_failing passes in
+      effect_told r well (unfailed well (did finds))) (made fails finds))
+
+  pub made_hosted : {A : Type 0} {old new : Handles} (call : HostCall) {shown : A → HostAnswer call}
+      {inner' : Fates} (r : Result A ErrorCode) → FailsAfter ≡ next_fate s
+      → (IsTrue fails → Fated inner inner' (hosted r))
+      → (IsTrue finds → Finds old new left found after call shown (hosted r))
+      → Inner (TakesEffect call) → Listed (next_fate s) (TakesEffect call)
+  made_hosted call r is fated did made = subst (λ f. Listed f (TakesEffect call)) is (λ fails finds.
+      left_after left after found (TakesEffect call) (inner 0) (λ passes.
+      let well : has_failed (hosted r) ≡ false = (fated fails).failed ∙ ap is_failing passes in
+      effect_hosted r well (unfailed well (did finds))) (made fails finds))
+
+  -- one that isn't made
+  pub made_before : (Effect : World → World → Type 0) → after ≡ left → FailsBefore ≡ next_fate s
+      → Listed (next_fate s) Effect
+  made_before Effect same is = subst (λ f. Listed f Effect) is (λ fails finds. same)
+
+pub ruleset fate_rules = (
+  fated_passed,
+  fated_before,
+  fated_after,
+  fated_closed,
+  follow_passed,
+  follow_before,
+  follow_after,
+  told_lost,
+  finds_lost,
+  made_passed,
+  made_before,
+  made_after,
+  made_hosted,
+)

@@ -1,10 +1,11 @@
 -- Further meanings that a host may tell: which of its calls fail by themselves, and what the next one finds where others
 -- change the tree between calls.
 use Rattle.std.specs.Prelude.{◌≡◌, ◌⊎◌, ℕ, ◌+◌, Bool, true, false, Result, Ok, Err}
-use Rattle.wasi_host.specs.Answer.{HostAnswer}
+use Rattle.wasi_host.specs.Answer.{HostAnswer, host_answer}
 use Rattle.wasi_host.specs.HostCall.{HostCall}
-use Rattle.wasi_host.specs.Meaning.{Handles, Told, World}
+use Rattle.wasi_host.specs.Meaning.{Handles, Told, World, Stepped, Looked, AfterErr}
 use Rattle.wasi_host.specs.Tree.{Tree}
+use Rattle.wasi_host.specs.declared.errors.ErrorCode.{ErrorCode}
 use Rattle.wasi_host.specs.declared.errors.ErrorCode.TheVariants.{Io}
 use Rattle.wasi_host.specs.declared.errors.HostError.{HostError}
 use Rattle.wasi_host.specs.declared.errors.HostError.TheVariants.{Code, Memory}
@@ -49,3 +50,23 @@ abbrev pub Finds : {A : Type 0} → Handles → Handles → World → Tree → W
     → Result A HostError → Type 0
 Finds old new left found after call shown result =
     Told old new (changed_to found left) after call shown result ⊎ ((has_failed result ≡ true) × (after ≡ left))
+
+-- what a call does whose row answers this: its one step, or none where it is refused
+abbrev pub EffectOf : {A : Type 0} → Result A ErrorCode → HostCall → World → World → Type 0
+EffectOf (Ok a) call w v = Stepped w call v
+EffectOf (Err code) call w v = Looked w call v
+
+-- a call does what the table says, whatever came of its answer
+abbrev pub TakesEffect : HostCall → World → World → Type 0
+TakesEffect call w v = EffectOf (host_answer w.tree call) call w v
+
+-- or memory was wanted, and the tree stays
+abbrev pub MayTakeEffect : HostCall → World → World → Type 0
+MayTakeEffect call w v = TakesEffect call w v ⊎ AfterErr w call Memory v
+
+-- What a call leaves that fails by itself: all as it was, where it wasn't made; what the call does that was asked for,
+-- where it was made and its answer lost
+abbrev pub Leaves : Fate → World → Tree → World → (World → World → Type 0) → Type 0
+Leaves Passes left found after Effect = Unit {0}
+Leaves FailsBefore left found after Effect = after ≡ left
+Leaves FailsAfter left found after Effect = Effect (changed_to found left) after

@@ -8,7 +8,7 @@ ghost use Rattle.wasi_paths.specs.Text.{is_entry_name};
 ghost use Rattle.wasi_host.specs.HostCall.{OpenAt, StatAt, ReadLinkAt, MakeDirAt, SymlinkAt, LinkAt, RenameAt, UnlinkAt, RemoveDirAt, TimesAt, Access, Stat, SetTimes, Pread, Pwrite, Append, SetSize, Sync, Advise, Flags, ListDir, Dup, Close};
 ghost use Rattle.wasi_host.specs.Answer.{entry_of};
 ghost use Rattle.wasi_host.specs.Meaning.{World, AllHeld, FaultCount, HasCause, Rose, LiveGot, Told, Logged, LoggedGot, one_looked, both_looked, hosted, answered};
-ghost use Rattle.wasi_host.specs.Fates.{Fated, Fates, Finds, Follow, Others};
+ghost use Rattle.wasi_host.specs.Fates.{Fated, Fates, Finds, Follow, Others, Leaves, TakesEffect, MayTakeEffect};
 ghost use Rattle.wasi_host.specs.Numbers.{longest_link};
 ghost use Rattle.wasi_host.specs.Tree.{Tree};
 ghost use Rattle.wasi_host.specs.declared.lookup.Lookup.{Lookup};
@@ -57,7 +57,9 @@ pub trait Host {
     ghost tells_fails: { Bool };
 
     /// What becomes of the calls to come but `dup` and `close`, of the next one at 0. Where it is told, a call answers `Io`
-    /// exactly where it fails.
+    /// exactly where it fails. Where the host tells what its calls find too, one that isn't made leaves all as it was, and
+    /// of one that is made and its answer lost, that very call is made: it does what its row says, unless it takes memory
+    /// and memory was wanted.
     ghost fails: { Self → Fates };
 
     /// Whether the host tells what its calls find and leave, be it that others change its tree between them.
@@ -95,7 +97,9 @@ pub trait Host {
         ensures others { IsTrue tells_found → Follow (others self.old) (others self.new) }
         ensures found { IsTrue tells_found → Finds (live self.old) (live self.new) (left self.old) (found self.old) (left self.new)
             (OpenAt ((left self.old).held start).node (name_bytes name.entry) options.now)
-            (left self.new).held result };
+            (left self.new).held result }
+        ensures made { IsTrue tells_fails → IsTrue tells_found → Leaves (fails self.old 0) (left self.old) (found self.old)
+            (left self.new) (MayTakeEffect (OpenAt ((left self.old).held start).node (name_bytes name.entry) options.now)) };
 
     /// The metadata of the node under a name in a directory. A link is not followed: the metadata are its own.
     /// Refusals: the rows for a name; NoEntry where it is missing.
@@ -112,7 +116,9 @@ pub trait Host {
         ensures others { IsTrue tells_found → Follow (others self.old) (others self.new) }
         ensures found { IsTrue tells_found → Finds (live self.old) (live self.new) (left self.old) (found self.old) (left self.new)
             (StatAt ((left self.old).held start).node (name_bytes name.entry))
-            (λ metadata. metadata) result };
+            (λ metadata. metadata) result }
+        ensures made { IsTrue tells_fails → IsTrue tells_found → Leaves (fails self.old 0) (left self.old) (found self.old)
+            (left self.new) (MayTakeEffect (StatAt ((left self.old).held start).node (name_bytes name.entry))) };
 
     /// The text of the link under a name in a directory, which has 1 to 4,095 bytes. Refusals: the rows for a name;
     /// NoEntry where it is missing; Invalid where it is no link.
@@ -135,7 +141,9 @@ pub trait Host {
         ensures others { IsTrue tells_found → Follow (others self.old) (others self.new) }
         ensures found { IsTrue tells_found → Finds (live self.old) (live self.new) (left self.old) (found self.old) (left self.new)
             (ReadLinkAt ((left self.old).held start).node (name_bytes name.entry))
-            (λ text. string_bytes text) result };
+            (λ text. string_bytes text) result }
+        ensures made { IsTrue tells_fails → IsTrue tells_found → Leaves (fails self.old 0) (left self.old) (found self.old)
+            (left self.new) (MayTakeEffect (ReadLinkAt ((left self.old).held start).node (name_bytes name.entry))) };
 
     /// Makes an empty directory under a name in a directory. It may be read, written and searched, and has zero times.
     /// Refusals: the rows for a name; Exist where the name is there, `.` among them; NoEntry where the directory is
@@ -152,7 +160,9 @@ pub trait Host {
         ensures others { IsTrue tells_found → Follow (others self.old) (others self.new) }
         ensures found { IsTrue tells_found → Finds (live self.old) (live self.new) (left self.old) (found self.old) (left self.new)
             (MakeDirAt ((left self.old).held start).node (name_bytes name.entry))
-            (λ unit. unit) result };
+            (λ unit. unit) result }
+        ensures made { IsTrue tells_fails → IsTrue tells_found → Leaves (fails self.old 0) (left self.old) (found self.old)
+            (left self.new) (MayTakeEffect (MakeDirAt ((left self.old).held start).node (name_bytes name.entry))) };
 
     /// Makes a link of this text under a name in a directory; nothing need be where the text leads. Refusals, before
     /// the rows for a name: NoEntry where the text is empty, Invalid where it has a NUL, NameTooLong where it has more
@@ -169,7 +179,9 @@ pub trait Host {
         ensures others { IsTrue tells_found → Follow (others self.old) (others self.new) }
         ensures found { IsTrue tells_found → Finds (live self.old) (live self.new) (left self.old) (found self.old) (left self.new)
             (SymlinkAt target.now ((left self.old).held start).node (name_bytes name.entry))
-            (λ unit. unit) result };
+            (λ unit. unit) result }
+        ensures made { IsTrue tells_fails → IsTrue tells_found → Leaves (fails self.old 0) (left self.old) (found self.old)
+            (left self.new) (MayTakeEffect (SymlinkAt target.now ((left self.old).held start).node (name_bytes name.entry))) };
 
     /// Gives the file or link under the old name in a directory a new name in another, which may be the same; a link is
     /// not followed, as with POSIX's `linkat` without its flag. Refusals: the rows of `link_at` in the host's table, those
@@ -195,7 +207,10 @@ pub trait Host {
         ensures found { IsTrue tells_found → Finds (live self.old) (live self.new) (left self.old) (found self.old) (left self.new)
             (LinkAt ((left self.old).held old).node (name_bytes old_name.entry)
             ((left self.old).held new).node (name_bytes new_name.entry))
-            (λ unit. unit) result };
+            (λ unit. unit) result }
+        ensures made { IsTrue tells_fails → IsTrue tells_found → Leaves (fails self.old 0) (left self.old) (found self.old)
+            (left self.new) (MayTakeEffect (LinkAt ((left self.old).held old).node (name_bytes old_name.entry)
+            ((left self.old).held new).node (name_bytes new_name.entry))) };
 
     /// Moves what the old name in a directory holds to the new name in another, which may be the same; a link is not
     /// followed. What the new name held loses it: a file or link has one name fewer, and stays with none too; a
@@ -225,7 +240,10 @@ pub trait Host {
         ensures found { IsTrue tells_found → Finds (live self.old) (live self.new) (left self.old) (found self.old) (left self.new)
             (RenameAt ((left self.old).held old).node (name_bytes old_name.entry)
             ((left self.old).held new).node (name_bytes new_name.entry) requires_dir)
-            (λ unit. unit) result };
+            (λ unit. unit) result }
+        ensures made { IsTrue tells_fails → IsTrue tells_found → Leaves (fails self.old 0) (left self.old) (found self.old)
+            (left self.new) (MayTakeEffect (RenameAt ((left self.old).held old).node (name_bytes old_name.entry)
+            ((left self.old).held new).node (name_bytes new_name.entry) requires_dir)) };
 
     /// Drops a name of a file or link, which has one name fewer, and stays with none too. Refusals: the rows for a
     /// name; IsDirectory of `.`; NoEntry where the name is missing; Access where the directory may not be written;
@@ -242,7 +260,9 @@ pub trait Host {
         ensures others { IsTrue tells_found → Follow (others self.old) (others self.new) }
         ensures found { IsTrue tells_found → Finds (live self.old) (live self.new) (left self.old) (found self.old) (left self.new)
             (UnlinkAt ((left self.old).held start).node (name_bytes name.entry))
-            (λ unit. unit) result };
+            (λ unit. unit) result }
+        ensures made { IsTrue tells_fails → IsTrue tells_found → Leaves (fails self.old 0) (left self.old) (found self.old)
+            (left self.new) (MayTakeEffect (UnlinkAt ((left self.old).held start).node (name_bytes name.entry))) };
 
     /// Drops the name of an empty directory, which is removed from then on: a handle may still stand for it, but it
     /// takes no name. Refusals: the rows for a name; Invalid of `.`; NoEntry where the name is missing; Access where
@@ -260,7 +280,9 @@ pub trait Host {
         ensures others { IsTrue tells_found → Follow (others self.old) (others self.new) }
         ensures found { IsTrue tells_found → Finds (live self.old) (live self.new) (left self.old) (found self.old) (left self.new)
             (RemoveDirAt ((left self.old).held start).node (name_bytes name.entry))
-            (λ unit. unit) result };
+            (λ unit. unit) result }
+        ensures made { IsTrue tells_fails → IsTrue tells_found → Leaves (fails self.old 0) (left self.old) (found self.old)
+            (left self.new) (MayTakeEffect (RemoveDirAt ((left self.old).held start).node (name_bytes name.entry))) };
 
     /// Sets the given times of the node under a name in a directory, that of its last read and that of its last change;
     /// one that isn't given stays, as with `UTIME_OMIT` of POSIX's `utimensat`. A link is not followed: the times are
@@ -283,7 +305,9 @@ pub trait Host {
         ensures others { IsTrue tells_found → Follow (others self.old) (others self.new) }
         ensures found { IsTrue tells_found → Finds (live self.old) (live self.new) (left self.old) (found self.old) (left self.new)
             (TimesAt ((left self.old).held start).node (name_bytes name.entry) atime mtime)
-            (λ unit. unit) result };
+            (λ unit. unit) result }
+        ensures made { IsTrue tells_fails → IsTrue tells_found → Leaves (fails self.old 0) (left self.old) (found self.old)
+            (left self.new) (MayTakeEffect (TimesAt ((left self.old).held start).node (name_bytes name.entry) atime mtime)) };
 
     /// All names of a directory but `.` and `..`, in byte order, each with the kind of the node that it holds, a link's
     /// own. Every host gives names that a directory may hold: not empty, of at most 255 bytes, without a slash and
@@ -302,7 +326,9 @@ pub trait Host {
         ensures others { IsTrue tells_found → Follow (others self.old) (others self.new) }
         ensures found { IsTrue tells_found → Finds (live self.old) (live self.new) (left self.old) (found self.old) (left self.new)
             (ListDir ((left self.old).held directory))
-            (λ entries. map entry_of entries.items) result };
+            (λ entries. map entry_of entries.items) result }
+        ensures made { IsTrue tells_fails → IsTrue tells_found → Leaves (fails self.old 0) (left self.old) (found self.old)
+            (left self.new) (MayTakeEffect (ListDir ((left self.old).held directory))) };
 
     /// Another live handle of the same node and access.
     fn dup(&mut self, handle: Handle) -> Result<Handle, HostError>
@@ -331,7 +357,9 @@ pub trait Host {
         ensures others { IsTrue tells_found → Follow (others self.old) (others self.new) }
         ensures found { IsTrue tells_found → Finds (live self.old) (live self.new) (left self.old) (found self.old) (left self.new)
             (Access ((left self.old).held directory).node)
-            (λ unit. unit) (hosted result) };
+            (λ unit. unit) (hosted result) }
+        ensures made { IsTrue tells_fails → IsTrue tells_found → Leaves (fails self.old 0) (left self.old) (found self.old)
+            (left self.new) (TakesEffect (Access ((left self.old).held directory).node)) };
 
     /// The metadata of what a handle stands for. It takes no memory.
     fn stat(&mut self, handle: Handle) -> Result<Metadata, ErrorCode>
@@ -347,7 +375,9 @@ pub trait Host {
         ensures others { IsTrue tells_found → Follow (others self.old) (others self.new) }
         ensures found { IsTrue tells_found → Finds (live self.old) (live self.new) (left self.old) (found self.old) (left self.new)
             (Stat ((left self.old).held handle).node)
-            (λ metadata. metadata) (hosted result) };
+            (λ metadata. metadata) (hosted result) }
+        ensures made { IsTrue tells_fails → IsTrue tells_found → Leaves (fails self.old 0) (left self.old) (found self.old)
+            (left self.new) (TakesEffect (Stat ((left self.old).held handle).node)) };
 
     /// Sets the given times of what a handle stands for, as `times_at` does. It takes no memory, and no row refuses it.
     fn set_times(
@@ -367,7 +397,9 @@ pub trait Host {
         ensures others { IsTrue tells_found → Follow (others self.old) (others self.new) }
         ensures found { IsTrue tells_found → Finds (live self.old) (live self.new) (left self.old) (found self.old) (left self.new)
             (SetTimes ((left self.old).held handle).node atime mtime)
-            (λ unit. unit) (hosted result) };
+            (λ unit. unit) (hosted result) }
+        ensures made { IsTrue tells_fails → IsTrue tells_found → Leaves (fails self.old 0) (left self.old) (found self.old)
+            (left self.new) (TakesEffect (SetTimes ((left self.old).held handle).node atime mtime)) };
 
     /// Reads a file's bytes from an offset on into the front of `buf`, and answers how many: where the host tells its
     /// world as many as there are and `buf` takes, 0 at or past the end. The rest of `buf` stays. It takes no memory.
@@ -388,7 +420,9 @@ pub trait Host {
         ensures others { IsTrue tells_found → Follow (others self.old) (others self.new) }
         ensures found { IsTrue tells_found → Finds (live self.old) (live self.new) (left self.old) (found self.old) (left self.new)
             (Pread ((left self.old).held file) offset (length buf.old))
-            (λ n. take n buf.new) (hosted result) };
+            (λ n. take n buf.new) (hosted result) }
+        ensures made { IsTrue tells_fails → IsTrue tells_found → Leaves (fails self.old 0) (left self.old) (found self.old)
+            (left self.new) (TakesEffect (Pread ((left self.old).held file) offset (length buf.old))) };
 
     /// Puts a piece of bytes into a file from an offset on, with zeros in a gap before it, and answers how many it
     /// took, which is all where the host tells its world. No bytes change nothing. A call that takes nothing of a piece
@@ -409,7 +443,9 @@ pub trait Host {
         ensures others { IsTrue tells_found → Follow (others self.old) (others self.new) }
         ensures found { IsTrue tells_found → Finds (live self.old) (live self.new) (left self.old) (found self.old) (left self.new)
             (Pwrite ((left self.old).held file) offset piece.now)
-            (λ n. n) result };
+            (λ n. n) result }
+        ensures made { IsTrue tells_fails → IsTrue tells_found → Leaves (fails self.old 0) (left self.old) (found self.old)
+            (left self.new) (MayTakeEffect (Pwrite ((left self.old).held file) offset piece.now)) };
 
     /// Puts a piece of bytes behind a file's last one, and answers how many it took, which is all where the host tells
     /// its world. No bytes change nothing. A call that takes nothing of a piece that isn't empty has failed, and the
@@ -429,7 +465,9 @@ pub trait Host {
         ensures others { IsTrue tells_found → Follow (others self.old) (others self.new) }
         ensures found { IsTrue tells_found → Finds (live self.old) (live self.new) (left self.old) (found self.old) (left self.new)
             (Append ((left self.old).held file) piece.now)
-            (λ n. n) result };
+            (λ n. n) result }
+        ensures made { IsTrue tells_fails → IsTrue tells_found → Leaves (fails self.old 0) (left self.old) (found self.old)
+            (left self.new) (MayTakeEffect (Append ((left self.old).held file) piece.now)) };
 
     /// Cuts a file to so many bytes, or fills it up to them with zeros, as POSIX's `ftruncate` does. Refusals: Invalid
     /// without write access, and for a size of 2^63 or more; FileTooLarge for more than 2^30 bytes.
@@ -445,7 +483,9 @@ pub trait Host {
         ensures others { IsTrue tells_found → Follow (others self.old) (others self.new) }
         ensures found { IsTrue tells_found → Finds (live self.old) (live self.new) (left self.old) (found self.old) (left self.new)
             (SetSize ((left self.old).held file) size)
-            (λ unit. unit) result };
+            (λ unit. unit) result }
+        ensures made { IsTrue tells_fails → IsTrue tells_found → Leaves (fails self.old 0) (left self.old) (found self.old)
+            (left self.new) (MayTakeEffect (SetSize ((left self.old).held file) size)) };
 
     /// Waits until what a handle stands for is stored, as POSIX's `fsync` does. It takes no memory, and no row refuses
     /// it.
@@ -461,7 +501,9 @@ pub trait Host {
         ensures others { IsTrue tells_found → Follow (others self.old) (others self.new) }
         ensures found { IsTrue tells_found → Finds (live self.old) (live self.new) (left self.old) (found self.old) (left self.new)
             (Sync ((left self.old).held handle).node)
-            (λ unit. unit) (hosted result) };
+            (λ unit. unit) (hosted result) }
+        ensures made { IsTrue tells_fails → IsTrue tells_found → Leaves (fails self.old 0) (left self.old) (found self.old)
+            (left self.new) (TakesEffect (Sync ((left self.old).held handle).node)) };
 
     /// Tells how the bytes from an offset on will be used, as POSIX's `posix_fadvise` does. Nothing changes. It takes no
     /// memory, and no row refuses it.
@@ -483,7 +525,9 @@ pub trait Host {
         ensures others { IsTrue tells_found → Follow (others self.old) (others self.new) }
         ensures found { IsTrue tells_found → Finds (live self.old) (live self.new) (left self.old) (found self.old) (left self.new)
             (Advise ((left self.old).held file).node offset len advice)
-            (λ unit. unit) (hosted result) };
+            (λ unit. unit) (hosted result) }
+        ensures made { IsTrue tells_fails → IsTrue tells_found → Leaves (fails self.old 0) (left self.old) (found self.old)
+            (left self.new) (TakesEffect (Advise ((left self.old).held file).node offset len advice)) };
 
     /// The synchronized modes of a handle: none, where the host tells its world. It takes no memory, and no row refuses
     /// it.
@@ -499,7 +543,9 @@ pub trait Host {
         ensures others { IsTrue tells_found → Follow (others self.old) (others self.new) }
         ensures found { IsTrue tells_found → Finds (live self.old) (live self.new) (left self.old) (found self.old) (left self.new)
             (Flags ((left self.old).held handle).node)
-            (λ flags. flags) (hosted result) };
+            (λ flags. flags) (hosted result) }
+        ensures made { IsTrue tells_fails → IsTrue tells_found → Leaves (fails self.old 0) (left self.old) (found self.old)
+            (left self.new) (TakesEffect (Flags ((left self.old).held handle).node)) };
 
     /// The handle isn't live any more. It can't fail, and takes no memory.
     fn close(&mut self, handle: Handle)
