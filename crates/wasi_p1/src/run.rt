@@ -9,9 +9,9 @@ ghost use Rattle.wasi_turns.specs.Guest.{State, state_of};
 ghost use Rattle.wasi_turns.specs.Rows.{may_want};
 ghost use Rattle.wasi_turns.specs.Run.{AnswersEach, answer_of, ends, ios, Allows, answered_in, WantedAt, DidRun, StoodAt};
 ghost use Rattle.wasi_turns.specs.declared.error.P1Error.TheVariants.{Memory};
-ghost use Rattle.wasi_turns.specs.Owners.{RunTraced, SlotsOfCall, SlotsOfRun};
+ghost use Rattle.wasi_turns.specs.Owners.{RunTraced, SlotsOfCall};
 ghost use Rattle.wasi_turns.specs.Reach.{Confined, StaysTouched};
-ghost use Rattle.wasi_turns.specs.InTurn.{DoesCall, DoCalls, DoCallsUntil};
+ghost use Rattle.wasi_turns.specs.InTurn.{DoesCall, DoCalls, DoCallsUntil, SlotsOfRun};
 ghost use Rattle.wasi_turns.specs.StatesAgree.{SeesOnlyReach};
 ghost use Rattle.wasi_turns.specs.Unchanged.{LeavesAll};
 ghost use Rattle.wasi_turns.specs.Validity.{IsValidState};
@@ -319,7 +319,7 @@ pub fn run_calls<H: Host>(
     ensures errnos { IsTrue H.told → IfOk result (λ a. All MayCome a.answers) }
     ensures ios { IfOk result (λ a. Allows (H.faults context.old.host) (H.faults context.new.host) (ios a.answers)) }
     ensures handles { OthersStay H.live context.old context.new }
-    ensures slots { SlotsOfRun context.old.slots context.new.slots calls.now.items }
+    ensures slots { SlotsOfRun H.Host fuel context.old memory.old calls.now.items context.new.slots }
     ensures lineage { RunTraced context.old.slots context.new.slots
         (H.lookups context.old.host) (H.lookups context.new.host) }
     ensures run { IsTrue H.told → IfOk result (λ a. DidRun (H.faults context.old.host) (H.faults context.new.host)

@@ -1,7 +1,8 @@
 -- A piece that is put behind a file's last byte, and a look at the file then, as the one request that they stand for.
 use Rattle.std.proofs.Common.{ℕ, ◌≡◌, inl, inr, true, List, [], ◌∷◌, length, Option, Some, None, Result, Ok, Err, refl, ap, sym, subst, ◌∙◌}
-use Rattle.std.proofs.lemmas.List.Elements.{All-nil}
+use Rattle.std.proofs.lemmas.List.Elements.{All-weaker, All-contains_itself}
 use Rattle.std.specs.FinSet.{contains}
+use Rattle.std.specs.Prelude.{All}
 use Rattle.wasi_host.specs.Agree.{Touches}
 use Rattle.wasi_host.specs.Answer.{host_answer, metadata_of, unless}
 use Rattle.wasi_host.specs.HostCall.{Append, Stat}
@@ -17,7 +18,7 @@ use Rattle.wasi_host.specs.declared.errors.HostError.{HostError}
 use Rattle.wasi_host.specs.declared.errors.HostError.TheVariants.{Code, Memory}
 use Rattle.wasi_host.specs.declared.held.Held.{Held}
 use Rattle.wasi_host.specs.declared.metadata.Metadata.{Metadata}
-use Rattle.wasi_host.proofs.Touching.{touches_with, touches_same}
+use Rattle.wasi_host.proofs.Touching.{touches_with, touches_same, no_ends}
 use Rattle.wasi_guest.specs.declared.errno.Errno.TheVariants as errnos
 use Rattle.wasi_turns.specs.Asked.{Asked, GivesOrElse, Hidden}
 use Rattle.wasi_turns.specs.CallParts.{Makes}
@@ -36,8 +37,10 @@ pub seen : (t : Tree) (n : ℕ) → host_answer t (Stat n) ≡ Ok (metadata_of t
 unfolding refusal
 seen t n = refl
 
-touched_one : {t t' : Tree} {n : ℕ} {old new : Nodes} → new ≡ with_nodes old (n ∷ []) → Touches t t' (n ∷ []) [] old new
-touched_one {n = n} with = touches_with (n ∷ []) with (λ m has. inl (root m has)) (All-nil _)
+pub touched_one : {t t' : Tree} {n : ℕ} {old new : Nodes} → new ≡ with_nodes old (n ∷ [])
+    → Touches t t' (n ∷ []) (n ∷ []) old new
+touched_one {n = n} with =
+    touches_with (n ∷ []) with (λ m has. inl (root m has)) (All-contains_itself (n ∷ []))
 
 -- it leaves the tree, and touches its node at most
 pub record LooksAt (n : ℕ) (u v : World) : Type 0 where
@@ -45,21 +48,26 @@ pub record LooksAt (n : ℕ) (u v : World) : Type 0 where
   pub touched : (t t' : Tree) → Touches t t' (n ∷ []) [] u.touched v.touched
 
 pub look : {A : Type 0} {u v : World} (n : ℕ) (result : Result A HostError) → After u (Stat n) result v → LooksAt n u v
-look n (Ok a) did = record { tree = did.tree; touched = λ t t'. touched_one did.touched }
+look n (Ok a) did = record { tree = did.tree; touched = λ t t'. no_ends (touched_one did.touched) }
 look n (Err Memory) (inl did) = record { tree = did.tree; touched = λ t t'. touches_same did.touched }
-look n (Err Memory) (inr did) = record { tree = did.tree; touched = λ t t'. touched_one did.touched }
+look n (Err Memory) (inr did) = record { tree = did.tree; touched = λ t t'. no_ends (touched_one did.touched) }
 look n (Err (Code Io)) (inl did) = record { tree = did.tree; touched = λ t t'. touches_same did.touched }
-look n (Err (Code Io)) (inr (inl did)) = record { tree = did.tree; touched = λ t t'. touched_one did.touched }
-look n (Err (Code Io)) (inr (inr (free, did))) = record { tree = did.tree; touched = λ t t'. touched_one did.touched }
-look n (Err (Code code)) did = record { tree = did.tree; touched = λ t t'. touched_one did.touched }
+look n (Err (Code Io)) (inr (inl did)) = record { tree = did.tree; touched = λ t t'. no_ends (touched_one did.touched) }
+look n (Err (Code Io)) (inr (inr (free, did))) = record { tree = did.tree; touched = λ t t'. no_ends (touched_one did.touched) }
+look n (Err (Code code)) did = record { tree = did.tree; touched = λ t t'. no_ends (touched_one did.touched) }
 
--- what is touched after one another
-touches_then : {t t' : Tree} {roots ends : List ℕ} {a b c : Nodes} → Touches t t' roots [] a b
-    → Touches t t' roots ends b c → Touches t t' roots ends a c
-touches_then first second = record {
+-- these were come to as well
+pub with_ends : {t t' : Tree} {roots ends : List ℕ} {old new : Nodes} (came : List ℕ) → Touches t t' roots ends old new
+    → All (λ n. contains new n ≡ true) came → Touches t t' roots came old new
+with_ends came touches all = record { stays = touches.stays; near = touches.near; ends = all }
+
+-- what is touched after one another: what was come to first stays
+touches_then : {t t' : Tree} {roots ends : List ℕ} {a b c : Nodes} → Touches t t' roots ends a b
+    → Touches t t' roots [] b c → Touches t t' roots ends a c
+touches_then {ends = ends} {b = b} first second = record {
   stays = λ n is. second.stays n (first.stays n is);
   near = λ n is. elim (second.near n is) [ inl before ↦ first.near n before | inr near ↦ inr near ];
-  ends = second.ends;
+  ends = All-weaker (λ n. contains b n ≡ true) _ second.stays ends first.ends;
 }
 
 -- both are answered so, where they are
@@ -131,7 +139,7 @@ pub record Looked (live : Handles) (w v : World) (f : Held) (piece : List ℕ) (
   pub keeps : (h : ℕ) → contains live h ≡ true → v.held h ≡ w.held h
   pub answered : host_answer w.tree (Append f piece) ≡ Ok count
   pub tree : v.tree ≡ step w.tree (Append f piece)
-  pub touched : Touches w.tree v.tree (f.node ∷ []) [] w.touched v.touched
+  pub touched : Touches w.tree v.tree (f.node ∷ []) (f.node ∷ []) w.touched v.touched
 
 given : {rose : Type 0} {count : ℕ} (m : Result ℕ ErrorCode) → GivesOrElse rose (Ok count) (from_host m) → m ≡ Ok count
 given (Ok n) (inl is) = (cc)
@@ -154,7 +162,7 @@ module _ {rose : Type 0} {live mid new : Handles} {w u v : World} {h : ℕ} {pie
             ∙ first.keeps q live;
         answered = given _ asked.reply ∙ ap Ok same;
         tree = tree;
-        touched = touches_then (subst (λ t. Touches w.tree t ((w.held h).node ∷ []) [] w.touched u.touched)
+        touched = touches_then (subst (λ t. Touches w.tree t ((w.held h).node ∷ []) ((w.held h).node ∷ []) w.touched u.touched)
             (sym looked.tree) asked.touched) (looked.touched w.tree v.tree);
       }
 
@@ -202,7 +210,7 @@ module _ {rose : Type 0} {live mid new : Handles} {w u v : World} {h : ℕ} {pie
         does = inl (record {
           reply = inr (inr (refl, io refl));
           tree = inr (refl, hidden_both (w.held h) piece (record { reply = count; answered = did.answered; stepped = did.tree }));
-          touched = did.touched;
+          touched = no_ends did.touched;
         });
       }
       by code io meaning did = absurd (let wrong = sym (seen u.tree (u.held h).node) ∙ meaning in cc)

@@ -1,5 +1,5 @@
 -- Bytes of memory, and texts among them.
-use Rattle.std.proofs.Common.{zero, suc, ◌*◌, ◌/◌, ◌%◌, nat_lt, [], ◌∷◌, map, slice_index_or, ℕ, ◌+◌, ◌-◌, ◌≡◌, true, false, cond, Bool, ◌&&◌, List, ◌++◌, length, take, drop, refl, ap, sym, ◌∙◌, subst, arith, slice_get, slice_range, Option, Some, None, Ok, Err}
+use Rattle.std.proofs.Common.{zero, suc, ◌*◌, ◌/◌, ◌%◌, nat_lt, [], ◌∷◌, map, slice_index_or, ℕ, ◌+◌, ◌-◌, ◌≡◌, true, false, cond, Bool, List, ◌++◌, length, take, drop, refl, ap, sym, ◌∙◌, subst, arith, slice_get, slice_range, Option, Some, None, Ok, Err}
 use Rattle.std.specs.Prelude.{IsUtf8, ◌==◌, All}
 use Rattle.std.specs.Int.{to_le_bytes, w32}
 use Rattle.std.specs.List.{range_with_len}

@@ -1,16 +1,18 @@
 -- Calls one after another, over every host.
 use Rattle.std.proofs.Common.{ℕ, ◌+◌, ◌<◌, ◌≡◌, inl, inr, true, false, List, [], ◌∷◌, ◌++◌, length, take, drop, refl, sym, ◌∙◌, Some, Result, Err, append_assoc, append-nil, get_or}
-use Rattle.std.specs.Prelude.{slice_get}
+use Rattle.std.specs.Prelude.{slice_get, Contains}
 use Rattle.std.proofs.lemmas.List.{take-append-drop, take_more}
 use Rattle.wasi_host.specs.declared.host.Host.{Ghosts}
 use Rattle.wasi_guest.specs.declared.answer.Answer.{Answer}
 use Rattle.wasi_guest.specs.declared.answer.Value.{Value}
 use Rattle.wasi_guest.specs.declared.call.Call.{Call}
-use Rattle.wasi_turns.specs.InTurn.{DoesCall, IsAnsweredSo, DoCalls, DoCallsUntil}
+use Rattle.wasi_turns.specs.InTurn.{DoesCall, IsAnsweredSo, DoCalls, DoCallsUntil, SlotsOfRun}
+use Rattle.wasi_turns.specs.Owners.{SlotsOfCall}
 use Rattle.wasi_turns.specs.Run.{answer_of, ends, GoOn}
 use Rattle.wasi_turns.specs.Slots.{View}
 use Rattle.wasi_turns.specs.Unchanged.{AsBefore}
 use Rattle.wasi_turns.specs.declared.error.P1Error.{P1Error}
+use Rattle.wasi_turns.specs.declared.slots.Slot.{Slot}
 use Rattle.wasi_turns.specs.declared.error.P1Error.TheVariants.{Memory}
 use Rattle.wasi_turns.proofs.Unchanged.{any_fuel, leaves_all}
 
@@ -94,3 +96,17 @@ pub all_calls : (calls : List Call) (i : ℕ) (d : Call) → i < length calls
 all_calls calls i d within =
     sym (append_assoc (take i calls) (get_or calls i d ∷ []) (drop (i + 1) calls))
     ∙ (rw (← take_more calls i d within) (take-append-drop (i + 1) calls))
+
+-- the descriptors after one call of a run more
+pub stay_on : {H : Type 0} {host : Ghosts H} {fuel : ℕ} {old now : View H} {before memory : List ℕ} {calls : List Call}
+    {answers : List Answer} {call : Call} {table : List Slot} (place : ℕ) → slice_get calls place ≡ Some call
+    → Contains calls call → DoneSoFar host fuel old before (take place calls) answers now memory
+    → SlotsOfRun host fuel old before calls now.slots → SlotsOfCall now.slots table memory call
+    → SlotsOfRun host fuel old before calls table
+stay_on {now = now} {memory = memory} {answers = answers} {call = call} place is among so_far so step = record {
+  others = λ n slot at in_use other. step.others n slot (so.others n slot at in_use other) in_use (λ named. other (
+    call,
+    (memory, record { place = place; is = is; answers = answers; mid = now; did = done so_far }, named),
+  ));
+  handles = λ n h has stays. step.handles n h (so.handles n h has stays) (λ shut. stays (call, among, shut));
+}

@@ -1,10 +1,10 @@
 -- A directory that is listed, and the looks at its names.
 use Rattle.std.proofs.Common.{ℕ, ◌≡◌, ◌≤◌, true, false, Bool, List, [], ◌∷◌, ◌++◌, map, length, Result, Ok, Err, refl, sym, ap, ◌∙◌, subst}
-use Rattle.std.specs.Prelude.{All, IsTrue, not, ◌&&◌}
+use Rattle.std.specs.Prelude.{All, IsTrue, is_ok, if◌then◌else◌, not, ◌&&◌}
 use Rattle.std.proofs.lemmas.Bool.{ltb-false}
 use Rattle.std.specs.FinSet.{contains}
 use Rattle.std.specs.String.{string_bytes}
-use Rattle.std.proofs.lemmas.List.Elements.{All-nil, All-cons, All-head, All-tail}
+use Rattle.std.proofs.lemmas.List.Elements.{All-nil, All-cons, All-head, All-tail, All-weaker}
 use Rattle.wasi_paths.specs.Text.{is_plain, has_nul, is_long, is_entry_name}
 use Rattle.wasi_host.specs.Answer.{Listed, entry_of, stat_answer}
 use Rattle.wasi_host.specs.HostCall.{Stat}
@@ -18,11 +18,13 @@ use Rattle.wasi_host.specs.declared.held.Held.{Held}
 use Rattle.wasi_host.specs.declared.metadata.Metadata.{Metadata}
 use Rattle.wasi_host.proofs.Touching.{at_root}
 use Rattle.wasi_resolve.specs.Meanings.{lists_at}
-use Rattle.wasi_resolve.specs.Resolved.{Resolved}
+use Rattle.wasi_resolve.specs.Resolved.{Meant, Resolved}
 use Rattle.wasi_resolve.specs.WalkSteps.{OnlyLooks}
 use Rattle.wasi_resolve.proofs.Calls.{call_ok, call_err, looks_none, looks_of, means_then, resolved_err, resolved_then, same_live, found_ok}
+use Rattle.wasi_turns.proofs.Appending.{with_ends}
 use Rattle.wasi_turns.specs.EntriesSeen.{entry_seen, entries_seen, reads_from, numbered_behind, IsListed}
 use Rattle.wasi_turns.specs.Listing.{Entry, dots, numbered_at, all_numbered_at, listing_at, HasShortNames}
+use Rattle.wasi_turns.specs.Request.{ListDirectory, meant_of}
 use Rattle.wasi_turns.specs.declared.looked.Entry.{Entry as Stored}
 
 -- ---- steps and lists
@@ -171,6 +173,14 @@ module _ {live mid : Handles} {w u v : World} {dir node : ℕ} {names : List Lis
 
 -- ---- the listing
 
+-- what is read from a directory that was come to
+abbrev lists_from : {B : Type 0} → Tree → ℕ → Result B ErrorCode → Meant B
+lists_from t d answer = record (reads_from t d answer) { ends = d ∷ [] }
+
+ends_if : (P : ℕ → Type 0) (ns : List ℕ) (answered : Bool) → All P ns → All P (if answered then ns else [])
+ends_if P ns true all = all
+ends_if P ns false all = All-nil P
+
 -- a directory that was listed is looked at itself, and then at each name
 abbrev after_names : Tree → ℕ → List Listed → Result (List Entry) ErrorCode
 after_names t d names = stat_answer t d >>= (λ own. numbered_behind t d own.node names)
@@ -178,10 +188,10 @@ after_names t d names = stat_answer t d >>= (λ own. numbered_behind t d own.nod
 module _ {A B : Type 0} {live : Handles} {w : World} {d : ℕ} {shown : A → List Listed} {told : B → List Entry} where
   -- it wasn't listed
   pub not_listed : {u : World} (error : HostError) → Resolved live w u (lists_at w.tree d) shown (Err error)
-      → Resolved live w u (reads_from w.tree d (listing_at w.tree d)) told (Err error)
+      → Resolved live w u (meant_of w.tree (ListDirectory d)) told (Err error)
   unfolding listing_at
   not_listed error did =
-      resolved_err (reads_from w.tree d (listing_at w.tree d)) told error refl
+      resolved_err (meant_of w.tree (ListDirectory d)) told error refl
       (means_then (lists_at w.tree d).answer (after_names w.tree d) error did.answer) (looks_of (Err error) (λ _. refl) did)
 
 module _ {A B : Type 0} {live mid next : Handles} {w u v : World} {dir : ℕ} {shown : A → List Listed} {told : B → List Entry} {names : A}
@@ -189,13 +199,13 @@ module _ {A B : Type 0} {live mid next : Handles} {w u v : World} {dir : ℕ} {s
     (listed : Resolved live w u (lists_at w.tree (w.held dir).node) shown (Ok names)) where
   -- it wasn't looked at itself
   pub not_seen : (error : HostError) → Told {A = Metadata} mid next u v (Stat (u.held dir).node) (λ m. m) (Err error)
-      → Resolved live w v (reads_from w.tree (w.held dir).node (listing_at w.tree (w.held dir).node)) told (Err error)
+      → Resolved live w v (meant_of w.tree (ListDirectory (w.held dir).node)) told (Err error)
   unfolding listing_at
   not_seen error looked =
       let d : ℕ = (w.held dir).node in
       let did = read_on held same (looks_of (Ok names) (λ _. refl) listed) {shown = λ (m : Metadata). m} (λ t d. stat_answer t d) (call_err error [] still looked) in
       let means = means_then (stat_answer w.tree d) (λ own. numbered_behind w.tree d own.node (shown names)) error did.answer in
-      resolved_err (reads_from w.tree d (listing_at w.tree d)) told error refl
+      resolved_err (meant_of w.tree (ListDirectory d)) told error refl
       (subst (λ m. MeansErr (m >>= after_names w.tree d) error) (sym listed.answer) means) (read_looks (Err error) did)
 
   -- and then each name was
@@ -203,14 +213,23 @@ module _ {A B : Type 0} {live mid next : Handles} {w u v : World} {dir : ℕ} {s
       → Told {A = Metadata} mid next u v (Stat (u.held dir).node) (λ m. m) (Ok metadata)
       → Resolved last v z (reads_from v.tree (v.held dir).node
       (numbered_behind v.tree (v.held dir).node metadata.node (shown names))) told r
-      → Resolved live w z (reads_from w.tree (w.held dir).node (listing_at w.tree (w.held dir).node)) told r
+      → Resolved live w z (meant_of w.tree (ListDirectory (w.held dir).node)) told r
   unfolding listing_at
   is_listed {z = z} {metadata = metadata} {r = r} kept looked numbered =
       let d : ℕ = (w.held dir).node in
+      let own = call_ok [] (All-nil _) (same_live still) looked in
       let did = read_on held same (looks_of (Ok names) (λ _. refl) listed) {shown = λ (m : Metadata). m} (λ t d. stat_answer t d)
-      (call_ok [] (All-nil _) (same_live still) looked) in
+      own in
+      let came : All (λ n. contains z.touched n ≡ true) (d ∷ []) =
+      All-weaker (λ n. contains u.touched n ≡ true) _ (λ n is. numbered.touched.stays n (own.touched.stays n is)) (d ∷ [])
+      listed.touched.ends in
       let whole = read_on held kept (read_looks (Ok metadata) did) (λ t d. numbered_behind t d metadata.node (shown names)) numbered in
       let is : listing_at w.tree d ≡ numbered_behind w.tree d metadata.node (shown names) =
       ap (λ m. m >>= after_names w.tree d) listed.answer
       ∙ ap (λ m. m >>= (λ own. numbered_behind w.tree d own.node (shown names))) did.answer in
-      subst (λ m. Resolved live w z (reads_from w.tree d m) told r) (sym is) whole
+      subst (λ m. Resolved live w z (lists_from w.tree d m) told r) (sym is) (record {
+        answer = whole.answer;
+        tree = whole.tree;
+        touched = with_ends _ whole.touched (ends_if (λ n. contains z.touched n ≡ true) (d ∷ []) (is_ok r) came);
+        keeps = whole.keeps;
+      })

@@ -24,7 +24,7 @@ use Rattle.wasi_host.specs.declared.file_type.FileType.TheVariants as files
 use Rattle.wasi_host.specs.declared.metadata.Metadata.{Metadata}
 use Rattle.wasi_host.specs.declared.sync_flags.SyncFlags.{SyncFlags}
 use Rattle.wasi_host.specs.Time.{zero_time}
-use Rattle.wasi_host.proofs.Touching.{at_root, no_ends}
+use Rattle.wasi_host.proofs.Touching.{at_root}
 use Rattle.wasi_resolve.specs.Resolved.{Resolved}
 use Rattle.wasi_resolve.specs.WalkSteps.{OnlyLooks}
 use Rattle.wasi_resolve.proofs.Calls.{looks_of, resolved_then, resolved_err}
@@ -104,7 +104,7 @@ module _ {live : Handles} {w v : World} {n : ℕ} where
   pub seen_ok : {rose B : Type 0} (f : Metadata → B) {b : B} → SeenAs f live w v n (Ok b)
       → (metadata : Metadata) × Asked rose w v (Direct (Stat n)) (Ok metadata) × (f metadata ≡ b)
   seen_ok f did = made_ok {live = live} (Direct (Stat n)) f
-      (record { answer = did.answer; tree = did.tree; touched = no_ends did.touched; keeps = did.keeps })
+      (record { answer = did.answer; tree = did.tree; touched = did.touched; keeps = did.keeps })
 
   pub seen_err : {rose B : Type 0} (f : Metadata → B) (e : HostError) → (e ≡ Code Io → rose)
       → SeenAs f live w v n (Err e) → Asked rose w v (Direct (Stat n)) (Err (error_of e))
@@ -117,7 +117,7 @@ module _ {live : Handles} {w v : World} {n : ℕ} where
       → (modes : SyncFlags) × Asked rose w v (Direct (Flags n)) (Ok modes)
   flags_ok descriptor did =
       let (modes, asked, is) = made_ok {live = live} (Direct (Flags n)) (flags_of descriptor)
-      (record { answer = did.answer; tree = did.tree; touched = no_ends did.touched; keeps = did.keeps }) in
+      (record { answer = did.answer; tree = did.tree; touched = did.touched; keeps = did.keeps }) in
       (modes, asked)
 
   pub flags_err : {rose : Type 0} (descriptor : Descriptor) (e : HostError) → (e ≡ Code Io → rose)

@@ -1,10 +1,11 @@
 -- What a call of the resolver or of the host does, as the request that it stands for.
-use Rattle.std.proofs.Common.{◌≡◌, inl, inr, true, [], Result, Ok, Err, refl, sym, ap}
-use Rattle.std.proofs.lemmas.List.Elements.{All-nil}
-use Rattle.std.specs.Prelude.{is_ok}
+use Rattle.std.proofs.Common.{◌≡◌, inl, inr, true, ◌++◌, Result, Ok, Err, refl, sym, ap}
+use Rattle.std.proofs.lemmas.List.Elements.{All-weaker, All-contains_itself, Contains-append_left}
+use Rattle.std.specs.Prelude.{All, Contains, is_ok}
 use Rattle.wasi_fs.specs.Calls.{meant_as}
 use Rattle.wasi_host.specs.Answer.{HostAnswer}
 use Rattle.wasi_host.specs.HostCall.{HostCall}
+use Rattle.wasi_host.specs.Step.{found_by, made_by}
 use Rattle.wasi_host.specs.Meaning.{World, Handles, MeansErr, Told}
 use Rattle.wasi_host.specs.Steps.{◌>>=◌}
 use Rattle.wasi_host.specs.Tree.{Tree}
@@ -56,11 +57,17 @@ module _ {A : Type 0} {live : Handles} {w v : World} {r : Request} {shown : A �
 module _ {rose A : Type 0} {old new : Handles} {w v : World} {call : HostCall} {shown : A → HostAnswer call}
     (same : new ≡ old) where
   pub asked_ok : {a : A} → Told old new w v call shown (Ok a) → Asked rose w v (Direct call) (Ok (shown a))
-  asked_ok told = resolved_ok {r = Direct call} {shown = shown} (call_ok [] (All-nil _) (same_live same) told)
+  asked_ok told = resolved_ok {r = Direct call} {shown = shown} (call_ok (found_by w.tree call) found (same_live same) told)
+    where
+      found : All (Contains (found_by w.tree call ++ made_by w.tree call)) (found_by w.tree call)
+      found =
+          All-weaker (Contains (found_by w.tree call)) _
+          (λ n has. Contains-append_left (found_by w.tree call) (made_by w.tree call) n has) (found_by w.tree call)
+          (All-contains_itself (found_by w.tree call))
 
   pub asked_err : (e : HostError) → (e ≡ Code Io → rose) → Told old new w v call shown (Err e)
       → Asked rose w v (Direct call) (Err (error_of e))
-  asked_err e io told = resolved_err {r = Direct call} {shown = shown} e io (call_err e [] same told)
+  asked_err e io told = resolved_err {r = Direct call} {shown = shown} e io (call_err e (found_by w.tree call) same told)
 
 -- ---- where something is made of the answer
 

@@ -4,11 +4,13 @@ use Rattle.std.specs.Prelude.{All, IsTrue, is_ok, slice_get, option_map, if◌th
 use Rattle.std.specs.FinSet.{contains}
 use Rattle.std.proofs.lemmas.List.{map-append, take-append-drop, take_more}
 use Rattle.std.proofs.lemmas.List.Elements.{All-nil, All-append, All-weaker}
-use Rattle.wasi_host.specs.Tree.{Nodes}
+use Rattle.wasi_host.specs.Tree.{Tree, Nodes}
 use Rattle.wasi_host.specs.Meaning.{World, Rose, FaultCount}
 use Rattle.wasi_turns.specs.Guest.{State, Guest}
-use Rattle.wasi_turns.specs.Rows.{turn, may_want}
-use Rattle.wasi_turns.specs.Turn.{IsTurn, ReachesHost, named_by}
+use Rattle.wasi_turns.specs.Rows.{row, turn, may_want}
+use Rattle.wasi_turns.specs.Request.{Path}
+use Rattle.wasi_turns.specs.Row.{Row, Program, done, asking, request_ends, request_comes}
+use Rattle.wasi_turns.specs.Turn.{IsTurn, ReachesHost, named_by, come_to_by}
 use Rattle.wasi_turns.specs.CallTurn.{Turns, Causes, in_world}
 use Rattle.wasi_turns.proofs.Completing.{run_completes}
 use Rattle.wasi_turns.specs.Run.{Turned, Run, Spends, Played, Faulted, Gives, Allows, answer_of, answers_of, is_io_errno, io_in, ios, ends, named, is_success, DidRun, StoodAt, GoOn}
@@ -151,6 +153,19 @@ named-append [] ys = refl
 named-append (x ∷ xs) ys =
     ap (λ l. named_in x ++ l) (named-append xs ys) ∙ sym (append_assoc (named_in x) (named xs) (named ys))
 
+-- an answered call comes to these
+ends_come : {A : Type 0} (P : ℕ → Type 0) (t : Tree) (m : Row (Program A)) → All P (request_comes t m)
+    → All P (request_ends t m)
+ends_come P t (Ok (asking (Path p) next)) all = all
+ends_come P t (Ok (asking r next)) all = All-nil P
+ends_come P t (Ok (done x)) all = all
+ends_come P t (Err e) all = all
+
+named_touched : (P : ℕ → Type 0) (s : State) (call : FueledCall) (answered : Bool)
+    → All P (if answered then come_to_by s call else []) → All P (if answered then named_by s call else [])
+named_touched P s call true all = ends_come P s.tree (row s.guest call) all
+named_touched P s call false all = all
+
 -- an answer is Ok where the result is
 success_same : (r : Result Value P1Error) {a : Answer} → answer_of r ≡ Some a → is_success a ≡ is_ok r
 success_same (Ok x) {a} is = let same : a ≡ answers.Ok x = (cc) in ap is_success same
@@ -178,7 +193,7 @@ module _ {before now after : FaultCount} {start : State} {w v : World} {g g' : G
       let here : All (λ n. contains v.touched n ≡ true) (named_in t) =
       subst (All (λ n. contains v.touched n ≡ true))
       (ap (λ b. if b then named_by (in_world w g) call else []) (sym (success_same r is)))
-      takes.touched.ends in
+      (named_touched (λ n. contains v.touched n ≡ true) (in_world w g) call (is_ok r) takes.touched.ends) in
       rw (named-append so.turns (t ∷ []), append-nil)
       (All-append (λ n. contains v.touched n ≡ true) (named so.turns) (named_in t) still_touched here)
 

@@ -1,15 +1,16 @@
 -- What a call does that asks the host once through a descriptor, as the request that it stands for.
-use Rattle.std.proofs.Common.{ℕ, ◌≡◌, Option, Ok, Err, refl}
+use Rattle.std.proofs.Common.{ℕ, ◌≡◌, [], ◌∷◌, Option, Ok, Err, refl, sym, subst}
 use Rattle.wasi_fs.specs.Calls.{asks_at, sets, NotMemory}
+use Rattle.wasi_host.specs.Agree.{Touches}
 use Rattle.wasi_host.specs.HostCall.{HostCall, SetTimes}
 use Rattle.wasi_host.specs.Answer.{HostAnswer}
 use Rattle.wasi_host.specs.Refusal.{refusal}
+use Rattle.wasi_host.specs.Step.{found_by, starts_of}
 use Rattle.wasi_host.specs.Meaning.{World, Handles}
 use Rattle.wasi_host.specs.declared.errors.ErrorCode.TheVariants.{Io}
 use Rattle.wasi_host.specs.declared.errors.HostError.{HostError}
 use Rattle.wasi_host.specs.declared.errors.HostError.TheVariants.{Code, Memory}
 use Rattle.wasi_host.specs.declared.system_time.SystemTime.{SystemTime}
-use Rattle.wasi_host.proofs.Touching.{no_ends}
 use Rattle.wasi_resolve.specs.Resolved.{Resolved}
 use Rattle.wasi_turns.specs.Asked.{Asked}
 use Rattle.wasi_turns.specs.Errnos.{error_of}
@@ -18,12 +19,13 @@ use Rattle.wasi_turns.specs.declared.error.P1Error.TheVariants.{Memory as Wanted
 use Rattle.wasi_turns.proofs.Resolving.{resolved_ok, resolved_err}
 
 module _ {A : Type 0} {live : Handles} {w v : World} {call : HostCall} {n : ℕ} {shown : A → HostAnswer call} {rose : Type 0} where
-  pub called_ok : {a : A} → Resolved live w v (asks_at w.tree call n) shown (Ok a)
+  -- by a call that comes to the one node
+  pub called_ok : {a : A} → found_by w.tree call ≡ n ∷ [] → Resolved live w v (asks_at w.tree call n) shown (Ok a)
       → Asked rose w v (Direct call) (Ok (shown a))
-  called_ok did = resolved_ok {r = Direct call} {shown = shown} (record {
+  called_ok found did = resolved_ok {r = Direct call} {shown = shown} (record {
     answer = did.answer;
     tree = did.tree;
-    touched = no_ends did.touched;
+    touched = subst (λ ns. Touches w.tree v.tree (starts_of call) ns w.touched v.touched) (sym found) did.touched;
     keeps = did.keeps;
   })
 
@@ -47,7 +49,7 @@ module _ {live : Handles} {w v : World} {n : ℕ} {atime mtime : Option SystemTi
   pub set_ok : Resolved {A = Unit {0}} live w v (sets w.tree n atime mtime) (λ unit. unit) (Ok tt)
       → Asked rose w v (Direct (SetTimes n atime mtime)) (Ok tt)
   unfolding refusal
-  set_ok did = called_ok did
+  set_ok did = called_ok refl did
 
   pub set_err : (e : HostError) → (e ≡ Code Io → rose)
       → Resolved {A = Unit {0}} live w v (sets w.tree n atime mtime) (λ unit. unit) (Err e)

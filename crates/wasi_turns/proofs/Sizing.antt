@@ -2,7 +2,7 @@
 use Rattle.std.proofs.Common.{ℕ, zero, suc, ◌+◌, ◌≡◌, ◌<◌, ◌≤◌, ◌⊎◌, inl, inr, true, List, [], ◌∷◌, ◌++◌, length, map, drop, slice_index_or, Result, Ok, Err, refl, ap, sym, subst, ◌∙◌, append_assoc}
 use Rattle.std.specs.Prelude.{All, Contains}
 use Rattle.std.proofs.lemmas.List.{drop_more, drop_all, map-append}
-use Rattle.std.proofs.lemmas.List.Elements.{Contains-append_left, Contains-append_right}
+use Rattle.std.proofs.lemmas.List.Elements.{All-nil, All-append, All-weaker, Contains-append_left, Contains-append_right}
 use Rattle.std.specs.FinSet.{contains}
 use Rattle.wasi_host.specs.Agree.{Touches}
 use Rattle.wasi_host.specs.Answer.{host_answer, metadata_of}
@@ -15,7 +15,7 @@ use Rattle.wasi_host.specs.declared.errors.HostError.{HostError}
 use Rattle.wasi_host.specs.declared.errors.HostError.TheVariants.{Code}
 use Rattle.wasi_host.specs.declared.held.Held.{Held}
 use Rattle.wasi_host.specs.declared.metadata.Metadata.{Metadata}
-use Rattle.wasi_host.proofs.Touching.{touches_same, touches_through}
+use Rattle.wasi_host.proofs.Touching.{no_ends, touches_same, touches_through}
 use Rattle.wasi_guest.specs.declared.errno.Errno.TheVariants as errnos
 use Rattle.wasi_turns.specs.Asked.{GivesOrElse}
 use Rattle.wasi_turns.specs.CallParts.{Makes}
@@ -28,7 +28,7 @@ use Rattle.wasi_turns.specs.declared.error.P1Error.TheVariants.{Errno, Memory}
 use Rattle.wasi_turns.specs.declared.awaited.Awaited.{Awaited}
 use Rattle.wasi_turns.specs.declared.awaited.Awaited.TheVariants as awaiteds
 use Rattle.wasi_turns.specs.declared.awaited.Waited.{Waited}
-use Rattle.wasi_turns.proofs.Appending.{look, seen}
+use Rattle.wasi_turns.proofs.Appending.{look, seen, touched_one, with_ends}
 use Rattle.wasi_turns.proofs.Reading.{keeps_all}
 
 -- looks leave the tree, and touch no other nodes
@@ -36,6 +36,10 @@ pub record Sized (live : Handles) (w v : World) (ns : List ℕ) : Type 0 where
   pub keeps : (h : ℕ) → contains live h ≡ true → v.held h ≡ w.held h
   pub tree : v.tree ≡ w.tree
   pub touched : Touches w.tree w.tree ns [] w.touched v.touched
+
+-- these nodes were come to
+abbrev pub Touched : World → List ℕ → Type 0
+Touched v ns = All (λ n. contains v.touched n ≡ true) ns
 
 -- why one isn't answered
 abbrev pub Unsized : Type 0 → P1Error → Type 0
@@ -65,15 +69,17 @@ why (inr (inl is)) = inl (cc)
 why (inr (inr (is, rose))) = inr ((cc), rose)
 
 module _ {rose : Type 0} {live : Handles} {w v : World} {ns : List ℕ} where
-  pub makes_sizes : {xs : List ℕ} → Sized live w v ns → xs ≡ map (size_at w.tree) ns → Makes rose live w v (Sizes ns) give (Ok xs)
-  makes_sizes {xs} sized are = record {
+  pub makes_sizes : {xs : List ℕ} → Sized live w v ns → Touched v ns → xs ≡ map (size_at w.tree) ns
+      → Makes rose live w v (Sizes ns) give (Ok xs)
+  makes_sizes {xs} sized came are = record {
     keeps = sized.keeps;
     does = (
       xs,
       record {
         reply = inl (ap Ok are);
         tree = sized.tree;
-        touched = subst (λ t. Touches w.tree t ns [] w.touched v.touched) (sym sized.tree) sized.touched;
+        touched = with_ends ns
+            (subst (λ t. Touches w.tree t ns [] w.touched v.touched) (sym sized.tree) sized.touched) came;
       },
       refl,
     );
@@ -89,15 +95,17 @@ module _ {rose : Type 0} {live : Handles} {w v : World} {ns : List ℕ} where
     });
   }
 
-  pub sized_ok : {xs : List ℕ} → Makes rose live w v (Sizes ns) give (Ok xs) → Sized live w v ns × (xs ≡ map (size_at w.tree) ns)
+  pub sized_ok : {xs : List ℕ} → Makes rose live w v (Sizes ns) give (Ok xs)
+      → Sized live w v ns × Touched v ns × (xs ≡ map (size_at w.tree) ns)
   sized_ok {xs} made =
       let (reply, asked, is) = made.does in
       let same : xs ≡ reply = (cc) in (
         record {
           keeps = made.keeps;
           tree = asked.tree;
-          touched = subst (λ t. Touches w.tree t ns [] w.touched v.touched) asked.tree asked.touched;
+          touched = subst (λ t. Touches w.tree t ns [] w.touched v.touched) asked.tree (no_ends asked.touched);
         },
+        asked.touched.ends,
         same ∙ given asked.reply,
       )
 
@@ -129,7 +137,8 @@ module _ {live new : Handles} {w v : World} {n : ℕ} (same : new ≡ live) wher
   size_ok {metadata = metadata} told =
       let is = sym told.meaning ∙ seen w.tree n in
       let same : metadata ≡ metadata_of w.tree n = (cc) in
-      makes_sizes (one_sized (Ok metadata) told) (ap (λ m. m.size ∷ []) same)
+      let came : Touches w.tree w.tree (n ∷ []) (n ∷ []) w.touched v.touched = touched_one told.after.touched in
+      makes_sizes (one_sized (Ok metadata) told) came.ends (ap (λ m. m.size ∷ []) same)
 
   pub size_err : {rose : Type 0} {code : ErrorCode} → ((let r : Result Metadata HostError = Err (Code code) in r) ≡ Err (Code Io) → rose)
       → Told {A = Metadata} live new w v (Stat n) (λ m. m) (Err (Code code))
@@ -176,14 +185,18 @@ item_among held ws i item within is n has =
     nodes_among held ws i n (subst (λ ns. Contains ns n) (sym (nodes_more held ws i item within is))
     (Contains-append_left (nodes_in (awaited_by held item.what)) (nodes_from held ws (i + 1)) n has))
 
--- the sizes so far, and how the world stands then
+-- the sizes so far, how the world stands then, and the nodes that were looked at
 pub record SizedSo (live : Handles) (w v : World) (ws : List Waited) (i : ℕ) (sizes : List ℕ) : Type 0 where
   pub sized : Sized live w v (nodes_read (map (waited_by w.held) ws))
+  pub seen : List ℕ
+  pub seen_are : seen ++ nodes_from w.held ws i ≡ nodes_read (map (waited_by w.held) ws)
+  pub came : Touched v seen
   pub sizes_are : sizes ++ map (size_at w.tree) (nodes_from w.held ws i)
       ≡ map (size_at w.tree) (nodes_read (map (waited_by w.held) ws))
 
 pub none_sized : {live : Handles} {w : World} {ws : List Waited} {sizes : List ℕ} → sizes ≡ [] → SizedSo live w w ws 0 sizes
-none_sized is = record { sized = sized_none; sizes_are = rw is refl }
+none_sized is =
+    record { sized = sized_none; seen = []; seen_are = refl; came = All-nil _; sizes_are = rw is refl }
 
 -- one more
 module _ {live mid : Handles} {w u v : World} {ws : List Waited} {i : ℕ} {sizes : List ℕ} (item : Waited) (within : i < length ws)
@@ -192,7 +205,7 @@ module _ {live mid : Handles} {w u v : World} {ws : List Waited} {i : ℕ} {size
   pub one_sized_more : {rose : Type 0} {xs : List ℕ} → Makes rose mid u v (Sizes (nodes_in (awaited_by u.held item.what))) give (Ok xs)
       → SizedSo live w v ws (i + 1) (sizes ++ xs)
   one_sized_more {xs = xs} made =
-      let (sized, are) = sized_ok made in
+      let (sized, came, are) = sized_ok made in
       let held = subst (λ (x : Waited). OfReading (λ file. contains live file ≡ true) x.what) (sym is) (all i item within) in
       let theirs = held_same live w u item.what so_far.sized.keeps held in
       let more = nodes_more w.held ws i item within is in
@@ -203,6 +216,12 @@ module _ {live mid : Handles} {w u v : World} {ws : List Waited} {i : ℕ} {size
       ∙ ap (map (size_at w.tree)) theirs in record {
         sized = sized_then same so_far.sized sized (λ n has. item_among w.held ws i item within is n
             (subst (λ ns. Contains ns n) theirs has));
+        seen = so_far.seen ++ nodes;
+        seen_are = append_assoc so_far.seen nodes (nodes_from w.held ws (i + 1))
+            ∙ ap (λ (ns : List ℕ). so_far.seen ++ ns) (sym more) ∙ so_far.seen_are;
+        came = All-append (λ n. contains v.touched n ≡ true) so_far.seen nodes
+            (All-weaker (λ n. contains u.touched n ≡ true) _ sized.touched.stays so_far.seen so_far.came)
+            (subst (Touched v) theirs came);
         sizes_are = append_assoc sizes xs rest ∙ ap (λ (ys : List ℕ). sizes ++ (ys ++ rest)) mine
             ∙ ap (λ (ys : List ℕ). sizes ++ ys) (sym (map-append (size_at w.tree) nodes (nodes_from w.held ws (i + 1)))
             ∙ ap (map (size_at w.tree)) (sym more)) ∙ so_far.sizes_are;
@@ -221,9 +240,12 @@ module _ {live mid : Handles} {w u v : World} {ws : List Waited} {i : ℕ} {size
 pub all_sized : {rose : Type 0} {live : Handles} {w v : World} {ws : List Waited} {i : ℕ} {sizes : List ℕ} → length ws ≤ i
     → SizedSo live w v ws i sizes → Makes rose live w v (Sizes (nodes_read (map (waited_by w.held) ws))) give (Ok sizes)
 unfolding nodes_read
-all_sized {w = w} {ws = ws} {i} {sizes} behind so_far =
+all_sized {w = w} {v = v} {ws = ws} {i} {sizes} behind so_far =
     let none : nodes_from w.held ws i ≡ [] = rw (drop_all i ws behind) refl in
-    makes_sizes so_far.sized (sym (ends sizes) ∙ ap (λ (ns : List ℕ). sizes ++ map (size_at w.tree) ns) (sym none) ∙ so_far.sizes_are)
+    let all : so_far.seen ≡ nodes_read (map (waited_by w.held) ws) =
+    sym (ends so_far.seen) ∙ ap (λ (ns : List ℕ). so_far.seen ++ ns) (sym none) ∙ so_far.seen_are in
+    makes_sizes so_far.sized (subst (Touched v) all so_far.came)
+    (sym (ends sizes) ∙ ap (λ (ns : List ℕ). sizes ++ map (size_at w.tree) ns) (sym none) ∙ so_far.sizes_are)
   where
     ends : (xs : List ℕ) → xs ++ [] ≡ xs
     ends [] = refl

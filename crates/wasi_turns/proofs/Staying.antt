@@ -1,13 +1,11 @@
 -- Descriptors that stay under their numbers, with their handles.
 use Rattle.std.proofs.Common.{ℕ, ◌≡◌, ◌≢◌, inl, inr, false, List, refl, ap, sym, ◌∙◌, subst, arith, slice_get, slice_set, Option, Some, None}
-use Rattle.std.specs.Prelude.{Contains}
 use Rattle.std.specs.Option.{option_map}
 use Rattle.std.proofs.lemmas.Option.{slice_get-map, slice_get_within}
 use Rattle.wasi_host.specs.Lineage.{Nothing}
 use Rattle.wasi_streams.proofs.OneChanged.{set_cases, push_cases}
-use Rattle.wasi_guest.specs.declared.call.Call.{Call}
 use Rattle.wasi_turns.specs.Numbering.{last_where, put_at, with_new}
-use Rattle.wasi_turns.specs.Owners.{handle_in, handles, HasHandle, SlotsStay, SlotsOfCall, SlotsOfRun}
+use Rattle.wasi_turns.specs.Owners.{handle_in, handles, HasHandle, SlotsStay}
 use Rattle.wasi_turns.specs.Slots.{is_closed_slot}
 use Rattle.wasi_turns.specs.declared.slots.Slot.{Slot}
 use Rattle.wasi_turns.specs.declared.slots.Slot.TheVariants as slots
@@ -98,12 +96,3 @@ module _ {Named Closed : ℕ → Type 0} {table table' : List Slot} where
     others = λ n slot at in_use other. stay.others n slot at in_use (λ none. none);
     handles = λ n h has stays. stay.handles n h has (λ none. none);
   }
-
--- one call of a run more
-pub stay_on : {a b c : List Slot} (calls : List Call) (call : Call) (memory : List ℕ) → Contains calls call
-    → SlotsOfRun a b calls → SlotsOfCall b c memory call → SlotsOfRun a c calls
-stay_on calls call memory among so step = record {
-  others = λ n slot at in_use other.
-      step.others n slot (so.others n slot at in_use other) in_use (λ named. other (call, among, (memory, named)));
-  handles = λ n h has stays. step.handles n h (so.handles n h has stays) (λ shut. stays (call, among, shut));
-}

@@ -7,7 +7,7 @@ use Rattle.wasi_host.specs.declared.errors.ErrorCode.{ErrorCode}
 use Rattle.wasi_turns.specs.Guest.{Guest, State}
 use Rattle.wasi_turns.specs.Request.{Request, Reply, reply_of, after}
 use Rattle.wasi_host.specs.Steps.{◌>>=◌}
-use Rattle.wasi_turns.specs.Row.{Row, Program, done, asking, from_host, Asks, starts, request_ends}
+use Rattle.wasi_turns.specs.Row.{Row, Program, done, asking, from_host, Asks, starts, request_comes}
 use Rattle.wasi_turns.specs.Rows.{row}
 use Rattle.wasi_turns.specs.Turn.{IsTurn, RowRefuses, Faults, Wants, StepTaken}
 use Rattle.wasi_turns.specs.CallTurn.{Turns, in_world}
@@ -27,7 +27,7 @@ use Rattle.wasi_turns.proofs.Nearness.{row_near}
 abbrev RowTurns : Type 0 → World → World → Guest → Guest → Row (Program (Value × Guest)) → Result Value P1Error → Type 0
 RowTurns rose w v g g' m result =
     IsTurn rose (Asks m) (in_world w g) (in_world v g') result (row_on w.tree m)
-    × Touches w.tree v.tree (starts m) (if is_ok result then request_ends w.tree m else []) w.touched v.touched
+    × Touches w.tree v.tree (starts m) (if is_ok result then request_comes w.tree m else []) w.touched v.touched
 
 turns : {rose : Type 0} {w v : World} {g g' : Guest} {call : FueledCall} {result : Result Value P1Error}
     (m : Row (Program (Value × Guest)))

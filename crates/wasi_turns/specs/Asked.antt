@@ -3,7 +3,7 @@ use Rattle.std.specs.Prelude.{◌≡◌, ◌⊎◌, [], Ok, Err, is_ok, if◌the
 use Rattle.wasi_host.specs.Agree.{Touches}
 use Rattle.wasi_host.specs.Tree.{Tree}
 use Rattle.wasi_host.specs.Meaning.{World}
-use Rattle.wasi_turns.specs.Request.{Request, Reply, reply_of, after, starts_at, ends_at}
+use Rattle.wasi_turns.specs.Request.{Request, Reply, reply_of, after, starts_at, comes_to}
 use Rattle.wasi_turns.specs.Row.{Row, from_host}
 use Rattle.wasi_guest.specs.declared.errno.Errno.TheVariants as errnos
 use Rattle.wasi_turns.specs.declared.error.P1Error.TheVariants.{Errno, Memory}
@@ -26,7 +26,7 @@ TreeAfterRequest t t' r (Err e) = (t' ≡ t) ⊎ ((e ≡ Errno errnos.Io) × Hid
 pub record Asked (rose : Type 0) (w v : World) (r : Request) (result : Row (Reply r)) : Type 0 where
   pub reply : GivesOrElse rose result (from_host (reply_of w.tree r))
   pub tree : TreeAfterRequest w.tree v.tree r result
-  pub touched : Touches w.tree v.tree (starts_at r) (if is_ok result then ends_at w.tree r else []) w.touched v.touched
+  pub touched : Touches w.tree v.tree (starts_at r) (if is_ok result then comes_to w.tree r else []) w.touched v.touched
 
 -- a request was answered, and this came of its reply
 abbrev pub Answered : {A : Type 0} → Type 0 → World → World → (r : Request) → (Reply r → Row A) → Row A → Type 0

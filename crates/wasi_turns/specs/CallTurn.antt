@@ -1,5 +1,5 @@
 -- What a call of the context does.
-use Rattle.std.specs.Prelude.{ℕ, ◌≡◌, ◌≤◌, ◌⊎◌, Bool, true, IsTrue, List, [], length, slice_get, Contains, Some, Result, Ok, Err, OnErr, is_ok, if◌then◌else◌}
+use Rattle.std.specs.Prelude.{ℕ, ◌≡◌, ◌≤◌, ◌⊎◌, Bool, true, false, IsTrue, List, [], length, slice_get, Contains, Some, Result, Ok, Err, OnErr, is_ok, if◌then◌else◌}
 use Rattle.wasi_host.specs.Agree.{Touches}
 use Rattle.wasi_fs.specs.declared.perms.FsPerms.TheVariants.{ReadOnly}
 use Rattle.wasi_host.specs.Meaning.{World, Handles, Rose, FaultCount}
@@ -11,7 +11,7 @@ use Rattle.wasi_turns.specs.Guest.{Guest, State, perms_in, guest_of, guest_by}
 use Rattle.wasi_turns.specs.Row.{Row, Program, done, asking}
 use Rattle.wasi_turns.specs.Front.{FueledCall, with_fuel}
 use Rattle.wasi_turns.specs.Rows.{row, turn, fuel_left, descriptors_named, may_want}
-use Rattle.wasi_turns.specs.Turn.{IsTurn, ReachesHost, named_by, roots_of}
+use Rattle.wasi_turns.specs.Turn.{IsTurn, ReachesHost, come_to_by, roots_of}
 use Rattle.wasi_guest.specs.declared.call.Call.{Call}
 use Rattle.wasi_guest.specs.declared.errno.Errno.TheVariants.{Io}
 use Rattle.wasi_turns.specs.declared.error.P1Error.{P1Error}
@@ -32,18 +32,24 @@ OthersStay live old new = unowned (live new.host) (handles new.slots) ≡ unowne
 abbrev pub Looks : {H : Type 0} → (H → List Lookup) → View H → View H → List ℕ → Call → Type 0
 Looks lookups old new memory call = CallTraced old.slots new.slots memory call (lookups old.host) (lookups new.host)
 
+-- of a call that asks by a handle alone, or asks nothing, there are none
+abbrev pub LooksByNames : Bool → List Lookup → List Lookup → Type 0
+LooksByNames true old new = Unit {0}
+LooksByNames false old new = new ≡ old
+
 -- a world and a guest, as a state
 abbrev pub in_world : World → Guest → State
 in_world w g = record { tree = w.tree; guest = g }
 
--- The answer and the state are those of the call's row, and the call touches no node but those reached from where its
--- request starts, and those made, and each at which a path of it ended
+-- The answer and the state are those of the call's row. The call touches no node but those reached from where its
+-- request starts, and those made; where it is answered, it touches each at which a path of it ended, and each that stands
+-- under a handle by which its row asks the host
 pub record Turns (rose : Type 0) (w v : World) (g g' : Guest) (call : FueledCall)
     (result : Result Value P1Error) : Type 0 where
   pub turn : IsTurn rose (ReachesHost (in_world w g) call) (in_world w g) (in_world v g') result
       (turn (in_world w g) call)
   pub touched : Touches w.tree v.tree (roots_of (in_world w g) call)
-      (if is_ok result then named_by (in_world w g) call else []) w.touched v.touched
+      (if is_ok result then come_to_by (in_world w g) call else []) w.touched v.touched
 
 -- from a context and a memory to those after it
 abbrev pub TakesTurn : {H : Type 0} → (H → World) → Type 0 → View H → View H → List ℕ → List ℕ → FueledCall

@@ -1,14 +1,17 @@
 -- Calls of a context one after another, over every host.
-use Rattle.std.specs.Prelude.{ℕ, ◌≡◌, ◌⊎◌, List, [], ◌∷◌, length, take, slice_get, Some, Result, Err, MatchBool}
+use Rattle.std.specs.Prelude.{ℕ, ◌≡◌, ◌⊎◌, List, [], ◌∷◌, length, take, slice_get, Contains, Some, Result, Err, MatchBool}
 use Rattle.wasi_host.specs.declared.host.Host.{Ghosts}
 use Rattle.wasi_guest.specs.declared.answer.Answer.{Answer}
 use Rattle.wasi_guest.specs.declared.answer.Value.{Value}
 use Rattle.wasi_guest.specs.declared.call.Call.{Call}
 use Rattle.wasi_turns.specs.Method.{DoesItsRow, StaysInBounds}
+use Rattle.wasi_turns.specs.Owners.{ClosedBy, SlotsStay}
+use Rattle.wasi_turns.specs.Rows.{descriptors_named}
 use Rattle.wasi_turns.specs.Run.{answer_of, ends, GoOn}
 use Rattle.wasi_turns.specs.Slots.{View}
 use Rattle.wasi_turns.specs.Unchanged.{AsBefore}
 use Rattle.wasi_turns.specs.declared.error.P1Error.{P1Error}
+use Rattle.wasi_turns.specs.declared.slots.Slot.{Slot}
 use Rattle.wasi_turns.specs.declared.error.P1Error.TheVariants.{Memory}
 
 -- one call with this fuel, from a context and a memory to those after it: it does its row, and stays in its bounds
@@ -56,3 +59,24 @@ pub record DoCallsUntil {H : Type 0} (host : Ghosts H) (fuel : ℕ) (old : View 
   pub did : DoCalls host fuel old before (take n calls) answers mid memory
   pub wanted : WantsFrom host fuel mid memory calls n new after
   pub stands : AsBefore host.told host.world mid new memory after
+
+-- a call of a list meets this memory: those before it, made from the start, leave it
+pub record Meets {H : Type 0} (host : Ghosts H) (fuel : ℕ) (old : View H) (before : List ℕ) (calls : List Call)
+    (call : Call) (memory : List ℕ) : Type 0 where
+  pub place : ℕ
+  pub is : slice_get calls place ≡ Some call
+  pub answers : List Answer
+  pub mid : View H
+  pub did : DoCalls host fuel old before (take place calls) answers mid memory
+
+-- a call of these names the number, by its arguments or by what stands in the memory that it meets
+abbrev pub NamedBy : {H : Type 0} → Ghosts H → ℕ → View H → List ℕ → List Call → ℕ → Type 0
+NamedBy host fuel old before calls n =
+    (call : Call) × ((memory : List ℕ) × Meets host fuel old before calls call memory
+    × Contains (descriptors_named memory call) n)
+
+-- The descriptors after a run of these calls. One that no call names, by the memory that it meets, stays whole; and one
+-- that none closes keeps its handle
+abbrev pub SlotsOfRun : {H : Type 0} → Ghosts H → ℕ → View H → List ℕ → List Call → List Slot → Type 0
+SlotsOfRun host fuel old before calls table =
+    SlotsStay (NamedBy host fuel old before calls) (ClosedBy calls) old.slots table

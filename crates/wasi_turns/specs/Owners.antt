@@ -95,17 +95,9 @@ abbrev pub SlotsOfCall : List Slot → List Slot → List ℕ → Call → Type 
 SlotsOfCall table table' memory call =
     SlotsStay (Contains (descriptors_named memory call)) (Contains (closed_by call)) table table'
 
--- a call of these names the number, by its arguments or by what memory may hold
-abbrev pub NamedBy : List Call → ℕ → Type 0
-NamedBy calls n = (call : Call) × Contains calls call × ((memory : List ℕ) × Contains (descriptors_named memory call) n)
-
 -- a call of these closes it
 abbrev pub ClosedBy : List Call → ℕ → Type 0
 ClosedBy calls n = (call : Call) × Contains calls call × Contains (closed_by call) n
-
--- in a run of these calls
-abbrev pub SlotsOfRun : List Slot → List Slot → List Call → Type 0
-SlotsOfRun table table' calls = SlotsStay (NamedBy calls) (ClosedBy calls) table table'
 
 -- what is owned, at two numbers: a descriptor's handle is live, and another's is another
 abbrev pub OwnedApart : Handles → List (Option ℕ) → Type 0

@@ -3,7 +3,7 @@ use Rattle.std.specs.Prelude.{◌≡◌, ℕ, ◌<◌, ◌≤◌, false, IsTrue,
 use Rattle.wasi_paths.specs.Parts.{has_root}
 use Rattle.wasi_host.specs.Tree.{Tree}
 use Rattle.wasi_host.specs.HostCall.{HostCall, Stat, Pread, Pwrite, Append}
-use Rattle.wasi_host.specs.Step.{step, starts_of}
+use Rattle.wasi_host.specs.Step.{step, starts_of, found_by}
 use Rattle.wasi_host.specs.Steps.{◌>>=◌}
 use Rattle.wasi_host.specs.Answer.{HostAnswer, host_answer, metadata_of}
 use Rattle.wasi_host.specs.declared.errors.ErrorCode.{ErrorCode}
@@ -95,6 +95,14 @@ abbrev pub ends_at : Tree → Request → List ℕ
 ends_at t (Path p) = path_ends t p
 ends_at t r = []
 
+-- the nodes to which an answered request comes: those at which its paths end, or those of its calls of the host
+abbrev pub comes_to : Tree → Request → List ℕ
+comes_to t (Path p) = path_ends t p
+comes_to t (Direct call) = found_by t call
+comes_to t (Behind f piece) = found_by t (Append f piece)
+comes_to t (ListDirectory d) = d ∷ []
+comes_to t (Sizes ns) = ns
+
 -- all that a request means
 abbrev pub meant_of : Tree → (r : Request) → Meant (Reply r)
-meant_of t r = record { starts = starts_at r; answer = reply_of t r; stepped = after t r; ends = ends_at t r }
+meant_of t r = record { starts = starts_at r; answer = reply_of t r; stepped = after t r; ends = comes_to t r }

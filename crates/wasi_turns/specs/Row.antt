@@ -6,7 +6,7 @@ use Rattle.wasi_host.specs.Steps.{◌>>=◌}
 use Rattle.wasi_guest.specs.declared.answer.Value.{Value}
 use Rattle.wasi_turns.specs.Errnos.{errno_of}
 use Rattle.wasi_turns.specs.Guest.{Guest, State}
-use Rattle.wasi_turns.specs.Request.{Request, Reply, reply_of, after, starts_at, ends_at}
+use Rattle.wasi_turns.specs.Request.{Request, Reply, reply_of, after, starts_at, ends_at, comes_to}
 use Rattle.wasi_turns.specs.declared.error.P1Error.{P1Error}
 use Rattle.wasi_turns.specs.declared.error.P1Error.TheVariants.{Errno}
 
@@ -66,3 +66,9 @@ abbrev pub request_ends : {A : Type 0} → Tree → Row (Program A) → List ℕ
 request_ends t (Ok (asking r next)) = ends_at t r
 request_ends t (Ok (done x)) = []
 request_ends t (Err e) = []
+
+-- the nodes to which its request comes, where that is answered
+abbrev pub request_comes : {A : Type 0} → Tree → Row (Program A) → List ℕ
+request_comes t (Ok (asking r next)) = comes_to t r
+request_comes t (Ok (done x)) = []
+request_comes t (Err e) = []

@@ -171,3 +171,18 @@ may_want (calls.PathRename _ _ _ _ _ _) = true
 may_want (calls.PathSymlink _ _ _ _ _) = true
 may_want (calls.PollOneoff _ _ _) = true
 may_want call = false
+
+-- a call that looks up names: by its paths, or as it lists a directory
+abbrev pub looks_up : Call → Bool
+looks_up (calls.FdReaddir _ _ _ _) = true
+looks_up (calls.PathCreateDirectory _ _ _) = true
+looks_up (calls.PathFilestatGet _ _ _ _) = true
+looks_up (calls.PathFilestatSetTimes _ _ _ _ _ _ _) = true
+looks_up (calls.PathLink _ _ _ _ _ _ _) = true
+looks_up (calls.PathOpen _ _ _ _ _ _ _ _) = true
+looks_up (calls.PathReadlink _ _ _ _ _) = true
+looks_up (calls.PathRemoveDirectory _ _ _) = true
+looks_up (calls.PathUnlinkFile _ _ _) = true
+looks_up (calls.PathRename _ _ _ _ _ _) = true
+looks_up (calls.PathSymlink _ _ _ _ _) = true
+looks_up call = false

@@ -1,7 +1,7 @@
 -- What a call did, against its row.
 use Rattle.std.specs.Prelude.{ℕ, List, ◌≡◌, ◌⊎◌, Result, Ok, Err}
 use Rattle.wasi_turns.specs.Guest.{State}
-use Rattle.wasi_turns.specs.Row.{Row, Asks, starts, request_ends}
+use Rattle.wasi_turns.specs.Row.{Row, Asks, starts, request_ends, request_comes}
 use Rattle.wasi_turns.specs.Rows.{row}
 use Rattle.wasi_turns.specs.Front.{FueledCall}
 use Rattle.wasi_guest.specs.declared.errno.Errno.TheVariants as errnos
@@ -45,6 +45,10 @@ ReachesHost s call = Asks (row s.guest call)
 -- the nodes at which the paths of a call end
 abbrev pub named_by : State → FueledCall → List ℕ
 named_by s call = request_ends s.tree (row s.guest call)
+
+-- the nodes to which an answered call comes: these, or those of the handles by which it asks the host
+abbrev pub come_to_by : State → FueledCall → List ℕ
+come_to_by s call = request_comes s.tree (row s.guest call)
 
 -- the nodes from which a call reads or changes the tree
 abbrev pub roots_of : State → FueledCall → List ℕ

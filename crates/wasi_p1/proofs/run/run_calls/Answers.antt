@@ -7,12 +7,12 @@ use Rattle.wasi_guest.specs.declared.call.Call.TheVariants.{ArgsGet}
 use Rattle.wasi_host.proofs.Tracing.{traced_none}
 use Rattle.wasi_turns.proofs.CallTracing.{traced_on}
 use Rattle.wasi_turns.proofs.InReach.{did_same}
-use Rattle.wasi_turns.proofs.InTurn.{none_done, done, done_on, done_last, none_until, done_until, all_calls}
+use Rattle.wasi_turns.proofs.InTurn.{none_done, done, done_on, done_last, none_until, done_until, all_calls, stay_on}
 use Rattle.wasi_turns.proofs.Runs.{nothing_yet, io_counted, turned_on, stood, stood_first, ended, all_done, wanted_memory, may_want_at, call_at, calls_at}
 use Rattle.wasi_turns.proofs.RunAnswers.{goes_on-push, each_answered, last_answered}
 use Rattle.wasi_turns.proofs.Confining.{turn_confines}
 use Rattle.wasi_turns.proofs.ErrorNumbers.{did_errnos}
-use Rattle.wasi_turns.proofs.Staying.{all_stay, stay_on}
+use Rattle.wasi_turns.proofs.Staying.{all_stay}
 use Rattle.wasi_turns.proofs.Validity.{turn_valid}
 use Rattle.wasi_p1.proofs.run.run_calls.Goals as goal
 
@@ -55,9 +55,11 @@ loop-one-preserved g c = record {
       rw c.push.ensures.answers
       (goes_on-push _ _ c.loop-one.invariant.goes (sym c.ends_run.ensures ∙ c.if-ends_run.false));
   handles = c.call_with-outcome.ensures.bounds.handles ∙ c.loop-one.invariant.handles;
-  slots = stay_on c.args.calls.now.items _ c.loop-one.memory
-      (rw c.deref-one-items.ensures.value (Contains-get_or _ _ _ (omega arith))) c.loop-one.invariant.slots
-      c.call_with-outcome.ensures.slots;
+  slots =
+      let within : c.loop-one.one-index < length c.args.calls.now.items = omega arith in
+      stay_on c.loop-one.one-index (slice_get-get_or c.args.calls.now.items c.loop-one.one-index (ArgsGet 0 0) within)
+      (Contains-get_or _ _ _ within) c.loop-one.invariant.done c.loop-one.invariant.slots
+      (rw c.deref-one-items.ensures.value at c.call_with-outcome.ensures.slots);
   lineage = traced_on _ _ c.call_with-outcome.ensures.bounds.lineage c.loop-one.invariant.lineage;
   run = λ told.
       let within : c.loop-one.one-index < length c.args.calls.now.items = omega arith in
@@ -120,9 +122,11 @@ returns-in-None-clause-wanted g c =
     (rw c.deref-one-items.ensures.value at wants)))
 
 pub returns-in-None-clause-slots : goal.returns-in-None-clause-slots
-returns-in-None-clause-slots g c = stay_on c.args.calls.now.items _ c.loop-one.memory
-    (rw c.deref-one-items.ensures.value (Contains-get_or _ _ _ (omega arith))) c.loop-one.invariant.slots
-    c.call_with-outcome.ensures.slots
+returns-in-None-clause-slots g c =
+    let within : c.loop-one.one-index < length c.args.calls.now.items = omega arith in
+    stay_on c.loop-one.one-index (slice_get-get_or c.args.calls.now.items c.loop-one.one-index (ArgsGet 0 0) within)
+    (Contains-get_or _ _ _ within) c.loop-one.invariant.done c.loop-one.invariant.slots
+    (rw c.deref-one-items.ensures.value at c.call_with-outcome.ensures.slots)
 
 pub returns-in-None-clause-touched : goal.returns-in-None-clause-touched
 returns-in-None-clause-touched g c = λ told n was.
@@ -181,9 +185,11 @@ pub returns-then-ends_run-clause-errnos : goal.returns-then-ends_run-clause-errn
 returns-then-ends_run-clause-errnos g c = λ told. did_errnos (returns-then-ends_run-clause-run g c told)
 
 pub returns-then-ends_run-clause-slots : goal.returns-then-ends_run-clause-slots
-returns-then-ends_run-clause-slots g c = stay_on c.args.calls.now.items _ c.loop-one.memory
-    (rw c.deref-one-items.ensures.value (Contains-get_or _ _ _ (omega arith))) c.loop-one.invariant.slots
-    c.call_with-outcome.ensures.slots
+returns-then-ends_run-clause-slots g c =
+    let within : c.loop-one.one-index < length c.args.calls.now.items = omega arith in
+    stay_on c.loop-one.one-index (slice_get-get_or c.args.calls.now.items c.loop-one.one-index (ArgsGet 0 0) within)
+    (Contains-get_or _ _ _ within) c.loop-one.invariant.done c.loop-one.invariant.slots
+    (rw c.deref-one-items.ensures.value at c.call_with-outcome.ensures.slots)
 
 pub returns-then-ends_run-clause-touched : goal.returns-then-ends_run-clause-touched
 returns-then-ends_run-clause-touched g c = λ told n was.

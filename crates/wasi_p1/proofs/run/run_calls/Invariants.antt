@@ -5,7 +5,8 @@ use Rattle.wasi_turns.specs.Guest.{State, state_of}
 use Rattle.wasi_turns.specs.Reach.{Confined, StaysTouched}
 use Rattle.wasi_turns.specs.Run.{ios, Allows, GoOn}
 use Rattle.wasi_turns.specs.CallTurn.{OthersStay}
-use Rattle.wasi_turns.specs.Owners.{RunTraced, SlotsOfRun}
+use Rattle.wasi_turns.specs.InTurn.{SlotsOfRun}
+use Rattle.wasi_turns.specs.Owners.{RunTraced}
 use Rattle.wasi_turns.specs.Validity.{IsValidState}
 use Rattle.wasi_turns.proofs.Runs.{SoFar}
 use Rattle.wasi_turns.proofs.InTurn.{DoneSoFar}
@@ -17,7 +18,7 @@ invariant-loop-one g l = record {
   ios : Allows (g.H.Host.faults l.fn.context.host) (g.H.Host.faults l.context.host) (ios l.answers.answers);
   goes : GoOn l.answers.answers;
   handles : OthersStay g.H.Host.live l.fn.context l.context;
-  slots : SlotsOfRun l.fn.context.slots l.context.slots l.calls.items;
+  slots : SlotsOfRun g.H.Host l.fuel l.fn.context l.fn.memory l.calls.items l.context.slots;
   lineage : RunTraced l.fn.context.slots l.context.slots (g.H.Host.lookups l.fn.context.host)
       (g.H.Host.lookups l.context.host);
   run : IsTrue g.H.Host.told

@@ -25,4 +25,4 @@ returns-clause-turn g c =
     let lower = lowered_ok _ given.did in
     rw (given.same, ← c.context.view_is) (changed_ok {own = None} {r = Direct (Advise _ _ _ _)}
     (rw (← c.in_ok-how.ensures.row, ← c.in_ok-slot.ensures.row, c.view_advice.ensures) refl)
-    c.context.invariant.owned unchanged tt tt tt (λ told _. (lower.1.does told refl).keeps) (λ told _. called_ok (lower.1.does told refl)))
+    c.context.invariant.owned unchanged tt tt tt (λ told _. (lower.1.does told refl).keeps) (λ told _. called_ok refl (lower.1.does told refl)))

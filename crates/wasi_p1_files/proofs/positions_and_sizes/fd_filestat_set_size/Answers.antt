@@ -25,4 +25,4 @@ returns-clause-turn g c =
     let lower = lowered_ok _ given.did in
     rw (given.same, ← c.context.view_is) (changed_ok {r = Direct (SetSize _ _)} (rw (← c.in_ok-slot.ensures.row) refl)
     c.context.invariant.owned unchanged tt tt lower.permit (λ told none. (lower.does told none).keeps)
-    (λ told none. called_ok (lower.does told none)))
+    (λ told none. called_ok refl (lower.does told none)))

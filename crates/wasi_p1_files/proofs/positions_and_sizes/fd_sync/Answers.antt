@@ -24,4 +24,4 @@ returns-clause-turn g c =
     let given = c.in_ok-about_file.ensures in
     let lower = lowered_ok _ given.did in
     rw (given.same, ← c.context.view_is) (changed_ok {own = None} {r = Direct (Sync _)} (rw (← c.in_ok-slot.ensures.row) refl)
-    c.context.invariant.owned unchanged tt tt tt (λ told _. (lower.1.does told refl).keeps) (λ told _. called_ok (lower.1.does told refl)))
+    c.context.invariant.owned unchanged tt tt tt (λ told _. (lower.1.does told refl).keeps) (λ told _. called_ok refl (lower.1.does told refl)))
