@@ -6,7 +6,8 @@ use Rattle.wasi_guest.specs.declared.answer.Value.{Value}
 use Rattle.wasi_guest.specs.declared.call.Call.{Call}
 use Rattle.wasi_host.specs.Meaning.{FaultCount, Handles, Rose, never_fails}
 use Rattle.wasi_host.specs.declared.lookup.Lookup.{Lookup}
-use Rattle.wasi_turns.specs.CallTurn.{Causes, FollowsRow, IsAnswered, IsValidCall, Looks, OthersStay}
+use Rattle.wasi_turns.specs.CallTurn.{Causes, FollowsRow, IsAnswered, IsValidCall, Looks, LooksByNames, OthersStay}
+use Rattle.wasi_turns.specs.Rows.{looks_up}
 use Rattle.wasi_turns.specs.ErrorNumbers.{MayCome}
 use Rattle.wasi_turns.specs.Front.{with_fuel}
 use Rattle.wasi_turns.specs.Guest.{State, state_of}
@@ -65,6 +66,7 @@ pub record Called (old new : Sandbox) (before after : List ℕ) (call : Call) (r
   pub cause : Causes (faults old.context.host) (faults new.context.host) result
   pub handles : OthersStay live old.context new.context
   pub lineage : Looks lookups old.context new.context before call
+  pub logged : LooksByNames (looks_up call) (lookups old.context.host) (lookups new.context.host)
   pub unchanged : LeavesAll true world_behind old.context new.context before after result
   pub turn : FollowsRow true world_behind faults lookups (fueled old) new.context before after call result
   pub complete : (Failed old new → ⊥) → IsValidCall (state_with old before) (with_fuel old.fuel call)

@@ -13,6 +13,7 @@ returns c =
         cause = rw set at bounds.cause;
         handles = rw set at bounds.handles;
         lineage = rw set at bounds.lineage;
+        logged = rw set at bounds.logged;
         unchanged = leaves_all c.args.self.now _ _ _ _ _ set c.call-outcome.ensures.unchanged;
         turn = turn;
         complete = completes c.args.self.now _ c.call-outcome.new.context _ _ _ set (c.call-outcome.ensures.complete refl);
