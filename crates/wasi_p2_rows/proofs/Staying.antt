@@ -1,8 +1,7 @@
 -- Several contexts and tables whose handles are owned, as a call of one of them keeps its own so.
-use Rattle.std.proofs.Common.{suc, zero, ◌<◌, ◌≡◌, ℕ, List, [], ◌∷◌, length, map, slice_get, slice_set, get_or, option_map, Some, None, ap, sym, subst, ◌∙◌, inl, inr}
+use Rattle.std.proofs.Common.{suc, zero, ◌≡◌, ℕ, List, [], ◌∷◌, length, slice_get, Some, None, ap, sym, subst, ◌∙◌, inl, inr}
 use Rattle.std.specs.FinMap.{empty, get-empty}
-use Rattle.std.proofs.lemmas.List.{length-map, length-set, map-set}
-use Rattle.std.proofs.lemmas.Option.{slice_get-map, slice_get_read}
+use Rattle.std.proofs.lemmas.List.{length-set}
 use Rattle.wasi_host.specs.Meaning.{Handles}
 use Rattle.wasi_host.specs.declared.host.Host.{Ghosts}
 use Rattle.wasi_streams.proofs.OneChanged.{set_cases}
@@ -44,21 +43,3 @@ owned_none = record { lives = λ p h has. absurd (none p h has); apart = λ p q 
     none (preopened i) h has = absurd (cc)
     none (tabled n) h has =
         let at : entry_handle None ≡ Some h = sym (ap entry_handle (get-empty _ n)) ∙ has in absurd (cc)
-
--- of things that stand for pairs, one at a place
-pub given_at : {A B : Type 0} (f : A → B) (xs : List A) (i : ℕ) (x : A) → i < length (map f xs) → x ≡ get_or xs i x
-    → slice_get (map f xs) i ≡ Some (f x)
-given_at f xs i x within value =
-    slice_get-map f xs i ∙ ap (option_map f) (slice_get_read xs _ i x (length-map xs f) within value)
-
--- and it is changed
-pub one_given : {A B : Type 0} (f : A → B) (xs ys : List A) (i : ℕ) (x y : A) {Did : B → B → Type 0}
-    → i < length (map f xs) → x ≡ get_or xs i x → ys ≡ slice_set xs i y → Did (f x) (f y)
-    → OneDoes (map f xs) (map f ys) i Did
-one_given f xs ys i x y within value others did = record {
-  old = f x;
-  new = f y;
-  was = given_at f xs i x within value;
-  did = did;
-  others = ap (map f) others ∙ map-set f xs i y;
-}

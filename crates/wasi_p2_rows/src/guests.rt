@@ -1,59 +1,48 @@
 //! Those that lend views: one guest, and several.
-ghost use Rattle.std.specs.Prelude.{map};
-ghost use Rattle.wasi_p2.specs.Views.{files_of};
+ghost use Rattle.std.proofs.lemmas.List.{map-set};
+ghost use Rattle.std.specs.Prelude.{map, refl};
+ghost use Rattle.std.specs.Vec.{with_item};
+ghost use Rattle.wasi_p2_views.specs.Named.{pair_of};
 
 use wasi_host::Host;
-use wasi_p2::{WasiFilesystemCtx, WasiFilesystemCtxView};
-use wasi_p2_views::{NamedId, WasiFilesystemNamedView, WasiFilesystemView};
-use wasi_streams::ResourceTable;
+use wasi_p2_views::{FilesystemPair, NamedId, WasiFilesystemNamedView, WasiFilesystemView};
 
 /// A guest's context and table.
 #[derive(Drop)]
 pub struct Guest<H: Host> {
-    pub ctx: WasiFilesystemCtx<H>,
-    pub table: ResourceTable,
+    pub pair: FilesystemPair<H>,
 }
 
 impl<H: Host> WasiFilesystemView<H> for Guest<H> {
-    ghost files = { λ guest. files_of guest.ctx guest.table };
+    ghost files = { λ guest. pair_of guest.pair };
 
-    fn filesystem(&mut self) -> WasiFilesystemCtxView<'_, H> {
-        WasiFilesystemCtxView {
-            ctx: &mut self.ctx,
-            table: &mut self.table,
-        }
+    ghost with_pair = { λ guest pair. record guest { pair = pair } };
+
+    fn pair(&mut self) -> &mut FilesystemPair<H> {
+        &mut self.pair
     }
 
-    fn with_filesystem<R, F: FnOnce(&mut WasiFilesystemCtx<H>, &mut ResourceTable) -> R>(
-        &mut self,
-        f: F,
-    ) -> R {
-        f(&mut self.ctx, &mut self.table)
-    }
+    ghost holds = { λ old pair. refl };
 }
 
 /// Several guests, each with its own context and table.
 #[derive(Drop)]
 pub struct Guests<H: Host> {
-    pub guests: Vec<Guest<H>>,
+    pub guests: Vec<FilesystemPair<H>>,
 }
 
 impl<H: Host> WasiFilesystemNamedView<H> for Guests<H> {
-    ghost all = { λ several. map (λ guest. files_of guest.ctx guest.table) several.guests.items };
+    ghost all = { λ several. map pair_of several.guests.items };
+
+    ghost with_pair = { λ several id pair. record several { guests = with_item several.guests id pair } };
 
     fn ids(&self) -> usize {
         self.guests.len()
     }
 
-    fn filesystem(&mut self, id: NamedId) -> WasiFilesystemCtxView<'_, H> {
-        self.guests[id.0].filesystem()
+    fn pair(&mut self, id: NamedId) -> &mut FilesystemPair<H> {
+        &mut self.guests[id.0]
     }
 
-    fn with_filesystem<R, F: FnOnce(&mut WasiFilesystemCtx<H>, &mut ResourceTable) -> R>(
-        &mut self,
-        id: NamedId,
-        f: F,
-    ) -> R {
-        self.guests[id.0].with_filesystem(f)
-    }
+    ghost holds = { λ old id pair. map-set pair_of old.guests.items id pair };
 }

@@ -13,7 +13,9 @@ use std::alloc::{AllocError, Global};
 use wasi_fs::{Dir, FsPerms, OpenMode};
 use wasi_host::{Host, SystemTime};
 use wasi_p2::{Preopen, WasiFilesystemCtx, WasiFilesystemCtxView};
-use wasi_p2_views::{NamedId, WasiCtxNamedView, WasiFilesystemNamedView, WasiFilesystemView};
+use wasi_p2_views::{
+    FilesystemPair, NamedId, WasiCtxNamedView, WasiFilesystemNamedView, WasiFilesystemView,
+};
 use wasi_streams::ResourceTable;
 use wasi_table::{Answering, Asked, Told, number, unknown, word};
 use wasi_tree::MemTree;
@@ -26,15 +28,18 @@ impl Answering for ViewRows {
     fn answer(&mut self, asked: &Asked<'_>) -> Told {
         match asked.what {
             "view" => {
-                let mut guest = guest(asked.alloc, &[(0, "/")], 16)?;
+                let pair = guest(asked.alloc, &[(0, "/")], 16)?;
+                let mut guest = Guest { pair };
                 lent(&mut guest, asked)
             }
             "within" => {
-                let mut guest = guest(asked.alloc, &[(0, "/")], 16)?;
+                let pair = guest(asked.alloc, &[(0, "/")], 16)?;
+                let mut guest = Guest { pair };
                 within(&mut guest, asked)
             }
             "few" => {
-                let mut guest = guest(asked.alloc, &[(0, "/"), (1, "d")], 3)?;
+                let pair = guest(asked.alloc, &[(0, "/"), (1, "d")], 3)?;
+                let mut guest = Guest { pair };
                 lent(&mut guest, asked)
             }
             "named" => several(asked),
@@ -43,8 +48,12 @@ impl Answering for ViewRows {
     }
 }
 
-/// A guest that was given the directories of these nodes, with a table of so many entries.
-fn guest(alloc: Global, directories: &[(u64, &str)], max: u32) -> Result<Guest<MemTree>, AllocError>
+/// What a guest has that was given the directories of these nodes, with a table of so many entries.
+fn guest(
+    alloc: Global,
+    directories: &[(u64, &str)],
+    max: u32,
+) -> Result<FilesystemPair<MemTree>, AllocError>
     ensures { IfOk result (λ guest. AreOwned (live_of guest.ctx.host.handles) guest.ctx.preopens.items
         guest.table.entries) }
 {
@@ -62,7 +71,7 @@ fn guest(alloc: Global, directories: &[(u64, &str)], max: u32) -> Result<Guest<M
         now: SystemTime::EPOCH,
     };
     let table = ResourceTable::with_max(alloc, max);
-    Ok(Guest { ctx, table })
+    Ok(FilesystemPair { ctx, table })
 }
 
 /// A directory of the tree, with a handle of its own.

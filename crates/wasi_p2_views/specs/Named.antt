@@ -3,8 +3,13 @@ use Rattle.std.specs.Prelude.{◌≡◌, ℕ, List, Some, slice_get, slice_set}
 use Rattle.std.specs.Borrow.{MutBor}
 use Rattle.std.specs.Fn.{Once}
 use Rattle.wasi_streams.specs.Table.{Table}
-use Rattle.wasi_p2.specs.Views.{Files}
+use Rattle.wasi_p2.specs.Views.{Files, files_of}
 use Rattle.wasi_p2.specs.declared.context.WasiFilesystemCtx.{WasiFilesystemCtx}
+use Rattle.wasi_p2_views.specs.declared.views.FilesystemPair.{FilesystemPair}
+
+-- the two of a pair
+abbrev pub pair_of : {H : Type 0} → FilesystemPair H → Files H
+pair_of pair = files_of pair.ctx pair.table
 
 -- a function of a context and a table
 abbrev pub OnFiles : Type 0 → Type 0 → Type 0 → Type 1

@@ -5,4 +5,6 @@
 mod named;
 mod views;
 
-pub use views::{NamedId, WasiCtxNamedView, WasiFilesystemNamedView, WasiFilesystemView};
+pub use views::{
+    FilesystemPair, NamedId, WasiCtxNamedView, WasiFilesystemNamedView, WasiFilesystemView,
+};
