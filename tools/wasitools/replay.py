@@ -400,7 +400,7 @@ class Replay:
                 self.nodes[node].data.clear()
                 self.change(told, node, "size")
         told.opened = f"{self.paths.of(node)} (node {node})"
-        append = bool(given["fdflags"] & bit("fdflags", "append"))
+        append = base.perms == "ao" or bool(given["fdflags"] & bit("fdflags", "append"))
         self.descriptors[told.answer["ok"]] = Descriptor(node, None, base.perms, 0, append)
 
     def path_filestat_get(self, told: Told) -> None:

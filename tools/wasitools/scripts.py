@@ -47,6 +47,10 @@ class Node:
         return Node(names, data, self.link, self.bits, self.times)
 
 
+# What may be permitted below a preopen, and in words.
+PERMS = {"ro": "to be read", "rw": "to be read and changed", "ao": "to be read and added to"}
+
+
 @dataclass
 class Preopen:
     node: int
@@ -232,7 +236,7 @@ def preopens_of(value: Any, nodes: List[Node]) -> List[Preopen]:
         found = keyed(given, f"preopen {place}", "node name perms")
         node = number(found["node"], f"the node of preopen {place}")
         need(node < len(nodes) and nodes[node].kind == "dir", f"preopen {place} isn't a directory of the tree")
-        need(found["perms"] in ("ro", "rw"), f"the perms of preopen {place} are neither 'ro' nor 'rw'")
+        need(found["perms"] in PERMS, f"the perms of preopen {place} are none of {', '.join(PERMS)}")
         preopens.append(Preopen(node, text(found["name"], f"the name of preopen {place}"), found["perms"]))
     return preopens
 

@@ -13,7 +13,7 @@ from typing import Dict, Iterator, List, Optional, Tuple
 from . import calls as table
 from .calls import CALLS, CHOICES, ERRNO_WORDS, FIELDS, SETS, TRAPS, Argument
 from .replay import NANO, Change, Replay, Told, shown_path, shown_text
-from .scripts import EPOCHS, Node, Report, Script
+from .scripts import EPOCHS, PERMS, Node, Report, Script
 
 Cause = Tuple[str, List[int]]  # a word, and the numbers of calls
 MOST_SHOWN = 60  # characters of a text
@@ -425,7 +425,7 @@ def given_of(script: Script) -> List[Tuple[str, str]]:
     """What a guest is given, but for its tree and memory."""
     found = []
     for number, preopen in enumerate(script.preopens, table.FIRST_PREOPEN):
-        perms = "to be read and changed" if preopen.perms == "rw" else "to be read"
+        perms = PERMS[preopen.perms]
         found.append((f"descriptor {number}", f"preopen {shown_text(preopen.name)}, node {preopen.node}, {perms}"))
     if script.args:
         found.append(("arguments", " ".join(map(shown_text, script.args))))

@@ -13,7 +13,7 @@ from typing import Any, Dict, List, Optional, Sequence, Tuple
 
 from .calls import CALLS, CHOICES, EVENT, FIRST_PREOPEN, SETS, SUBSCRIPTION, U32, U64, Argument, Row, bit
 from .folders import Folder
-from .scripts import Mistake
+from .scripts import PERMS, Mistake
 from .writing import Layout
 
 # A word, the call that it stands for, and what stands behind it, in order: names of the call's arguments. `path@fd` is
@@ -184,8 +184,8 @@ def setting(found: Settings, tokens: List[Token], folder: Folder) -> None:
         return
     given = [token.exact for token in tokens[1:]]
     if name == "preopen":
-        if len(given) != 3 or given[2] not in ("ro", "rw"):
-            raise Mistake("`set preopen` takes a name, a folder of the tree, and ro or rw: set preopen /data data ro")
+        if len(given) != 3 or given[2] not in PERMS:
+            raise Mistake("`set preopen` takes a name, a folder of the tree, and ro, rw or ao: set preopen /data data ro")
         node = folder.node_at(given[1])
         if node is None:
             raise Mistake(f"the tree has no folder {given[1]}")

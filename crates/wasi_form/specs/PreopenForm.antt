@@ -5,15 +5,17 @@ use Rattle.serde_json.specs.Data.{Data, Members}
 use Rattle.serde_json.specs.Find as find
 use Rattle.serde_json.specs.Find.{get_member}
 use Rattle.wasi_fs.specs.declared.perms.FsPerms.{FsPerms}
-use Rattle.wasi_fs.specs.declared.perms.FsPerms.TheVariants.{ReadOnly, ReadWrite}
+use Rattle.wasi_fs.specs.declared.perms.FsPerms.TheVariants.{ReadOnly, ReadWrite, AppendOnly}
 use Rattle.wasi_form.specs.Lists.{◌>>=◌, names, only_if, needed}
 use Rattle.wasi_form.specs.Shapes.{u64_of, all_keys}
 use Rattle.wasi_form.specs.Plan.{PlannedPreopen}
 
--- `"ro"` or `"rw"`
+-- `"ro"`, `"rw"` or `"ao"`
 abbrev pub perms_written : List ℕ → Option FsPerms
 perms_written text =
-    if bytes_eq text (codes "ro") then Some ReadOnly else (if bytes_eq text (codes "rw") then Some ReadWrite else None)
+    if bytes_eq text (codes "ro") then Some ReadOnly
+    else (if bytes_eq text (codes "rw") then Some ReadWrite
+    else (if bytes_eq text (codes "ao") then Some AppendOnly else None))
 
 abbrev pub perms_named : Data → Option FsPerms
 perms_named d = find.as_str d >>= perms_written

@@ -26,6 +26,8 @@ fn perms_written(text: &str) -> Option<FsPerms>
         Some(FsPerms::ReadOnly)
     } else if text == "rw" {
         Some(FsPerms::ReadWrite)
+    } else if text == "ao" {
+        Some(FsPerms::AppendOnly)
     } else {
         None
     }

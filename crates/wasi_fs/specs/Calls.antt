@@ -1,5 +1,5 @@
 -- What the calls of descriptors do: what is permitted, then what the resolver or the host does.
-use Rattle.std.specs.Prelude.{ℕ, ◌≡◌, ◌+◌, Bool, true, false, ◌==◌, List, [], ◌∷◌, codes, Option, Some, None, Result, Ok, Err, IfErr, is_ok, if◌then◌else◌}
+use Rattle.std.specs.Prelude.{ℕ, ◌≡◌, ◌+◌, Bool, true, false, not, ◌==◌, List, [], ◌∷◌, codes, Option, Some, None, Result, Ok, Err, IfErr, is_ok, if◌then◌else◌}
 use Rattle.std.specs.FinSet.{contains, insert}
 use Rattle.wasi_paths.specs.Parts.{has_root}
 use Rattle.wasi_host.specs.Agree.{Touches}
@@ -28,7 +28,7 @@ use Rattle.wasi_fs.specs.DescriptorStat.{descriptor_type}
 use Rattle.wasi_fs.specs.OpenFlags.{descriptor_flag_bits, includes}
 use Rattle.wasi_fs.specs.OpenHow.{OpenHow, is_followed, options_of}
 use Rattle.wasi_fs.specs.OpenMode.{mode_bits}
-use Rattle.wasi_fs.specs.Perms.{is_read_only, differ}
+use Rattle.wasi_fs.specs.Perms.{permits, differ}
 use Rattle.wasi_fs.specs.declared.descriptor.Descriptor.{Descriptor}
 use Rattle.wasi_fs.specs.declared.descriptor.Descriptor.TheVariants as descriptors
 use Rattle.wasi_fs.specs.declared.descriptor_stat.DescriptorType.{DescriptorType}
@@ -36,30 +36,37 @@ use Rattle.wasi_fs.specs.declared.descriptor_stat.DescriptorType.TheVariants as 
 use Rattle.wasi_fs.specs.declared.open_flags.DescriptorFlags.{DescriptorFlags}
 use Rattle.wasi_fs.specs.declared.open_flags.PathFlags.{PathFlags}
 use Rattle.wasi_fs.specs.declared.open_mode.OpenMode.{OpenMode}
+use Rattle.wasi_fs.specs.declared.perms.Act.{Act}
+use Rattle.wasi_fs.specs.declared.perms.Act.TheVariants.{Make, Alter}
 use Rattle.wasi_fs.specs.declared.perms.FsPerms.{FsPerms}
 
 -- ---- what is permitted
 
--- nothing is changed below a directory that is read-only
-unfoldable pub may_change : FsPerms → Option ErrorCode
-may_change perms = first_row ((is_read_only perms, NotPermitted) ∷ [])
+-- an act that isn't permitted is refused
+unfoldable pub may_do : FsPerms → Act → Option ErrorCode
+may_do perms act = first_row ((not (permits perms act), NotPermitted) ∷ [])
 
--- nor is a link made there, and none anywhere whose text has a root
+-- a link is made where making is permitted, and none anywhere whose text has a root
 unfoldable pub may_link : FsPerms → List ℕ → Option ErrorCode
-may_link perms target = first_row ((is_read_only perms, NotPermitted) ∷ (has_root target, NotPermitted) ∷ [])
+may_link perms target = first_row ((not (permits perms Make), NotPermitted) ∷ (has_root target, NotPermitted) ∷ [])
 
--- a node gets a name only where both directories may be changed, and under the same permissions; a link isn't followed
+-- a node gets a further name only where making is permitted in both directories, and under the same permissions; a link
+-- isn't followed
 unfoldable pub may_add_name : FsPerms → FsPerms → Bool → Option ErrorCode
 may_add_name old new follow = first_row (
-    (is_read_only old, NotPermitted) ∷
-    (is_read_only new, NotPermitted) ∷
+    (not (permits old Make), NotPermitted) ∷
+    (not (permits new Make), NotPermitted) ∷
     (follow, Invalid) ∷
     (differ old new, NotPermitted) ∷
     [])
 
--- and so a name moves, where none is to be followed
-abbrev pub may_rename : FsPerms → FsPerms → Option ErrorCode
-may_rename old new = may_add_name old new false
+-- a name moves only where altering is permitted in both, and under the same permissions
+unfoldable pub may_rename : FsPerms → FsPerms → Option ErrorCode
+may_rename old new = first_row (
+    (not (permits old Alter), NotPermitted) ∷
+    (not (permits new Alter), NotPermitted) ∷
+    (differ old new, NotPermitted) ∷
+    [])
 
 -- a call that isn't permitted is refused so, and the host is as it was: nothing was asked of it
 abbrev pub Refuses : {A H : Type 0} → Option ErrorCode → Result A HostError → H → H → Type 0

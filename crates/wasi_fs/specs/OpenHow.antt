@@ -8,11 +8,12 @@ use Rattle.wasi_host.specs.declared.open_options.FollowSymlinks.{FollowSymlinks}
 use Rattle.wasi_host.specs.declared.open_options.FollowSymlinks.TheVariants.{Yes, No}
 use Rattle.wasi_fs.specs.OpenFlags.{path_flag_bits, open_flag_bits, descriptor_flag_bits, includes}
 use Rattle.wasi_fs.specs.OpenMode.{mode_for}
-use Rattle.wasi_fs.specs.Perms.{is_read_only}
+use Rattle.wasi_fs.specs.Perms.{permits}
 use Rattle.wasi_fs.specs.declared.open_flags.PathFlags.{PathFlags}
 use Rattle.wasi_fs.specs.declared.open_flags.OpenFlags.{OpenFlags}
 use Rattle.wasi_fs.specs.declared.open_flags.DescriptorFlags.{DescriptorFlags}
 use Rattle.wasi_fs.specs.declared.open_mode.OpenMode.{OpenMode}
+use Rattle.wasi_fs.specs.declared.perms.Act.TheVariants.{Make, Append, Alter}
 use Rattle.wasi_fs.specs.declared.perms.FsPerms.{FsPerms}
 
 -- `sync` is any of the flags of integrity
@@ -53,12 +54,17 @@ how_of path_flags open_flags flags = record {
   sync = has_descriptor_flag flags 4 || has_descriptor_flag flags 8 || has_descriptor_flag flags 16;
 }
 
+-- it creates, writes or truncates, which isn't permitted
+abbrev pub is_unpermitted : OpenHow → FsPerms → Bool
+is_unpermitted how perms = (how.create && not (permits perms Make)) || (how.write && not (permits perms Append))
+    || (how.truncate && not (permits perms Alter))
+
 -- what is refused of an open below a directory of these permissions, before its path is looked at
 abbrev pub open_rows : OpenHow → FsPerms → List (Bool × ErrorCode)
 open_rows how perms =
     (how.sync, codes.Unsupported)
     ∷ (how.directory && (how.create || how.exclusive || how.truncate), codes.Invalid)
-    ∷ (is_read_only perms && (how.create || how.truncate || how.write), codes.NotPermitted)
+    ∷ (is_unpermitted how perms, codes.NotPermitted)
     ∷ []
 
 -- the code of the first of these rows that holds

@@ -13,14 +13,16 @@ ghost use Rattle.wasi_resolve.specs.AtPlace.{CreateDir, RemoveFile, RemoveDir, S
 ghost use Rattle.wasi_resolve.specs.Finding.{is_directory_kind};
 ghost use Rattle.wasi_resolve.specs.PathRequest.{AtPlace, as_asked, meant_by};
 ghost use Rattle.wasi_resolve.specs.Resolved.{Resolved};
-ghost use Rattle.wasi_fs.specs.Calls.{may_change, may_link, Refuses, handle_of, perms_of, open_mode_of, opened_of, IsAsked, LiveOpened, GotOpened, opens, looks, meant_as};
+ghost use Rattle.wasi_fs.specs.Calls.{may_do, may_link, Refuses, handle_of, perms_of, open_mode_of, opened_of, IsAsked, LiveOpened, GotOpened, opens, looks, meant_as};
 ghost use Rattle.wasi_fs.specs.DescriptorStat.{descriptor_stat, IsStat};
 ghost use Rattle.wasi_fs.specs.MetadataHash.{metadata_hash, IsHash};
 ghost use Rattle.wasi_fs.specs.OpenHow.{how_of, may_open, mode_of};
+ghost use Rattle.wasi_fs.specs.declared.perms.Act.TheVariants.{Make, Alter};
 
 use crate::open_how::{OpenHow, follow_symlinks};
 use crate::{
-    Descriptor, DescriptorFlags, DescriptorStat, Dir, File, MetadataHashValue, OpenFlags, PathFlags,
+    Act, Descriptor, DescriptorFlags, DescriptorStat, Dir, File, MetadataHashValue, OpenFlags,
+    PathFlags,
 };
 use bitflags::Flags;
 use std::alloc::Global;
@@ -77,13 +79,13 @@ impl Dir {
         ensures cause { HasCause (H.faults host.old) (H.faults host.new) result }
         ensures live { H.live host.new ≡ H.live host.old }
         ensures lineage { Traced (Only self.now.dir) Nothing Nothing (H.lookups host.old) (H.lookups host.new) }
-        ensures permit { Refuses (may_change self.now.perms) result host.old host.new }
-        ensures told { IsTrue H.told → may_change self.now.perms ≡ None
+        ensures permit { Refuses (may_do self.now.perms Make) result host.old host.new }
+        ensures told { IsTrue H.told → may_do self.now.perms Make ≡ None
             → Resolved (H.live host.old) (H.world host.old) (H.world host.new)
             (meant_by (H.world host.old).tree (AtPlace ((H.world host.old).held self.now.dir).node path.now CreateDir))
             (λ unit. unit) result }
     {
-        self.perms.check_change()?;
+        self.perms.check(Act::Make)?;
         wasi_resolve::create_dir(alloc, host, self.dir, path)
     }
 
@@ -99,13 +101,13 @@ impl Dir {
         ensures cause { HasCause (H.faults host.old) (H.faults host.new) result }
         ensures live { H.live host.new ≡ H.live host.old }
         ensures lineage { Traced (Only self.now.dir) Nothing Nothing (H.lookups host.old) (H.lookups host.new) }
-        ensures permit { Refuses (may_change self.now.perms) result host.old host.new }
-        ensures told { IsTrue H.told → may_change self.now.perms ≡ None
+        ensures permit { Refuses (may_do self.now.perms Alter) result host.old host.new }
+        ensures told { IsTrue H.told → may_do self.now.perms Alter ≡ None
             → Resolved (H.live host.old) (H.world host.old) (H.world host.new)
             (meant_by (H.world host.old).tree (AtPlace ((H.world host.old).held self.now.dir).node path.now RemoveDir))
             (λ unit. unit) result }
     {
-        self.perms.check_change()?;
+        self.perms.check(Act::Alter)?;
         wasi_resolve::remove_dir(alloc, host, self.dir, path)
     }
 
@@ -121,19 +123,19 @@ impl Dir {
         ensures cause { HasCause (H.faults host.old) (H.faults host.new) result }
         ensures live { H.live host.new ≡ H.live host.old }
         ensures lineage { Traced (Only self.now.dir) Nothing Nothing (H.lookups host.old) (H.lookups host.new) }
-        ensures permit { Refuses (may_change self.now.perms) result host.old host.new }
-        ensures told { IsTrue H.told → may_change self.now.perms ≡ None
+        ensures permit { Refuses (may_do self.now.perms Alter) result host.old host.new }
+        ensures told { IsTrue H.told → may_do self.now.perms Alter ≡ None
             → Resolved (H.live host.old) (H.world host.old) (H.world host.new)
             (meant_by (H.world host.old).tree (AtPlace ((H.world host.old).held self.now.dir).node path.now RemoveFile))
             (λ unit. unit) result }
     {
-        self.perms.check_change()?;
+        self.perms.check(Act::Alter)?;
         wasi_resolve::remove_file(alloc, host, self.dir, path)
     }
 
     /// Makes a link of the text `src_path` under `dest_path`: the crate's `symlink_at`. Refusals: NotPermitted under
     /// read-only permissions, and of a text with a root; then those of the resolver's `symlink`.
-    #[tactic(auto, unfolding(crate::specs::Calls::may_change, crate::specs::Calls::may_link))]
+    #[tactic(auto, unfolding(crate::specs::Calls::may_do, crate::specs::Calls::may_link))]
     pub fn symlink_at<H: Host>(
         &self,
         alloc: Global,
@@ -152,7 +154,7 @@ impl Dir {
             (AtPlace ((H.world host.old).held self.now.dir).node dest_path.now (Symlink src_path.now)))
             (λ unit. unit) result }
     {
-        self.perms.check_change()?;
+        self.perms.check(Act::Make)?;
         wasi_resolve::symlink(alloc, host, src_path, self.dir, dest_path)
     }
 

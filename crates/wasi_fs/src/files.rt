@@ -4,9 +4,10 @@ ghost use Rattle.std.specs.FinSet.{contains};
 ghost use Rattle.wasi_host.specs.HostCall.{Advise, SetSize};
 ghost use Rattle.wasi_host.specs.Meaning.{HasCause};
 ghost use Rattle.wasi_resolve.specs.Resolved.{Resolved};
-ghost use Rattle.wasi_fs.specs.Calls.{asks_at, may_change, NotMemory, Refuses};
+ghost use Rattle.wasi_fs.specs.Calls.{asks_at, may_do, NotMemory, Refuses};
+ghost use Rattle.wasi_fs.specs.declared.perms.Act.TheVariants.{Alter};
 
-use crate::File;
+use crate::{Act, File};
 use wasi_host::{Advice, Host, HostError};
 
 /// Each call goes through the file's handle, which is to be live, and makes no look-up of a name.
@@ -40,13 +41,13 @@ impl File {
         ensures cause { HasCause (H.faults host.old) (H.faults host.new) result }
         ensures live { H.live host.new ≡ H.live host.old }
         ensures logged { H.lookups host.new ≡ H.lookups host.old }
-        ensures permit { Refuses (may_change self.now.perms) result host.old host.new }
-        ensures told { IsTrue H.told → may_change self.now.perms ≡ None
+        ensures permit { Refuses (may_do self.now.perms Alter) result host.old host.new }
+        ensures told { IsTrue H.told → may_do self.now.perms Alter ≡ None
             → Resolved (H.live host.old) (H.world host.old) (H.world host.new)
             (asks_at (H.world host.old).tree (SetSize ((H.world host.old).held self.now.file) size)
             ((H.world host.old).held self.now.file).node) (λ unit. unit) result }
     {
-        self.perms.check_change()?;
+        self.perms.check(Act::Alter)?;
         host.set_size(self.file, size)
     }
 }

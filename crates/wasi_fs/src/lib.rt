@@ -21,4 +21,4 @@ pub use descriptor_stat::{Datetime, DescriptorStat, DescriptorType};
 pub use metadata_hash::MetadataHashValue;
 pub use open_flags::{DescriptorFlags, OpenFlags, PathFlags};
 pub use open_mode::OpenMode;
-pub use perms::FsPerms;
+pub use perms::{Act, FsPerms};

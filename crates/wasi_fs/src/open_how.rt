@@ -1,9 +1,9 @@
 //! How a path is opened.
 ghost use Rattle.std.specs.Prelude.{◌≡◌, false, IfErr};
 ghost use Rattle.std.specs.Result.{result_err};
-ghost use Rattle.wasi_fs.specs.OpenHow.{how_of, may_open, is_io, follow_of, reads, writes, options_of, mode_of};
+ghost use Rattle.wasi_fs.specs.OpenHow.{how_of, may_open, is_unpermitted, is_io, follow_of, reads, writes, options_of, mode_of};
 
-use crate::{DescriptorFlags, FsPerms, OpenFlags, OpenMode, PathFlags};
+use crate::{Act, DescriptorFlags, FsPerms, OpenFlags, OpenMode, PathFlags};
 use bitflags::Flags;
 use std::marker::Model;
 use wasi_host::{ErrorCode, FollowSymlinks, OpenOptions};
@@ -98,10 +98,19 @@ impl OpenHow {
         if self.directory && (self.create || self.exclusive || self.truncate) {
             return Err(ErrorCode::Invalid);
         }
-        if perms.write_not_permitted() && (self.create || self.truncate || self.write) {
+        if self.is_unpermitted(perms) {
             return Err(ErrorCode::NotPermitted);
         }
         Ok(())
+    }
+
+    /// Whether it creates, writes or truncates where that isn't permitted.
+    fn is_unpermitted(&self, perms: FsPerms) -> bool
+        ensures { result ≡ is_unpermitted self.now perms }
+    {
+        (self.create && !perms.permits(Act::Make))
+            || (self.write && !perms.permits(Act::Append))
+            || (self.truncate && !perms.permits(Act::Alter))
     }
 
     /// Whether only a directory is to be opened.

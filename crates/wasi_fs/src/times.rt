@@ -5,9 +5,10 @@ ghost use Rattle.wasi_host.specs.Meaning.{HasCause};
 ghost use Rattle.wasi_host.specs.Lineage.{Traced, Only, Nothing};
 ghost use Rattle.wasi_resolve.specs.PathRequest.{meant_by};
 ghost use Rattle.wasi_resolve.specs.Resolved.{Resolved};
-ghost use Rattle.wasi_fs.specs.Calls.{may_change, handle_of, perms_of, sets, sets_times, NotMemory, Refuses};
+ghost use Rattle.wasi_fs.specs.Calls.{may_do, handle_of, perms_of, sets, sets_times, NotMemory, Refuses};
+ghost use Rattle.wasi_fs.specs.declared.perms.Act.TheVariants.{Alter};
 
-use crate::{Descriptor, Dir, FsPerms, PathFlags};
+use crate::{Act, Descriptor, Dir, FsPerms, PathFlags};
 use bitflags::Flags;
 use std::alloc::Global;
 use wasi_host::{Host, HostError, SystemTime};
@@ -27,13 +28,13 @@ impl Descriptor {
         ensures no_memory { IfErr result NotMemory }
         ensures live { H.live host.new ≡ H.live host.old }
         ensures logged { H.lookups host.new ≡ H.lookups host.old }
-        ensures permit { Refuses (may_change (perms_of self.now)) result host.old host.new }
-        ensures told { IsTrue H.told → may_change (perms_of self.now) ≡ None
+        ensures permit { Refuses (may_do (perms_of self.now) Alter) result host.old host.new }
+        ensures told { IsTrue H.told → may_do (perms_of self.now) Alter ≡ None
             → Resolved (H.live host.old) (H.world host.old) (H.world host.new)
             (sets (H.world host.old).tree ((H.world host.old).held (handle_of self.now)).node atim mtim)
             (λ unit. unit) result }
     {
-        self.perms().check_change()?;
+        self.perms().check(Act::Alter)?;
         Ok(host.set_times(self.handle(), atim, mtim)?)
     }
 
@@ -67,14 +68,14 @@ impl Dir {
         ensures cause { HasCause (H.faults host.old) (H.faults host.new) result }
         ensures live { H.live host.new ≡ H.live host.old }
         ensures lineage { Traced (Only self.now.dir) Nothing Nothing (H.lookups host.old) (H.lookups host.new) }
-        ensures permit { Refuses (may_change self.now.perms) result host.old host.new }
-        ensures told { IsTrue H.told → may_change self.now.perms ≡ None
+        ensures permit { Refuses (may_do self.now.perms Alter) result host.old host.new }
+        ensures told { IsTrue H.told → may_do self.now.perms Alter ≡ None
             → Resolved (H.live host.old) (H.world host.old) (H.world host.new)
             (meant_by (H.world host.old).tree
             (sets_times ((H.world host.old).held self.now.dir).node path.now path_flags atim mtim))
             (λ unit. unit) result }
     {
-        self.perms.check_change()?;
+        self.perms.check(Act::Alter)?;
         if path_flags.contains(PathFlags::SYMLINK_FOLLOW) {
             return wasi_resolve::set_times(alloc, host, self.dir, path, atim, mtim);
         }

@@ -74,7 +74,7 @@ impl Dir {
             ((H.world host.old).held new_dir.now.dir).node new_path.now Rename))
             (λ unit. unit) result }
     {
-        self.perms.check_add_name(new_dir.perms, false)?;
+        self.perms.check_rename(new_dir.perms)?;
         wasi_resolve::rename(alloc, host, self.dir, old_path, new_dir.dir, new_path)
     }
 }

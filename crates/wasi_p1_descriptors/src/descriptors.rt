@@ -7,7 +7,7 @@ use wasi_guest::{Errno, Value};
 use wasi_host::Host;
 use wasi_p1_context::WasiP1Ctx;
 use wasi_p1_parts::call_parts::{close_slot, descriptor_at, live_at, put_back, renumber_slot};
-use wasi_p1_parts::file_parts::{file_at, not_synchronized, preopen_at, put_name};
+use wasi_p1_parts::file_parts::{file_at, keeps_append, not_synchronized, preopen_at, put_name};
 use wasi_p1_parts::look_parts::{dir_fdstat, node_filestat, open_file_fdstat};
 use wasi_p1_types::open_with::file_modes;
 use wasi_turns::{
@@ -65,7 +65,8 @@ pub fn fd_fdstat_get<H: Host>(
 
 /// Sets how a file's descriptor is used: whether what it writes goes behind the file's last byte, and nonblock, by
 /// which nothing changes. Refusals, in this order: Inval where a flag is none of preview1's; Badf where the number
-/// isn't a file's; Inval of dsync, rsync and sync. It takes no memory.
+/// isn't a file's; Inval of dsync, rsync and sync; Perm where append is taken from a file under append-only
+/// permissions. It takes no memory.
 #[tactic(auto, using(wasi_turns::proofs::Taking::refusals), unfolding(wasi_turns::specs::Rows::Descriptors::fd_fdstat_set_flags))]
 pub fn fd_fdstat_set_flags<H: Host>(
     context: &mut WasiP1Ctx<H>,
@@ -85,6 +86,7 @@ pub fn fd_fdstat_set_flags<H: Host>(
     )?;
     not_synchronized(fdflags)?;
     let modes = file_modes(fdflags);
+    keeps_append(file.perms, modes)?;
     put_back(&mut context.descriptors, fd, file, position, modes);
     Ok(Value::Unit)
 }

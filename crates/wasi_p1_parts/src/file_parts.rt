@@ -7,7 +7,7 @@ ghost use Rattle.wasi_host.specs.HostCall.{Append, Stat};
 ghost use Rattle.wasi_host.specs.Meaning.{Rose};
 ghost use Rattle.wasi_turns.specs.CallParts.{IsReplied, Knows, Makes, WantsNoMemory, is_failure, open_file_of};
 ghost use Rattle.wasi_turns.specs.CallTurn.{Causes};
-ghost use Rattle.wasi_turns.specs.Files.{base_in, file_in, host_advice, name_at, name_into, not_synchronized, or_refused, position_from, read_place_in, stream_refused};
+ghost use Rattle.wasi_turns.specs.Files.{base_in, file_in, host_advice, keeps_append, name_at, name_into, not_synchronized, or_refused, position_from, read_place_in, stream_refused};
 ghost use Rattle.wasi_turns.specs.Guest.{guest_slots};
 ghost use Rattle.wasi_turns.specs.Owners.{handles, Owned};
 ghost use Rattle.wasi_turns.specs.Putting.{appended_in, count_in, put_call, put_in, put_request};
@@ -24,7 +24,7 @@ ghost use Rattle.wasi_turns.specs.declared.usage.FileUse.TheVariants.{ReadAt};
 use crate::call_parts::{room_at, write_piece};
 use crate::descriptors::Descriptors;
 use bitflags::Flags;
-use wasi_fs::Descriptor;
+use wasi_fs::{Descriptor, FsPerms};
 use wasi_guest::{Advice, Errno, FdFlags, Whence, write_bytes};
 use wasi_host::{Handle, Host};
 use wasi_p2::types;
@@ -299,6 +299,19 @@ pub fn not_synchronized(fdflags: FdFlags) -> Result<(), P1Error>
         || fdflags.contains(FdFlags::SYNC)
     {
         return Err(INVALID);
+    }
+    Ok(())
+}
+
+/// Whether a file of these permissions may be used so: Perm where only additions are permitted, and what is written
+/// wouldn't go behind its last byte.
+#[tactic(auto, unfolding(wasi_turns::specs::Files::keeps_append))]
+pub fn keeps_append(perms: FsPerms, modes: FileModes) -> Result<(), P1Error>
+    ensures row { result ≡ keeps_append perms modes }
+    ensures refusal { IfErr result (λ e. is_failure e ≡ false) }
+{
+    if perms.is_append_only() && !modes.append {
+        return Err(P1Error::Errno(Errno::Perm));
     }
     Ok(())
 }

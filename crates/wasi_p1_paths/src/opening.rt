@@ -25,8 +25,8 @@ use wasi_turns::{P1Error, text_at};
 /// than the fuel that is left; trap Pointer where it leaves the memory; Ilseq where its bytes aren't UTF-8; Badf
 /// where the number isn't a directory's or file's, Notdir where it is a file's; trap TableFull where as many
 /// descriptors are live as may be; Notsup of dsync, rsync and sync; Inval of DIRECTORY beside another of its flags;
-/// Perm of creat, trunc and FD_WRITE under read-only permissions; then those of the walk, at the part where it
-/// stops: Noent of an empty text, Perm of a leading slash, in a link's text too, and of `..` at the start
+/// Perm of creat, trunc and FD_WRITE under read-only permissions, and of trunc under append-only ones; then those of
+/// the walk, at the part where it stops: Noent of an empty text, Perm of a leading slash, in a link's text too, and of `..` at the start
 /// directory, Acces of `..` where a directory may not be searched, Loop of a link past the 40th, Isdir of a path
 /// that ends in `.` or `..` where creat, trunc or FD_WRITE is asked for, and at each name the host's, which are
 /// those of POSIX's `openat`; Notdir where DIRECTORY is asked for and no directory was opened.
@@ -52,13 +52,14 @@ pub fn path_open<H: Host>(
     let text = text_at(memory, &mut context.fuel, path, path_len)?;
     let dir = directory_at(&context.fs.host, &context.descriptors, fd, Errno::Notdir)?;
     room_at(&context.fs.host, &context.descriptors, 1)?;
+    let below = with.under(dir.perms);
     let number = open_into(
         &mut context.fs,
         &mut context.descriptors,
         fd,
         dir,
         text,
-        with,
+        below,
     )?;
     Ok(Value::Number(number))
 }

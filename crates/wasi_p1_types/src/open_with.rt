@@ -6,13 +6,14 @@ ghost use Rattle.wasi_fs.specs.OpenFlags.{includes};
 ghost use Rattle.wasi_guest.specs.FlagSets.{lookupflag_bits, oflag_bits, fdflag_bits, right_bits};
 ghost use Rattle.wasi_guest.specs.Flags as flag;
 ghost use Rattle.wasi_guest.specs.Flags.{has};
-ghost use Rattle.wasi_turns.specs.RawFlags.{modes_in, open_how, follow_asked};
+ghost use Rattle.wasi_turns.specs.RawFlags.{modes_in, modes_under, open_how, follow_asked};
 ghost use Rattle.wasi_turns.specs.CallParts.{is_failure};
 ghost use Rattle.wasi_p2_types.specs.FlagBits.{path_set, open_set, descriptor_set};
 ghost use Rattle.wasi_p2_types.specs.FlagNames.{path_flags_named};
 ghost use Rattle.wasi_p2_types.specs.FlagNames.{how_named};
 
 use bitflags::Flags;
+use wasi_fs::FsPerms;
 use wasi_guest::{FdFlags, LookupFlags, OFlags, Rights};
 use wasi_p2_types::{DescriptorFlags, OpenFlags, PathFlags};
 use wasi_turns::{FileModes, INVALID, P1Error};
@@ -53,6 +54,19 @@ impl OpenWith {
             flags: descriptor_flags(rights, fdflags),
             modes: file_modes(fdflags),
         })
+    }
+
+    /// The same below a directory of these permissions: a file is always appended to where only additions are permitted.
+    pub fn under(self, perms: FsPerms) -> OpenWith
+        ensures { result ≡ record self { modes = modes_under perms self.modes } }
+    {
+        OpenWith {
+            modes: FileModes {
+                append: self.modes.append || perms.is_append_only(),
+                nonblock: self.modes.nonblock,
+            },
+            ..self
+        }
     }
 }
 

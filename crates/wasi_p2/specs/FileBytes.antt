@@ -14,6 +14,7 @@ use Rattle.wasi_p2_errors.specs.declared.error.FsError.{FsError}
 use Rattle.wasi_p2_errors.specs.declared.error.FsError.TheVariants.{Code, Memory}
 use Rattle.wasi_p2.specs.declared.read_result.ReadResult.{ReadResult}
 use Rattle.wasi_p2_types.specs.declared.error_code.ErrorCode.TheVariants.{Io}
+use Rattle.wasi_fs.specs.declared.perms.Act.TheVariants.{Alter}
 
 abbrev pub is_none_left : List ℕ → Bool
 is_none_left [] = true
@@ -48,6 +49,6 @@ pub record WritesFile {H : Type 0} (host : Ghosts H) (old new : Files H) (fd : �
     (result : Result ℕ FsError) : Type 0 where
   pub asks : AsksHost host old new result
   pub logged : host.lookups new.ctx.host ≡ host.lookups old.ctx.host
-  pub did : OrRefused (writable_at old.table.entries fd) (new.ctx.host ≡ old.ctx.host) (λ file.
+  pub did : OrRefused (writable_at Alter old.table.entries fd) (new.ctx.host ≡ old.ctx.host) (λ file.
       (reply : Result ℕ HostError) × (result ≡ write_answer piece reply)
       × Puts host.told file.file (seen_in host old) (seen_in host new) (Position offset) piece reply) result

@@ -3,7 +3,7 @@ use Rattle.std.specs.Prelude.{ℕ, Bool, IsTrue, None, Result, IfOk, IfErr}
 use Rattle.wasi_host.specs.HostCall.{Advise, SetSize}
 use Rattle.wasi_host.specs.declared.errors.HostError.{HostError}
 use Rattle.wasi_host.specs.declared.host.Host.{Ghosts}
-use Rattle.wasi_fs.specs.Calls.{asks_at, handle_of, may_change, meant_as, perms_of, sets, stats, syncs, tells_flags, AnswersKnown, Compares, IsFlags, IsTyped, LooksAnew, NeedsNone, NotMemory}
+use Rattle.wasi_fs.specs.Calls.{asks_at, handle_of, may_do, meant_as, perms_of, sets, stats, syncs, tells_flags, AnswersKnown, Compares, IsFlags, IsTyped, LooksAnew, NeedsNone, NotMemory}
 use Rattle.wasi_fs.specs.DescriptorStat.{descriptor_stat, IsStat}
 use Rattle.wasi_fs.specs.MetadataHash.{metadata_hash, IsHash}
 use Rattle.wasi_fs.specs.OpenFlags.{descriptor_flag_bits}
@@ -22,6 +22,7 @@ use Rattle.wasi_p2_types.specs.declared.descriptor_stat.DescriptorType.{Descript
 use Rattle.wasi_p2_types.specs.declared.descriptor_stat.MetadataHashValue.{MetadataHashValue}
 use Rattle.wasi_p2_types.specs.declared.flags.DescriptorFlags.{DescriptorFlags}
 use Rattle.wasi_p2_types.specs.declared.times.NewTimestamp.{NewTimestamp}
+use Rattle.wasi_fs.specs.declared.perms.Act.TheVariants.{Alter}
 
 -- a call about a resource's descriptor, and about its file, which looks up no name
 abbrev pub AboutIt : {H A B : Type 0} → Ghosts H → Files H → Files H → ℕ → (A → B)
@@ -44,7 +45,7 @@ Advises host old new fd offset len advice result = AboutFile host old new fd (λ
 -- `set_size`
 abbrev pub SetsSize : {H : Type 0} → Ghosts H → Files H → Files H → ℕ → ℕ → Result (Unit {0}) FsError → Type 0
 SetsSize host old new fd size result = AboutFile host old new fd (λ file answer.
-    Performs host old.ctx.host new.ctx.host (may_change file.perms)
+    Performs host old.ctx.host new.ctx.host (may_do file.perms Alter)
     (asks_at (tree_in host old) (SetSize ((host.world old.ctx.host).held file.file) size)
     (node_held host old file.file)) (λ unit. unit) answer) result
 
@@ -85,7 +86,7 @@ abbrev pub SetsTimes : {H : Type 0} → Ghosts H → Files H → Files H → ℕ
     → Result (Unit {0}) FsError → Type 0
 SetsTimes host old new fd atim mtim result = CallsOn host old new LooksAtNone
     (timed_by (descriptor_at old.table.entries fd) old.ctx.now atim mtim) (λ unit. unit) (λ found answer.
-    IfErr answer NotMemory × Performs host old.ctx.host new.ctx.host (may_change (perms_of found.0))
+    IfErr answer NotMemory × Performs host old.ctx.host new.ctx.host (may_do (perms_of found.0) Alter)
     (sets (tree_in host old) (node_held host old (handle_of found.0)) found.1.0 found.1.1) (λ unit. unit) answer) result
 
 -- `is_same_object`

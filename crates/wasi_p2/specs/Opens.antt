@@ -19,6 +19,8 @@ use Rattle.wasi_streams.specs.declared.entry.Entry.{Entry}
 use Rattle.wasi_streams.specs.declared.entry.Entry.TheVariants.{Descriptor as AnOpened, Input, Output, Readdir}
 use Rattle.wasi_streams.specs.declared.errors.TableError.TheVariants.{Full}
 use Rattle.wasi_streams.specs.declared.input.ReadState.TheVariants.{Idle}
+use Rattle.wasi_fs.specs.declared.perms.Act.{Act}
+use Rattle.wasi_fs.specs.declared.perms.Act.TheVariants as acts
 use Rattle.wasi_streams.specs.declared.output.FileOutputMode.{FileOutputMode}
 use Rattle.wasi_streams.specs.declared.output.FileOutputMode.TheVariants.{Position, Append}
 use Rattle.wasi_streams.specs.declared.output.OutputState.TheVariants.{Ready}
@@ -108,9 +110,14 @@ StreamsFrom host old new fd offset result = MakesEntry host old new fd (readable
     (λ file answer. IfOk answer (λ s. (s.position ≡ offset) × (s.state ≡ Idle))
     × Doubles host old new file.file (λ s. s.file) answer) result
 
+-- what a stream into a file does to it
+abbrev pub act_of : FileOutputMode → Act
+act_of (Position offset) = acts.Alter
+act_of Append = acts.Append
+
 -- a stream into a file, from an offset on or behind its last byte
 abbrev pub StreamsTo : {H : Type 0} → Ghosts H → Files H → Files H → ℕ → FileOutputMode → Result Resource FsError → Type 0
-StreamsTo host old new fd mode result = MakesEntry host old new fd (writable_at old.table.entries fd) Output
+StreamsTo host old new fd mode result = MakesEntry host old new fd (writable_at (act_of mode) old.table.entries fd) Output
     (λ file answer. IfOk answer (λ s. (s.mode ≡ mode) × (s.state ≡ Ready))
     × Doubles host old new file.file (λ s. s.file) answer) result
 

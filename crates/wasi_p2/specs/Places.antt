@@ -9,7 +9,7 @@ use Rattle.wasi_host.specs.declared.host.Host.{Ghosts}
 use Rattle.wasi_resolve.specs.AtPlace.{CreateDir, RemoveFile, RemoveDir, Symlink, ReadLink}
 use Rattle.wasi_resolve.specs.AtTwo.{HardLink, Rename}
 use Rattle.wasi_resolve.specs.PathRequest.{AtPlace, AtTwo, meant_by}
-use Rattle.wasi_fs.specs.Calls.{may_change, may_link, may_add_name, may_rename, looks, meant_as, sets_times}
+use Rattle.wasi_fs.specs.Calls.{may_do, may_link, may_add_name, may_rename, looks, meant_as, sets_times}
 use Rattle.wasi_fs.specs.DescriptorStat.{descriptor_stat, IsStat}
 use Rattle.wasi_fs.specs.MetadataHash.{metadata_hash, IsHash}
 use Rattle.wasi_fs.specs.OpenHow.{is_followed}
@@ -24,6 +24,7 @@ use Rattle.wasi_p2_types.specs.declared.descriptor_stat.DescriptorStat.{Descript
 use Rattle.wasi_p2_types.specs.declared.descriptor_stat.MetadataHashValue.{MetadataHashValue}
 use Rattle.wasi_p2_types.specs.declared.flags.PathFlags.{PathFlags}
 use Rattle.wasi_p2_types.specs.declared.times.NewTimestamp.{NewTimestamp}
+use Rattle.wasi_fs.specs.declared.perms.Act.TheVariants.{Make, Alter}
 
 -- a call below the directory of a resource
 abbrev pub BelowIt : {H A B : Type 0} → Ghosts H → Files H → Files H → ℕ → (A → B) → (Dir → Result A HostError → Type 0)
@@ -34,19 +35,19 @@ BelowIt host old new fd shown Did result =
 -- `create_directory_at`
 abbrev pub CreatesDirectory : {H : Type 0} → Ghosts H → Files H → Files H → ℕ → List ℕ → Result (Unit {0}) FsError → Type 0
 CreatesDirectory host old new fd path result = BelowIt host old new fd (λ unit. unit) (λ dir answer.
-    Performs host old.ctx.host new.ctx.host (may_change dir.perms)
+    Performs host old.ctx.host new.ctx.host (may_do dir.perms Make)
     (meant_by (tree_in host old) (AtPlace (node_held host old dir.dir) path CreateDir)) (λ unit. unit) answer) result
 
 -- `remove_directory_at`
 abbrev pub RemovesDirectory : {H : Type 0} → Ghosts H → Files H → Files H → ℕ → List ℕ → Result (Unit {0}) FsError → Type 0
 RemovesDirectory host old new fd path result = BelowIt host old new fd (λ unit. unit) (λ dir answer.
-    Performs host old.ctx.host new.ctx.host (may_change dir.perms)
+    Performs host old.ctx.host new.ctx.host (may_do dir.perms Alter)
     (meant_by (tree_in host old) (AtPlace (node_held host old dir.dir) path RemoveDir)) (λ unit. unit) answer) result
 
 -- `unlink_file_at`
 abbrev pub UnlinksFile : {H : Type 0} → Ghosts H → Files H → Files H → ℕ → List ℕ → Result (Unit {0}) FsError → Type 0
 UnlinksFile host old new fd path result = BelowIt host old new fd (λ unit. unit) (λ dir answer.
-    Performs host old.ctx.host new.ctx.host (may_change dir.perms)
+    Performs host old.ctx.host new.ctx.host (may_do dir.perms Alter)
     (meant_by (tree_in host old) (AtPlace (node_held host old dir.dir) path RemoveFile)) (λ unit. unit) answer) result
 
 -- `symlink_at`, of a link with this text
@@ -88,7 +89,7 @@ abbrev pub SetsTimesAt : {H : Type 0} → Ghosts H → Files H → Files H → �
     → NewTimestamp → Result (Unit {0}) FsError → Type 0
 SetsTimesAt host old new fd flags path atim mtim result = CallsOn host old new (LooksFrom old.table.entries fd)
     (timed_by (directory_at old.table.entries fd) old.ctx.now atim mtim) (λ unit. unit) (λ found answer.
-    Performs host old.ctx.host new.ctx.host (may_change found.0.perms)
+    Performs host old.ctx.host new.ctx.host (may_do found.0.perms Alter)
     (meant_by (tree_in host old)
     (sets_times (node_held host old found.0.dir) path (path_flags_named flags) found.1.0 found.1.1)) (λ unit. unit) answer)
     result

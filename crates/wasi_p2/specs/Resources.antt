@@ -1,5 +1,5 @@
 -- What a resource stands for, and who has which handle.
-use Rattle.std.specs.Prelude.{◌≡◌, ◌⊎◌, ℕ, true, List, slice_get, Option, Some, None, option_map, Result, Ok, Err}
+use Rattle.std.specs.Prelude.{◌≡◌, ◌⊎◌, ℕ, true, List, slice_get, Option, Some, None, option_map, Result, Ok, Err, if◌then◌else◌}
 use Rattle.std.specs.FinMap.{get}
 use Rattle.std.specs.FinSet.{contains}
 use Rattle.wasi_host.specs.Meaning.{Handles}
@@ -8,8 +8,8 @@ use Rattle.wasi_fs.specs.declared.descriptor.Descriptor.{Descriptor}
 use Rattle.wasi_fs.specs.declared.descriptor.Descriptor.TheVariants as opened
 use Rattle.wasi_fs.specs.declared.descriptor.Dir.{Dir}
 use Rattle.wasi_fs.specs.declared.descriptor.File.{File}
-use Rattle.wasi_fs.specs.declared.perms.FsPerms.{FsPerms}
-use Rattle.wasi_fs.specs.declared.perms.FsPerms.TheVariants.{ReadOnly, ReadWrite}
+use Rattle.wasi_fs.specs.Perms.{permits}
+use Rattle.wasi_fs.specs.declared.perms.Act.{Act}
 use Rattle.wasi_streams.specs.Found.{descriptor_found}
 use Rattle.wasi_streams.specs.Table.{Entries}
 use Rattle.wasi_streams.specs.declared.entry.Entry.{Entry}
@@ -39,14 +39,10 @@ as_file_or code (Ok (opened.File file)) = Ok file
 as_file_or code (Ok (opened.Dir dir)) = Err (Code code)
 as_file_or code (Err e) = Err (table_error e)
 
--- a file that is to be written
-abbrev pub writable_by : FsPerms → File → Result File FsError
-writable_by ReadOnly file = Err (Code NotPermitted)
-writable_by ReadWrite file = Ok file
-
-abbrev pub as_writable : Result File FsError → Result File FsError
-as_writable (Ok file) = writable_by file.perms file
-as_writable (Err e) = Err e
+-- a file to which this is to be done
+abbrev pub as_writable : Act → Result File FsError → Result File FsError
+as_writable act (Ok file) = if permits file.perms act then Ok file else Err (Code NotPermitted)
+as_writable act (Err e) = Err e
 
 -- by its number
 abbrev pub descriptor_at : Entries → ℕ → Result Descriptor FsError
@@ -65,8 +61,8 @@ file_at table n = file_or BadDescriptor table n
 abbrev pub readable_at : Entries → ℕ → Result File FsError
 readable_at table n = file_or IsDirectory table n
 
-abbrev pub writable_at : Entries → ℕ → Result File FsError
-writable_at table n = as_writable (file_at table n)
+abbrev pub writable_at : Act → Entries → ℕ → Result File FsError
+writable_at act table n = as_writable act (file_at table n)
 
 -- two of them; the first refusal goes first
 abbrev pub both_found : {A B : Type 0} → Result A FsError → Result B FsError → Result (A × B) FsError

@@ -6,7 +6,7 @@ ghost use Rattle.wasi_p2.specs.Resources.{descriptor_at, directory_at, file_at, 
 
 use crate::types::ErrorCode;
 use crate::{FsError, FsResult};
-use wasi_fs::{Descriptor, Dir, File};
+use wasi_fs::{Act, Descriptor, Dir, File};
 use wasi_host::HostError;
 use wasi_streams::{Resource, ResourceTable};
 
@@ -51,13 +51,14 @@ pub fn file_or(table: &ResourceTable, fd: Resource, of_directory: ErrorCode) -> 
     }
 }
 
-/// The file of a resource, to be written. Refusals: those of `file_at`, then NotPermitted under read-only permissions.
-pub fn writable_at(table: &ResourceTable, fd: Resource) -> FsResult<File>
-    ensures is { result ≡ writable_at table.now.entries fd.number }
+/// The file of a resource, to which this is to be done. Refusals: those of `file_at`, then NotPermitted of what isn't
+/// permitted.
+pub fn writable_at(table: &ResourceTable, fd: Resource, act: Act) -> FsResult<File>
+    ensures is { result ≡ writable_at act table.now.entries fd.number }
     ensures has { IfOk result (λ f. HasIt table.now.entries fd.number f.file) }
 {
     let file = file_at(table, fd)?;
-    if file.perms.write_not_permitted() {
+    if !file.perms.permits(act) {
         return Err(FsError::Code(ErrorCode::NotPermitted));
     }
     Ok(file)

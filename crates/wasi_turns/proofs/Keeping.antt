@@ -1,6 +1,7 @@
 -- Opens that leave the tree.
 use Rattle.std.proofs.Common.{ℕ, ◌≡◌, true, false, cond, Bool, List, refl, ◌∙◌, subst, arith, Result, Ok, Err}
-use Rattle.wasi_fs.specs.declared.perms.FsPerms.TheVariants.{ReadOnly, ReadWrite}
+use Rattle.wasi_fs.specs.declared.perms.Act.{Act}
+use Rattle.wasi_fs.specs.declared.perms.FsPerms.TheVariants.{ReadOnly, AppendOnly, ReadWrite}
 use Rattle.wasi_fs.specs.declared.perms.FsPerms.{FsPerms}
 use Rattle.wasi_host.specs.Options.{Options, creates}
 use Rattle.wasi_host.specs.Tree.{Tree}
@@ -9,7 +10,7 @@ use Rattle.std.specs.Prelude.{codes}
 use Rattle.wasi_host.specs.declared.errors.ErrorCode.{ErrorCode}
 use Rattle.wasi_host.specs.declared.errors.ErrorCode.TheVariants.{IsDirectory}
 use Rattle.wasi_host.specs.Steps.{◌>>=◌}
-use Rattle.wasi_fs.specs.Calls.{may_change, may_link, may_add_name, opens}
+use Rattle.wasi_fs.specs.Calls.{may_do, may_link, may_add_name, may_rename, opens}
 use Rattle.wasi_fs.specs.OpenHow.{OpenHow, may_open, options_of}
 use Rattle.wasi_resolve.specs.Walk.{Open, Outcome, Stop, Name, Dot, walk, last_options}
 use Rattle.wasi_resolve.specs.AtPlace.{ReadLink, place_for, step_in}
@@ -83,11 +84,11 @@ unfolding may_write
 no_write ReadOnly may is = absurd (cc)
 no_write perms may is = absurd (cc)
 
--- nor is a change
-pub no_change : (perms : FsPerms) {u : Unit {0}} → permit (may_change perms) ≡ Ok u → perms ≡ ReadOnly → ⊥
-unfolding may_change
-no_change ReadOnly may is = absurd (cc)
-no_change perms may is = absurd (cc)
+-- nor is any act
+pub no_act : (perms : FsPerms) (act : Act) {u : Unit {0}} → permit (may_do perms act) ≡ Ok u → perms ≡ ReadOnly → ⊥
+unfolding may_do
+no_act ReadOnly act may is = absurd (cc)
+no_act perms act may is = absurd (cc)
 
 -- nor is a link made
 pub no_link : (perms : FsPerms) (target : List ℕ) {u : Unit {0}} → permit (may_link perms target) ≡ Ok u
@@ -101,8 +102,18 @@ pub no_new_name : (old new : FsPerms) (follow : Bool) {u : Unit {0}} → permit 
     → (old ≡ ReadOnly → ⊥) × (new ≡ ReadOnly → ⊥)
 unfolding may_add_name
 no_new_name ReadOnly new follow may = absurd (cc)
+no_new_name AppendOnly ReadOnly follow may = absurd (cc)
 no_new_name ReadWrite ReadOnly follow may = absurd (cc)
-no_new_name ReadWrite ReadWrite follow may = (λ is. absurd (cc), λ is. absurd (cc))
+no_new_name old new follow may = (λ is. absurd (cc), λ is. absurd (cc))
+
+-- nor does a name move
+pub no_move : (old new : FsPerms) {u : Unit {0}} → permit (may_rename old new) ≡ Ok u
+    → (old ≡ ReadOnly → ⊥) × (new ≡ ReadOnly → ⊥)
+unfolding may_rename
+no_move ReadOnly new may = absurd (cc)
+no_move AppendOnly new may = absurd (cc)
+no_move ReadWrite ReadOnly may = absurd (cc)
+no_move ReadWrite new may = (λ is. absurd (cc), λ is. absurd (cc))
 
 -- ---- the text of a link
 

@@ -1,9 +1,11 @@
 -- No part of a row is refused because memory was wanted, nor by an error number that no call is answered.
 use Rattle.std.proofs.Common.{refl, ◌≡◌, ◌+◌, ◌*◌, ◌/◌, ◌^◌, ◌%◌, take, [], ◌∷◌, nat_lt, nat_le, length, ℕ, true, false, cond, Bool, List, Option, Some, None, Ok, Err}
-use Rattle.std.specs.Prelude.{◌==◌, ◌||◌, ℤ, pos, negsuc, ◌+ℤ◌, IfErr, IfSome, IsTrue}
-use Rattle.wasi_fs.specs.Calls.{may_change, may_link, may_add_name}
+use Rattle.std.specs.Prelude.{◌==◌, not, ◌&&◌, ◌||◌, ℤ, pos, negsuc, ◌+ℤ◌, IfErr, IfSome, IsTrue}
+use Rattle.wasi_fs.specs.Calls.{may_do, may_link, may_add_name, may_rename}
 use Rattle.wasi_fs.specs.OpenHow.{OpenHow, may_open, open_rows}
-use Rattle.wasi_fs.specs.Perms.{is_read_only, differ}
+use Rattle.wasi_fs.specs.Perms.{permits, is_read_only, is_append_only, differ}
+use Rattle.wasi_fs.specs.declared.perms.Act.{Act}
+use Rattle.wasi_fs.specs.declared.perms.Act.TheVariants.{Make, Alter}
 use Rattle.wasi_fs.specs.declared.perms.FsPerms.{FsPerms}
 use Rattle.wasi_guest.specs.Flags as flag
 use Rattle.wasi_guest.specs.Flags.{has, flags_in, known_lookupflags, known_oflags, known_fdflags, known_fstflags, known_rights}
@@ -18,7 +20,7 @@ use Rattle.wasi_paths.specs.Parts.{has_root}
 use Rattle.wasi_guest.specs.declared.errno.Errno.{Errno as ErrorNumber}
 use Rattle.wasi_guest.specs.declared.errno.Errno.TheVariants as errnos
 use Rattle.wasi_turns.specs.CallParts.{WantsNoMemory, is_failure}
-use Rattle.wasi_turns.specs.Files.{file_in, name_into, name_within, not_synchronized, or_refused, position_from, position_of, read_place_in}
+use Rattle.wasi_turns.specs.Files.{file_in, keeps_append, name_into, name_within, not_synchronized, or_refused, position_from, position_of, read_place_in}
 use Rattle.wasi_fs.specs.declared.descriptor_stat.Datetime.{Datetime}
 use Rattle.wasi_turns.specs.Filestats.{filestat_in, nanoseconds_in, or_overflow}
 use Rattle.wasi_turns.specs.declared.looked.StatBoth.{StatBoth}
@@ -43,6 +45,7 @@ use Rattle.wasi_turns.specs.declared.usage.FileUse.{FileUse}
 use Rattle.wasi_turns.specs.declared.usage.FileUse.TheVariants.{Itself, Position, ReadAt, WriteAt}
 use Rattle.wasi_turns.specs.ErrorNumbers.{may_be_answered}
 use Rattle.wasi_turns.proofs.Codes.{IsKnown, first_known}
+use Rattle.wasi_turns.specs.declared.slots.FileModes.{FileModes}
 
 -- what a row refuses with: an error number that a call may be answered, a trap, or the guest's own end
 abbrev pub IsRefusal : P1Error → Type 0
@@ -105,18 +108,24 @@ pub open_known : (how : OpenHow) (perms : FsPerms) → IfSome (may_open how perm
 unfolding may_open
 open_known how perms = first_known (open_rows how perms) refl
 
-pub change_known : (perms : FsPerms) → IfSome (may_change perms) IsKnown
-unfolding may_change
-change_known perms = first_known ((is_read_only perms, NotPermitted) ∷ []) refl
+pub act_known : (perms : FsPerms) (act : Act) → IfSome (may_do perms act) IsKnown
+unfolding may_do
+act_known perms act = first_known ((not (permits perms act), NotPermitted) ∷ []) refl
 
 pub link_known : (perms : FsPerms) (target : List ℕ) → IfSome (may_link perms target) IsKnown
 unfolding may_link
-link_known perms target = first_known ((is_read_only perms, NotPermitted) ∷ (has_root target, NotPermitted) ∷ []) refl
+link_known perms target =
+    first_known ((not (permits perms Make), NotPermitted) ∷ (has_root target, NotPermitted) ∷ []) refl
 
 pub add_name_known : (old new : FsPerms) (follow : Bool) → IfSome (may_add_name old new follow) IsKnown
 unfolding may_add_name
-add_name_known old new follow = first_known ((is_read_only old, NotPermitted) ∷ (is_read_only new, NotPermitted)
-    ∷ (follow, Invalid) ∷ (differ old new, NotPermitted) ∷ []) refl
+add_name_known old new follow = first_known ((not (permits old Make), NotPermitted)
+    ∷ (not (permits new Make), NotPermitted) ∷ (follow, Invalid) ∷ (differ old new, NotPermitted) ∷ []) refl
+
+pub rename_known : (old new : FsPerms) → IfSome (may_rename old new) IsKnown
+unfolding may_rename
+rename_known old new = first_known ((not (permits old Alter), NotPermitted) ∷ (not (permits new Alter), NotPermitted)
+    ∷ (differ old new, NotPermitted) ∷ []) refl
 
 pub follow_never : (flags : ℕ) → Never (follow_asked flags)
 unfolding follow_asked
@@ -224,6 +233,14 @@ unfolding not_synchronized
 synchronized_never fdflags = by (has fdflags flag.dsync || has fdflags flag.rsync || has fdflags flag.sync)
   where
     by : (b : Bool) → Never (let m : Row (Unit {0}) = cond b (Err (Errno errnos.Inval)) (Ok tt) in m)
+    by true = refl
+    by false = tt
+
+pub append_never : (perms : FsPerms) (modes : FileModes) → Never (keeps_append perms modes)
+unfolding keeps_append
+append_never perms modes = by (is_append_only perms && not modes.append)
+  where
+    by : (b : Bool) → Never (let m : Row (Unit {0}) = cond b (Err (Errno errnos.Perm)) (Ok tt) in m)
     by true = refl
     by false = tt
 

@@ -1,5 +1,5 @@
 -- What the rows of the calls on files and on preopens are made of.
-use Rattle.std.specs.Prelude.{ℕ, ◌^◌, ◌||◌, nat_lt, List, length, slice_get, if◌then◌else◌, ℤ, pos, negsuc, ◌+ℤ◌, Option, Some, None, Ok, Err}
+use Rattle.std.specs.Prelude.{ℕ, ◌^◌, not, ◌&&◌, ◌||◌, nat_lt, List, length, slice_get, if◌then◌else◌, ℤ, pos, negsuc, ◌+ℤ◌, Option, Some, None, Ok, Err}
 use Rattle.wasi_guest.specs.Flags as flag
 use Rattle.wasi_guest.specs.Flags.{has}
 use Rattle.wasi_guest.specs.Range.{with_bytes}
@@ -11,12 +11,15 @@ use Rattle.wasi_guest.specs.declared.enums.Whence.{Whence}
 use Rattle.wasi_guest.specs.declared.enums.Whence.TheVariants.{Set, Cur, End}
 use Rattle.wasi_guest.specs.declared.errno.Errno.{Errno as ErrorNumber}
 use Rattle.wasi_guest.specs.declared.errno.Errno.TheVariants as errnos
+use Rattle.wasi_fs.specs.Perms.{is_append_only}
+use Rattle.wasi_fs.specs.declared.perms.FsPerms.{FsPerms}
 use Rattle.wasi_host.specs.Steps.{◌>>=◌}
 use Rattle.wasi_host.specs.declared.advice.Advice.{Advice as HostAdvice}
 use Rattle.wasi_host.specs.declared.advice.Advice.TheVariants as host_advices
 use Rattle.wasi_turns.specs.Guest.{Guest, GuestSlot, OpenFile, closed, stream, directory, file}
 use Rattle.wasi_turns.specs.Parts.{at_position, range, room_for, with_file}
 use Rattle.wasi_turns.specs.Row.{Row, give}
+use Rattle.wasi_turns.specs.declared.slots.FileModes.{FileModes}
 use Rattle.wasi_turns.specs.declared.slots.Stream.{Stream as StandardStream}
 use Rattle.wasi_turns.specs.declared.slots.Stream.TheVariants as streams
 use Rattle.wasi_turns.specs.declared.error.P1Error.TheVariants.{Errno}
@@ -90,6 +93,10 @@ not_synchronized fdflags =
     if has fdflags flag.dsync || has fdflags flag.rsync || has fdflags flag.sync
     then Err (Errno errnos.Inval)
     else Ok tt
+
+-- a file under append-only permissions goes on to be appended to
+unfoldable pub keeps_append : FsPerms → FileModes → Row (Unit {0})
+keeps_append perms modes = if is_append_only perms && not modes.append then Err (Errno errnos.Perm) else Ok tt
 
 -- ---- preopens
 

@@ -1,6 +1,8 @@
 -- How a path is opened: what the flags and rights of `path_open` ask for.
 use Rattle.std.specs.Prelude.{ℕ, Bool, ◌||◌, Option, Some, None, Ok, Err}
 use Rattle.wasi_fs.specs.OpenHow.{OpenHow}
+use Rattle.wasi_fs.specs.Perms.{is_append_only}
+use Rattle.wasi_fs.specs.declared.perms.FsPerms.{FsPerms}
 use Rattle.wasi_guest.specs.Flags as flag
 use Rattle.wasi_guest.specs.Flags.{has, flags_in, known_lookupflags, known_oflags, known_fdflags, known_rights}
 use Rattle.wasi_host.specs.Steps.{◌>>=◌}
@@ -40,6 +42,10 @@ open_how dirflags oflags base inheriting fdflags = do
 -- how a file's descriptor is used, by its flags
 abbrev pub modes_in : ℕ → FileModes
 modes_in fdflags = record { append = has fdflags flag.append; nonblock = has fdflags flag.nonblock }
+
+-- under append-only permissions a file is always appended to
+abbrev pub modes_under : FsPerms → FileModes → FileModes
+modes_under perms modes = record modes { append = modes.append || is_append_only perms }
 
 -- whether a link under the last name is followed, by a raw number
 unfoldable pub follow_asked : ℕ → Row Bool

@@ -1,9 +1,10 @@
 //! The calls of views about a file.
 ghost use Rattle.std.specs.Prelude.{◌≡◌, slice_get, IfErr, None, Result, Some};
 ghost use Rattle.std.specs.FinMap.{get};
-ghost use Rattle.wasi_fs.specs.Calls.{asks_at, may_change, syncs, NotMemory};
+ghost use Rattle.wasi_fs.specs.Calls.{asks_at, may_do, syncs, NotMemory};
 ghost use Rattle.wasi_fs.specs.declared.descriptor.Descriptor.TheVariants.{File as AFile};
 ghost use Rattle.wasi_fs.specs.declared.descriptor.File.{File as OpenedFile};
+ghost use Rattle.wasi_fs.specs.declared.perms.Act.TheVariants.{Alter};
 ghost use Rattle.wasi_host.specs.HostCall.{Advise, SetSize};
 ghost use Rattle.wasi_host.specs.declared.errors.HostError.{HostError};
 ghost use Rattle.wasi_p1_parts.specs.Held.{HoldsHandles};
@@ -91,7 +92,7 @@ pub struct SetSizeOf {
 }
 
 impl<H: Host> FileCall<H> for SetSizeOf {
-    ghost Did = { λ call old new file. Performs H.Host old new (may_change file.perms)
+    ghost Did = { λ call old new file. Performs H.Host old new (may_do file.perms Alter)
         (asks_at (H.world old).tree (SetSize ((H.world old).held file.file) call.size)
         ((H.world old).held file.file).node) (λ unit. unit) };
 

@@ -1,9 +1,10 @@
 //! The calls of views about what a number stands for.
 ghost use Rattle.std.specs.Prelude.{IsTrue, None, IfOk, IfErr};
-ghost use Rattle.wasi_fs.specs.Calls.{handle_of, may_change, meant_as, perms_of, sets, stats, tells_flags, AnswersKnown, IsFlags, IsTyped, NotMemory};
+ghost use Rattle.wasi_fs.specs.Calls.{handle_of, may_do, meant_as, perms_of, sets, stats, tells_flags, AnswersKnown, IsFlags, IsTyped, NotMemory};
 ghost use Rattle.wasi_fs.specs.DescriptorStat.{descriptor_stat, IsStat};
 ghost use Rattle.wasi_fs.specs.MetadataHash.{metadata_hash, IsHash};
 ghost use Rattle.wasi_fs.specs.OpenFlags.{descriptor_flag_bits};
+ghost use Rattle.wasi_fs.specs.declared.perms.Act.TheVariants.{Alter};
 ghost use Rattle.wasi_turns.specs.SinceEpoch.{AreSinceEpoch};
 ghost use Rattle.wasi_p2_types.specs.FlagNames.{descriptor_flags_told};
 ghost use Rattle.wasi_p2_types.specs.Stats.{hash_named, stat_named, type_named};
@@ -30,7 +31,7 @@ impl<H: Host> NodeCall<H> for SetTimesOf {
 
     ghost shown = { λ unit. unit };
 
-    ghost Did = { λ call old new d answer. IfErr answer NotMemory × Performs H.Host old new (may_change (perms_of d))
+    ghost Did = { λ call old new d answer. IfErr answer NotMemory × Performs H.Host old new (may_do (perms_of d) Alter)
         (sets (H.world old).tree ((H.world old).held (handle_of d)).node call.times.atime call.times.mtime)
         (λ unit. unit) answer };
 

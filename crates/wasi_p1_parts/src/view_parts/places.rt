@@ -1,9 +1,10 @@
 //! The calls of views at a path below a directory.
 ghost use Rattle.std.specs.Prelude.{None, IfOk};
 ghost use Rattle.std.specs.String.{string_bytes};
-ghost use Rattle.wasi_fs.specs.Calls.{looks, may_change, may_link, meant_as, sets_times};
+ghost use Rattle.wasi_fs.specs.Calls.{looks, may_do, may_link, meant_as, sets_times};
 ghost use Rattle.wasi_fs.specs.DescriptorStat.{descriptor_stat, IsStat};
 ghost use Rattle.wasi_fs.specs.MetadataHash.{metadata_hash, IsHash};
+ghost use Rattle.wasi_fs.specs.declared.perms.Act.TheVariants.{Make, Alter};
 ghost use Rattle.wasi_turns.specs.SinceEpoch.{AreSinceEpoch};
 ghost use Rattle.wasi_p2_types.specs.FlagNames.{path_flags_named};
 ghost use Rattle.wasi_p2.specs.Places.{IsReadText};
@@ -33,7 +34,7 @@ impl<'p, H: Host> PlaceCall<H> for CreateDirectoryAt<'p> {
 
     ghost shown = { λ unit. unit };
 
-    ghost Did = { λ call old new dir. Performs H.Host old new (may_change dir.perms)
+    ghost Did = { λ call old new dir. Performs H.Host old new (may_do dir.perms Make)
         (meant_by (H.world old).tree (AtPlace ((H.world old).held dir.dir).node call.path.now CreateDir))
         (λ unit. unit) };
 
@@ -55,7 +56,7 @@ impl<'p, H: Host> PlaceCall<H> for RemoveDirectoryAt<'p> {
 
     ghost shown = { λ unit. unit };
 
-    ghost Did = { λ call old new dir. Performs H.Host old new (may_change dir.perms)
+    ghost Did = { λ call old new dir. Performs H.Host old new (may_do dir.perms Alter)
         (meant_by (H.world old).tree (AtPlace ((H.world old).held dir.dir).node call.path.now RemoveDir))
         (λ unit. unit) };
 
@@ -77,7 +78,7 @@ impl<'p, H: Host> PlaceCall<H> for UnlinkFileAt<'p> {
 
     ghost shown = { λ unit. unit };
 
-    ghost Did = { λ call old new dir. Performs H.Host old new (may_change dir.perms)
+    ghost Did = { λ call old new dir. Performs H.Host old new (may_do dir.perms Alter)
         (meant_by (H.world old).tree (AtPlace ((H.world old).held dir.dir).node call.path.now RemoveFile))
         (λ unit. unit) };
 
@@ -200,7 +201,7 @@ impl<'p, H: Host> PlaceCall<H> for SetTimesAt<'p> {
 
     ghost shown = { λ unit. unit };
 
-    ghost Did = { λ call old new dir. Performs H.Host old new (may_change dir.perms)
+    ghost Did = { λ call old new dir. Performs H.Host old new (may_do dir.perms Alter)
         (meant_by (H.world old).tree (sets_times ((H.world old).held dir.dir).node call.path.now
         (path_flags_named call.flags) call.times.atime call.times.mtime)) (λ unit. unit) };
 

@@ -8,7 +8,7 @@ ghost use Rattle.wasi_resolve.specs.Resolved.{Resolved};
 ghost use Rattle.wasi_fs.specs.Calls.{opened_of, open_mode_of, perms_of, opens, GotOpened, IsAsked, LiveOpened, Refuses};
 ghost use Rattle.wasi_fs.specs.OpenHow.{may_open, mode_of};
 ghost use Rattle.wasi_p2_types.specs.FlagNames.{how_named};
-ghost use Rattle.wasi_p2.specs.Opens.{OpensAt, StreamsFrom, StreamsTo, StreamsToOffset, StreamsToEnd, ListsIt};
+ghost use Rattle.wasi_p2.specs.Opens.{OpensAt, StreamsFrom, StreamsTo, StreamsToOffset, StreamsToEnd, ListsIt, act_of};
 ghost use Rattle.wasi_p2.specs.Views.{FilesOwned, files_of};
 
 use crate::entries::{list_names, make_room, put};
@@ -16,7 +16,7 @@ use crate::found::{directory_at, file_or, writable_at};
 use crate::types::{DescriptorFlags, ErrorCode, OpenFlags, PathFlags};
 use crate::{FsResult, WasiFilesystemCtxView};
 use std::alloc::Global;
-use wasi_fs::{Descriptor, Dir};
+use wasi_fs::{Act, Descriptor, Dir};
 use wasi_host::{Host, HostError};
 use wasi_streams::{Entry, FileInputStream, FileOutputMode, FileOutputStream, Resource};
 
@@ -95,7 +95,7 @@ impl<'a, H: Host> WasiFilesystemCtxView<'a, H> {
     }
 
     /// A stream of bytes into a file from `offset` on. Refusals: a trap where the resource is missing or no descriptor,
-    /// BadDescriptor of a directory, NotPermitted under read-only permissions; the full table; then those of a host's
+    /// BadDescriptor of a directory, NotPermitted where altering isn't permitted; the full table; then those of a host's
     /// `dup`.
     pub fn write_via_stream(&mut self, fd: Resource, offset: u64) -> FsResult<Resource>
         requires owned { FilesOwned H.Host (files_of self.old.ctx.now self.old.table.now) }
@@ -107,7 +107,8 @@ impl<'a, H: Host> WasiFilesystemCtxView<'a, H> {
         self.stream_to(fd, FileOutputMode::Position(offset))
     }
 
-    /// A stream of bytes behind a file's last one. Refusals: those of `write_via_stream`.
+    /// A stream of bytes behind a file's last one. Refusals: those of `write_via_stream`, but NotPermitted where appending
+    /// isn't permitted.
     pub fn append_via_stream(&mut self, fd: Resource) -> FsResult<Resource>
         requires owned { FilesOwned H.Host (files_of self.old.ctx.now self.old.table.now) }
         ensures same_ctx { self.new.ctx.ghost_name ≡ self.old.ctx.ghost_name }
@@ -127,7 +128,7 @@ impl<'a, H: Host> WasiFilesystemCtxView<'a, H> {
         ensures call { StreamsTo H.Host (files_of self.old.ctx.now self.old.table.now)
             (files_of self.new.ctx.now self.new.table.now) fd.number mode result }
     {
-        let file = writable_at(self.table, fd)?;
+        let file = writable_at(self.table, fd, act_of(mode))?;
         make_room(self.table)?;
         let stream = FileOutputStream::over(&mut self.ctx.host, &file, mode)?;
         Ok(put(self.table, Entry::Output(stream)))
@@ -148,5 +149,15 @@ impl<'a, H: Host> WasiFilesystemCtxView<'a, H> {
         let alloc = self.ctx.alloc;
         let entries = list_names(alloc, &mut self.ctx.host, dir.dir)?;
         Ok(put(self.table, Entry::Readdir(entries)))
+    }
+}
+
+/// What a stream into a file does to it.
+fn act_of(mode: FileOutputMode) -> Act
+    ensures { result ≡ act_of mode }
+{
+    match mode {
+        FileOutputMode::Position(_) => Act::Alter,
+        FileOutputMode::Append => Act::Append,
     }
 }

@@ -10,6 +10,7 @@ use crate::found::{file_at, writable_at};
 use crate::types::ErrorCode;
 use crate::{FsError, FsResult, ReadResult, WasiFilesystemCtxView};
 use std::alloc::{AllocError, Global};
+use wasi_fs::Act;
 use wasi_host::{Handle, Host};
 use wasi_streams::{MAX_READ_SIZE_ALLOC, Resource};
 
@@ -77,7 +78,7 @@ impl<'a, H: Host> WasiFilesystemCtxView<'a, H> {
         ensures call { WritesFile H.Host (files_of self.old.ctx.now self.old.table.now)
             (files_of self.new.ctx.now self.new.table.now) fd.number buf.now offset result }
     {
-        let file = writable_at(self.table, fd)?;
+        let file = writable_at(self.table, fd, Act::Alter)?;
         let count = self.ctx.host.pwrite(file.file, buf, offset)?;
         if count == 0 && !buf.is_empty() {
             return Err(FsError::Code(ErrorCode::Io));

@@ -22,7 +22,7 @@ use Rattle.wasi_turns.proofs.Bytes.{name_bytes}
 use Rattle.wasi_turns.proofs.Changing.{file_is, live_is, put_back, put_closed}
 use Rattle.wasi_turns.proofs.Renumbering.{put_renumbered}
 use Rattle.wasi_turns.proofs.Nearness.Parts.{AlwaysNear, LeavesGuest, RowNear, then, answers_near, look_asked, slots_near, tells_near}
-use Rattle.wasi_turns.proofs.Wanting.{Never, file_never, filestat_never, inval_never, live_never, name_never, node_never, refused_never, synchronized_never}
+use Rattle.wasi_turns.proofs.Wanting.{Never, file_never, filestat_never, inval_never, live_never, name_never, node_never, refused_never, append_never, synchronized_never}
 use Rattle.wasi_turns.specs.declared.usage.FileUse.TheVariants.{Itself}
 
 pub fd_close_near : {g : Guest} {fd : ℕ} → RowNear g (calls.FdClose fd)
@@ -34,7 +34,8 @@ pub fd_fdstat_set_flags_near : {g : Guest} {fd flags : ℕ} → RowNear g (calls
 unfolding fd_fdstat_set_flags
 fd_fdstat_set_flags_near {g} {fd} {flags} = then (or_inval (flags_in known_fdflags flags)) (inval_never _) (λ set _.
     then _ (file_never Itself (slice_get g.slots fd)) (λ f is. then _ (synchronized_never set)
-    (λ _ _. slots_near (put_back g fd f.position (modes_in set) [] (file_is Itself _ is)))))
+    (λ _ _. then _ (append_never f.perms (modes_in set))
+    (λ _ _. slots_near (put_back g fd f.position (modes_in set) [] (file_is Itself _ is))))))
 
 pub fd_fdstat_get_near : {g : Guest} {fd : ℕ} → RowNear g (calls.FdFdstatGet fd)
 unfolding fd_fdstat_get

@@ -4,7 +4,7 @@ use Rattle.wasi_fs.specs.OpenHow.{mode_of}
 use Rattle.wasi_guest.specs.declared.call.Call.TheVariants as calls
 use Rattle.wasi_guest.specs.declared.errno.Errno.TheVariants as errnos
 use Rattle.wasi_turns.specs.Guest.{Guest}
-use Rattle.wasi_turns.specs.RawFlags.{modes_in}
+use Rattle.wasi_turns.specs.RawFlags.{modes_in, modes_under}
 use Rattle.wasi_turns.specs.Rows.{path_open}
 use Rattle.wasi_host.proofs.Leaving.{Contains-here}
 use Rattle.wasi_turns.proofs.Changing.{named_directory, directory_perms, put_opened}
@@ -20,7 +20,7 @@ path_open_near {g} {fd} {fdflags = fdflags} = then _ (how_never _ _ _ _ _) (λ h
     then _ (permit_never _ (open_known how d.perms)) (λ _ may.
     let perms = directory_perms errnos.Notdir (slice_get g.slots fd) is in asks_near (record {
       starts = λ n has. named_directory errnos.Notdir g fd n (Contains-here fd []) is has;
-      slots = λ found. put_opened g fd d.perms (mode_of how) (modes_in fdflags) found perms;
+      slots = λ found. put_opened g fd d.perms (mode_of how) (modes_under d.perms (modes_in fdflags)) found perms;
       ends = λ t found answered. tt;
       permits = λ names t found answered. open_keeps t d.node text how
           (read_only_kept how may (read_only (only_named g fd names.fd names.named names.perms) perms)) answered;

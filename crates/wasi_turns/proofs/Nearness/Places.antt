@@ -13,16 +13,18 @@ use Rattle.wasi_host.proofs.Leaving.{Contains-here}
 use Rattle.wasi_resolve.proofs.Asking.{HasUtf8Target}
 use Rattle.wasi_turns.proofs.Bytes.{cut}
 use Rattle.wasi_turns.proofs.Changing.{written_slots, written_ends, written_bytes, stated_slots, stated_ends, stated_bytes}
-use Rattle.wasi_turns.proofs.Keeping.{no_change, no_link, link_leaves}
+use Rattle.wasi_turns.proofs.Keeping.{no_act, no_link, link_leaves}
 use Rattle.wasi_turns.proofs.Nearness.Parts.{AlwaysNear, RowNear, then, then_text, then_path, asks_near, starts_near, done_if_at}
-use Rattle.wasi_turns.proofs.Wanting.{change_known, link_known, filestat_never, follow_never, range_never, start_never}
+use Rattle.wasi_turns.proofs.Wanting.{act_known, link_known, filestat_never, follow_never, range_never, start_never}
+use Rattle.wasi_fs.specs.declared.perms.Act.{Act}
 
 -- what is done at a place by its path alone
-pub done_near : {g : Guest} {call : Call} (fd path len : ℕ) (what : PlaceCall) → stem_in call ≡ itself
-    → descriptors_named g.memory call ≡ fd ∷ [] → HasUtf8Target what → AlwaysNear g call (done_at g fd path len what)
-done_near {g} fd path len what stems named target =
-    then_path g fd path len (λ d is text read. done_if_at _ (AtPlace d.node text what) fd stems named is refl (λ _ may. no_change d.perms may) (read, target)
-    (change_known d.perms))
+pub done_near : {g : Guest} {call : Call} (fd path len : ℕ) (act : Act) (what : PlaceCall) → stem_in call ≡ itself
+    → descriptors_named g.memory call ≡ fd ∷ [] → HasUtf8Target what
+    → AlwaysNear g call (done_at g fd path len act what)
+done_near {g} fd path len act what stems named target =
+    then_path g fd path len (λ d is text read. done_if_at _ (AtPlace d.node text what) fd stems named is refl (λ _ may. no_act d.perms act may) (read, target)
+    (act_known d.perms act))
 
 pub path_filestat_get_near : {g : Guest} {fd flags path len : ℕ} → RowNear g (calls.PathFilestatGet fd flags path len)
 unfolding path_filestat_get

@@ -1,7 +1,7 @@
 -- What holds of the rows of the calls on a file's position, on its size, and on how it is stored.
 use Rattle.std.proofs.Common.{ℕ, ◌≡◌, [], refl, slice_get, Option, Some, None}
 use Rattle.std.specs.Prelude.{ℤ}
-use Rattle.wasi_fs.specs.Calls.{may_change}
+use Rattle.wasi_fs.specs.Calls.{may_do}
 use Rattle.wasi_guest.specs.declared.call.Call.TheVariants as calls
 use Rattle.wasi_host.specs.HostCall.{Advise, SetSize, Stat, Sync}
 use Rattle.wasi_turns.specs.Files.{base_in, host_advice, position_from, sought}
@@ -10,11 +10,12 @@ use Rattle.wasi_turns.specs.Parts.{held_by}
 use Rattle.wasi_turns.specs.Request.{Direct}
 use Rattle.wasi_turns.specs.Rows.{itself, fd_advise, fd_allocate, fd_datasync, fd_filestat_set_size, fd_seek, fd_sync, fd_tell, seek_from}
 use Rattle.wasi_turns.proofs.Changing.{file_is, put_back}
-use Rattle.wasi_turns.proofs.Keeping.{no_change}
+use Rattle.wasi_turns.proofs.Keeping.{no_act}
 use Rattle.wasi_turns.proofs.Near.{StaysNear, made_bytes, made_ends, made_slots}
 use Rattle.wasi_turns.proofs.Nearness.Parts.{AlwaysNear, RowNear, then, done_at_file, file_asked, known_near, slots_near, tells_near}
-use Rattle.wasi_turns.proofs.Wanting.{change_known, file_never, inval_never, position_never}
+use Rattle.wasi_turns.proofs.Wanting.{act_known, file_never, inval_never, position_never}
 use Rattle.wasi_turns.specs.declared.usage.FileUse.TheVariants.{Itself, Position}
+use Rattle.wasi_fs.specs.declared.perms.Act.TheVariants.{Alter}
 
 pub fd_advise_near : {g : Guest} {fd offset len advice : ℕ} → RowNear g (calls.FdAdvise fd offset len advice)
 unfolding fd_advise
@@ -39,8 +40,8 @@ fd_sync_near {g} {fd} = then _ (file_never Itself (slice_get g.slots fd)) (λ f 
 pub fd_filestat_set_size_near : {g : Guest} {fd size : ℕ} → RowNear g (calls.FdFilestatSetSize fd size)
 unfolding fd_filestat_set_size
 fd_filestat_set_size_near {g} {fd} {size} = then _ (file_never Itself (slice_get g.slots fd)) (λ f is.
-    done_at_file (may_change f.perms) (Direct (SetSize (held_by f) size)) fd refl refl (file_is Itself _ is) refl
-    (λ _ may perms. absurd (no_change f.perms may perms)) tt (change_known f.perms))
+    done_at_file (may_do f.perms Alter) (Direct (SetSize (held_by f) size)) fd refl refl (file_is Itself _ is) refl
+    (λ _ may perms. absurd (no_act f.perms Alter may perms)) tt (act_known f.perms Alter))
 
 -- a position that is sought
 seeks_near : {g : Guest} {fd whence : ℕ} {offset : ℤ} (f : OpenFile) (base : Option ℕ)

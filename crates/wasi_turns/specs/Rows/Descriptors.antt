@@ -6,7 +6,7 @@ use Rattle.wasi_guest.specs.declared.errno.Errno.TheVariants as errnos
 use Rattle.wasi_host.specs.HostCall.{Flags, Stat}
 use Rattle.wasi_turns.specs.Fdstats.{directory_fdstat, file_told, preopen_fdstat, stream_fdstat}
 use Rattle.wasi_turns.specs.Filestats.{stream_filestat}
-use Rattle.wasi_turns.specs.Files.{file_in, name_at, name_into, not_synchronized, or_refused}
+use Rattle.wasi_turns.specs.Files.{file_in, keeps_append, name_at, name_into, not_synchronized, or_refused}
 use Rattle.wasi_turns.specs.Front.{CallFront, free, answer, ask, tells, ◌>>=◌}
 use Rattle.wasi_turns.specs.Guest.{Guest, GuestSlot, closed, stream, directory, file}
 use Rattle.wasi_turns.specs.Numbering.{renumbered}
@@ -40,13 +40,14 @@ fd_fdstat_get g fd = do
   slot ← free (live_in (slice_get g.slots fd))
   fdstat_of g slot
 
--- An unknown flag is refused `inval`; then a number that isn't a file's; then a flag of integrity, `inval`. The others
--- are the file's modes
+-- An unknown flag is refused `inval`; then a number that isn't a file's; then a flag of integrity, `inval`; then that a
+-- file under append-only permissions isn't appended to, `perm`. The others are the file's modes
 unfoldable pub fd_fdstat_set_flags : Guest → ℕ → ℕ → CallFront
 fd_fdstat_set_flags g fd flags = do
   set ← free (or_inval (flags_in known_fdflags flags))
   f ← free (file_in Itself (slice_get g.slots fd))
   _ ← free (not_synchronized set)
+  _ ← free (keeps_append f.perms (modes_in set))
   answer (Nothing, with_file g fd (record f { modes = modes_in set }))
 
 -- an unknown right is refused `inval`; then a number that is no directory's or file's, and every other `notsup`

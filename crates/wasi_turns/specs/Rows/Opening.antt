@@ -5,7 +5,7 @@ use Rattle.wasi_fs.specs.OpenHow.{may_open, mode_of}
 use Rattle.wasi_turns.specs.Front.{CallFront, free, ask, charged_text, ◌>>=◌}
 use Rattle.wasi_turns.specs.Guest.{Guest}
 use Rattle.wasi_turns.specs.Parts.{directory_in, room_for, permit, opened_in}
-use Rattle.wasi_turns.specs.RawFlags.{modes_in, open_how}
+use Rattle.wasi_turns.specs.RawFlags.{modes_in, modes_under, open_how}
 use Rattle.wasi_turns.specs.Request.{Path}
 
 -- An unknown bit is refused `inval`; then a text of more bytes than the fuel, `nomem`; a range that leaves the memory
@@ -19,4 +19,4 @@ path_open g fd dirflags path len oflags base inheriting fdflags = do
   d ← free (directory_in (slice_get g.slots fd))
   _ ← free (room_for g.slots g.table_max 1)
   _ ← free (permit (may_open how d.perms))
-  ask (Path (opens d.node text how)) (opened_in g d.perms (mode_of how) (modes_in fdflags))
+  ask (Path (opens d.node text how)) (opened_in g d.perms (mode_of how) (modes_under d.perms (modes_in fdflags)))

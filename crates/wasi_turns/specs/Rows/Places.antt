@@ -1,6 +1,8 @@
 -- The rows of the calls at the place that a path names.
 use Rattle.std.specs.Prelude.{ℕ, take, slice_get}
-use Rattle.wasi_fs.specs.Calls.{may_change, may_link}
+use Rattle.wasi_fs.specs.Calls.{may_do, may_link}
+use Rattle.wasi_fs.specs.declared.perms.Act.{Act}
+use Rattle.wasi_fs.specs.declared.perms.Act.TheVariants.{Make, Alter}
 use Rattle.wasi_turns.specs.Front.{CallFront, free, ask, charged_text, at_path, done_if, ◌>>=◌}
 use Rattle.wasi_turns.specs.Guest.{Guest}
 use Rattle.wasi_turns.specs.Parts.{start_in, link_into, told_of}
@@ -9,13 +11,14 @@ use Rattle.wasi_turns.specs.Request.{Path}
 use Rattle.wasi_resolve.specs.AtPlace.{PlaceCall, CreateDir, RemoveFile, RemoveDir, Symlink, ReadLink}
 use Rattle.wasi_resolve.specs.PathRequest.{LookPath, AtPlace}
 
--- what isn't permitted below the directory is refused; then as the walk of the text refuses, and the host at its place
-abbrev pub done_at : Guest → ℕ → ℕ → ℕ → PlaceCall → CallFront
-done_at g fd path len what =
-    at_path g fd path len (λ d text. done_if (may_change d.perms) (Path (AtPlace d.node text what)) g)
+-- an act that isn't permitted below the directory is refused; then as the walk of the text refuses, and the host at its
+-- place
+abbrev pub done_at : Guest → ℕ → ℕ → ℕ → Act → PlaceCall → CallFront
+done_at g fd path len act what =
+    at_path g fd path len (λ d text. done_if (may_do d.perms act) (Path (AtPlace d.node text what)) g)
 
 unfoldable pub path_create_directory : Guest → ℕ → ℕ → ℕ → CallFront
-path_create_directory g fd path len = done_at g fd path len CreateDir
+path_create_directory g fd path len = done_at g fd path len Make CreateDir
 
 -- An unknown bit is refused `inval`; then the path; then as the look at it refuses; then a time that 64 bits of
 -- nanoseconds don't hold, `overflow`. The answer is what is told of the node
@@ -32,10 +35,10 @@ path_readlink g fd path len buf buf_len = at_path g fd path len
     (λ d text. ask (Path (AtPlace d.node text ReadLink)) (λ link. link_into g buf (take buf_len link)))
 
 unfoldable pub path_remove_directory : Guest → ℕ → ℕ → ℕ → CallFront
-path_remove_directory g fd path len = done_at g fd path len RemoveDir
+path_remove_directory g fd path len = done_at g fd path len Alter RemoveDir
 
 unfoldable pub path_unlink_file : Guest → ℕ → ℕ → ℕ → CallFront
-path_unlink_file g fd path len = done_at g fd path len RemoveFile
+path_unlink_file g fd path len = done_at g fd path len Alter RemoveFile
 
 -- as what is done at a place, with the text of the link read before that of the path, and one with a root not permitted
 unfoldable pub path_symlink : Guest → ℕ → ℕ → ℕ → ℕ → ℕ → CallFront

@@ -1,6 +1,7 @@
 -- The rows of the calls on a file's position, on its size, and on how it is stored.
 use Rattle.std.specs.Prelude.{ℕ, slice_get, ℤ, Option, None, Err}
-use Rattle.wasi_fs.specs.Calls.{may_change}
+use Rattle.wasi_fs.specs.Calls.{may_do}
+use Rattle.wasi_fs.specs.declared.perms.Act.TheVariants.{Alter}
 use Rattle.wasi_guest.specs.Enums.{advice_of, whence_of}
 use Rattle.wasi_guest.specs.declared.answer.Value.TheVariants.{Number}
 use Rattle.wasi_guest.specs.declared.errno.Errno.TheVariants as errnos
@@ -43,7 +44,7 @@ fd_sync g fd = stored g fd
 unfoldable pub fd_filestat_set_size : Guest → ℕ → ℕ → CallFront
 fd_filestat_set_size g fd size = do
   f ← free (file_in Itself (slice_get g.slots fd))
-  done_if (may_change f.perms) (Direct (SetSize (held_by f) size)) g
+  done_if (may_do f.perms Alter) (Direct (SetSize (held_by f) size)) g
 
 -- the position is so far from the start or from where it was; or from the end, for which the host is asked
 abbrev pub seek_from : Guest → ℕ → OpenFile → ℤ → Option ℕ → CallFront

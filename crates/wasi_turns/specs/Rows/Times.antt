@@ -1,6 +1,7 @@
 -- The rows of the calls that set times.
 use Rattle.std.specs.Prelude.{ℕ, slice_get}
-use Rattle.wasi_fs.specs.Calls.{may_change}
+use Rattle.wasi_fs.specs.Calls.{may_do}
+use Rattle.wasi_fs.specs.declared.perms.Act.TheVariants.{Alter}
 use Rattle.wasi_host.specs.HostCall.{SetTimes}
 use Rattle.wasi_turns.specs.Front.{CallFront, free, at_path, done_if, ◌>>=◌}
 use Rattle.wasi_turns.specs.Guest.{Guest}
@@ -17,7 +18,7 @@ unfoldable pub fd_filestat_set_times : Guest → ℕ → ℕ → ℕ → ℕ →
 fd_filestat_set_times g fd atim mtim fst_flags = do
   times ← free (times_asked g.holdings.wall atim mtim fst_flags)
   n ← free (open_node_in (slice_get g.slots fd))
-  done_if (may_change n.perms) (Direct (SetTimes n.node times.atime times.mtime)) g
+  done_if (may_do n.perms Alter) (Direct (SetTimes n.node times.atime times.mtime)) g
 
 -- An unknown bit is refused `inval`; then the times as by a number; then as what is done at a place, where a link under
 -- the last name is followed if that is asked
@@ -26,4 +27,4 @@ path_filestat_set_times g fd flags path len atim mtim fst_flags = do
   follow ← free (follow_asked flags)
   times ← free (times_asked g.holdings.wall atim mtim fst_flags)
   at_path g fd path len (λ d text.
-      done_if (may_change d.perms) (Path (TimesPath d.node text follow times.atime times.mtime)) g)
+      done_if (may_do d.perms Alter) (Path (TimesPath d.node text follow times.atime times.mtime)) g)
