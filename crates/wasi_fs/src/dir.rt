@@ -36,9 +36,9 @@ impl Dir {
     /// as its mode the reading and writing that the flags ask for. CREATE makes a missing file, and with EXCLUSIVE refuses
     /// a name that is there; TRUNCATE cuts a file to no bytes; both open for writing. READ and WRITE open for reading and
     /// writing, and without WRITE for reading too. EXCLUSIVE alone and MUTATE_DIRECTORY ask for nothing. Refusals, in this
-    /// order: Unsupported of a sync flag; Invalid of DIRECTORY beside another of its flags; NotPermitted of CREATE,
-    /// TRUNCATE and WRITE under read-only permissions; those of the resolver's `open`; NotDirectory where DIRECTORY is asked
-    /// for and none was opened. The new handle's metadata are read, and where that fails it is closed again.
+    /// order: Unsupported of a sync flag; Invalid of DIRECTORY beside another of its flags; NotPermitted of CREATE, WRITE
+    /// and TRUNCATE under read-only permissions, and of TRUNCATE under append-only ones; those of the resolver's `open`;
+    /// NotDirectory where DIRECTORY is asked for and none was opened. Where the look at the new handle fails it is closed.
     pub fn open_at<H: Host>(
         &self,
         alloc: Global,
@@ -89,8 +89,8 @@ impl Dir {
         wasi_resolve::create_dir(alloc, host, self.dir, path)
     }
 
-    /// Drops an empty directory: the crate's `remove_directory_at`. Refusals: NotPermitted under read-only permissions,
-    /// then those of the resolver's `remove_dir`.
+    /// Drops an empty directory: the crate's `remove_directory_at`. Refusals: NotPermitted unless the permissions are
+    /// read-write, then those of the resolver's `remove_dir`.
     pub fn remove_directory_at<H: Host>(
         &self,
         alloc: Global,
@@ -111,8 +111,8 @@ impl Dir {
         wasi_resolve::remove_dir(alloc, host, self.dir, path)
     }
 
-    /// Drops the name of a file or link: the crate's `unlink_file_at`. Refusals: NotPermitted under read-only permissions,
-    /// then those of the resolver's `remove_file`.
+    /// Drops the name of a file or link: the crate's `unlink_file_at`. Refusals: NotPermitted unless the permissions are
+    /// read-write, then those of the resolver's `remove_file`.
     pub fn unlink_file_at<H: Host>(
         &self,
         alloc: Global,

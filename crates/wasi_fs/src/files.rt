@@ -34,8 +34,8 @@ impl File {
     }
 
     /// Cuts the file to `size` bytes, or fills it up to them with zeros: the crate's `set_size`. Refusals: NotPermitted
-    /// under read-only permissions, of which the host isn't asked; then those of the host's `set_size`, Invalid without
-    /// write access and for a size of 2^63 or more, and FileTooLarge for more than 2^30 bytes.
+    /// unless the permissions are read-write, of which no host is asked; then those of the host's `set_size`, Invalid
+    /// without write access and for a size of 2^63 or more, and FileTooLarge for more than 2^30 bytes.
     pub fn set_size<H: Host>(&self, host: &mut H, size: u64) -> Result<(), HostError>
         requires live { contains (H.live host.old) self.now.file ≡ true }
         ensures cause { HasCause (H.faults host.old) (H.faults host.new) result }

@@ -85,8 +85,8 @@ impl OpenHow {
     }
 
     /// Whether this may be asked of a directory of these permissions. Refusals, in this order: Unsupported of a sync
-    /// flag; Invalid of DIRECTORY beside another of its flags; NotPermitted of what changes the tree, where only
-    /// reading is permitted.
+    /// flag; Invalid of DIRECTORY beside another of its flags; NotPermitted of CREATE, WRITE and TRUNCATE where only
+    /// reading is permitted, and of TRUNCATE where only adding is.
     #[tactic(auto, unfolding(crate::specs::OpenHow::may_open))]
     pub(crate) fn check(&self, perms: FsPerms) -> Result<(), ErrorCode>
         ensures row { result_err result ≡ may_open self.now perms }

@@ -51,8 +51,8 @@ impl Dir {
     }
 
     /// Moves what is under `old_path` to `new_path` below the other directory: the crate's `rename_at`. Refusals:
-    /// NotPermitted where this directory is read-only, then where the other is, and then where the permissions of the
-    /// two differ; then those of the resolver's `rename`.
+    /// NotPermitted where this directory isn't read-write, then where the other isn't, and then where the permissions of
+    /// the two differ; then those of the resolver's `rename`.
     pub fn rename_at<H: Host>(
         &self,
         alloc: Global,

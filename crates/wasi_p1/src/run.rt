@@ -2,10 +2,12 @@
 ghost use Rattle.std.specs.Prelude.{◌≡◌, ◌≤◌, length, map, Err, All, IsTrue, IfOk, IfErr, IfSome};
 ghost use Rattle.wasi_turns.specs.ErrorNumbers.{MayCome};
 ghost use Rattle.wasi_turns.specs.Front.{with_fuel};
-ghost use Rattle.wasi_turns.specs.CallTurn.{IsAnswered, IsValidCall, OthersStay, TakesTurn};
+ghost use Rattle.wasi_fs.specs.declared.perms.FsPerms.TheVariants.{AppendOnly};
+ghost use Rattle.wasi_turns.specs.AppendOnly.{Adds, AppendsAtEnd};
+ghost use Rattle.wasi_turns.specs.CallTurn.{IsAnswered, IsValidCall, NamesUnder, OthersStay, TakesTurn};
 ghost use Rattle.wasi_turns.specs.Method.{StaysInBounds, DoesItsRow};
 ghost use Rattle.wasi_host.specs.Meaning.{Rose};
-ghost use Rattle.wasi_turns.specs.Guest.{State, state_of};
+ghost use Rattle.wasi_turns.specs.Guest.{State, guest_of, state_of};
 ghost use Rattle.wasi_turns.specs.Rows.{may_want};
 ghost use Rattle.wasi_turns.specs.Run.{AnswersEach, answer_of, ends, ios, Allows, answered_in, WantedAt, DidRun, StoodAt};
 ghost use Rattle.wasi_turns.specs.declared.error.P1Error.TheVariants.{Memory};
@@ -64,6 +66,10 @@ fn ends_run(answer: Answer) -> bool
 /// number is answered that `may_be_answered` doesn't list. A trap, want of memory and every error number but `io` leave all
 /// as before: the descriptors, the guest's memory, its outputs, what it has left of its input, the clocks, the place in the
 /// random bytes, and the tree of a host that tells it.
+///
+/// A call that names a descriptor under append-only permissions takes no step but one that adds, whatever it answers. It is
+/// so of a guest whose files under such permissions are in append mode, as those of a new context are, which has none, and
+/// as they are after each call.
 #[tactic(auto, using(wasi_turns::proofs::Completing::turn_completes))]
 pub fn call<H: Host>(
     context: &mut WasiP1Ctx<H>,
@@ -77,6 +83,11 @@ pub fn call<H: Host>(
         → IsAnswered call result }
     ensures errnos { IsTrue H.told → IfSome (answer_of result) MayCome }
     ensures unchanged { LeavesAll H.told H.world context.old context.new memory.old memory.new result }
+    ensures adds { IsTrue H.told → AppendsAtEnd (guest_of H.world context.old memory.old)
+        → NamesUnder AppendOnly (guest_of H.world context.old memory.old) call
+        → Adds (H.world context.old.host).tree (H.world context.new.host).tree }
+    ensures appends { IsTrue H.told → AppendsAtEnd (guest_of H.world context.old memory.old)
+        → AppendsAtEnd (guest_of H.world context.new memory.new) }
 {
     by_name(context, memory, call)
 }

@@ -14,7 +14,7 @@ use wasi_turns::{NewTimes, P1Error, text_at};
 
 /// Sets the times of the node of a descriptor, as `path_filestat_set_times` does. It takes no memory. Refusals, in
 /// this order: those of its flags and times, as there; Badf where the number isn't a directory's or file's; Perm
-/// under read-only permissions. No host refuses it further, where POSIX's `futimens` may.
+/// unless its permissions are read-write. No host refuses it further, where POSIX's `futimens` may.
 #[tactic(auto, using(wasi_turns::proofs::Taking::refusals), unfolding(wasi_turns::specs::Rows::Times::fd_filestat_set_times))]
 pub fn fd_filestat_set_times<H: Host>(
     context: &mut WasiP1Ctx<H>,

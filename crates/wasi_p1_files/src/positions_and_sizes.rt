@@ -102,9 +102,9 @@ pub fn fd_sync<H: Host>(
 }
 
 /// Cuts a file to `size` bytes, or fills it up to them with zeros; its position stays. Refusals, in this order: Badf
-/// where the number isn't a file's; Perm under read-only permissions; then the host's, which are those of POSIX's
-/// `ftruncate`: Inval where the file isn't open for writing, and of a size of 2^63 or more, and Fbig of more than
-/// 2^30 bytes.
+/// where the number isn't a file's; Perm unless its permissions are read-write; then the host's, which are those of
+/// POSIX's `ftruncate`: Inval where the file isn't open for writing, and of a size of 2^63 or more, and Fbig of more
+/// than 2^30 bytes.
 #[tactic(auto, using(wasi_turns::proofs::Taking::refusals), unfolding(wasi_turns::specs::Rows::PositionsAndSizes::fd_filestat_set_size))]
 pub fn fd_filestat_set_size<H: Host>(
     context: &mut WasiP1Ctx<H>,

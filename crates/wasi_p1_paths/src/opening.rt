@@ -26,10 +26,10 @@ use wasi_turns::{P1Error, text_at};
 /// where the number isn't a directory's or file's, Notdir where it is a file's; trap TableFull where as many
 /// descriptors are live as may be; Notsup of dsync, rsync and sync; Inval of DIRECTORY beside another of its flags;
 /// Perm of creat, trunc and FD_WRITE under read-only permissions, and of trunc under append-only ones; then those of
-/// the walk, at the part where it stops: Noent of an empty text, Perm of a leading slash, in a link's text too, and of `..` at the start
-/// directory, Acces of `..` where a directory may not be searched, Loop of a link past the 40th, Isdir of a path
-/// that ends in `.` or `..` where creat, trunc or FD_WRITE is asked for, and at each name the host's, which are
-/// those of POSIX's `openat`; Notdir where DIRECTORY is asked for and no directory was opened.
+/// the walk, at the part where it stops: Noent of an empty text, Perm of a leading slash, in a link's text too, and
+/// of `..` at the start directory, Acces of `..` where a directory may not be searched, Loop of a link past the
+/// 40th, Isdir of a path that ends in `.` or `..` where creat, trunc or FD_WRITE is asked for, and at each name the
+/// host's, those of POSIX's `openat`; Notdir where DIRECTORY is asked for and no directory was opened.
 #[tactic(auto, using(wasi_turns::proofs::Taking::refusals, wasi_turns::proofs::CallTracing::traced_from), unfolding(wasi_turns::specs::Rows::Opening::path_open))]
 pub fn path_open<H: Host>(
     context: &mut WasiP1Ctx<H>,

@@ -43,9 +43,9 @@ pub fn path_create_directory<H: Host>(
 
 /// Drops an empty directory at the path in a range of memory, from the directory of a descriptor. A descriptor may
 /// still stand for it, but it takes no name any more. Refusals, in this order: those of `path_create_directory` up
-/// to those of every host call by a name; then those of POSIX's `unlinkat` with AT_REMOVEDIR: Inval of a path that
-/// ends in `/`, `.` or `..`, Noent where the name is missing, Acces where its directory may not be written, Notdir
-/// where it holds no directory, Notempty where that has names.
+/// to those of every host call by a name, but Perm unless the permissions are read-write; then those of POSIX's
+/// `unlinkat` with AT_REMOVEDIR: Inval of a path that ends in `/`, `.` or `..`, Noent where the name is missing,
+/// Acces where its directory may not be written, Notdir where it holds no directory, Notempty where that has names.
 #[tactic(auto, using(wasi_turns::proofs::Taking::refusals, wasi_turns::proofs::CallTracing::traced_below), unfolding(wasi_turns::specs::Rows::Places::path_remove_directory))]
 pub fn path_remove_directory<H: Host>(
     context: &mut WasiP1Ctx<H>,
@@ -67,8 +67,8 @@ pub fn path_remove_directory<H: Host>(
 }
 
 /// Drops the name of a file or link at the path in a range of memory, from the directory of a descriptor; a link
-/// itself is dropped, not what it leads to. Refusals, in this order: those of `path_create_directory` up to those
-/// of every host call by a name; then those of POSIX's `unlinkat`: Isdir of a path that ends in `/`, `.` or `..`,
+/// itself is dropped, not what it leads to. Refusals, in this order: those of `path_remove_directory` up to those of
+/// every host call by a name; then those of POSIX's `unlinkat`: Isdir of a path that ends in `/`, `.` or `..`,
 /// Noent where the name is missing, Acces where its directory may not be written, Isdir of a directory.
 #[tactic(auto, using(wasi_turns::proofs::Taking::refusals, wasi_turns::proofs::CallTracing::traced_below), unfolding(wasi_turns::specs::Rows::Places::path_unlink_file))]
 pub fn path_unlink_file<H: Host>(

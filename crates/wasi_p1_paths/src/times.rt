@@ -17,7 +17,7 @@ use wasi_turns::{NewTimes, P1Error, text_at};
 /// what the wall clock stands at, or not at all. SYMLINK_FOLLOW follows a link under the last name; without it a
 /// link's times are its own. Refusals, in this order: Inval of an unknown flag; of the first and then of the second
 /// time Inval where it is both given and the wall clock's, Overflow where the wall clock is asked for and an i64
-/// doesn't hold its seconds; those of `path_create_directory` up to Perm; without SYMLINK_FOLLOW those of the walk
+/// doesn't hold its seconds; those of `path_remove_directory` up to Perm; without SYMLINK_FOLLOW those of the walk
 /// to the directory of the name, as in `path_open`, those of every host call by a name, as in
 /// `path_create_directory`, and then that of POSIX's `utimensat`: Noent where the name is missing. With it those of
 /// an open of the path for writing, as in `path_open`; where that is refused Acces or Isdir, those of one for

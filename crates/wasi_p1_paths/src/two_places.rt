@@ -64,10 +64,10 @@ pub fn path_link<H: Host>(
 /// asked for. What the new name held loses it: a file or link has one name fewer, and stays with none too; an empty
 /// directory is removed. Refusals, in this order: Badf where the old number isn't a directory's, and then where the
 /// new one isn't; Nomem, trap Pointer and Ilseq of the old text, as in `path_create_directory`, and then of the new
-/// one; Perm where the old directory's permissions are read-only, then where the new one's are, and then where the
-/// two differ; those of the walk to the directory of the old name, as in `path_open`, Noent of an empty text among
-/// them, and then of the new one; those of every host call by a name, as in `path_create_directory`, of the old
-/// name and then of the new one; then those of POSIX's `renameat`: Busy of a path that ends in `.` or `..`, Noent
+/// one; Perm where the old directory's permissions aren't read-write, then where the new one's aren't, and then
+/// where the two differ; those of the walk to the directory of the old name, as in `path_open`, Noent of an empty
+/// text among them, and then of the new one; those of every host call by a name, as in `path_create_directory`, of
+/// the old name, then of the new one; then those of POSIX's `renameat`: Busy of a path that ends in `.` or `..`, Noent
 /// where the old name is missing, Notdir where a directory is asked for and it holds none, Inval of a directory
 /// into itself or below, Notempty onto a directory in or below which the old name is. Where both names hold one
 /// node there are no others, and nothing changes. Acces where the old directory may not be written, or the new one,

@@ -1,5 +1,5 @@
 mod Headlines
-mod OwnTrees
+mod KeptTrees
 mod Tops
 mod Numerals
 mod Summaries

@@ -1,7 +1,7 @@
 -- What the program has to write, and what stands after it, by its status.
 use Rattle.std.specs.Prelude.{◌≡◌, ℕ, ◌+◌, ◌++◌, List, [], ◌∷◌, drop, codes, Result, Ok, Err, ⊤}
 use Rattle.wasi_ends.specs.Ends.{ReadFront, TookFront}
-use Rattle.wasi_script.specs.Headline.{Reports, GivesReadOnly, TellsOwnTree}
+use Rattle.wasi_script.specs.Headline.{Reports, GivesReadOnly, TellsKeptNodes, TellsOwnTree}
 use Rattle.wasi_script.specs.Summary.{Summarizes}
 use Rattle.wasi_script.specs.declared.words.Task.{Task}
 use Rattle.wasi_script.specs.declared.words.Task.TheVariants as tasks
@@ -108,18 +108,19 @@ Writes statuses.WriteFault d taken now = WroteFront d taken now
 abbrev pub WritesOfSome : Status → Task → List ℕ → List ℕ → Type 0
 WritesOfSome status task taken now = (left : List ℕ) × OfDue status task left (λ due. Writes status due taken now)
 
--- of a report whose script gives the guest read-only directories alone, the sink took a text that tells the script's own
--- tree
-abbrev pub TookOwnTree : Due → (List ℕ → Type 0) → Type 0
-TookOwnTree the_usage Took = ⊤
-TookOwnTree (the_refusal refusal) Took = ⊤
-TookOwnTree (the_line n) Took = ⊤
-TookOwnTree (the_report plan) Took = GivesReadOnly plan → (text : List ℕ) × TellsOwnTree plan text × Took text
+-- Of a report the sink took a text that tells the script's nodes that may not be altered as they were, or with more in
+-- them; and the script's own tree, where the script gives the guest read-only directories alone
+abbrev pub TookKept : Due → (List ℕ → Type 0) → Type 0
+TookKept the_usage Took = ⊤
+TookKept (the_refusal refusal) Took = ⊤
+TookKept (the_line n) Took = ⊤
+TookKept (the_report plan) Took =
+    (text : List ℕ) × Took text × TellsKeptNodes plan text × (GivesReadOnly plan → TellsOwnTree plan text)
 
 -- the same by the status: of a text that was taken whole, or a front of it
 abbrev pub KeepsTree : Status → Due → List ℕ → List ℕ → Type 0
-KeepsTree statuses.Done d taken now = TookOwnTree d (λ text. now ≡ taken ++ text)
-KeepsTree statuses.WriteFault d taken now = TookOwnTree d (TookFront taken now)
+KeepsTree statuses.Done d taken now = TookKept d (λ text. now ≡ taken ++ text)
+KeepsTree statuses.WriteFault d taken now = TookKept d (TookFront taken now)
 KeepsTree statuses.Usage d taken now = ⊤
 KeepsTree (statuses.Refused refusal) d taken now = ⊤
 KeepsTree statuses.ReadFault d taken now = ⊤

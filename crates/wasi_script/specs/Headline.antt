@@ -1,11 +1,14 @@
 -- What the report of a script holds.
-use Rattle.std.specs.Prelude.{◌≡◌, ◌≤◌, ℕ, List, length, map, All, Contains}
+use Rattle.std.specs.Prelude.{◌≡◌, ◌≤◌, ◌⊎◌, ℕ, false, List, ◌++◌, length, map, slice_get, All, Contains, Some}
 use Rattle.std.specs.FinMap as maps
 use Rattle.std.specs.List.Sorted.{IsStrictlySortedBy}
 use Rattle.std.specs.Ordering.{nat_cmp}
 use Rattle.wasi_host.specs.Tree.{Names}
 use Rattle.wasi_tree.specs.Given.{Given, GivenContent, file, directory, link}
-use Rattle.wasi_fs.specs.declared.perms.FsPerms.TheVariants.{ReadOnly}
+use Rattle.wasi_fs.specs.Perms.{permits}
+use Rattle.wasi_fs.specs.declared.perms.Act.TheVariants.{Alter}
+use Rattle.wasi_fs.specs.declared.perms.FsPerms.TheVariants.{ReadOnly, ReadWrite}
+use Rattle.wasi_turns.specs.AppendOnly.{AreApart, ReachedUnder}
 use Rattle.wasi_turns.specs.Front.{FueledCall, with_fuel}
 use Rattle.wasi_turns.specs.Reach.{InReach}
 use Rattle.wasi_report.specs.Report.{Report, report_text}
@@ -40,6 +43,46 @@ pub record Reports (plan : Plan) (text : List ℕ) : Type 0 where
 -- each directory that the guest is given is read-only
 abbrev pub GivesReadOnly : Plan → Type 0
 GivesReadOnly plan = All (λ preopen. preopen.perms ≡ ReadOnly) plan.preopens
+
+-- nothing may be altered below the directories that the guest is given: each is append-only or read-only
+abbrev pub GivesNoAltering : Plan → Type 0
+GivesNoAltering plan = All (λ preopen. permits preopen.perms Alter ≡ false) plan.preopens
+
+-- A node of the script that no call of it may alter: none may alter anything; or the node isn't reached from a directory
+-- that is given read-write, and no directory is reached both from such a one and from an append-only one
+abbrev pub MayNotBeAltered : Plan → ℕ → Type 0
+MayNotBeAltered plan n =
+    GivesNoAltering plan ⊎ (AreApart (start plan) × (ReachedUnder (start plan) ReadWrite n → ⊥))
+
+-- the names of a directory that is told, as they are found
+abbrev pub names_told : List (List ℕ × ℕ) → Names
+names_told entries = maps.from_entries entries
+
+-- a content that is told has what another had: a file its bytes, and maybe more behind them; a directory each name, which
+-- holds the node that it held; a link its text
+abbrev pub TellsStill : GivenContent → GivenContent → Type 0
+TellsStill (file bytes) now = (more : List ℕ) × (now ≡ file (bytes ++ more))
+TellsStill (directory entries) now = (others : List (List ℕ × ℕ)) × (now ≡ directory others)
+    × ((name : List ℕ) (n : ℕ) → maps.get (names_told entries) name ≡ Some n
+    → maps.get (names_told others) name ≡ Some n)
+TellsStill (link text) now = now ≡ link text
+
+-- a node that is told has what another had, with the same bits and times
+pub record IsStillTold (was now : Given) : Type 0 where
+  pub content : TellsStill was.content now.content
+  pub bits : now.bits ≡ was.bits
+  pub atime : now.atime ≡ was.atime
+  pub mtime : now.mtime ≡ was.mtime
+  pub btime : now.btime ≡ was.btime
+
+-- the text is that of a report in whose tree each node of the script that may not be altered has what it had, under its
+-- number; it is in range and order, so that its text tells it
+pub record TellsKeptNodes (plan : Plan) (text : List ℕ) : Type 0 where
+  pub report : Report
+  pub ordered : IsOrdered report
+  pub text_is : text ≡ report_text report
+  pub kept : (n : ℕ) (was : Given) → slice_get plan.nodes n ≡ Some was → MayNotBeAltered plan n
+      → (now : Given) × (slice_get report.tree n ≡ Some now) × IsStillTold was now
 
 -- a directory's names in byte order
 abbrev pub in_order : GivenContent → GivenContent

@@ -106,7 +106,7 @@ fn run_source<S: Source, K: Sink>(alloc: Global, source: &mut S, sink: &mut K) -
     ensures some { IsTrue K.told → WritesOfSome result Task.Run (K.taken sink.old) (K.taken sink.new) }
     ensures writes { IsTrue S.told → IsTrue K.told → OfDue result Task.Run (S.left source.old)
         (λ due. Writes result due (K.taken sink.old) (K.taken sink.new)) }
-    ensures read_only { IsTrue S.told → IsTrue K.told → OfDue result Task.Run (S.left source.old)
+    ensures keeps { IsTrue S.told → IsTrue K.told → OfDue result Task.Run (S.left source.old)
         (λ due. KeepsTree result due (K.taken sink.old) (K.taken sink.new)) }
 {
     let room = Bump::new(alloc);
@@ -182,7 +182,7 @@ pub fn run_script<S: Source, K: Sink>(
     ensures writes { IsTrue S.told → IsTrue K.told
         → OfDue result (task_of (map string_bytes words.now.items)) (S.left source.old)
         (λ due. Writes result due (K.taken sink.old) (K.taken sink.new)) }
-    ensures read_only { IsTrue S.told → IsTrue K.told
+    ensures keeps { IsTrue S.told → IsTrue K.told
         → OfDue result (task_of (map string_bytes words.now.items)) (S.left source.old)
         (λ due. KeepsTree result due (K.taken sink.old) (K.taken sink.new)) }
 {

@@ -15,7 +15,7 @@ use Rattle.wasi_guest.specs.declared.call.Call.{Call}
 use Rattle.wasi_turns.specs.Front.{FueledCall}
 use Rattle.wasi_guest.specs.declared.answer.Value.{Value}
 use Rattle.wasi_host.proofs.Agreeing.{same_agree, still_closed}
-use Rattle.wasi_turns.proofs.Changing.{named_has}
+use Rattle.wasi_turns.proofs.Changing.{named_has, nodes_stay}
 use Rattle.wasi_turns.proofs.RequestsAgree.{after_agree, reply_same, after_closed, given_seen}
 use Rattle.wasi_turns.proofs.Nearness.{row_near}
 
@@ -38,7 +38,7 @@ module _ {Seen : ℕ → Type 0} {s s' : State} (alike : Alike Seen s s') where
       trees = same_agree alike.closed alike.trees;
       closed = still_closed alike.closed;
       slots = λ n has.
-          elim (stays.nodes n has) [ inl was ↦ inl (alike.slots n was) | inr none ↦ absurd (omega (arith, none.1)) ];
+          elim (nodes_stay stays n has) [ inl was ↦ inl (alike.slots n was) | inr none ↦ absurd (omega (arith, none.1)) ];
     },
   )
 
@@ -57,7 +57,7 @@ module _ {Seen : ℕ → Type 0} {s s' : State} (alike : Alike Seen s s') where
         guest = refl;
         trees = after_agree alike.closed alike.trees r starts_seen;
         closed = after_closed alike.closed r starts_seen;
-        slots = λ n has. elim (keep.nodes n has) [
+        slots = λ n has. elim (nodes_stay keep n has) [
           | inl was ↦ inl (alike.slots n was)
           | inr given ↦ given_seen alike.closed r reply starts_seen is n given
         ];

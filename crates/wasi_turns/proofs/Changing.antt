@@ -1,5 +1,5 @@
 -- The nodes and the permissions of descriptors that change.
-use Rattle.std.proofs.Common.{ℕ, zero, suc, ◌==◌, ◌≡◌, ◌≢◌, ◌⊎◌, inl, inr, true, false, cond, Bool, List, [], ◌∷◌, ◌++◌, length, refl, ap, sym, ◌∙◌, subst, arith, slice_get, slice_set, Option, Some, None, Ok, Err, append_assoc, append-nil}
+use Rattle.std.proofs.Common.{ℕ, zero, suc, ◌==◌, ◌≡◌, ◌≢◌, ◌⊎◌, inl, inr, true, false, cond, Bool, List, [], ◌∷◌, ◌++◌, length, refl, ap, sym, ◌∙◌, subst, arith, slice_get, slice_set, Option, Some, None, Ok, Err}
 use Rattle.std.specs.Prelude.{Contains, unwrap_or}
 use Rattle.std.specs.Option.{option_map_or}
 use Rattle.std.proofs.lemmas.Bool.Decides.{nat_tests}
@@ -7,6 +7,7 @@ use Rattle.std.proofs.lemmas.Option.{slice_get_past}
 use Rattle.std.proofs.lemmas.List.Elements.{Contains-append_cases, Contains-append_left, Contains-append_right}
 use Rattle.wasi_fs.specs.declared.open_mode.OpenMode.{OpenMode}
 use Rattle.wasi_fs.specs.declared.perms.FsPerms.{FsPerms}
+use Rattle.wasi_fs.specs.declared.perms.FsPerms.TheVariants.{AppendOnly}
 use Rattle.wasi_host.specs.Steps.{◌>>=◌}
 use Rattle.wasi_streams.proofs.OneChanged.{set_cases, push_cases}
 use Rattle.wasi_guest.specs.declared.answer.Value.{Value}
@@ -24,70 +25,14 @@ use Rattle.wasi_turns.specs.declared.slots.FileModes.{FileModes}
 use Rattle.wasi_turns.specs.declared.slots.Stream.TheVariants as streams
 use Rattle.wasi_turns.specs.declared.usage.FileUse.{FileUse}
 use Rattle.wasi_turns.specs.declared.usage.FileUse.TheVariants.{ReadAt}
-use Rattle.wasi_turns.specs.Stems.{HasPerms}
+use Rattle.wasi_turns.specs.Stock.{Stock}
 use Rattle.wasi_turns.specs.Validity.{HasBytes}
 use Rattle.wasi_turns.proofs.Near.{Ends, Has, IsNamed, KeepsSlots, StaysNear, AreBytes, KeepsBytes}
 use Rattle.wasi_turns.proofs.Bytes.{put_bytes}
 use Rattle.wasi_turns.proofs.Numbers.{last_passes}
 use Rattle.wasi_turns.proofs.Wanting.{Never}
 use Rattle.wasi_turns.proofs.RowEnds.{with_slots, with_text, with_filestat}
-use Rattle.wasi_turns.specs.Rows.{itself, through, descriptors_named}
-
--- ---- their nodes
-
--- a descriptor's that was there, or this one's
-abbrev OldOrThis : List GuestSlot → GuestSlot → ℕ → Type 0
-OldOrThis slots slot n = Contains (open_nodes slots) n ⊎ Contains (node_in (Some slot)) n
-
-nodes-append : (xs ys : List GuestSlot) → open_nodes (xs ++ ys) ≡ open_nodes xs ++ open_nodes ys
-nodes-append [] ys = refl
-nodes-append (x ∷ xs) ys =
-    ap (λ l. node_in (Some x) ++ l) (nodes-append xs ys)
-    ∙ sym (append_assoc (node_in (Some x)) (open_nodes xs) (open_nodes ys))
-
-pub in_set : (slots : List GuestSlot) (i : ℕ) (slot : GuestSlot) (n : ℕ) → Contains (open_nodes (slice_set slots i slot)) n
-    → OldOrThis slots slot n
-in_set [] i slot n has = inl has
-in_set (x ∷ xs) zero slot n has = elim (Contains-append_cases (node_in (Some slot)) (open_nodes xs) n has) [
-  | inl here ↦ inr here
-  | inr later ↦ inl (Contains-append_right (node_in (Some x)) (open_nodes xs) n later)
-]
-in_set (x ∷ xs) (suc i) slot n has =
-    elim (Contains-append_cases (node_in (Some x)) (open_nodes (slice_set xs i slot)) n has) [
-      | inl here ↦ inl (Contains-append_left (node_in (Some x)) (open_nodes xs) n here)
-      | inr later ↦ elim (in_set xs i slot n later) [
-        | inl was ↦ inl (Contains-append_right (node_in (Some x)) (open_nodes xs) n was)
-        | inr new ↦ inr new
-      ]
-    ]
-
-in_push : (slots : List GuestSlot) (slot : GuestSlot) (n : ℕ) → Contains (open_nodes (slots ++ slot ∷ [])) n
-    → OldOrThis slots slot n
-in_push slots slot n has =
-    let both = subst (λ l. Contains l n) (nodes-append slots (slot ∷ [])) has in
-    elim (Contains-append_cases (open_nodes slots) (open_nodes (slot ∷ [])) n both) [
-      | inl was ↦ inl was
-      | inr new ↦ inr (subst (λ l. Contains l n) (append-nil (node_in (Some slot))) new)
-    ]
-
-in_put : (o : Option ℕ) (slots : List GuestSlot) (slot : GuestSlot) (n : ℕ) → Contains (open_nodes (put_at o slot slots)) n
-    → OldOrThis slots slot n
-in_put (Some i) slots slot n has = in_set slots i slot n has
-in_put None slots slot n has = in_push slots slot n has
-
-in_with : (slots : List GuestSlot) (slot : GuestSlot) (n : ℕ) → Contains (open_nodes (with_guest_slot slots slot)) n
-    → OldOrThis slots slot n
-unfolding with_new
-in_with slots slot n has = in_put (last_where is_closed slots) slots slot n has
-
-node_for : (perms : FsPerms) (mode : OpenMode) (modes : FileModes) (found : Opened) (n : ℕ)
-    → Contains (node_in (Some (new_guest_slot perms mode modes found))) n → Contains (found.held.node ∷ []) n
-node_for perms mode modes found n has = by found.is_dir has
-  where
-    by : (b : Bool) → Contains (node_in (Some (new_guest_slot perms mode modes (record found { is_dir = b })))) n
-        → Contains (found.held.node ∷ []) n
-    by true is = is
-    by false is = is
+use Rattle.wasi_turns.specs.Rows.{Stem, itself, through, descriptors_named}
 
 -- ---- the node of a descriptor that a number names
 
@@ -95,6 +40,15 @@ pub slice_named : (slots : List GuestSlot) (i n : ℕ) → Contains (node_in (sl
 slice_named [] i n has = has
 slice_named (x ∷ xs) zero n has = Contains-append_left (node_in (Some x)) (open_nodes xs) n has
 slice_named (x ∷ xs) (suc i) n has = Contains-append_right (node_in (Some x)) (open_nodes xs) n (slice_named xs i n has)
+
+-- each node of a descriptor is that of some number
+pub has_number : (slots : List GuestSlot) (n : ℕ) → Contains (open_nodes slots) n
+    → (fd : ℕ) × Contains (node_in (slice_get slots fd)) n
+has_number [] n has = absurd (omega (arith, has.1))
+has_number (x ∷ xs) n has = elim (Contains-append_cases (node_in (Some x)) (open_nodes xs) n has) [
+  | inl here ↦ (0, here)
+  | inr later ↦ let (fd, at) = has_number xs n later in (suc fd, at)
+]
 
 pub named_has : {call : Call} {g : Guest} {n : ℕ} → IsNamed g call n → Has g n
 named_has {g = g} {n = n} is = slice_named g.slots is.fd n is.node
@@ -183,75 +137,98 @@ node_perms {o} (Some (directory d)) is = let same : d.perms ≡ o.perms = (cc) i
 node_perms {o} (Some (file f)) is = let same : f.perms ≡ o.perms = (cc) in ap Some same
 node_perms p is = absurd (cc)
 
--- a number's slot has these permissions
-abbrev pub PermsAt : List GuestSlot → ℕ → FsPerms → Type 0
-PermsAt slots n perms = perms_in (slice_get slots n) ≡ Some perms
+-- what has a node has permissions
+pub slot_perms : (p : Option GuestSlot) (n : ℕ) → Contains (node_in p) n → (perms : FsPerms) × (perms_in p ≡ Some perms)
+slot_perms (Some (directory d)) n has = (d.perms, refl)
+slot_perms (Some (file f)) n has = (f.perms, refl)
+slot_perms p n has = absurd (omega (arith, has.1))
 
-pub set_perms : {perms : FsPerms} (slots : List GuestSlot) (i n : ℕ) (slot : GuestSlot)
-    → PermsAt (slice_set slots i slot) n perms
-    → PermsAt slots n perms ⊎ ((n ≡ i) × (perms_in (Some slot) ≡ Some perms))
-set_perms slots i n slot has = elim (set_cases slots i n slot) [
-  | inl same ↦ inl (ap perms_in (sym same) ∙ has)
-  | inr (at, set) ↦ inr (at, ap perms_in (sym set) ∙ has)
-]
+-- ---- what a number stands for where one descriptor changes
 
-push_perms : {perms : FsPerms} (slots : List GuestSlot) (n : ℕ) (slot : GuestSlot) → PermsAt (slots ++ slot ∷ []) n perms
-    → PermsAt slots n perms ⊎ ((n ≡ length slots) × (perms_in (Some slot) ≡ Some perms))
-push_perms slots n slot has = elim (push_cases slots n slot) [
-  | inl same ↦ inl (ap perms_in (sym same) ∙ has)
-  | inr (at, set) ↦ inr (at, ap perms_in (sym set) ∙ has)
-]
+-- a closed number, and one that isn't there, aren't so
+pub record IsOfOpen (Is : Option GuestSlot → Type 0) : Type 0 where
+  pub missing : Is None → ⊥
+  pub closed : Is (Some closed) → ⊥
 
-closed_none : {perms : FsPerms} (p : Option GuestSlot) → option_map_or is_closed p false ≡ true
-    → perms_in p ≡ Some perms → ⊥
-closed_none (Some closed) passes is = absurd (cc)
-closed_none p passes is = absurd (cc)
+-- a descriptor has these permissions, or this node, or is this file
+abbrev pub IsUnder : FsPerms → Option GuestSlot → Type 0
+IsUnder perms p = perms_in p ≡ Some perms
 
-past_none : {perms : FsPerms} {p : Option GuestSlot} → p ≡ None → perms_in p ≡ Some perms → ⊥
-past_none none is = absurd (let wrong = ap perms_in (sym none) ∙ is in cc)
+abbrev pub IsAt : ℕ → Option GuestSlot → Type 0
+IsAt n p = Contains (node_in p) n
 
--- a new one, whose number had none
-new_perms : {perms : FsPerms} (slots : List GuestSlot) (n : ℕ) (slot : GuestSlot) → PermsAt (with_guest_slot slots slot) n perms
-    → (PermsAt slots n perms × (n ≢ new_number slots))
-    ⊎ ((n ≡ new_number slots) × (perms_in (Some slot) ≡ Some perms))
-unfolding with_new free_number
-new_perms {perms} slots n slot = by (last_where is_closed slots) refl
-  where
-    by : (o : Option ℕ) → last_where is_closed slots ≡ o → PermsAt (put_at o slot slots) n perms
-        → (PermsAt slots n perms × (n ≢ unwrap_or o (length slots)))
-        ⊎ ((n ≡ unwrap_or o (length slots)) × (perms_in (Some slot) ≡ Some perms))
-    by (Some i) last has = elim (set_perms slots i n slot has) [
-      | inl was ↦ inl (
-        was,
-        λ same. closed_none (slice_get slots i) (last_passes is_closed slots i last)
-            (subst (λ k. PermsAt slots k perms) same was),
-      )
-      | inr new ↦ inr new
-    ]
-    by None last has = elim (push_perms slots n slot has) [
-      | inl was ↦ inl (
-        was,
-        λ same. past_none (slice_get_past slots (length slots) (omega arith))
-            (subst (λ k. PermsAt slots k perms) same was),
-      )
-      | inr new ↦ inr new
-    ]
+abbrev pub IsFileOf : OpenFile → Option GuestSlot → Type 0
+IsFileOf f p = p ≡ Some (file f)
 
--- a new descriptor with the permissions of another
-new_stems : {perms : FsPerms} (g : Guest) (fd n : ℕ) (slot : GuestSlot)
-    → perms_in (Some slot) ≡ perms_in (slice_get g.slots fd)
-    → PermsAt (with_guest_slot g.slots slot) n perms → HasPerms g (cond (n == new_number g.slots) fd n) perms
-new_stems {perms} g fd n slot same has = by (n == new_number g.slots) refl (new_perms g.slots n slot has)
-  where
-    by : (b : Bool) → (n == new_number g.slots) ≡ b
-        → (PermsAt g.slots n perms × (n ≢ new_number g.slots))
-        ⊎ ((n ≡ new_number g.slots) × (perms_in (Some slot) ≡ Some perms))
-        → HasPerms g (cond b fd n) perms
-    by true is (inl (was, other)) = absurd (other (grind (arith, nat_tests)))
-    by true is (inr (at, new)) = sym same ∙ new
-    by false is (inl (was, other)) = was
-    by false is (inr (at, new)) =
-        absurd (let one : (n == new_number g.slots) ≡ true = grind (arith, nat_tests) in cc)
+pub under_open : {perms : FsPerms} → IsOfOpen (IsUnder perms)
+under_open = record { missing = λ is. absurd (cc); closed = λ is. absurd (cc) }
+
+pub at_open : {n : ℕ} → IsOfOpen (IsAt n)
+at_open = record { missing = λ has. absurd (omega (arith, has.1)); closed = λ has. absurd (omega (arith, has.1)) }
+
+pub file_open : {f : OpenFile} → IsOfOpen (IsFileOf f)
+file_open = record { missing = λ is. absurd (cc); closed = λ is. absurd (cc) }
+
+module _ (Is : Option GuestSlot → Type 0) where
+  -- it is what it was, or under the number that changed
+  pub in_set : (slots : List GuestSlot) (i n : ℕ) (slot : GuestSlot) → Is (slice_get (slice_set slots i slot) n)
+      → Is (slice_get slots n) ⊎ ((n ≡ i) × Is (Some slot))
+  in_set slots i n slot is = elim (set_cases slots i n slot) [
+    | inl same ↦ inl (subst Is same is)
+    | inr (at, set) ↦ inr (at, subst Is set is)
+  ]
+
+  in_push : (slots : List GuestSlot) (n : ℕ) (slot : GuestSlot) → Is (slice_get (slots ++ slot ∷ []) n)
+      → Is (slice_get slots n) ⊎ ((n ≡ length slots) × Is (Some slot))
+  in_push slots n slot is = elim (push_cases slots n slot) [
+    | inl same ↦ inl (subst Is same is)
+    | inr (at, set) ↦ inr (at, subst Is set is)
+  ]
+
+  closed_none : IsOfOpen Is → (p : Option GuestSlot) → option_map_or is_closed p false ≡ true → Is p → ⊥
+  closed_none live (Some closed) passes is = live.closed is
+  closed_none live p passes is = absurd (cc)
+
+  -- or under the number of a new one, which was closed or not there
+  in_new : IsOfOpen Is → (slots : List GuestSlot) (n : ℕ) (slot : GuestSlot) → Is (slice_get (with_guest_slot slots slot) n)
+      → (Is (slice_get slots n) × (n ≢ new_number slots)) ⊎ ((n ≡ new_number slots) × Is (Some slot))
+  unfolding with_new free_number
+  in_new live slots n slot = by (last_where is_closed slots) refl
+    where
+      by : (o : Option ℕ) → last_where is_closed slots ≡ o → Is (slice_get (put_at o slot slots) n)
+          → (Is (slice_get slots n) × (n ≢ unwrap_or o (length slots)))
+          ⊎ ((n ≡ unwrap_or o (length slots)) × Is (Some slot))
+      by (Some i) last is = elim (in_set slots i n slot is) [
+        | inl was ↦ inl (
+          was,
+          λ same. closed_none live (slice_get slots i) (last_passes is_closed slots i last)
+              (subst (λ k. Is (slice_get slots k)) same was),
+        )
+        | inr new ↦ inr new
+      ]
+      by None last is = elim (in_push slots n slot is) [
+        | inl was ↦ inl (
+          was,
+          λ same. live.missing (subst Is (slice_get_past slots (length slots) (omega arith))
+              (subst (λ k. Is (slice_get slots k)) same was)),
+        )
+        | inr new ↦ inr new
+      ]
+
+  -- under the new number is the new one, and under each other what was there
+  pub new_stems : IsOfOpen Is → (slots : List GuestSlot) (fd n : ℕ) (slot : GuestSlot)
+      → Is (slice_get (with_guest_slot slots slot) n)
+      → Is (slice_get slots (cond (n == new_number slots) fd n)) ⊎ (((n == new_number slots) ≡ true) × Is (Some slot))
+  new_stems live slots fd n slot is = by (n == new_number slots) refl (in_new live slots n slot is)
+    where
+      by : (b : Bool) → (n == new_number slots) ≡ b
+          → (Is (slice_get slots n) × (n ≢ new_number slots)) ⊎ ((n ≡ new_number slots) × Is (Some slot))
+          → Is (slice_get slots (cond b fd n)) ⊎ ((b ≡ true) × Is (Some slot))
+      by true at (inl (was, other)) = absurd (other (grind (arith, nat_tests)))
+      by true at (inr (same, new)) = inr (refl, new)
+      by false at (inl (was, other)) = inl was
+      by false at (inr (same, new)) =
+          absurd (let one : (n == new_number slots) ≡ true = grind (arith, nat_tests) in cc)
 
 new_slot_perms : (perms : FsPerms) (mode : OpenMode) (modes : FileModes) (found : Opened)
     → perms_in (Some (new_guest_slot perms mode modes found)) ≡ Some perms
@@ -261,50 +238,106 @@ new_slot_perms perms mode modes found = by found.is_dir
     by true = refl
     by false = refl
 
+node_for : (perms : FsPerms) (mode : OpenMode) (modes : FileModes) (found : Opened) (n : ℕ)
+    → Contains (node_in (Some (new_guest_slot perms mode modes found))) n → Contains (found.held.node ∷ []) n
+node_for perms mode modes found n has = by found.is_dir has
+  where
+    by : (b : Bool) → Contains (node_in (Some (new_guest_slot perms mode modes (record found { is_dir = b })))) n
+        → Contains (found.held.node ∷ []) n
+    by true is = is
+    by false is = is
+
+new_slot_file : {f : OpenFile} (perms : FsPerms) (mode : OpenMode) (modes : FileModes) (found : Opened)
+    → IsFileOf f (Some (new_guest_slot perms mode modes found)) → (f.perms ≡ perms) × (f.modes ≡ modes)
+new_slot_file {f} perms mode modes found is = by found.is_dir is
+  where
+    by : (b : Bool) → IsFileOf f (Some (new_guest_slot perms mode modes (record found { is_dir = b })))
+        → (f.perms ≡ perms) × (f.modes ≡ modes)
+    by true is = absurd (cc)
+    by false is = (let same : f.perms ≡ perms = (cc) in same, let same : f.modes ≡ modes = (cc) in same)
+
 -- ---- what a row does to them
+
+-- a file's modes still append, where they have to
+abbrev pub StaysAppending : OpenFile → FileModes → Type 0
+StaysAppending f modes = f.perms ≡ AppendOnly → f.modes.append ≡ true → modes.append ≡ true
 
 -- a file's descriptor is put back, at another position or with other modes
 pub put_back : {f : OpenFile} {x : Value} {memory : List ℕ} (g : Guest) (fd position : ℕ) (modes : FileModes) (given : List ℕ)
-    → slice_get g.slots fd ≡ Some (file f)
+    → slice_get g.slots fd ≡ Some (file f) → StaysAppending f modes
     → StaysNear g itself given
     (x, record (with_file g fd (record f { position = position; modes = modes })) { memory = memory })
-put_back {f} g fd position modes given is = record {
-  nodes = λ n has. elim (in_set g.slots fd (file (record f { position = position; modes = modes })) n has) [
-    | inl was ↦ inl was
-    | inr own ↦ inl (slice_named g.slots fd n (file_named (slice_get g.slots fd) n is own))
-  ];
-  perms = λ n perms has. elim (set_perms g.slots fd n (file (record f { position = position; modes = modes })) has) [
-    | inl was ↦ was
-    | inr (at, own) ↦ ap (λ k. perms_in (slice_get g.slots k)) at ∙ ap perms_in is ∙ own
-  ];
-}
+put_back {f} g fd position modes given is appends =
+    let now : OpenFile = record f { position = position; modes = modes } in record {
+      nodes = λ k n has. inl (elim (in_set (IsAt n) g.slots fd k (file now) has) [
+        | inl was ↦ was
+        | inr (at, own) ↦ subst (λ i. IsAt n (slice_get g.slots i)) (sym at) (subst (IsAt n) (sym is) own)
+      ]);
+      perms = λ k perms has. elim (in_set (IsUnder perms) g.slots fd k (file now) has) [
+        | inl was ↦ was
+        | inr (at, own) ↦ ap (λ i. perms_in (slice_get g.slots i)) at ∙ ap perms_in is ∙ own
+      ];
+      appends = λ all k other has under. elim (in_set (IsFileOf other) g.slots fd k (file now) has) [
+        | inl was ↦ all k other was under
+        | inr (at, own) ↦
+            let same : now ≡ other = (cc) in
+            ap (λ (h : OpenFile). h.modes.append) (sym same)
+            ∙ let mine : f.perms ≡ AppendOnly = ap (λ (h : OpenFile). h.perms) same ∙ under in appends mine (all fd f is mine)
+      ];
+    }
 
 -- a number becomes closed
 pub put_closed : {x : Value} (g : Guest) (fd : ℕ)
     → StaysNear g itself [] (x, record g { slots = slice_set g.slots fd closed })
 put_closed g fd = record {
-  nodes = λ n has. in_set g.slots fd closed n has;
-  perms = λ n perms has. elim (set_perms g.slots fd n closed has) [ inl was ↦ was | inr (at, none) ↦ absurd (cc) ];
+  nodes = λ k n has. inl (still at_open k has);
+  perms = λ k perms has. still under_open k has;
+  appends = λ all k f has under. all k f (still file_open k has) under;
 }
+  where
+    still : {Is : Option GuestSlot → Type 0} → IsOfOpen Is → (n : ℕ) → Is (slice_get (slice_set g.slots fd closed) n)
+        → Is (slice_get g.slots n)
+    still {Is} live n is = elim (in_set Is g.slots fd n closed is) [
+      | inl was ↦ was
+      | inr (at, none) ↦ absurd (live.closed none)
+    ]
 
 -- a new one comes
 pub put_opened : (g : Guest) (fd : ℕ) (perms : FsPerms) (mode : OpenMode) (modes : FileModes) (found : Opened)
-    → perms_in (slice_get g.slots fd) ≡ Some perms
+    → perms_in (slice_get g.slots fd) ≡ Some perms → (perms ≡ AppendOnly → modes.append ≡ true)
     → StaysNear g (through fd) (found.held.node ∷ [])
     (with_slots g (new_number g.slots, with_guest_slot g.slots (new_guest_slot perms mode modes found)))
-put_opened g fd perms mode modes found is = record {
-  nodes = λ n has. elim (in_with g.slots (new_guest_slot perms mode modes found) n has) [
+put_opened g fd perms mode modes found is appends = record {
+  nodes = λ k n has. elim (new_stems (IsAt n) at_open g.slots fd k new has) [
     | inl was ↦ inl was
-    | inr new ↦ inr (node_for perms mode modes found n new)
+    | inr (at, own) ↦ inr (node_for perms mode modes found n own, rw at refl)
   ];
-  perms = λ n given has.
-      new_stems g fd n (new_guest_slot perms mode modes found) (new_slot_perms perms mode modes found ∙ sym is) has;
+  perms = λ k under has. elim (new_stems (IsUnder under) under_open g.slots fd k new has) [
+    | inl was ↦ was
+    | inr (at, own) ↦
+        rw at (is ∙ sym (new_slot_perms perms mode modes found) ∙ own)
+  ];
+  appends = λ all k f has under. elim (in_new (IsFileOf f) file_open g.slots k new has) [
+    | inl (was, _) ↦ all k f was under
+    | inr (_, own) ↦ let (same, modes_are) = new_slot_file perms mode modes found own in
+        ap (λ (m : FileModes). m.append) modes_are ∙ appends (sym same ∙ under)
+  ];
 }
+  where
+    new : GuestSlot
+    new = new_guest_slot perms mode modes found
 
 -- nothing comes, and nothing goes
-pub put_nothing : {x : Value} {memory given : List ℕ} (g : Guest)
-    → StaysNear g itself given (x, record g { memory = memory })
-put_nothing g = record { nodes = λ n has. inl has; perms = λ n perms has. has }
+pub put_nothing : {x : Value} {memory given : List ℕ} {stock : Stock} (g : Guest)
+    → StaysNear g itself given (x, record g { memory = memory; holdings = stock })
+put_nothing g = record { nodes = λ k n has. inl has; perms = λ k perms has. has; appends = λ all. all }
+
+-- so a node of a descriptor was one of a descriptor, or is given
+pub nodes_stay : {g : Guest} {stem : Stem} {given : List ℕ} {p : Value × Guest} → StaysNear g stem given p → (n : ℕ)
+    → Has p.1 n → Has g n ⊎ Contains given n
+nodes_stay {g} {p = p} stays n has =
+    let (fd, at) = has_number p.1.slots n has in
+    elim (stays.nodes fd n at) [ inl was ↦ inl (slice_named g.slots _ n was) | inr (new, _) ↦ inr new ]
 
 -- ---- what a row writes into memory, or tells
 

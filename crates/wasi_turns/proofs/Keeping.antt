@@ -1,7 +1,7 @@
 -- Opens that leave the tree.
 use Rattle.std.proofs.Common.{ℕ, ◌≡◌, true, false, cond, Bool, List, refl, ◌∙◌, subst, arith, Result, Ok, Err}
 use Rattle.wasi_fs.specs.declared.perms.Act.{Act}
-use Rattle.wasi_fs.specs.declared.perms.FsPerms.TheVariants.{ReadOnly, AppendOnly, ReadWrite}
+use Rattle.wasi_fs.specs.declared.perms.FsPerms.TheVariants.{ReadOnly}
 use Rattle.wasi_fs.specs.declared.perms.FsPerms.{FsPerms}
 use Rattle.wasi_host.specs.Options.{Options, creates}
 use Rattle.wasi_host.specs.Tree.{Tree}
@@ -99,21 +99,16 @@ no_link perms target may is = absurd (cc)
 
 -- nor does a node get a name
 pub no_new_name : (old new : FsPerms) (follow : Bool) {u : Unit {0}} → permit (may_add_name old new follow) ≡ Ok u
-    → (old ≡ ReadOnly → ⊥) × (new ≡ ReadOnly → ⊥)
+    → old ≡ ReadOnly → ⊥
 unfolding may_add_name
-no_new_name ReadOnly new follow may = absurd (cc)
-no_new_name AppendOnly ReadOnly follow may = absurd (cc)
-no_new_name ReadWrite ReadOnly follow may = absurd (cc)
-no_new_name old new follow may = (λ is. absurd (cc), λ is. absurd (cc))
+no_new_name ReadOnly new follow may is = absurd (cc)
+no_new_name old new follow may is = absurd (cc)
 
 -- nor does a name move
-pub no_move : (old new : FsPerms) {u : Unit {0}} → permit (may_rename old new) ≡ Ok u
-    → (old ≡ ReadOnly → ⊥) × (new ≡ ReadOnly → ⊥)
+pub no_move : (old new : FsPerms) {u : Unit {0}} → permit (may_rename old new) ≡ Ok u → old ≡ ReadOnly → ⊥
 unfolding may_rename
-no_move ReadOnly new may = absurd (cc)
-no_move AppendOnly new may = absurd (cc)
-no_move ReadWrite ReadOnly may = absurd (cc)
-no_move ReadWrite new may = (λ is. absurd (cc), λ is. absurd (cc))
+no_move ReadOnly new may is = absurd (cc)
+no_move old new may is = absurd (cc)
 
 -- ---- the text of a link
 

@@ -1,3 +1,6 @@
+pub mod Growing
+pub mod Adding
+pub mod Elsewhere
 pub mod Near
 pub mod PlainLook
 pub mod Putting
@@ -60,3 +63,4 @@ pub mod InTurn
 pub mod Confining
 pub mod Texts
 pub mod Cycling
+pub mod Apart

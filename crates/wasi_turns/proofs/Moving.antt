@@ -67,6 +67,24 @@ each_turn P holds (call ∷ calls) (t ∷ turns) k old new (j, before, is, spend
     later next true (none, last) = subst (All P) (sym none) (All-nil P)
     later next false on = next on
 
+-- what each turn keeps a run keeps
+pub run_keeps : (Holds : State → Type 0) → ((t : Turned) → Played t ⊎ Faulted t → Holds t.before → Holds t.after)
+    → (calls : List FueledCall) (turns : List Turned) (k : ℕ) (old new : State) → Run k old calls turns new
+    → Holds old → Holds new
+run_keeps Holds keeps [] [] k old new run held = subst Holds (sym run) held
+run_keeps Holds keeps [] (t ∷ turns) k old new run held = absurd run
+run_keeps Holds keeps (call ∷ calls) [] k old new run held = absurd run
+run_keeps Holds keeps (call ∷ calls) (t ∷ turns) k old new (j, before, is, spends, rest) held =
+    later (λ on. run_keeps Holds keeps calls turns j t.after new on then) (ends t.answer) rest
+  where
+    then : Holds t.after
+    then = keeps t (turned_by spends) (subst Holds (sym before) held)
+
+    later : (Run j t.after calls turns new → Holds new) → (b : Bool)
+        → MatchBool b ((turns ≡ []) × (new ≡ t.after)) (Run j t.after calls turns new) → Holds new
+    later next true (none, last) = subst Holds (sym last) then
+    later next false on = next on
+
 -- ---- the answer of a row over a tree
 
 pub over_tree : {t : Tree} {p : Value × State} (m : Row (Value × Guest)) → over t m ≡ Ok p → p.1.tree ≡ t

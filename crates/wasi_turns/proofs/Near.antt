@@ -1,9 +1,10 @@
--- What holds of each row: its request starts at descriptors that its call names, and may be asked of a host; no node comes to a descriptor
--- but from the reply, and no permissions but from the descriptor that it stems from; it makes no step where a
--- descriptor that its call names is under read-only permissions; it isn't refused after a step, nor before it asks
--- because memory was wanted; it is refused by no error number that isn't listed; and it leaves bytes in memory.
-use Rattle.std.specs.Prelude.{ℕ, ◌≡◌, ◌⊎◌, List, [], All, slice_get, Contains, IsUtf8, Ok, Err, IfErr}
+-- What holds of each row: its request starts at descriptors that its call names, and may be asked of a host; no node
+-- comes to a descriptor but from the reply, and else that of the descriptor from which it stems, as its permissions do;
+-- its step is permitted to the descriptors that its call names; it isn't refused after a step, nor before it asks because
+-- memory was wanted; it is refused by no error number that isn't listed; and it leaves bytes in memory.
+use Rattle.std.specs.Prelude.{ℕ, ◌≡◌, ◌≢◌, ◌⊎◌, List, [], All, slice_get, Contains, IsUtf8, Ok, Err, IfErr}
 use Rattle.wasi_fs.specs.declared.perms.FsPerms.{FsPerms}
+use Rattle.wasi_fs.specs.declared.perms.FsPerms.TheVariants.{ReadOnly, AppendOnly}
 use Rattle.wasi_host.specs.Tree.{Tree}
 use Rattle.wasi_host.specs.HostCall.{HostCall, Append, Pread, CanBeAsked}
 use Rattle.wasi_host.specs.Answer.{HostAnswer}
@@ -12,7 +13,7 @@ use Rattle.wasi_turns.specs.Validity.{HasBytes}
 use Rattle.wasi_guest.specs.declared.answer.Answer.TheVariants as answers
 use Rattle.wasi_guest.specs.declared.answer.Value.{Value}
 use Rattle.wasi_guest.specs.declared.call.Call.{Call}
-use Rattle.wasi_turns.specs.CallTurn.{NamesReadOnly}
+use Rattle.wasi_turns.specs.AppendOnly.{Adds, AppendsAtEnd}
 use Rattle.wasi_turns.specs.Guest.{Guest, node_in, open_nodes}
 use Rattle.wasi_turns.specs.Listing.{Entry}
 use Rattle.wasi_turns.specs.Request.{Request, Reply, Path, Direct, Behind, ListDirectory, reply_of, after, starts_at, Sizes}
@@ -22,7 +23,7 @@ use Rattle.wasi_turns.specs.Stems.{stems_by, HasPerms}
 use Rattle.wasi_resolve.specs.AtPlace.{ReadLink}
 use Rattle.wasi_resolve.proofs.Asking.{HasUtf8Target}
 use Rattle.wasi_resolve.specs.PathRequest.{PathRequest, OpenPath, LookPath, AtPlace, TimesPath, AtTwo, PathReply, path_gives}
-use Rattle.wasi_turns.specs.Rows.{Stem, stem_in, descriptors_named}
+use Rattle.wasi_turns.specs.Rows.{Stem, through, stem_in, descriptors_named}
 use Rattle.wasi_turns.proofs.Wanting.{IsRefusal, Never}
 
 -- ---- of each kind of request
@@ -78,11 +79,18 @@ GivesBytes (Sizes ns) sizes = Unit {0}
 abbrev pub Has : Guest → ℕ → Type 0
 Has g n = Contains (open_nodes g.slots) n
 
--- each descriptor's node was one before, or is given; and each has the permissions of the one from which it stems so
+-- a node is that of the descriptor of this number
+abbrev pub HasNode : Guest → ℕ → ℕ → Type 0
+HasNode g fd n = Contains (node_in (slice_get g.slots fd)) n
+
+-- Each descriptor's node is that of the one from which it stems so, or is given, where it was opened through that one; it
+-- has the permissions of that one; and files under append-only permissions are still appended to
 pub record StaysNear (g : Guest) (stem : Stem) (given : List ℕ) (p : Value × Guest) : Type 0 where
-  pub nodes : (n : ℕ) → Has p.1 n → Has g n ⊎ Contains given n
-  pub perms : (n : ℕ) (perms : FsPerms) → HasPerms p.1 n perms
-      → HasPerms g (stems_by stem (answers.Ok p.0) n) perms
+  pub nodes : (fd n : ℕ) → HasNode p.1 fd n → HasNode g (stems_by stem (answers.Ok p.0) fd) n
+      ⊎ (Contains given n × (stem ≡ through (stems_by stem (answers.Ok p.0) fd)))
+  pub perms : (fd : ℕ) (perms : FsPerms) → HasPerms p.1 fd perms
+      → HasPerms g (stems_by stem (answers.Ok p.0) fd) perms
+  pub appends : AppendsAtEnd g → AppendsAtEnd p.1
 
 abbrev pub KeepsSlots : Guest → Stem → List ℕ → Row (Value × Guest) → Type 0
 KeepsSlots g stem given (Ok p) = StaysNear g stem given p
@@ -103,13 +111,26 @@ Ends undone m = IfErr m (λ e. IsRefusal e × undone)
 pub record IsNamed (g : Guest) (call : Call) (n : ℕ) : Type 0 where
   pub fd : ℕ
   pub named : Contains (descriptors_named g.memory call) fd
-  pub node : Contains (node_in (slice_get g.slots fd)) n
+  pub node : HasNode g fd n
+
+-- all descriptors that the call names, and there are some, are under these permissions
+pub record AllUnder (perms : FsPerms) (g : Guest) (call : Call) : Type 0 where
+  pub one : ℕ
+  pub named : Contains (descriptors_named g.memory call) one
+  pub all : (fd : ℕ) → Contains (descriptors_named g.memory call) fd → HasPerms g fd perms
+
+-- What a call may do to the tree: nothing; or something, where all descriptors that it names are under the same
+-- permissions, which aren't read-only; and under append-only ones a step that adds
+pub data Permitted (g : Guest) (call : Call) (t u : Tree) : Type 0 where
+  leaves : u ≡ t → Permitted g call t u
+  changes : (perms : FsPerms) → AllUnder perms g call → perms ≢ ReadOnly
+      → (perms ≡ AppendOnly → AppendsAtEnd g → Adds t u) → Permitted g call t u
 
 pub record AsksNear (g : Guest) (call : Call) (r : Request) (next : Reply r → Row (Value × Guest)) : Type 0 where
   pub starts : (n : ℕ) → Contains (starts_at r) n → IsNamed g call n
   pub slots : (reply : Reply r) → KeepsSlots g (stem_in call) (given_by r reply) (next reply)
   pub ends : (t : Tree) (reply : Reply r) → reply_of t r ≡ Ok reply → Ends (after t r ≡ t) (next reply)
-  pub permits : NamesReadOnly g call → (t : Tree) (reply : Reply r) → reply_of t r ≡ Ok reply → after t r ≡ t
+  pub permits : (t : Tree) (reply : Reply r) → reply_of t r ≡ Ok reply → Permitted g call t (after t r)
   pub asked : HasBytes g → MayBeAsked r
   pub bytes : HasBytes g → (reply : Reply r) → GivesBytes r reply → KeepsBytes (next reply)
 

@@ -3,14 +3,12 @@ use Rattle.std.proofs.Common.{refl, false}
 use Rattle.wasi_guest.specs.declared.answer.Value.TheVariants.{Unit as Nothing}
 use Rattle.wasi_guest.specs.declared.call.Call.{Call}
 use Rattle.wasi_guest.specs.declared.call.Call.TheVariants as calls
-use Rattle.wasi_resolve.specs.AtPlace.{CreateDir, RemoveDir, RemoveFile}
 use Rattle.wasi_turns.specs.Front.{FueledCall}
 use Rattle.wasi_turns.specs.Guest.{Guest}
 use Rattle.wasi_turns.specs.Row.{give}
-use Rattle.wasi_turns.specs.Rows.{row, args_get, args_sizes_get, environ_get, environ_sizes_get, clock_res_get, clock_time_get, path_create_directory, path_remove_directory, path_unlink_file, path_rename, proc_exit, proc_raise, sched_yield, sock_accept, sock_recv, sock_send, sock_shutdown}
-use Rattle.wasi_turns.proofs.Keeping.{no_move}
+use Rattle.wasi_turns.specs.Rows.{row, args_get, args_sizes_get, environ_get, environ_sizes_get, clock_res_get, clock_time_get, proc_exit, proc_raise, sched_yield, sock_accept, sock_recv, sock_send, sock_shutdown}
 use Rattle.wasi_turns.proofs.Near.{IsNear}
-use Rattle.wasi_turns.proofs.Wanting.{rename_known, inval_never, sizes_never, clock_res_never, clock_time_never, exit_never, signal_never}
+use Rattle.wasi_turns.proofs.Wanting.{inval_never, sizes_never, clock_res_never, clock_time_never, exit_never, signal_never}
 pub mod Parts
 mod Opening
 mod ReadingAndWriting
@@ -33,11 +31,10 @@ use Times.*
 use Services.*
 use Listing.*
 use Polling.*
-use Rattle.wasi_fs.specs.declared.perms.Act.TheVariants.{Make, Alter}
 
 -- by its form where that says it all, else by a lemma of its own
 front_near : (g : Guest) (call : Call) → RowNear g call
-unfolding args_get args_sizes_get environ_get environ_sizes_get clock_res_get clock_time_get path_create_directory path_remove_directory path_unlink_file path_rename proc_exit proc_raise sched_yield sock_accept sock_recv sock_send sock_shutdown
+unfolding args_get args_sizes_get environ_get environ_sizes_get clock_res_get clock_time_get proc_exit proc_raise sched_yield sock_accept sock_recv sock_send sock_shutdown
 front_near g (calls.ArgsGet _ _) = texts_near g.holdings.args _ _ refl (λ are. are.1.args)
 front_near g calls.ArgsSizesGet = tells_near _ _ refl (sizes_never _)
 front_near g (calls.EnvironGet _ _) = texts_near g.holdings.environ _ _ refl (λ are. are.1.environ)
@@ -65,16 +62,15 @@ front_near g (calls.FdRenumber _ _) = fd_renumber_near
 front_near g (calls.FdSeek _ _ _) = fd_seek_near
 front_near g (calls.FdTell _) = fd_tell_near
 front_near g (calls.FdWrite _ _ _) = fd_write_near
-front_near g (calls.PathCreateDirectory fd path len) = done_near fd path len Make CreateDir refl refl tt
+front_near g (calls.PathCreateDirectory _ _ _) = path_create_directory_near
 front_near g (calls.PathFilestatGet _ _ _ _) = path_filestat_get_near
 front_near g (calls.PathFilestatSetTimes _ _ _ _ _ _ _) = path_filestat_set_times_near
 front_near g (calls.PathLink _ _ _ _ _ _ _) = path_link_near
 front_near g (calls.PathOpen _ _ _ _ _ _ _ _) = path_open_near
 front_near g (calls.PathReadlink _ _ _ _ _) = path_readlink_near
-front_near g (calls.PathRemoveDirectory fd path len) = done_near fd path len Alter RemoveDir refl refl tt
-front_near g (calls.PathUnlinkFile fd path len) = done_near fd path len Alter RemoveFile refl refl tt
-front_near g (calls.PathRename _ _ _ _ _ _) =
-    done_between_near _ _ _ _ _ _ _ _ refl refl (λ old new _ may. no_move old new may) rename_known
+front_near g (calls.PathRemoveDirectory _ _ _) = path_remove_directory_near
+front_near g (calls.PathUnlinkFile _ _ _) = path_unlink_file_near
+front_near g (calls.PathRename _ _ _ _ _ _) = path_rename_near
 front_near g (calls.PathSymlink _ _ _ _ _) = path_symlink_near
 front_near g (calls.PollOneoff _ _ _) = poll_oneoff_near
 front_near g (calls.ProcExit status) = record { near = λ fuel. exit_never status }

@@ -1,22 +1,30 @@
 -- What puts a piece into a file, whatever the file's mode.
 use Rattle.std.proofs.Common.{ℕ, ◌≡◌, Bool, true, false, List, [], ◌∷◌, refl}
+use Rattle.wasi_host.specs.Tree.{Tree}
 use Rattle.wasi_host.specs.declared.held.Held.{Held}
+use Rattle.wasi_turns.specs.AppendOnly.{Adds}
 use Rattle.wasi_turns.specs.Putting.{put_call, put_request}
-use Rattle.wasi_turns.specs.Request.{Request, Direct, starts_at}
+use Rattle.wasi_turns.specs.Request.{Request, Direct, after, starts_at}
 use Rattle.wasi_turns.specs.Validity.{AreBytes}
+use Rattle.wasi_turns.proofs.Adding.{call_adds, request_adds}
 use Rattle.wasi_turns.proofs.Near.{MayBeAsked}
 
--- it starts at the file, and may be asked where the piece are bytes
-pub record PutsInto (f : Held) (piece : List ℕ) (r : Request) : Type 0 where
+-- it starts at the file, and may be asked where the piece are bytes; in append mode it puts the piece at the file's end
+pub record PutsInto (append : Bool) (f : Held) (piece : List ℕ) (r : Request) : Type 0 where
   pub starts : starts_at r ≡ f.node ∷ []
   pub asked : AreBytes piece → MayBeAsked r
+  pub adds : (t : Tree) → append ≡ true → Adds t (after t r)
 
 pub call_puts : (append : Bool) (f : Held) (offset : ℕ) (piece : List ℕ)
-    → PutsInto f piece (Direct (put_call append f offset piece))
-call_puts true f offset piece = record { starts = refl; asked = λ are. are }
-call_puts false f offset piece = record { starts = refl; asked = λ are. are }
+    → PutsInto append f piece (Direct (put_call append f offset piece))
+call_puts true f offset piece =
+    record { starts = refl; asked = λ are. are; adds = call_adds true f offset piece }
+call_puts false f offset piece =
+    record { starts = refl; asked = λ are. are; adds = call_adds false f offset piece }
 
 pub request_puts : (append : Bool) (f : Held) (offset : ℕ) (piece : List ℕ)
-    → PutsInto f piece (put_request append f offset piece)
-request_puts true f offset piece = record { starts = refl; asked = λ are. are }
-request_puts false f offset piece = record { starts = refl; asked = λ are. are }
+    → PutsInto append f piece (put_request append f offset piece)
+request_puts true f offset piece =
+    record { starts = refl; asked = λ are. are; adds = request_adds true f offset piece }
+request_puts false f offset piece =
+    record { starts = refl; asked = λ are. are; adds = request_adds false f offset piece }

@@ -1,25 +1,23 @@
 -- A descriptor that takes another's number.
 use Rattle.std.proofs.Common.{ℕ, zero, suc, ◌+◌, ◌<◌, ◌==◌, ◌≡◌, ◌≢◌, inl, inr, Bool, true, false, cond, List, [], ◌∷◌, map, length, get_or, slice_get, slice_set, Option, Some, None, refl, ap, sym, ◌∙◌, subst, arith}
-use Rattle.std.specs.Prelude.{Contains}
 use Rattle.std.specs.List.{swap}
 use Rattle.std.proofs.lemmas.List.Edits.{swap_is}
 use Rattle.std.proofs.Math.ListN.{get_or-map}
 use Rattle.std.proofs.lemmas.List.{map-set, set-set, set-get_or}
 use Rattle.std.proofs.lemmas.Option.{slice_get-get_or, get_or_from_slice_get, slice_get_within}
-use Rattle.wasi_fs.specs.declared.perms.FsPerms.{FsPerms}
 use Rattle.wasi_host.specs.Lineage.{Traced, Nothing}
 use Rattle.wasi_host.specs.Meaning.{World, Handles}
 use Rattle.wasi_host.specs.declared.lookup.Lookup.{Lookup}
 use Rattle.wasi_guest.specs.declared.answer.Value.{Value}
 use Rattle.wasi_turns.specs.CallParts.{Rests, Stays}
-use Rattle.wasi_turns.specs.Guest.{Guest, GuestSlot, closed, node_in, open_nodes, perms_in}
+use Rattle.wasi_turns.specs.Guest.{Guest, GuestSlot, closed}
 use Rattle.wasi_turns.specs.Numbering.{renumbered}
 use Rattle.wasi_turns.specs.Rows.{renumbering}
 use Rattle.wasi_turns.specs.Owners.{handle_in, handles, uses, uses_in, without, IsHandle, Owned, Owns, SlotsStay}
 use Rattle.wasi_turns.specs.declared.slots.Slot.{Slot}
 use Rattle.wasi_turns.specs.declared.slots.Slot.TheVariants as slots
 use Rattle.wasi_turns.proofs.CallTracing.{traced_less}
-use Rattle.wasi_turns.proofs.Changing.{PermsAt, in_set, set_perms, slice_named}
+use Rattle.wasi_turns.proofs.Changing.{IsOfOpen, IsUnder, IsAt, IsFileOf, under_open, at_open, file_open, in_set}
 use Rattle.wasi_turns.proofs.Counting.{handle_at, handle_put, uses-set}
 use Rattle.wasi_turns.proofs.GuestSlots.{released_stays}
 use Rattle.wasi_turns.proofs.Near.{StaysNear}
@@ -150,62 +148,49 @@ renumber_stays {Named} {Closed} {table} from to named named' shut shut' put =
     apart : (P : ℕ → Type 0) {n fd : ℕ} → P fd → (P n → ⊥) → n ≢ fd
     apart P has other same = other (subst P (sym same) has)
 
--- ---- nodes and permissions
+-- ---- what a number stands for
 
--- a number under which nothing stands has none, as a closed one
-node_there : (slots : List GuestSlot) (i : ℕ) → node_in (Some (get_or slots i closed)) ≡ node_in (slice_get slots i)
-node_there [] i = refl
-node_there (x ∷ xs) zero = refl
-node_there (x ∷ xs) (suc i) = node_there xs i
+module _ (Is : Option GuestSlot → Type 0) (live : IsOfOpen Is) where
+  -- a number under which nothing stands is as a closed one
+  own_there : (slots : List GuestSlot) (i : ℕ) → Is (Some (get_or slots i closed)) → Is (slice_get slots i)
+  own_there [] i is = absurd (live.closed is)
+  own_there (x ∷ xs) zero is = is
+  own_there (x ∷ xs) (suc i) is = own_there xs i is
 
-perms_there : (slots : List GuestSlot) (i : ℕ) → perms_in (Some (get_or slots i closed)) ≡ perms_in (slice_get slots i)
-perms_there [] i = refl
-perms_there (x ∷ xs) zero = refl
-perms_there (x ∷ xs) (suc i) = perms_there xs i
+  set_there : (slots : List GuestSlot) (i : ℕ) (slot : GuestSlot) → Is (slice_get (slice_set slots i slot) i)
+      → Is (Some slot)
+  set_there [] i slot is = absurd (live.missing is)
+  set_there (x ∷ xs) zero slot is = is
+  set_there (x ∷ xs) (suc i) slot is = set_there xs i slot is
 
--- no node comes
-renumbered_nodes : (slots : List GuestSlot) (from to n : ℕ)
-    → Contains (open_nodes (renumbered closed slots from to)) n → Contains (open_nodes slots) n
-unfolding renumbered
-renumbered_nodes slots from to n has =
-    elim (in_set (slice_set slots from closed) to (get_or slots from closed) n has) [
-      | inl was ↦ elim (in_set slots from closed n was) [
-        | inl old ↦ old
-        | inr none ↦ absurd (omega (arith, none.1))
+  -- each is what it was, and under the number that was taken is the descriptor that took it
+  pub renumbered_is : (slots : List GuestSlot) (from to n : ℕ) → Is (slice_get (renumbered closed slots from to) n)
+      → Is (slice_get slots (cond (n == to) from n))
+  unfolding renumbered
+  renumbered_is slots from to n is = by (n == to) refl
+    where
+      others : List GuestSlot
+      others = slice_set slots from closed
+
+      own : GuestSlot
+      own = get_or slots from closed
+
+      by : (b : Bool) → (n == to) ≡ b → Is (slice_get slots (cond b from n))
+      by true at = own_there slots from (set_there others to own
+          (subst (λ k. Is (slice_get (slice_set others to own) k)) (same_number n to at) is))
+      by false at = elim (in_set Is others to n own is) [
+        | inl was ↦ elim (in_set Is slots from n closed was) [
+          | inl old ↦ old
+          | inr (_, none) ↦ absurd (live.closed none)
+        ]
+        | inr (same, _) ↦ absurd (other_number n to at same)
       ]
-      | inr own ↦ slice_named slots from n (subst (λ nodes. Contains nodes n) (node_there slots from) own)
-    ]
-
-set_there : {perms : FsPerms} (slots : List GuestSlot) (i : ℕ) (slot : GuestSlot)
-    → PermsAt (slice_set slots i slot) i perms → perms_in (Some slot) ≡ Some perms
-set_there [] i slot has = absurd (cc)
-set_there (x ∷ xs) zero slot has = has
-set_there (x ∷ xs) (suc i) slot has = set_there xs i slot has
-
--- each number has the permissions that it had, and the one that was taken those of the descriptor that took it
-renumbered_perms : {perms : FsPerms} (slots : List GuestSlot) (from to n : ℕ)
-    → PermsAt (renumbered closed slots from to) n perms → PermsAt slots (cond (n == to) from n) perms
-unfolding renumbered
-renumbered_perms {perms} slots from to n has =
-    let others = slice_set slots from closed in
-    let own = get_or slots from closed in
-    by (n == to) refl
-    (λ here. sym (perms_there slots from)
-    ∙ set_there others to own (subst (λ k. PermsAt (slice_set others to own) k perms) here has))
-    (λ other. elim (set_perms slots from n closed (ap perms_in (sym (set_other others to n own other)) ∙ has)) [
-      | inl old ↦ old
-      | inr (at, none) ↦ absurd (cc)
-    ])
-  where
-    by : (b : Bool) → (n == to) ≡ b → (n ≡ to → PermsAt slots from perms) → (n ≢ to → PermsAt slots n perms)
-        → PermsAt slots (cond b from n) perms
-    by true is here other = here (same_number n to is)
-    by false is here other = other (other_number n to is)
 
 -- what the row of a renumbering does to them
 pub put_renumbered : {x : Value} (g : Guest) (from to : ℕ)
     → StaysNear g (renumbering from to) [] (x, record g { slots = renumbered closed g.slots from to })
 put_renumbered g from to = record {
-  nodes = λ n has. inl (renumbered_nodes g.slots from to n has);
-  perms = λ n perms has. renumbered_perms g.slots from to n has;
+  nodes = λ k n has. inl (renumbered_is (IsAt n) at_open g.slots from to k has);
+  perms = λ k perms has. renumbered_is (IsUnder perms) under_open g.slots from to k has;
+  appends = λ all k f has. all _ f (renumbered_is (IsFileOf f) file_open g.slots from to k has);
 }

@@ -1,6 +1,6 @@
 -- A turn from a valid state leads to one.
 use Rattle.std.proofs.Common.{ℕ, ◌≡◌, inl, inr, true, false, cond, Bool, List, [], ◌∷◌, ◌++◌, map, refl, ap, sym, subst, Option, Some, None, Result, Ok, Err}
-use Rattle.std.specs.Prelude.{MatchBool, All, codes}
+use Rattle.std.specs.Prelude.{All, codes}
 use Rattle.std.specs.FinMap as maps
 use Rattle.std.proofs.lemmas.List.Elements.{All-nil, All-cons, All-head, All-tail}
 use Rattle.std.specs.Str.{IsUtf8}
@@ -37,9 +37,8 @@ use Rattle.wasi_turns.specs.Listing.{Entry, dots, numbered_at, all_numbered_at, 
 use Rattle.wasi_turns.specs.Request.{Request, Reply, Path, Direct, Behind, ListDirectory, reply_of, after, Sizes}
 use Rattle.wasi_turns.specs.Row.{Row, Program, done, asking}
 use Rattle.wasi_turns.specs.Rows.{row, turn}
-use Rattle.wasi_turns.specs.Run.{Turned, Run, ends}
 use Rattle.wasi_turns.specs.Turn.{StepTaken}
-use Rattle.wasi_turns.specs.Validity.{IsValidState}
+use Rattle.wasi_turns.specs.Validity.{RunsStayValid, IsValidState}
 use Rattle.wasi_turns.specs.declared.error.P1Error.{P1Error}
 use Rattle.wasi_host.proofs.Agreeing.{unless_value, below_or}
 use Rattle.wasi_turns.proofs.Alike.{row_on}
@@ -49,7 +48,7 @@ use Rattle.wasi_turns.proofs.Bytes.{cut}
 use Rattle.wasi_turns.proofs.Listings.{both_ok}
 use Rattle.wasi_turns.proofs.Paging.{dots_bytes}
 use Rattle.wasi_turns.proofs.Utf8.{text_bytes}
-use Rattle.wasi_turns.proofs.Moving.{Moves, turn_moves, turned_moves, turned_by, over_tree, over_guest, replied_by}
+use Rattle.wasi_turns.proofs.Moving.{Moves, turn_moves, turned_moves, run_keeps, over_tree, over_guest, replied_by}
 use Rattle.wasi_turns.proofs.Near.{AreBytes, AreTexts, PathGivesBytes, HasByteNames, GivesBytes, KeepsBytes, MayBeAsked, IsNear}
 use Rattle.wasi_turns.proofs.Nearness.{row_near}
 use Rattle.wasi_resolve.proofs.Asking.{HasUtf8Target, opening_asked, place_asked, places_asked, link_utf8}
@@ -263,19 +262,7 @@ turn_valid {rose} {w} {v} {g} {g'} {call} {r} takes valid =
 
 -- ---- a run
 
-pub run_valid : (calls : List FueledCall) (turns : List Turned) (k : ℕ) (old new : State) → Run k old calls turns new
-    → IsValidState old → IsValidState new
-run_valid [] [] k old new run valid = subst IsValidState (sym run) valid
-run_valid [] (t ∷ turns) k old new run valid = absurd run
-run_valid (call ∷ calls) [] k old new run valid = absurd run
-run_valid (call ∷ calls) (t ∷ turns) k old new (j, before, is, spends, rest) valid =
-    later (λ on. run_valid calls turns j t.after new on here) (ends t.answer) rest
-  where
-    here : IsValidState t.after
-    here = moved_valid t.before t.after t.call (subst IsValidState (sym before) valid)
-        (turned_moves t (turned_by spends))
-
-    later : (Run j t.after calls turns new → IsValidState new) → (b : Bool)
-        → MatchBool b ((turns ≡ []) × (new ≡ t.after)) (Run j t.after calls turns new) → IsValidState new
-    later next true (none, last) = subst IsValidState (sym last) here
-    later next false on = next on
+pub run_valid : RunsStayValid
+run_valid k old new calls turns run valid =
+    run_keeps IsValidState (λ t took held. moved_valid t.before t.after t.call held (turned_moves t took)) calls turns k old
+    new run valid

@@ -1,6 +1,7 @@
 -- What a call of the context does.
 use Rattle.std.specs.Prelude.{ℕ, ◌≡◌, ◌≤◌, ◌⊎◌, Bool, true, false, IsTrue, List, [], length, slice_get, Contains, Some, Result, Ok, Err, OnErr, is_ok, if◌then◌else◌}
 use Rattle.wasi_host.specs.Agree.{Touches}
+use Rattle.wasi_fs.specs.declared.perms.FsPerms.{FsPerms}
 use Rattle.wasi_fs.specs.declared.perms.FsPerms.TheVariants.{ReadOnly}
 use Rattle.wasi_host.specs.Meaning.{World, Handles, Rose, FaultCount}
 use Rattle.wasi_host.specs.declared.lookup.Lookup.{Lookup}
@@ -86,11 +87,11 @@ AtFront same quiet g' result (Err e) = ((result ≡ Err e) ⊎ ((result ≡ Err 
 AtFront same quiet g' result (Ok (done p)) = IsDone same quiet g' result p
 AtFront same quiet g' result (Ok (asking r next)) = IsReplied r next (with_after result g')
 
--- a descriptor that a call names is under read-only permissions
-pub record NamesReadOnly (g : Guest) (call : Call) : Type 0 where
+-- a descriptor that a call names is under these permissions
+pub record NamesUnder (perms : FsPerms) (g : Guest) (call : Call) : Type 0 where
   pub fd : ℕ
   pub named : Contains (descriptors_named g.memory call) fd
-  pub perms : perms_in (slice_get g.slots fd) ≡ Some ReadOnly
+  pub has : perms_in (slice_get g.slots fd) ≡ Some perms
 
 -- What a call does to its guest, by its row. Over every host: what the row says without the tree, where each handle
 -- stands for what it stood for before the call; only an answered call changes what is the guest's own; descriptors stay
@@ -108,7 +109,7 @@ pub record FollowsRow {H : Type 0} (told : Bool) (world : H → World) (faults :
       (guest_by (world old.host).held new after) result (row (guest_of world old before) (with_fuel old.fuel call))
   pub turn : IsTrue told → TakesTurn world (Rose (faults old.host) (faults new.host)) old new before after
       (with_fuel old.fuel call) result
-  pub permits : IsTrue told → NamesReadOnly (guest_of world old before) call
+  pub permits : IsTrue told → NamesUnder ReadOnly (guest_of world old before) call
       → (world new.host).tree ≡ (world old.host).tree
 
 -- a call is valid where its row answers it: no refusal holds

@@ -40,6 +40,7 @@ pub mod Writing
 pub mod PutBytes
 pub mod DescriptorLaws
 pub mod Validity
+pub mod AppendOnly
 pub mod Asked
 pub mod CallParts
 pub mod EntriesSeen

@@ -2,7 +2,7 @@
 use Rattle.std.specs.Prelude.{ℕ, ◌≡◌, ◌⊎◌, List}
 use Rattle.wasi_fs.specs.declared.perms.FsPerms.{FsPerms}
 use Rattle.wasi_fs.specs.declared.perms.FsPerms.TheVariants.{ReadOnly}
-use Rattle.wasi_turns.specs.CallTurn.{NamesReadOnly}
+use Rattle.wasi_turns.specs.CallTurn.{NamesUnder}
 use Rattle.wasi_turns.specs.Front.{FueledCall}
 use Rattle.wasi_turns.specs.Guest.{Guest, State}
 use Rattle.wasi_turns.specs.Run.{Turned, Run, Played, Faulted}
@@ -15,7 +15,7 @@ IsReadOnlyGuest g = (n : ℕ) (perms : FsPerms) → HasPerms g n perms → perms
 -- a turn that names one under read-only permissions leaves the tree, whatever it answers, faulted or not
 abbrev pub ReadOnlyTurnsLeaveTheTree : Type 0
 ReadOnlyTurnsLeaveTheTree =
-    (t : Turned) → Played t ⊎ Faulted t → NamesReadOnly t.before.guest t.call.call → t.after.tree ≡ t.before.tree
+    (t : Turned) → Played t ⊎ Faulted t → NamesUnder ReadOnly t.before.guest t.call.call → t.after.tree ≡ t.before.tree
 
 -- a run of a guest whose directories and files are all read-only leaves the tree, however many turns are faulted
 abbrev pub ReadOnlyRunsLeaveTheTree : Type 0

@@ -6,6 +6,7 @@ ghost use Rattle.wasi_turns.specs.StatesAgree.{ReachIsOne, TurnsAgree, RunsAgree
 ghost use Rattle.wasi_turns.specs.RunLaws.{OtherErrorsNeverCome, RowsAreComplete, RunsAreComplete, RunsAreFunctions, TurnsAreConfined};
 ghost use Rattle.wasi_turns.specs.Stems.{PermissionsStem};
 ghost use Rattle.wasi_turns.specs.ReadOnly.{ReadOnlyTurnsLeaveTheTree, ReadOnlyRunsLeaveTheTree};
+ghost use Rattle.wasi_turns.specs.AppendOnly.{AppendOnlyTurnsAdd, AppendingStays, RunsOnlyGrow, RunsKeepWhatIsApart};
 ghost use Rattle.wasi_turns.specs.Validity.{RunsStayValid};
 ghost use Rattle.wasi_turns.specs.Writing.{WritesAreWhole};
 ghost use Rattle.wasi_turns.specs.PutBytes.{BytesArePut, FilesAreHeld, PutBytesStand, BytesAreGot, PutBytesAreGot};
@@ -76,6 +77,26 @@ pub fn read_only_turns_leave_the_tree()
 /// host fails.
 pub fn read_only_runs_leave_the_tree()
     ensures leave { ReadOnlyRunsLeaveTheTree }
+{}
+
+/// A turn that names a descriptor under append-only permissions takes no step but one that adds, whatever it answers, and
+/// where the host failed too: it makes a file, a directory or a link, or adds a name, in a directory where that name was
+/// free; or it puts bytes at a file's end. It is so of a guest whose files under append-only permissions are in append
+/// mode, as `path_open` opens them and `fd_fdstat_set_flags` keeps them.
+pub fn append_only_turns_add()
+    ensures add { AppendOnlyTurnsAdd }
+{}
+
+/// Whatever a guest calls that may alter nothing, as its directories are append-only or read-only, and however often the
+/// host fails: each name that was there leads to the node that it led to, each file's bytes at the start are the beginning
+/// of its bytes at the end, each link has its text, and no bits or times changed; what was made has those of its making.
+/// Where a guest may alter something too, it is so of each node that isn't reached from a read-write directory or file, of
+/// a valid tree. No directory may be reached from there that is reached from an append-only one: a link made through the
+/// second would give a file to the first.
+pub fn append_only_runs_keep()
+    ensures appends { AppendingStays }
+    ensures grows { RunsOnlyGrow }
+    ensures apart { RunsKeepWhatIsApart }
 {}
 
 /// The live and the closed descriptor numbers together are those below a number, and a new descriptor takes the largest

@@ -19,11 +19,11 @@ pub use error::{CtxError, P1Error, RunError, errno_of};
 pub use fdstats::{directory_fdstat, file_fdstat, preopen_fdstat, stream_fdstat};
 pub use holdings::{Clocks, Holdings, Output, Outputs, nanoseconds_of};
 pub use laws::{
-    bytes_put_are_got, descriptor_numbers, live_handles_stay, methods_are_complete,
-    other_errors_never_come, pages_list_each_entry_once, permissions_stem, positions,
-    read_only_runs_leave_the_tree, read_only_turns_leave_the_tree, records_and_pages_have_lengths,
-    runs_agree, runs_are_functions, runs_stay_valid, turns_agree, turns_are_confined,
-    valid_calls_are_answered, writes_are_whole,
+    append_only_runs_keep, append_only_turns_add, bytes_put_are_got, descriptor_numbers,
+    live_handles_stay, methods_are_complete, other_errors_never_come, pages_list_each_entry_once,
+    permissions_stem, positions, read_only_runs_leave_the_tree, read_only_turns_leave_the_tree,
+    records_and_pages_have_lengths, runs_agree, runs_are_functions, runs_stay_valid, turns_agree,
+    turns_are_confined, valid_calls_are_answered, writes_are_whole,
 };
 pub use looked::{Entry, StatBoth, filetype_of, stream_filestat};
 pub use memory_parts::{buffer_at, bytes_at, charge, check_write, text_at, write_front};

@@ -68,7 +68,7 @@ impl<'a, H: Host> WasiFilesystemCtxView<'a, H> {
     }
 
     /// Puts bytes into a file from `offset` on by one `pwrite` of all of them, and answers how many it took. Refusals
-    /// besides: NotPermitted under read-only permissions, of which the host isn't asked; Io where the host took nothing
+    /// besides: NotPermitted unless its permissions are read-write, of which no host is asked; Io where that took nothing
     /// of some bytes.
     #[tactic(auto, using(crate::proofs::Owning::has_lives))]
     pub fn write(&mut self, fd: Resource, buf: &[u8], offset: u64) -> FsResult<u64>

@@ -18,6 +18,7 @@ use Rattle.wasi_turns.specs.Row.{Row, give}
 use Rattle.wasi_turns.specs.RawFlags.{modes_in, or_inval}
 use Rattle.wasi_turns.specs.Guest.{Guest, GuestSlot, closed, stream, directory, file}
 use Rattle.wasi_turns.specs.Rows.{fdstat_of, filestat_of, fd_close, fd_fdstat_get, fd_fdstat_set_flags, fd_fdstat_set_rights, fd_filestat_get, fd_prestat_dir_name, fd_prestat_get, fd_renumber}
+use Rattle.wasi_turns.proofs.Adding.{kept_appends}
 use Rattle.wasi_turns.proofs.Bytes.{name_bytes}
 use Rattle.wasi_turns.proofs.Changing.{file_is, live_is, put_back, put_closed}
 use Rattle.wasi_turns.proofs.Renumbering.{put_renumbered}
@@ -35,7 +36,8 @@ unfolding fd_fdstat_set_flags
 fd_fdstat_set_flags_near {g} {fd} {flags} = then (or_inval (flags_in known_fdflags flags)) (inval_never _) (λ set _.
     then _ (file_never Itself (slice_get g.slots fd)) (λ f is. then _ (synchronized_never set)
     (λ _ _. then _ (append_never f.perms (modes_in set))
-    (λ _ _. slots_near (put_back g fd f.position (modes_in set) [] (file_is Itself _ is))))))
+    (λ _ keeps. slots_near (put_back g fd f.position (modes_in set) [] (file_is Itself _ is)
+    (λ perms _. kept_appends f.perms (modes_in set) keeps perms))))))
 
 pub fd_fdstat_get_near : {g : Guest} {fd : ℕ} → RowNear g (calls.FdFdstatGet fd)
 unfolding fd_fdstat_get

@@ -9,6 +9,7 @@ use Rattle.wasi_turns.specs.Row.{Row}
 use Rattle.wasi_turns.specs.Rows.{fd_readdir}
 use Rattle.wasi_host.proofs.Leaving.{Contains-here}
 use Rattle.wasi_turns.proofs.Changing.{written_slots, written_ends, written_bytes}
+use Rattle.wasi_turns.proofs.Near.{leaves}
 use Rattle.wasi_turns.proofs.Nearness.Parts.{RowNear, then, asks_near, starts_near}
 use Rattle.wasi_turns.proofs.Paging.{page_bytes}
 use Rattle.wasi_turns.proofs.Wanting.{start_never, range_never, room_never}
@@ -21,7 +22,7 @@ fd_readdir_near {g} {fd} {buf} {buf_len} {cookie} = then _ (start_never (slice_g
       slots = λ listing. written_slots g buf (page listing cookie buf_len) (put listing);
       ends = λ t listing answered. written_ends g buf (page listing cookie buf_len) (put listing)
           (range_never g.memory buf (length (page listing cookie buf_len))) refl;
-      permits = λ names t listing answered. refl;
+      permits = λ _ _ _. leaves refl;
       asked = λ _. tt;
       bytes = λ are listing names. written_bytes g buf (page listing cookie buf_len) (put listing) are (page_bytes listing cookie buf_len names);
     })))

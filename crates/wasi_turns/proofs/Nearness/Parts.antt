@@ -1,8 +1,10 @@
 -- What holds of the parts of rows, and of the ends that they share.
-use Rattle.std.proofs.Common.{inl, ℕ, ◌≡◌, ◌-◌, ◌*◌, nat_le, Bool, true, false, cond, List, [], ◌∷◌, refl, ap, sym, ◌∙◌, subst, slice_get, Option, Some, None, Ok, Err}
+use Rattle.std.proofs.Common.{ℕ, ◌≡◌, ◌-◌, ◌*◌, nat_le, Bool, true, false, cond, List, [], ◌∷◌, refl, ap, sym, ◌∙◌, subst, slice_get, Option, Some, None, Ok, Err}
 use Rattle.std.specs.Prelude.{Contains, IfSome, IsUtf8}
 use Rattle.wasi_fs.specs.declared.perms.FsPerms.{FsPerms}
-use Rattle.wasi_fs.specs.declared.perms.FsPerms.TheVariants.{ReadOnly}
+use Rattle.wasi_fs.specs.Calls.{may_do}
+use Rattle.wasi_fs.specs.declared.perms.Act.TheVariants.{Alter}
+use Rattle.wasi_fs.specs.declared.perms.FsPerms.TheVariants.{ReadOnly, AppendOnly, ReadWrite}
 use Rattle.wasi_guest.specs.Iovec.{first_buffer}
 use Rattle.wasi_guest.specs.Records.{text_in}
 use Rattle.wasi_guest.specs.declared.answer.Value.{Value}
@@ -12,12 +14,12 @@ use Rattle.wasi_guest.specs.declared.errno.Errno.TheVariants as errnos
 use Rattle.wasi_guest.specs.declared.iovec.Iovec.{Iovec}
 use Rattle.wasi_host.specs.Tree.{Tree}
 use Rattle.wasi_host.specs.declared.errors.ErrorCode.{ErrorCode}
-use Rattle.wasi_resolve.specs.PathRequest.{PathRequest, path_starts}
-use Rattle.wasi_turns.specs.CallTurn.{NamesReadOnly}
+use Rattle.wasi_resolve.specs.PathRequest.{PathRequest, PathReply, path_reply, path_after, path_starts}
 use Rattle.wasi_turns.specs.Front.{Front, CallFront, onward, free, answer, ask, charge, charged_text, charged_buffer, at_path, at_buffer, known_or_asked, tells, done_if, ◌>>=◌}
 use Rattle.wasi_turns.specs.Guest.{Guest, GuestSlot, OpenFile, file, node_in, perms_in}
 use Rattle.wasi_turns.specs.Parts.{OpenNode, start_in, range, permit, from_guest, held_by, may_write}
-use Rattle.wasi_turns.specs.Request.{Request, Reply, Path, after, starts_at}
+use Rattle.wasi_turns.specs.AppendOnly.{Adds, AppendsAtEnd}
+use Rattle.wasi_turns.specs.Request.{Request, Reply, Path, reply_of, after, starts_at}
 use Rattle.wasi_turns.specs.Row.{Row, Program, give, made_of_reply}
 use Rattle.wasi_turns.specs.Rows.{Stem, front, descriptors_named, itself, stem_in}
 use Rattle.wasi_turns.specs.Stock.{Stock}
@@ -28,8 +30,9 @@ use Rattle.wasi_host.proofs.Leaving.{Contains-here}
 use Rattle.wasi_turns.proofs.Bytes.{text_utf8}
 use Rattle.wasi_turns.proofs.Changing.{named_directory, named_file, directory_perms, put_nothing}
 use Rattle.wasi_turns.proofs.Codes.{IsKnown}
-use Rattle.wasi_turns.proofs.Near.{Ends, IsNamed, StaysNear, AsksNear, IsNear, KeepsSlots, KeepsBytes, GivesBytes, MayBeAsked, AreTexts, given_by}
-use Rattle.wasi_turns.proofs.Keeping.{no_write}
+use Rattle.wasi_turns.proofs.Near.{Ends, IsNamed, AllUnder, Permitted, leaves, changes, StaysNear, AsksNear, IsNear, KeepsSlots, KeepsBytes, GivesBytes, MayBeAsked, AreTexts, given_by}
+use Rattle.wasi_turns.proofs.Adding.{no_altering}
+use Rattle.wasi_turns.proofs.Keeping.{no_act, no_write}
 use Rattle.wasi_turns.proofs.Putting.{PutsInto}
 use Rattle.wasi_turns.proofs.Wanting.{IsRefusal, Never, guest_never, start_never, permit_never, range_never, write_never}
 
@@ -116,14 +119,39 @@ then_at_buffer {named = named} g iovs n never near = then_buffer g iovs n (λ bu
     then (range g.memory buffer.buf buffer.buf_len) (range_never g.memory buffer.buf buffer.buf_len)
     (near what is buffer)))
 
--- ---- the permissions of the one descriptor that a call names
+-- ---- what is permitted to the descriptors that a call names
 
-pub read_only : {o : Option FsPerms} {perms : FsPerms} → o ≡ Some ReadOnly → o ≡ Some perms → perms ≡ ReadOnly
-read_only is same = cc
+-- the one that a call names is under its permissions
+pub one_under : {perms : FsPerms} (g : Guest) (call : Call) (fd : ℕ) → descriptors_named g.memory call ≡ fd ∷ []
+    → perms_in (slice_get g.slots fd) ≡ Some perms → AllUnder perms g call
+one_under {perms} g call fd named has = record {
+  one = fd;
+  named = subst (λ fds. Contains fds fd) (sym named) (Contains-here fd []);
+  all = λ n is. ap (λ k. perms_in (slice_get g.slots k)) (sym (one (subst (λ fds. Contains fds n) named is))) ∙ has;
+}
 
-pub only_named : (g : Guest) (fd n : ℕ) → Contains (fd ∷ []) n → perms_in (slice_get g.slots n) ≡ Some ReadOnly
-    → perms_in (slice_get g.slots fd) ≡ Some ReadOnly
-only_named g fd n is perms = ap (λ k. perms_in (slice_get g.slots k)) (one is) ∙ perms
+-- What a request does is permitted under each of the permissions, where it does nothing under read-only ones, and adds
+-- under append-only ones
+pub permitted_by : {perms : FsPerms} {g : Guest} {call : Call} {t u : Tree} → AllUnder perms g call
+    → (perms ≡ ReadOnly → u ≡ t) → (perms ≡ AppendOnly → AppendsAtEnd g → Adds t u) → Permitted g call t u
+permitted_by {perms = ReadOnly} all leave adds = leaves (leave refl)
+permitted_by {perms = AppendOnly} all leave adds = changes AppendOnly all (λ is. absurd (cc)) adds
+permitted_by {perms = ReadWrite} all leave adds = changes ReadWrite all (λ is. absurd (cc)) adds
+
+-- what was let through: never under read-only permissions, and under append-only ones what adds
+pub record LetsThrough (perms : FsPerms) (Adding : Type 0) : Type 0 where
+  pub never : perms ≡ ReadOnly → ⊥
+  pub adds : perms ≡ AppendOnly → Adding
+
+pub let_through : {perms : FsPerms} {g : Guest} {call : Call} {t u : Tree} → AllUnder perms g call
+    → LetsThrough perms (Adds t u) → Permitted g call t u
+let_through all lets = permitted_by all (λ is. absurd (lets.never is)) (λ is _. lets.adds is)
+
+-- altering is under read-write permissions alone
+pub alters : {Adding : Type 0} {done : Unit {0}} (perms : FsPerms) → permit (may_do perms Alter) ≡ Ok done
+    → LetsThrough perms Adding
+alters perms may =
+    record { never = no_act perms Alter may; adds = λ is. absurd (no_altering perms may is) }
 
 pub start_perms : {d : OpenNode} (g : Guest) (fd : ℕ) → start_in (slice_get g.slots fd) ≡ Ok d
     → perms_in (slice_get g.slots fd) ≡ Some d.perms
@@ -138,7 +166,7 @@ pub answers_near : {g : Guest} {call : Call} (x : Value) (memory : List ℕ) (st
 answers_near {g} x memory stock stems are = record {
   near = λ fuel. record {
     slots = subst (λ stem. StaysNear g stem [] (x, record g { memory = memory; holdings = stock })) (sym stems)
-        (record { nodes = λ n has. inl has; perms = λ n perms has. has });
+        (put_nothing g);
     bytes = are;
   };
 }
@@ -170,7 +198,7 @@ pub file_asked : {g : Guest} {call : Call} {f : OpenFile} {r : Request} {next : 
     → descriptors_named g.memory call ≡ fd ∷ [] → slice_get g.slots fd ≡ Some (file f) → starts_at r ≡ f.node ∷ []
     → ((reply : Reply r) → KeepsSlots g (stem_in call) (given_by r reply) (next reply))
     → ((t : Tree) (reply : Reply r) → Ends (after t r ≡ t) (next reply))
-    → (f.perms ≡ ReadOnly → (t : Tree) → after t r ≡ t) → (HasBytes g → MayBeAsked r)
+    → ((t : Tree) → Permitted g call t (after t r)) → (HasBytes g → MayBeAsked r)
     → (HasBytes g → (reply : Reply r) → GivesBytes r reply → KeepsBytes (next reply))
     → AlwaysNear g call (ask r next)
 file_asked {g} {call} fd named is starts slots ends permits asked bytes = asks_near (record {
@@ -178,8 +206,7 @@ file_asked {g} {call} fd named is starts slots ends permits asked bytes = asks_n
       (subst (λ ns. Contains ns n) starts has);
   slots = slots;
   ends = λ t reply _. ends t reply;
-  permits = λ names t _ _. permits (read_only (only_named g fd names.fd
-      (subst (λ fds. Contains fds names.fd) named names.named) names.perms) (ap perms_in is)) t;
+  permits = λ t _ _. permits t;
   asked = asked;
   bytes = bytes;
 })
@@ -187,13 +214,15 @@ file_asked {g} {call} fd named is starts slots ends permits asked bytes = asks_n
 -- a piece goes into it, where that is permitted
 pub piece_near : {g : Guest} {call : Call} {f : OpenFile} {piece : List ℕ} {r : Request}
     {shown : Reply r → Value × Guest} (fd : ℕ)
-    → descriptors_named g.memory call ≡ fd ∷ [] → slice_get g.slots fd ≡ Some (file f) → PutsInto (held_by f) piece r
+    → descriptors_named g.memory call ≡ fd ∷ [] → slice_get g.slots fd ≡ Some (file f) → PutsInto f.modes.append (held_by f) piece r
     → (HasBytes g → AreBytes piece)
     → ((reply : Reply r) → StaysNear g (stem_in call) (given_by r reply) (shown reply))
     → ((reply : Reply r) → HasBytes g → HasBytes (shown reply).1)
     → AlwaysNear g call (free (may_write f.perms) >>= (λ _. ask r (λ reply. give (shown reply))))
-piece_near {f = f} fd named is puts bytes slots still = then (may_write f.perms) (write_never f.perms) (λ _ may.
-    file_asked fd named is puts.starts slots (λ _ _. tt) (λ perms. absurd (no_write f.perms may perms))
+piece_near {g} {call} {f} fd named is puts bytes slots still = then (may_write f.perms) (write_never f.perms) (λ _ may.
+    file_asked fd named is puts.starts slots (λ _ _. tt)
+    (λ t. permitted_by (one_under g call fd named (ap perms_in is)) (λ perms. absurd (no_write f.perms may perms))
+    (λ perms all. puts.adds t (all fd f is perms)))
     (λ are. puts.asked (bytes are)) (λ are reply _. still reply are))
 
 -- the tree is asked only where something isn't known
@@ -229,53 +258,59 @@ pub look_asked : {g : Guest} {call : Call} {slot : GuestSlot} {r : Request}
     → stem_in call ≡ itself → descriptors_named g.memory call ≡ fd ∷ [] → slice_get g.slots fd ≡ Some slot
     → starts_at r ≡ node_in (Some slot) → ((t : Tree) → after t r ≡ t) → MayBeAsked r
     → ((reply : Reply r) → LeavesGuest g (next reply)) → AlwaysNear g call (ask r next)
-look_asked {g} {call} {r = r} {next = next} fd stems named is starts leaves may same = asks_near (record {
+look_asked {g} {call} {r = r} {next = next} fd stems named is starts stays may same = asks_near (record {
   starts = λ n has. record {
     fd = fd;
     named = subst (λ fds. Contains fds fd) (sym named) (Contains-here fd []);
     node = subst (λ p. Contains (node_in p) n) (sym is) (subst (λ ns. Contains ns n) starts has);
   };
   slots = λ reply. left_slots g (given_by r reply) (next reply) stems (same reply);
-  ends = λ t reply _. left_ends g (next reply) (same reply) (leaves t);
-  permits = λ _ t _ _. leaves t;
+  ends = λ t reply _. left_ends g (next reply) (same reply) (stays t);
+  permits = λ t _ _. leaves (stays t);
   asked = λ _. may;
   bytes = λ are reply _. left_bytes g (next reply) (same reply) are;
 })
 
--- that it was done, of what leaves the tree or isn't permitted under read-only permissions
+-- that it was done, of what is permitted
 pub done_if_near : {g : Guest} {call : Call} (own : Option ErrorCode) (r : Request) → stem_in call ≡ itself
     → ((n : ℕ) → Contains (starts_at r) n → IsNamed g call n)
-    → ((done : Unit {0}) → permit own ≡ Ok done → NamesReadOnly g call → (t : Tree) → after t r ≡ t) → MayBeAsked r
+    → ((done : Unit {0}) → permit own ≡ Ok done → (t : Tree) (reply : Reply r) → reply_of t r ≡ Ok reply
+    → Permitted g call t (after t r)) → MayBeAsked r
     → IfSome own IsKnown → AlwaysNear g call (done_if own r g)
-done_if_near {g} {call} own r stems starts leaves may known = then (permit own) (permit_never own known) (λ done permitted. asks_near (record {
+done_if_near {g} {call} own r stems starts permits may known = then (permit own) (permit_never own known) (λ done permitted. asks_near (record {
   starts = starts;
   slots = λ reply. subst (λ stem. StaysNear g stem (given_by r reply) (Nothing, g)) (sym stems) (put_nothing g);
   ends = λ _ _ _. tt;
-  permits = λ names t _ _. leaves done permitted names t;
+  permits = permits done permitted;
   asked = λ _. may;
   bytes = λ are _ _. are;
 }))
+
+-- what is asked for at a path adds
+abbrev pub AddsAt : PathRequest → Type 0
+AddsAt p = (t : Tree) (reply : PathReply p) → path_reply t p ≡ Ok reply → Adds t (path_after t p)
 
 -- by a path from one directory
 pub done_if_at : {g : Guest} {call : Call} {d : OpenNode} (own : Option ErrorCode) (p : PathRequest) (fd : ℕ)
     → stem_in call ≡ itself → descriptors_named g.memory call ≡ fd ∷ []
     → start_in (slice_get g.slots fd) ≡ Ok d → path_starts p ≡ d.node ∷ []
-    → ((done : Unit {0}) → permit own ≡ Ok done → d.perms ≡ ReadOnly → ⊥) → AreTexts p
+    → ((done : Unit {0}) → permit own ≡ Ok done → LetsThrough d.perms (AddsAt p)) → AreTexts p
     → IfSome own IsKnown → AlwaysNear g call (done_if own (Path p) g)
-done_if_at {g} {call} {d} own p fd stems named is starts never texts known = done_if_near own (Path p) stems
+done_if_at {g} {call} {d} own p fd stems named is starts lets texts known = done_if_near own (Path p) stems
     (λ n has. starts_near g fd n (subst (λ fds. Contains fds fd) (sym named) (Contains-here fd [])) is
     (subst (λ ns. Contains ns n) starts has))
-    (λ done may names. absurd (never done may (read_only (only_named g fd names.fd
-    (subst (λ fds. Contains fds names.fd) named names.named) names.perms) (start_perms g fd is)))) texts known
+    (λ done may t reply answered. let_through (one_under g call fd named (start_perms g fd is)) (record {
+      never = (lets done may).never;
+      adds = λ perms. (lets done may).adds perms t reply answered;
+    })) texts known
 
 -- at the file of a number
 pub done_at_file : {g : Guest} {call : Call} {f : OpenFile} (own : Option ErrorCode) (r : Request) (fd : ℕ)
     → stem_in call ≡ itself → descriptors_named g.memory call ≡ fd ∷ [] → slice_get g.slots fd ≡ Some (file f)
     → starts_at r ≡ f.node ∷ []
-    → ((done : Unit {0}) → permit own ≡ Ok done → f.perms ≡ ReadOnly → (t : Tree) → after t r ≡ t) → MayBeAsked r
+    → ((done : Unit {0}) → permit own ≡ Ok done → (t : Tree) → Permitted g call t (after t r)) → MayBeAsked r
     → IfSome own IsKnown → AlwaysNear g call (done_if own r g)
-done_at_file {g} {call} own r fd stems named is starts leaves may known = done_if_near own r stems
+done_at_file {g} {call} own r fd stems named is starts permits may known = done_if_near own r stems
     (λ n has. named_file g fd n (subst (λ fds. Contains fds fd) (sym named) (Contains-here fd [])) is
     (subst (λ ns. Contains ns n) starts has))
-    (λ done permitted names. leaves done permitted (read_only (only_named g fd names.fd
-    (subst (λ fds. Contains fds names.fd) named names.named) names.perms) (ap perms_in is))) may known
+    (λ done let_through t _ _. permits done let_through t) may known

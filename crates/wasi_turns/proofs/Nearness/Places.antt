@@ -1,30 +1,52 @@
 -- What holds of the rows of the calls at the place that a path names.
-use Rattle.std.proofs.Common.{ℕ, ◌≡◌, List, length, [], ◌∷◌, refl, take, slice_get}
+use Rattle.std.proofs.Common.{ℕ, ◌≡◌, List, length, [], ◌∷◌, refl, take, slice_get, Ok}
 use Rattle.wasi_guest.specs.declared.call.Call.{Call}
 use Rattle.wasi_guest.specs.declared.call.Call.TheVariants as calls
-use Rattle.wasi_resolve.specs.AtPlace.{PlaceCall, Symlink}
+use Rattle.wasi_fs.specs.Calls.{may_do}
+use Rattle.wasi_fs.specs.declared.perms.FsPerms.{FsPerms}
+use Rattle.wasi_resolve.specs.AtPlace.{PlaceCall, CreateDir, RemoveDir, RemoveFile, Symlink}
 use Rattle.wasi_resolve.specs.PathRequest.{AtPlace}
 use Rattle.wasi_turns.specs.Filestats.{stat_both, filestat_in}
 use Rattle.wasi_turns.specs.Guest.{Guest}
-use Rattle.wasi_turns.specs.Parts.{range}
+use Rattle.wasi_turns.specs.Parts.{range, permit}
 use Rattle.wasi_turns.specs.Row.{Row}
-use Rattle.wasi_turns.specs.Rows.{done_at, path_filestat_get, path_readlink, path_symlink, descriptors_named, itself, stem_in}
+use Rattle.wasi_turns.specs.Rows.{done_at, path_create_directory, path_remove_directory, path_unlink_file, path_filestat_get, path_readlink, path_symlink, descriptors_named, itself, stem_in}
 use Rattle.wasi_host.proofs.Leaving.{Contains-here}
 use Rattle.wasi_resolve.proofs.Asking.{HasUtf8Target}
 use Rattle.wasi_turns.proofs.Bytes.{cut}
+use Rattle.wasi_turns.proofs.Adding.{directory_adds, link_adds}
 use Rattle.wasi_turns.proofs.Changing.{written_slots, written_ends, written_bytes, stated_slots, stated_ends, stated_bytes}
 use Rattle.wasi_turns.proofs.Keeping.{no_act, no_link, link_leaves}
-use Rattle.wasi_turns.proofs.Nearness.Parts.{AlwaysNear, RowNear, then, then_text, then_path, asks_near, starts_near, done_if_at}
+use Rattle.wasi_turns.proofs.Nearness.Parts.{AddsAt, AlwaysNear, LetsThrough, RowNear, alters, then, then_text, then_path, asks_near, starts_near, done_if_at}
 use Rattle.wasi_turns.proofs.Wanting.{act_known, link_known, filestat_never, follow_never, range_never, start_never}
+use Rattle.wasi_turns.proofs.Near.{leaves}
 use Rattle.wasi_fs.specs.declared.perms.Act.{Act}
+use Rattle.wasi_fs.specs.declared.perms.Act.TheVariants.{Make, Alter}
 
 -- what is done at a place by its path alone
 pub done_near : {g : Guest} {call : Call} (fd path len : ℕ) (act : Act) (what : PlaceCall) → stem_in call ≡ itself
     → descriptors_named g.memory call ≡ fd ∷ [] → HasUtf8Target what
+    → ((perms : FsPerms) (done : Unit {0}) → permit (may_do perms act) ≡ Ok done → (d : ℕ) (text : List ℕ)
+    → LetsThrough perms (AddsAt (AtPlace d text what)))
     → AlwaysNear g call (done_at g fd path len act what)
-done_near {g} fd path len act what stems named target =
-    then_path g fd path len (λ d is text read. done_if_at _ (AtPlace d.node text what) fd stems named is refl (λ _ may. no_act d.perms act may) (read, target)
-    (act_known d.perms act))
+done_near {g} fd path len act what stems named target lets =
+    then_path g fd path len (λ d is text read. done_if_at _ (AtPlace d.node text what) fd stems named is refl
+    (λ done may. lets d.perms done may d.node text) (read, target) (act_known d.perms act))
+
+pub path_create_directory_near : {g : Guest} {fd path len : ℕ} → RowNear g (calls.PathCreateDirectory fd path len)
+unfolding path_create_directory
+path_create_directory_near = done_near _ _ _ Make CreateDir refl refl tt (λ perms _ may d text. record {
+  never = no_act perms Make may;
+  adds = λ _ t _ answered. directory_adds t d text answered;
+})
+
+pub path_remove_directory_near : {g : Guest} {fd path len : ℕ} → RowNear g (calls.PathRemoveDirectory fd path len)
+unfolding path_remove_directory
+path_remove_directory_near = done_near _ _ _ Alter RemoveDir refl refl tt (λ perms _ may _ _. alters perms may)
+
+pub path_unlink_file_near : {g : Guest} {fd path len : ℕ} → RowNear g (calls.PathUnlinkFile fd path len)
+unfolding path_unlink_file
+path_unlink_file_near = done_near _ _ _ Alter RemoveFile refl refl tt (λ perms _ may _ _. alters perms may)
 
 pub path_filestat_get_near : {g : Guest} {fd flags path len : ℕ} → RowNear g (calls.PathFilestatGet fd flags path len)
 unfolding path_filestat_get
@@ -32,7 +54,7 @@ path_filestat_get_near {g} {fd} = then _ (follow_never _) (λ follow _. then_pat
   starts = λ n has. starts_near g fd n (Contains-here fd []) is has;
   slots = λ metadata. stated_slots g (filestat_in (stat_both metadata));
   ends = λ t metadata answered. stated_ends g (filestat_in (stat_both metadata)) (filestat_never (stat_both metadata)) refl;
-  permits = λ _ _ _ _. refl;
+  permits = λ _ _ _. leaves refl;
   asked = λ _. read;
   bytes = λ are metadata _. stated_bytes g (filestat_in (stat_both metadata)) are;
 })))
@@ -45,7 +67,7 @@ path_readlink_near {g} {fd} {path} {len} {buf} {buf_len} = then_path g fd path l
       slots = λ link. written_slots g buf (take buf_len link) (put link);
       ends = λ t link answered. written_ends g buf (take buf_len link) (put link)
           (range_never g.memory buf (length (take buf_len link))) (link_leaves t d.node text);
-      permits = λ names t link answered. link_leaves t d.node text;
+      permits = λ t link answered. leaves (link_leaves t d.node text);
       asked = λ _. (read, tt);
       bytes = λ are link links. written_bytes g buf (take buf_len link) (put link) are (cut buf_len link links).0;
     }))
@@ -54,5 +76,7 @@ pub path_symlink_near : {g : Guest} {old_path old_len fd new_path new_len : ℕ}
     → RowNear g (calls.PathSymlink old_path old_len fd new_path new_len)
 unfolding path_symlink
 path_symlink_near {g} {fd = fd} = then _ (start_never (slice_get g.slots fd)) (λ d is. then_text g _ _ (λ target told. then_text g _ _ (λ text read.
-    done_if_at _ (AtPlace d.node text (Symlink target)) fd refl refl is refl (λ _ may. no_link d.perms target may) (read, told)
-    (link_known d.perms target))))
+    done_if_at _ (AtPlace d.node text (Symlink target)) fd refl refl is refl (λ _ may. record {
+      never = no_link d.perms target may;
+      adds = λ _ t _ answered. link_adds t d.node text target answered;
+    }) (read, told) (link_known d.perms target))))

@@ -1,5 +1,5 @@
 -- What holds of the row of the call that waits.
-use Rattle.std.proofs.Common.{inl, ℕ, ◌+◌, ◌-◌, ◌*◌, nat_le, Bool, true, false, List, [], ◌∷◌, refl}
+use Rattle.std.proofs.Common.{ℕ, ◌+◌, ◌-◌, ◌*◌, nat_le, Bool, true, false, List, [], ◌∷◌, refl}
 use Rattle.std.specs.Prelude.{Contains}
 use Rattle.wasi_guest.specs.declared.call.Call.{Call}
 use Rattle.wasi_guest.specs.declared.call.Call.TheVariants as calls
@@ -12,7 +12,8 @@ use Rattle.wasi_turns.specs.Subscriptions.{waited_for}
 use Rattle.wasi_turns.specs.Validity.{IsStock}
 use Rattle.wasi_turns.specs.declared.holdings.Clocks.{Clocks}
 use Rattle.wasi_turns.specs.declared.awaited.Waited.{Waited}
-use Rattle.wasi_turns.proofs.Near.{IsNear}
+use Rattle.wasi_turns.proofs.Changing.{put_nothing}
+use Rattle.wasi_turns.proofs.Near.{IsNear, leaves}
 use Rattle.wasi_turns.proofs.Nearness.Parts.{AlwaysNear, RowNear, then, then_taken, taken}
 use Rattle.wasi_turns.proofs.Polling.{IsOf, some_never, lists_never, waited_never, clocks_never, files_named_by, events_bytes}
 use Rattle.wasi_turns.proofs.Wanting.{room_never}
@@ -37,16 +38,16 @@ ready_near : {g : Guest} {subscriptions at count : ℕ} (ws : List Waited) (cloc
     → AlwaysNear g (calls.PollOneoff subscriptions at count) (look_and_tell g at ws clocks ns)
 ready_near {g} {at = at} ws clocks [] named = record {
   near = λ fuel. record {
-    slots = record { nodes = λ n has. inl has; perms = λ n perms has. has };
+    slots = put_nothing g;
     bytes = λ are. (events_bytes clocks.monotonic ws [] g.memory at are.0, clocks_stock clocks are.1);
   };
 }
 ready_near {g} {at = at} ws clocks (n ∷ ns) named = record {
   near = λ fuel. record {
     starts = λ m has. let is = named m has in record { fd = is.fd; named = is.named; node = is.node };
-    slots = λ sizes. record { nodes = λ n has. inl has; perms = λ n perms has. has };
+    slots = λ sizes. put_nothing g;
     ends = λ _ _ _. tt;
-    permits = λ _ _ _ _. refl;
+    permits = λ _ _ _. leaves refl;
     asked = λ _. tt;
     bytes = λ are sizes _. (events_bytes clocks.monotonic ws sizes g.memory at are.0, clocks_stock clocks are.1);
   };

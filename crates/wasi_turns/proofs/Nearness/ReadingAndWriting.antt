@@ -13,6 +13,7 @@ use Rattle.wasi_turns.specs.Services.{written}
 use Rattle.wasi_turns.specs.Validity.{AreBytes, HasBytes}
 use Rattle.wasi_turns.proofs.Bytes.{put_bytes, range_bytes, input_bytes, written_stock}
 use Rattle.wasi_turns.proofs.Changing.{file_is, read_place_is, source_is, sink_is, put_back, put_nothing}
+use Rattle.wasi_turns.proofs.Near.{leaves}
 use Rattle.wasi_turns.proofs.Nearness.Parts.{AlwaysNear, RowNear, then, then_at_buffer, file_asked, piece_near, answers_near}
 use Rattle.wasi_turns.proofs.Putting.{call_puts, request_puts}
 use Rattle.wasi_turns.proofs.Wanting.{file_never, read_place_never, source_never, sink_never, input_never}
@@ -23,7 +24,7 @@ unfolding fd_pread
 fd_pread_near {g} {fd} {offset = offset} =
     then_at_buffer g _ _ (read_place_never g.slots g.table_max (slice_get g.slots fd)) (λ f is buffer _ _.
     file_asked {r = Direct (Pread (held_by f) offset (min buffer.buf_len 65536))} fd refl
-    (read_place_is g.slots g.table_max _ is) refl (λ _. put_nothing g) (λ _ _. tt) (λ _ _. refl) (λ _. tt)
+    (read_place_is g.slots g.table_max _ is) refl (λ _. put_nothing g) (λ _ _. tt) (λ _. leaves refl) (λ _. tt)
     (λ are bytes read. (put_bytes g.memory bytes buffer.buf are.0 read, are.1)))
 
 pub fd_pwrite_near : {g : Guest} {fd iovs n offset : ℕ} → RowNear g (calls.FdPwrite fd iovs n offset)
@@ -42,7 +43,8 @@ reads_near g fd iovs n input buffer is =
 reads_near g fd iovs n (from f) buffer is =
     let named = source_is (slice_get g.slots fd) is in
     file_asked {r = Direct (Pread (held_by f) f.position buffer.buf_len)} fd refl named refl
-    (λ bytes. put_back g fd (f.position + length bytes) f.modes [] named) (λ _ _. tt) (λ _ _. refl) (λ _. tt)
+    (λ bytes. put_back g fd (f.position + length bytes) f.modes [] named (λ _ appends. appends)) (λ _ _. tt)
+    (λ _. leaves refl) (λ _. tt)
     (λ are bytes read. (put_bytes g.memory bytes buffer.buf are.0 read, are.1))
 
 pub fd_read_near : {g : Guest} {fd iovs n : ℕ} → RowNear g (calls.FdRead fd iovs n)
@@ -58,7 +60,7 @@ writes_near g fd iovs n (output o) piece is bytes =
     (λ are. (are.0, written_stock g.holdings o piece are.1))
 writes_near g fd iovs n (into f) piece is bytes = let named = sink_is (slice_get g.slots fd) is in
     piece_near fd refl named (request_puts f.modes.append (held_by f) f.position piece) bytes
-    (λ reply. put_back g fd _ f.modes _ named) (λ _ are. are)
+    (λ reply. put_back g fd _ f.modes _ named (λ _ appends. appends)) (λ _ are. are)
 
 pub fd_write_near : {g : Guest} {fd iovs n : ℕ} → RowNear g (calls.FdWrite fd iovs n)
 unfolding fd_write

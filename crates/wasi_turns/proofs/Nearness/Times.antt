@@ -8,8 +8,7 @@ use Rattle.wasi_turns.specs.Request.{Direct}
 use Rattle.wasi_turns.specs.Rows.{fd_filestat_set_times, path_filestat_set_times}
 use Rattle.wasi_host.proofs.Leaving.{Contains-here}
 use Rattle.wasi_turns.proofs.Changing.{named_node, node_perms}
-use Rattle.wasi_turns.proofs.Keeping.{no_act}
-use Rattle.wasi_turns.proofs.Nearness.Parts.{RowNear, then, then_path, read_only, only_named, done_if_near, done_if_at}
+use Rattle.wasi_turns.proofs.Nearness.Parts.{RowNear, alters, let_through, one_under, then, then_path, done_if_near, done_if_at}
 use Rattle.wasi_turns.proofs.Wanting.{act_known, follow_never, times_never, node_never}
 use Rattle.wasi_fs.specs.declared.perms.Act.TheVariants.{Alter}
 
@@ -18,13 +17,13 @@ pub fd_filestat_set_times_near : {g : Guest} {fd atim mtim fst_flags : ℕ}
 unfolding fd_filestat_set_times
 fd_filestat_set_times_near {g} {fd} = then _ (times_never _ _ _ _) (λ times _. then _ (node_never (slice_get g.slots fd)) (λ node is.
     done_if_near _ (Direct (SetTimes node.node times.atime times.mtime)) refl (λ n has. named_node g fd n (Contains-here fd []) is has)
-    (λ _ may names. absurd (no_act node.perms Alter may
-    (read_only (only_named g fd names.fd names.named names.perms) (node_perms (slice_get g.slots fd) is)))) tt (act_known node.perms Alter)))
+    (λ _ may _ _ _. let_through (one_under g _ fd refl (node_perms (slice_get g.slots fd) is)) (alters node.perms may)) tt
+    (act_known node.perms Alter)))
 
 pub path_filestat_set_times_near : {g : Guest} {fd flags path len atim mtim fst_flags : ℕ}
     → RowNear g (calls.PathFilestatSetTimes fd flags path len atim mtim fst_flags)
 unfolding path_filestat_set_times
 path_filestat_set_times_near {g} {fd} = then _ (follow_never _) (λ follow _. then _ (times_never _ _ _ _) (λ times _.
     then_path g fd _ _ (λ d is text read.
-    done_if_at _ (TimesPath d.node text follow times.atime times.mtime) fd refl refl is refl (λ _ may. no_act d.perms Alter may) read
+    done_if_at _ (TimesPath d.node text follow times.atime times.mtime) fd refl refl is refl (λ _ may. alters d.perms may) read
     (act_known d.perms Alter))))

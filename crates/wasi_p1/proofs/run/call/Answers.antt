@@ -1,4 +1,6 @@
+use Rattle.wasi_turns.proofs.Apart.{turn_appends}
 use Rattle.wasi_turns.proofs.ErrorNumbers.{turn_errnos}
+use Rattle.wasi_turns.proofs.Permitting.{turn_adds}
 use Rattle.wasi_turns.proofs.Unchanged.{leaves_all}
 use Rattle.wasi_p1.proofs.run.call.Goals as goal
 
@@ -7,3 +9,9 @@ returns-clause-errnos g c = λ told. turn_errnos c.by_name.result (c.by_name.ens
 
 pub returns-clause-unchanged : goal.returns-clause-unchanged
 returns-clause-unchanged g c = leaves_all c.by_name.result c.by_name.ensures.turn
+
+pub returns-clause-adds : goal.returns-clause-adds
+returns-clause-adds g c = λ told. turn_adds (c.by_name.ensures.turn.turn told)
+
+pub returns-clause-appends : goal.returns-clause-appends
+returns-clause-appends g c = λ told. turn_appends (c.by_name.ensures.turn.turn told)

@@ -1,7 +1,7 @@
 use Rattle.std.proofs.Common.{◌≡◌, ◌∙◌, [], sym, inl, inr}
 use Rattle.wasi_script.specs.Due.{the_usage}
 use Rattle.wasi_script.specs.declared.words.Task.TheVariants as tasks
-use Rattle.wasi_script.proofs.OwnTrees.{keeps_tree}
+use Rattle.wasi_script.proofs.KeptTrees.{keeps_tree}
 use Rattle.wasi_script.proofs.Tops.{writes, writes_due, is_due_by, line_due, made_due, made_keeps, other_end}
 use Rattle.wasi_script.proofs.top.run_script.Goals as goal
 
@@ -22,10 +22,10 @@ returns-in-Run-clause-writes g c = λ tells takes.
     let is = rw c.as_slice.ensures.value at (sym c.task_of.ensures.task ∙ c.in-Run.is) in
     rw is (c.run_source.ensures.writes tells takes)
 
-pub returns-in-Run-clause-read_only : goal.returns-in-Run-clause-read_only
-returns-in-Run-clause-read_only g c = λ tells takes.
+pub returns-in-Run-clause-keeps : goal.returns-in-Run-clause-keeps
+returns-in-Run-clause-keeps g c = λ tells takes.
     let is = rw c.as_slice.ensures.value at (sym c.task_of.ensures.task ∙ c.in-Run.is) in
-    rw is (c.run_source.ensures.read_only tells takes)
+    rw is (c.run_source.ensures.keeps tells takes)
 
 pub returns-in-Run-clause-some : goal.returns-in-Run-clause-some
 returns-in-Run-clause-some g c = λ takes.
@@ -60,8 +60,8 @@ returns-in-Generate-clause-writes g c = λ tells takes.
     let is = rw c.as_slice.ensures.value at (sym c.task_of.ensures.task ∙ c.in-Generate.is) in
     rw is (line_due _ c.in-Generate.n _ _ _ c.run_generated.ensures.ends (c.run_generated.ensures.writes takes))
 
-pub returns-in-Generate-clause-read_only : goal.returns-in-Generate-clause-read_only
-returns-in-Generate-clause-read_only g c = λ tells takes.
+pub returns-in-Generate-clause-keeps : goal.returns-in-Generate-clause-keeps
+returns-in-Generate-clause-keeps g c = λ tells takes.
     keeps_tree _ _ _ _ _ (returns-in-Generate-clause-writes g c tells takes)
 
 pub returns-in-Generate-clause-some : goal.returns-in-Generate-clause-some
@@ -85,8 +85,8 @@ returns-in-Usage-clause-writes g c = λ tells takes.
     let is = rw c.as_slice.ensures.value at (sym c.task_of.ensures.task ∙ c.in-Usage.is) in
     rw is (writes_due tasks.Usage _ the_usage tt takes c.as_bytes.ensures.value c.written.ensures.written)
 
-pub returns-in-Usage-clause-read_only : goal.returns-in-Usage-clause-read_only
-returns-in-Usage-clause-read_only g c = λ tells takes.
+pub returns-in-Usage-clause-keeps : goal.returns-in-Usage-clause-keeps
+returns-in-Usage-clause-keeps g c = λ tells takes.
     keeps_tree _ _ _ _ _ (returns-in-Usage-clause-writes g c tells takes)
 
 pub returns-in-Usage-clause-some : goal.returns-in-Usage-clause-some

@@ -2,7 +2,7 @@ use Rattle.std.proofs.Common.{◌∙◌, ap}
 use Rattle.wasi_form.specs.Plan.{plan}
 use Rattle.wasi_script.specs.Due.{refusal_line, the_refusal, the_report}
 use Rattle.wasi_script.specs.declared.words.Task.TheVariants as tasks
-use Rattle.wasi_script.proofs.OwnTrees.{keeps_tree}
+use Rattle.wasi_script.proofs.KeptTrees.{keeps_tree}
 use Rattle.wasi_script.proofs.Tops.{front_read, leaves_unread, no_read_fault, no_usage, may_take, write_failed, writes_due, is_due_by}
 use Rattle.wasi_script.proofs.top.run_source.Goals as goal
 
@@ -19,8 +19,8 @@ returns-in-Err-Refused-clause-writes g c = λ tells takes.
     let was = rw c.in-Err-Refused.refusal-is at c.written.ensures.written in
     writes_due tasks.Run _ (the_refusal c.in-Err-Refused.refusal) read.0 takes (c.as_bytes.ensures.value ∙ line) was
 
-pub returns-in-Err-Refused-clause-read_only : goal.returns-in-Err-Refused-clause-read_only
-returns-in-Err-Refused-clause-read_only g c = λ tells takes.
+pub returns-in-Err-Refused-clause-keeps : goal.returns-in-Err-Refused-clause-keeps
+returns-in-Err-Refused-clause-keeps g c = λ tells takes.
     keeps_tree _ _ _ _ _ (returns-in-Err-Refused-clause-writes g c tells takes)
 
 pub returns-in-Ok-report_of-clause-exact : goal.returns-in-Ok-report_of-clause-exact
@@ -34,8 +34,8 @@ returns-in-Ok-report_of-clause-writes g c = λ tells takes.
     writes_due tasks.Run _ (the_report (plan c.in-Ok.script)) read.0 takes
     (rw c.as_slice.ensures.value c.in-Ok-report_of.ensures) c.written-in-Ok-report_of.ensures.written
 
-pub returns-in-Ok-report_of-clause-read_only : goal.returns-in-Ok-report_of-clause-read_only
-returns-in-Ok-report_of-clause-read_only g c = λ tells takes.
+pub returns-in-Ok-report_of-clause-keeps : goal.returns-in-Ok-report_of-clause-keeps
+returns-in-Ok-report_of-clause-keeps g c = λ tells takes.
     keeps_tree _ _ _ _ _ (returns-in-Ok-report_of-clause-writes g c tells takes)
 
 pub returns-in-Ok-report_of-clause-read_fault : goal.returns-in-Ok-report_of-clause-read_fault

@@ -2,4 +2,4 @@ use Rattle.wasi_turns.proofs.Permitting.{run_leaves}
 use Rattle.wasi_turns.proofs.laws.read_only_runs_leave_the_tree.Goals as goal
 
 pub returns : goal.returns
-returns c = record { leave = λ k old new calls turns run only. run_leaves calls turns k old new run only }
+returns c = record { leave = run_leaves }

@@ -2,4 +2,4 @@ use Rattle.wasi_turns.proofs.Validity.{run_valid}
 use Rattle.wasi_turns.proofs.laws.runs_stay_valid.Goals as goal
 
 pub returns : goal.returns
-returns c = record { valid = λ k old new calls turns run. run_valid calls turns k old new run }
+returns c = record { valid = run_valid }
