@@ -13,3 +13,4 @@ pub mod Errnos
 pub mod Enums
 pub mod FiletypeNumber
 pub mod Services
+pub mod Quotas

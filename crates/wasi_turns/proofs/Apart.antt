@@ -8,6 +8,7 @@ use Rattle.wasi_fs.specs.declared.perms.FsPerms.{FsPerms}
 use Rattle.wasi_fs.specs.declared.perms.FsPerms.TheVariants.{ReadOnly, AppendOnly, ReadWrite}
 use Rattle.wasi_guest.specs.declared.answer.Value.{Value}
 use Rattle.wasi_guest.specs.declared.call.Call.{Call}
+use Rattle.wasi_guest.specs.declared.quota.QuotaUsed.{QuotaUsed}
 use Rattle.wasi_guest.specs.declared.call.Call.TheVariants as calls
 use Rattle.wasi_host.specs.Agree.{IsClosed, IsMade}
 use Rattle.wasi_host.specs.Meaning.{World}
@@ -40,6 +41,7 @@ use Rattle.wasi_turns.proofs.Permitting.{turned_permitted}
 use Rattle.wasi_turns.proofs.RequestsAgree.{given_seen}
 use Rattle.wasi_turns.proofs.RequestsLeave.{request_leaves}
 use Rattle.wasi_turns.proofs.Stemming.{turn_stems}
+use Rattle.wasi_turns.proofs.Uses.{with_counts}
 
 -- ---- what a call leaves of the tree, where all descriptors that it names are under the same permissions
 
@@ -153,28 +155,30 @@ row_leaves {s} {call} (Ok (asking r next)) p near is =
     }
 row_leaves (Err e) p near is = absurd (cc)
 
--- where the guest stays, by the tree alone
-tree_leaves : {s : State} {call : Call} (s' : State) (u : Tree) → s' ≡ record s { tree = u } → TreeLeaves s call u
-    → Leaves s call s'
-tree_leaves {s} {call} s' u is left =
-    subst (Leaves s call) (sym is) (record { tree = left; slots = same_slots; appends = λ all. all })
+-- where the descriptors stay, by the tree alone
+tree_leaves : {s : State} {call : Call} {used : QuotaUsed} (s' : State) (u : Tree)
+    → s'.guest ≡ with_counts used s.guest → s'.tree ≡ u → TreeLeaves s call u → Leaves s call s'
+tree_leaves {s} {call} {used} s' u counts is left =
+    subst (Leaves s call) (λ i. let v : State = record { tree = sym is i; guest = sym counts i } in v) still
+  where
+    still : Leaves s call (record { tree = u; guest = with_counts used s.guest })
+    still = record { tree = left; slots = λ fd n perms has node. same_slots fd n perms has node; appends = λ all. all }
 
-moves_leave : {s : State} (call : FueledCall) (s' : State) (m : Row (Value × State)) → turn s call ≡ m → Moves s s' m
-    → Leaves s call.call s'
-moves_leave {s} call s' m is (inl same) = tree_leaves s' s.tree same (still_leaves s call.call)
-moves_leave {s} call s' m is (inr (inl given)) =
-    row_leaves (row s.guest call) (given.0, s') (row_near s.guest call) (is ∙ given.1)
-moves_leave {s} call s' (Ok p) is (inr (inr step)) =
-    tree_leaves s' p.1.tree step (row_leaves (row s.guest call) p (row_near s.guest call) is).tree
-moves_leave call s' (Err e) is (inr (inr step)) = absurd step
+moves_leave : {s : State} (call : FueledCall) (s' : State) → Moves s s' (turn s call) → Leaves s call.call s'
+moves_leave {s} call s' (inl given) = row_leaves (row s.guest call) (given.0, s') (row_near s.guest call) given.1
+moves_leave {s} call s' (inr still) = elim still.tree [
+  | inl same ↦ tree_leaves s' s.tree still.guest same (still_leaves s call.call)
+  | inr step ↦ tree_leaves s' step.given.1.tree still.guest step.tree
+      (row_leaves (row s.guest call) step.given (row_near s.guest call) step.answers).tree
+]
 
 turned_leaves : (t : Turned) → Played t ⊎ Faulted t → Leaves t.before t.call.call t.after
-turned_leaves t took = moves_leave t.call t.after (turn t.before t.call) refl (turned_moves t took)
+turned_leaves t took = moves_leave t.call t.after (turned_moves t took)
 
 pub turn_appends : {rose : Type 0} {w v : World} {g g' : Guest} {call : FueledCall} {r : Result Value P1Error}
     → Turns rose w v g g' call r → AppendsAtEnd g → AppendsAtEnd g'
 turn_appends {rose} {w} {v} {g} {g'} {call} {r} takes =
-    (moves_leave call (in_world v g') (turn (in_world w g) call) refl (turn_moves rose _ r takes.turn)).appends
+    (moves_leave call (in_world v g') (turn_moves rose _ call r takes.turn)).appends
 
 -- ---- what is reached then
 

@@ -25,13 +25,14 @@ use Rattle.wasi_turns.specs.Row.{Row, give, made_of_reply}
 use Rattle.wasi_turns.specs.Front.{ask, done_if}
 use Rattle.wasi_turns.specs.Rows.{front, may_want}
 use Rattle.wasi_turns.specs.Slots.{View}
+use Rattle.wasi_turns.specs.Spending.{spends_nothing}
 use Rattle.wasi_turns.specs.declared.error.P1Error.{P1Error}
 use Rattle.wasi_turns.specs.declared.error.P1Error.TheVariants.{Errno, Memory}
 use Rattle.wasi_turns.proofs.RowEnds.{tail, with_nothing}
 use Rattle.wasi_turns.proofs.GuestSlots.{guest_slots_stay}
 use Rattle.wasi_turns.proofs.Staying.{all_stay}
 use Rattle.wasi_turns.proofs.Resolving.{resolved_ok, resolved_err}
-use Rattle.wasi_turns.proofs.Taking.{refused_at, wanted, unchanged, does_err, does_ok, makes_err, makes_ok, Did}
+use Rattle.wasi_turns.proofs.Taking.{refused_at, wanted, unchanged, does_err, does_refused, does_ok, makes_err, makes_ok, Did}
 
 -- what a directory doesn't permit is refused by the error number of its code
 pub refused_by : (A B : Type 0) {H : Type 0} (own : Option ErrorCode) (e : HostError) (old new : H)
@@ -83,16 +84,17 @@ module _ {H : Type 0} {told : Bool} {world : H → World} {faults : H → FaultC
       (at : tail own r next shown (guest_of world old before) new.fuel ≡ front (guest_of world old before) call old.fuel)
     where
       pub permitted_err : {e : P1Error} → Refused {A = A} own (Err e) old.host new.host
-          → (own ≡ None → IsReplied r next (Err e)) → (e ≡ Memory → IsTrue (may_want call)) → Kept old new before after
+          → (own ≡ None → IsReplied r next (Err e)) → (e ≡ Memory → IsTrue (may_want call))
+          → IsTrue (spends_nothing call r) → Kept old new before after
           → (IsTrue told → own ≡ None
           → guest_slots (world new.host).held new.slots ≡ guest_slots (world old.host).held old.slots)
           → (IsTrue told → own ≡ None → Did world faults old new r next (Err e))
           → FollowsRow told world faults lookups old new before after call (Err e)
-      permitted_err {e} refuses replied may kept slots does = by own refl
+      permitted_err {e} refuses replied may unused kept slots does = by own refl
         where
           by : (o : Option ErrorCode) → own ≡ o → FollowsRow told world faults lookups old new before after call (Err e)
           by None none = does_err next shown (subst (λ o. tail o r next shown (guest_of world old before) new.fuel
-              ≡ front (guest_of world old before) call old.fuel) none at) (replied none) may kept (λ told. slots told none)
+              ≡ front (guest_of world old before) call old.fuel) none at) (replied none) may unused kept (λ told. slots told none)
               (λ told. does told none)
           by (Some code) some = not_permitted e code (subst (λ o. tail o r next shown (guest_of world old before) new.fuel
               ≡ front (guest_of world old before) call old.fuel) some at) (again (subst (λ o. Refused {A = A} o (Err e) old.host
@@ -125,26 +127,26 @@ module _ {H : Type 0} {told : Bool} {world : H → World} {faults : H → FaultC
 
   module _ {live : Handles} {own : Option ErrorCode} {r : Request}
       (at : done_if own r (guest_of world old before) new.fuel ≡ front (guest_of world old before) call old.fuel)
-      (owned : Owned live (handles old.slots)) (kept : Kept old new before after) where
-    pub changed_err : (e : HostError) → Refuses {A = Unit {0}} own (Err e) old.host new.host
+      (owned : Owned live (handles old.slots)) where
+    pub changed_err : IsTrue (spends_nothing call r) → Kept old new before after → (e : HostError) → Refuses {A = Unit {0}} own (Err e) old.host new.host
         → (error_of e ≡ Memory → IsTrue (may_want call))
         → (IsTrue told → own ≡ None → KeepsHeld live (world old.host) (world new.host))
         → (IsTrue told → own ≡ None
         → Asked (Rose (faults old.host) (faults new.host)) (world old.host) (world new.host) r (Err (error_of e)))
         → FollowsRow told world faults lookups old new before after call (Err (error_of e))
-    changed_err e refuses may keeps asked = permitted_err (λ _. give tt) with_nothing at
+    changed_err unused kept e refuses may keeps asked = permitted_err (λ _. give tt) with_nothing at
         (refused_by (Unit {0}) (Unit {0}) own e old.host new.host refuses)
-        (λ none. inl (e, refl)) may kept
+        (λ none. inl (e, refl)) may unused kept
         (λ told none. ap (guest_slots (world new.host).held) kept.slots
         ∙ guest_slots_stay old.slots owned (keeps told none))
         (λ told none. inl (asked told none))
 
-    pub changed_ok : (reply : Reply r) → MayReply r reply → Refuses {A = Unit {0}} own (Ok tt) old.host new.host
+    pub changed_ok : Kept old new before after → (reply : Reply r) → MayReply r reply → Refuses {A = Unit {0}} own (Ok tt) old.host new.host
         → (IsTrue told → own ≡ None → KeepsHeld live (world old.host) (world new.host))
         → (IsTrue told → own ≡ None
         → Asked (Rose (faults old.host) (faults new.host)) (world old.host) (world new.host) r (Ok reply))
         → FollowsRow told world faults lookups old new before after call (Ok Nothing)
-    changed_ok reply may refuses keeps asked = permitted_ok (λ _. give tt) with_nothing at {x = tt} {x' = tt}
+    changed_ok kept reply may refuses keeps asked = permitted_ok (λ _. give tt) with_nothing at {x = tt} {x' = tt}
         (by own refuses)
         (ap length kept.memory) (all_stay kept.slots) (λ none. (reply, may, refl)) (again (world old.host).held refl)
         (λ told none. (
@@ -177,11 +179,11 @@ module _ {H : Type 0} {told : Bool} {world : H → World} {faults : H → FaultC
       ≡ front (guest_of world old before) call old.fuel)
       (owned : Owned live (handles old.slots)) where
     pub found_err : (e : HostError) → HasCause {A = B} (faults old.host) (faults new.host) (Err e)
-        → IsTrue (may_want call) → Kept old new before after
+        → IsTrue (may_want call) → IsTrue (spends_nothing call (Path p)) → Kept old new before after
         → (IsTrue told → Resolved live (world old.host) (world new.host) (meant_by (world old.host).tree p) shown (Err e))
         → FollowsRow told world faults lookups old new before after call (Err (error_of e))
-    found_err e cause may kept resolves =
-        makes_err next told_by at owned (inl (e, refl)) (λ _. may) kept (λ told. record {
+    found_err e cause may unused kept resolves =
+        makes_err next told_by at owned (inl (e, refl)) (λ _. may) unused kept (λ told. record {
           keeps = (resolves told).keeps;
           does = inl (resolved_err e (λ is. cause.io (ap Err is)) (resolves told));
         })
@@ -193,10 +195,10 @@ module _ {H : Type 0} {told : Bool} {world : H → World} {faults : H → FaultC
       pub found_refused : {e : P1Error} → next (shown b) ≡ Err e → IsTrue (may_want call) → Kept old new before after
           → FollowsRow told world faults lookups old new before after call (Err e)
       found_refused is wants kept =
-          makes_err next told_by at owned (inr (shown b, may, is)) (λ _. wants) kept (λ told. record {
-            keeps = (resolves told).keeps;
-            does = inr (shown b, resolved_ok (resolves told), is);
-          })
+          does_refused next told_by at (shown b, may, is) (λ _. wants) kept
+          (λ told. ap (guest_slots (world new.host).held) kept.slots
+          ∙ guest_slots_stay old.slots owned (resolves told).keeps)
+          (λ told. (shown b, resolved_ok (resolves told), is))
 
       pub found_ok : {y : Value} {x : A} → next (shown b) ≡ Ok x → length after ≡ length before
           → told_by (guest_of world old before) x ≡ (y, guest_by (world old.host).held new after)
@@ -216,11 +218,12 @@ module _ {H : Type 0} {told : Bool} {world : H → World} {faults : H → FaultC
     (owned : Owned live (handles old.slots)) where
   pub done_err : (e : HostError) → HasCause {A = Unit {0}} (faults old.host) (faults host) (Err e)
       → Refuses {A = Unit {0}} own (Err e) old.host host → IsTrue (may_want call)
+      → IsTrue (spends_nothing call (Path p))
       → (IsTrue told → own ≡ None → Resolved {A = Unit {0}} live (world old.host) (world host)
       (meant_by (world old.host).tree p) shown (Err e))
       → FollowsRow told world faults lookups old (record old { host = host; fuel = left }) memory memory call (Err (error_of e))
-  done_err e cause refuses may resolves =
-      changed_err at owned unchanged e refuses (λ _. may) (λ told none. (resolves told none).keeps)
+  done_err e cause refuses may unused resolves =
+      changed_err at owned unused unchanged e refuses (λ _. may) (λ told none. (resolves told none).keeps)
       (λ told none. resolved_err e (λ is. cause.io (ap Err is)) (resolves told none))
 
   pub done_ok : MayReply (Path p) (shown tt) → Refuses {A = Unit {0}} own (Ok tt) old.host host

@@ -8,6 +8,7 @@ use Rattle.std.proofs.lemmas.Bool.Decides.{nat_tests}
 use Rattle.wasi_turns.specs.Row.{give}
 use Rattle.wasi_turns.specs.Services.{next_input, input_into, written, aligned, total_of, with_texts, put_texts, texts_at, random_bytes, random_taken}
 use Rattle.wasi_guest.specs.declared.iovec.Iovec.{Iovec}
+use Rattle.wasi_guest.specs.declared.quota.QuotaUsed.{QuotaUsed}
 use Rattle.wasi_turns.specs.Stock.{Stock}
 use Rattle.wasi_turns.specs.declared.holdings.Output.{Output}
 use Rattle.wasi_turns.specs.declared.holdings.Output.TheVariants as outputs
@@ -191,6 +192,11 @@ pub written_stock : (stock : Stock) (o : Output) (piece : List ℕ) → IsStock 
 written_stock stock outputs.Stdout piece is =
     record { preopens = is.preopens; args = is.args; environ = is.environ; random = is.random; stdin = is.stdin }
 written_stock stock outputs.Stderr piece is =
+    record { preopens = is.preopens; args = is.args; environ = is.environ; random = is.random; stdin = is.stdin }
+
+-- nor do other counts of what is used
+pub used_stock : (stock : Stock) (used : QuotaUsed) → IsStock stock → IsStock (record stock { used = used })
+used_stock stock used is =
     record { preopens = is.preopens; args = is.args; environ = is.environ; random = is.random; stdin = is.stdin }
 
 random_byte : (bytes : List ℕ) (i : ℕ) → AreBytes bytes → nat_lt (slice_index_or bytes i 0) 256 ≡ true

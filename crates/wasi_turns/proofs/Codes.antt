@@ -22,7 +22,8 @@ use Rattle.wasi_resolve.specs.Walk.{Aim, Dot, Ended, Leg, Linked, Look, Name, Op
 use Rattle.wasi_turns.specs.Errnos.{errno_of}
 use Rattle.wasi_turns.specs.ErrorNumbers.{may_be_answered}
 use Rattle.wasi_turns.specs.Listing.{all_numbered_at, listing_at, numbered_at}
-use Rattle.wasi_turns.specs.Request.{Behind, Direct, ListDirectory, Path, Request, Sizes, reply_of}
+use Rattle.wasi_turns.specs.Quotas.{is_above}
+use Rattle.wasi_turns.specs.Request.{Behind, Direct, Grow, ListDirectory, Path, Request, Sizes, growth_at, grown_reply, reply_of}
 use Rattle.std.proofs.lemmas.Bool.{and_parts}
 
 abbrev pub is_known : ErrorCode → Bool
@@ -275,6 +276,13 @@ listing_known t d = then (lists_at t d).answer _
     (λ names. then (host_answer t (Stat d)) _ (host_known t (Stat d))
     (λ own. then (all_numbered_at t d names) _ (numbered_known t d names) (λ entries. tt)))
 
+-- what is answered beside a growth
+grown_known : {A : Type 0} (above : Bool) (growth : ℕ) (answer : Result A ErrorCode) → Knows answer
+    → Knows (grown_reply above growth answer)
+grown_known true growth answer known = tt
+grown_known false growth (Ok x) known = tt
+grown_known false growth (Err code) known = known
+
 -- what a request is refused with
 pub reply_known : (t : Tree) (r : Request) → Knows (reply_of t r)
 reply_known t (Path p) = path_known t p
@@ -283,3 +291,5 @@ reply_known t (Behind f piece) = then (host_answer t (Append f piece)) _ (host_k
     (λ count. then (host_answer (step t (Append f piece)) (Stat f.node)) _ (host_known _ (Stat f.node)) (λ metadata. tt))
 reply_known t (ListDirectory d) = listing_known t d
 reply_known t (Sizes ns) = tt
+reply_known t (Grow limit w) =
+    grown_known (is_above limit (growth_at t limit w)) (growth_at t limit w) (reply_of t w) (reply_known t w)

@@ -1,5 +1,5 @@
 -- No turn comes to a node out of reach.
-use Rattle.std.proofs.Common.{ℕ, ◌≤◌, ◌≡◌, inl, inr, refl, sym, subst, arith, Result, Ok, Err}
+use Rattle.std.proofs.Common.{ℕ, ◌≤◌, ◌≡◌, ◌⊎◌, inl, inr, refl, sym, subst, arith, Result, Ok, Err}
 use Rattle.std.specs.Prelude.{Contains}
 use Rattle.wasi_host.specs.Agree.{IsClosed, OrMade}
 use Rattle.wasi_host.specs.Tree.{Tree, next_of}
@@ -10,7 +10,7 @@ use Rattle.wasi_host.specs.Steps.{◌>>=◌}
 use Rattle.wasi_turns.specs.Row.{with_tree, Row, Program, done, asking, from_host, starts}
 use Rattle.wasi_turns.specs.Rows.{row, turn}
 use Rattle.wasi_turns.proofs.Near.{Has, IsNear}
-use Rattle.wasi_turns.specs.Turn.{IsTurn, StepTaken, ReachesHost}
+use Rattle.wasi_turns.specs.Turn.{IsTurn, ReachesHost, used_by}
 use Rattle.wasi_turns.specs.StatesAgree.{Alike, AnswerAlike}
 use Rattle.wasi_turns.specs.CallTurn.{Turns, in_world}
 use Rattle.wasi_turns.specs.Reach.{Inside, InReach, Confined}
@@ -19,10 +19,12 @@ use Rattle.wasi_turns.specs.Front.{FueledCall}
 use Rattle.wasi_turns.specs.declared.error.P1Error.{P1Error}
 use Rattle.wasi_guest.specs.declared.answer.Value.{Value}
 use Rattle.wasi_turns.proofs.Changing.{named_has}
+use Rattle.wasi_turns.proofs.Moving.{Moves, TookStep, turn_moves}
 use Rattle.wasi_turns.proofs.RequestsLeave.{request_leaves}
 use Rattle.wasi_host.proofs.Agreeing.{itself, still_closed, reach_closed, once, twice}
 use Rattle.wasi_turns.proofs.Nearness.{row_near}
 use Rattle.wasi_turns.proofs.Alike.{over, row_on, turn_alike}
+use Rattle.wasi_turns.proofs.Uses.{with_counts}
 
 -- ---- no number is given up
 
@@ -52,12 +54,6 @@ pub record Keeping (Seen : ℕ → Type 0) (s s' : State) : Type 0 where
   pub grows : next_of s.tree ≤ next_of s'.tree
 
 module _ {Seen : ℕ → Type 0} {s : State} (holds : Holds Seen s) where
-  stays : (s' : State) → s' ≡ s → Keeping Seen s s'
-  stays s' same = subst (Keeping Seen s) (sym same) (record {
-    holds = record { closed = still_closed holds.closed; slots = λ n has. inl (holds.slots n has) };
-    grows = omega arith;
-  })
-
   keeps_alike : (m : Row (Value × State)) (p : Value × State) → AnswerAlike Seen s m m → m ≡ Ok p
       → Holds (OrMade Seen s.tree p.1.tree) p.1
   keeps_alike (Ok q) p alike is =
@@ -81,25 +77,29 @@ module _ {Seen : ℕ → Type 0} {s : State} (holds : Holds Seen s) where
         grows = row_grows s.tree (row s.guest call) p is;
       }
 
-  step_keeps : (s' : State) (call : FueledCall) (m : Row (Value × State)) → turn s call ≡ m → StepTaken s s' m
-      → Keeping Seen s s'
-  step_keeps s' call (Ok p) is step =
-      let keeps = row_keeps call p is in
-      subst (Keeping Seen s) (sym step) (record {
-        holds = record { closed = keeps.holds.closed; slots = λ n has. inl (holds.slots n has) };
-        grows = keeps.grows;
-      })
-  step_keeps s' call (Err e) is step = absurd step
+  moves_keep : (s' : State) (call : FueledCall) → Moves s s' (turn s call) → Keeping Seen s s'
+  moves_keep s' call (inl given) = row_keeps call (given.0, s') given.1
+  moves_keep s' call (inr still) = subst (Keeping Seen s)
+      (λ i. let u : State = record { tree = s'.tree; guest = sym still.guest i } in u) (by s'.tree still.tree)
+    where
+      by : (u : Tree) → (u ≡ s.tree) ⊎ TookStep u (turn s call)
+          → Keeping Seen s (record { tree = u; guest = with_counts still.used s.guest })
+      by u (inl same) = subst (λ (u : Tree). Keeping Seen s (record { tree = u; guest = with_counts still.used s.guest }))
+          (sym same) (record {
+            holds = record { closed = still_closed holds.closed; slots = λ n has. inl (holds.slots n has) };
+            grows = omega arith;
+          })
+      by u (inr step) =
+          let keeps = row_keeps call step.given step.answers in
+          subst (λ (u : Tree). Keeping Seen s (record { tree = u; guest = with_counts still.used s.guest }))
+          (sym step.tree) (record {
+            holds = record { closed = keeps.holds.closed; slots = λ n has. inl (holds.slots n has) };
+            grows = keeps.grows;
+          })
 
   turn_keeps : (rose : Type 0) (s' : State) (call : FueledCall) (r : Result Value P1Error)
-      → IsTurn rose (ReachesHost s call) s s' r (turn s call) → Keeping Seen s s'
-  turn_keeps rose s' call (Ok x) is = row_keeps call (x, s') is
-  turn_keeps rose s' call (Err e) (inl refuses) = stays s' refuses.stays
-  turn_keeps rose s' call (Err e) (inr (inl wants)) = stays s' wants.stays
-  turn_keeps rose s' call (Err e) (inr (inr faults)) = elim faults.state [
-    | inl same ↦ stays s' same
-    | inr step ↦ step_keeps s' call (turn s call) refl step
-  ]
+      → IsTurn rose (ReachesHost s call) (used_by s call) s s' r (turn s call) → Keeping Seen s s'
+  turn_keeps rose s' call r takes = moves_keep s' call (turn_moves rose _ call r takes)
 
 -- ---- what a run keeps
 

@@ -16,7 +16,8 @@ use Rattle.wasi_turns.specs.Guest.{Guest, GuestSlot, OpenFile, State, closed, st
 use Rattle.wasi_turns.specs.Numbering.{last_where, later_or_here, free_number}
 use Rattle.wasi_turns.specs.Parts.{directory_in, range, room_for, permit, may_write, held_by, at_position, with_file}
 use Rattle.wasi_turns.specs.RawFlags.{open_how, or_inval}
-use Rattle.wasi_turns.specs.Putting.{put_call}
+use Rattle.wasi_turns.specs.Putting.{count_in, put_call}
+use Rattle.wasi_turns.specs.Quotas.{allowance}
 use Rattle.wasi_turns.specs.Request.{Path, Direct}
 use Rattle.wasi_turns.specs.Row.{Row, give}
 use Rattle.wasi_turns.specs.Rows.{fd_pread, fd_pwrite, fd_seek, fd_tell, path_open, seek_from}
@@ -24,7 +25,8 @@ use Rattle.wasi_turns.specs.declared.usage.FileUse.TheVariants.{Position, WriteA
 use Rattle.wasi_turns.proofs.Alike.{row_on}
 use Rattle.wasi_turns.proofs.Changing.{file_is}
 use Rattle.wasi_turns.proofs.Moving.{gave, gave_buffer, gave_text, replied_by}
-use Rattle.wasi_turns.proofs.Writing.{state_is, number_is}
+use Rattle.wasi_turns.proofs.Spending.{answer_is, gave_growing, gave_making}
+use Rattle.wasi_turns.proofs.Writing.{state_is}
 
 -- ---- numbers
 
@@ -115,8 +117,8 @@ opens_the_largest_closed s s' x fuel fd dirflags path path_len oflags base inher
     let (d, found, three) = gave s.tree (directory_in (slice_get s.guest.slots fd)) _ left two in
     let (u, roomy, four) = gave s.tree (room_for s.guest.slots s.guest.table_max 1) _ left three in
     let (v, may, five) = gave s.tree (permit (may_open how d.perms)) _ left four in
-    let did = replied_by s.tree (Path (opens d.node text how)) _ five in
-    (new_number s.guest.slots, (number_is did.gives).0, new_is_largest s.guest)
+    let made = gave_making s.tree how.create s.guest (Path (opens d.node text how)) _ left five in
+    (new_number s.guest.slots, (answer_is made.within.gives).0, new_is_largest s.guest)
 
 -- ---- positions
 
@@ -151,7 +153,7 @@ seeks_are_told s s' x fuel again fd whence offset is =
         → (m >>= (λ position. give (sought s.guest fd f position))) ≡ Ok (x, s'.guest)
         → row_on s'.tree (fd_tell s'.guest fd again).0 ≡ Ok (x, s')
     sought_so f (Ok position) at gives =
-        let same = number_is gives in
+        let same = answer_is gives in
         told f position at same.0 (λ i. record { tree = s'.tree; guest = same.1 i })
     sought_so f (Err e) at gives = absurd (cc)
 
@@ -173,7 +175,7 @@ reads_leave fd iovs n offset s s' x fuel is =
     let (f, named, two) = gave s.tree (read_place_in s.guest.slots s.guest.table_max (slice_get s.guest.slots fd)) _ left one in
     let (bytes, inside, three) = gave s.tree (range s.guest.memory buffer.buf buffer.buf_len) _ left two in
     let did = replied_by s.tree (Direct (Pread (held_by f) offset (min buffer.buf_len 65536))) _ three in
-    ap (λ (g : Guest). g.slots) (number_is did.gives).1
+    ap (λ (g : Guest). g.slots) (answer_is did.gives).1
 
 writes_leave : (fd iovs n offset : ℕ) → LeavesDescriptors (calls.FdPwrite fd iovs n offset)
 unfolding fd_pwrite
@@ -182,8 +184,10 @@ writes_leave fd iovs n offset s s' x fuel is =
     let (f, named, two) = gave s.tree (file_in WriteAt (slice_get s.guest.slots fd)) _ left one in
     let (piece, inside, three) = gave s.tree (range s.guest.memory buffer.buf buffer.buf_len) _ left two in
     let (may, allowed, four) = gave s.tree (may_write f.perms) _ left three in
-    let did = replied_by s.tree (Direct (put_call f.modes.append (held_by f) offset piece)) _ four in
-    ap (λ (g : Guest). g.slots) (number_is did.gives).1
+    let grew = gave_growing s.tree (allowance s.guest.holdings f.open_mode)
+    (Direct (put_call f.modes.append (held_by f) offset piece))
+    (λ answer. give (Number (count_in f.modes.append (held_by f) offset piece answer), s.guest)) left four in
+    ap (λ (g : Guest). g.slots) grew.counted ∙ ap (λ (g : Guest). g.slots) (answer_is grew.within.gives).1
 
 pub offsets_leave_positions : OffsetsLeavePositions
 offsets_leave_positions fd iovs n offset = (reads_leave fd iovs n offset, writes_leave fd iovs n offset)

@@ -30,7 +30,8 @@ use Rattle.wasi_resolve.specs.PathRequest.{PathRequest, OpenPath, LookPath, AtPl
 use Rattle.wasi_resolve.proofs.PathAgreeing as paths
 use Rattle.wasi_resolve.proofs.Requests.{as_opened, from_two}
 use Rattle.wasi_resolve.proofs.WalkAgreeing.{from_one}
-use Rattle.wasi_turns.specs.Request.{Request, Reply, Path, Direct, Behind, ListDirectory, Sizes, reply_of, after, starts_at}
+use Rattle.wasi_turns.specs.Request.{Request, Reply, Path, Direct, Behind, ListDirectory, Sizes, Grow, reply_of, after, starts_at}
+use Rattle.wasi_turns.proofs.Lengthening.{bounded_by}
 
 -- a node that was there stays as it is, or is one of these, and is a directory as before, or none
 abbrev pub StaysOr : (ℕ → Type 0) → Tree → Tree → Type 0
@@ -292,3 +293,7 @@ module _ {Seen : ℕ → Type 0} {t : Tree} (closed : IsClosed Seen t) where
   request_stays (Behind f piece) reply from is = append_stays f piece (from f.node (Contains-here f.node []))
   request_stays (ListDirectory d) reply from is = all_stay
   request_stays (Sizes ns) reply from is = all_stay
+  request_stays (Grow limit w) None from is = subst (StaysOr Seen t) (sym (bounded_by t limit w None is).leaves) all_stay
+  request_stays (Grow limit w) (Some grown) from is =
+      let did = bounded_by t limit w (Some grown) is in
+      subst (StaysOr Seen t) (sym did.does) (request_stays w grown.1 from did.is)

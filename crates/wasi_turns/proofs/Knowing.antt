@@ -15,6 +15,7 @@ use Rattle.wasi_turns.specs.Request.{Request, Reply}
 use Rattle.wasi_turns.specs.Row.{Row, Program, done}
 use Rattle.wasi_turns.specs.Rows.{front, descriptors_named, may_want}
 use Rattle.wasi_turns.specs.Slots.{View}
+use Rattle.wasi_turns.specs.Spending.{spends_nothing}
 use Rattle.wasi_turns.specs.declared.slots.FileSlot.{FileSlot}
 use Rattle.wasi_turns.specs.declared.slots.Slot.TheVariants.{File}
 use Rattle.wasi_turns.specs.declared.error.P1Error.{P1Error}
@@ -33,10 +34,10 @@ module _ {H : Type 0} {told : Bool} {world : H → World} {faults : H → FaultC
     ≡ front (guest_of world old before) call old.fuel)
     {live : Handles} (owned : Owned live (handles old.slots)) where
   pub known_err : {e : P1Error} → Knows base part (Err e) old.host new.host → (base ≡ None → IsReplied r next (Err e))
-      → (e ≡ Memory → IsTrue (may_want call)) → Kept old new before after
+      → (e ≡ Memory → IsTrue (may_want call)) → IsTrue (spends_nothing call r) → Kept old new before after
       → (IsTrue told → base ≡ None → Made world faults old new live r next (Err e))
       → FollowsRow told world faults lookups old new before after call (Err e)
-  known_err {e} knows replied wants kept makes = by base refl at knows
+  known_err {e} knows replied wants unused kept makes = by base refl at knows
     where
       then : View H
       then = record old { fuel = new.fuel }
@@ -46,7 +47,7 @@ module _ {H : Type 0} {told : Bool} {world : H → World} {faults : H → FaultC
           ≡ front (guest_of world old before) call old.fuel
           → Knows o part (Err e) old.host new.host
           → FollowsRow told world faults lookups old new before after call (Err e)
-      by None none at knows = makes_err next shown at owned (replied none) wants kept (λ told. makes told none)
+      by None none at knows = makes_err next shown at owned (replied none) wants unused kept (λ told. makes told none)
       by (Some b) some at (is, host) =
           subst (λ v. FollowsRow told world faults lookups old v before after call (Err e)) (sym (same_view host kept))
           (subst (λ m. FollowsRow told world faults lookups old then before m call (Err e)) (sym kept.memory)

@@ -1,5 +1,6 @@
 pub mod Growing
 pub mod Adding
+pub mod Lengthening
 pub mod Elsewhere
 pub mod Near
 pub mod PlainLook
@@ -20,6 +21,7 @@ pub mod Keeping
 pub mod Polling
 pub mod Nearness
 pub mod Alike
+pub mod Uses
 pub mod Moving
 pub mod Permitting
 pub mod Completing
@@ -29,6 +31,8 @@ pub mod Turns
 pub mod Taking
 pub mod Below
 pub mod Knowing
+pub mod Lengths
+pub mod Exiting
 pub mod Resolving
 pub mod Setting
 pub mod LookingAt
@@ -52,6 +56,7 @@ pub mod Utf8
 pub mod Runs
 pub mod RunAnswers
 pub mod RunLaws
+pub mod Spending
 pub mod Writing
 pub mod PutBytes
 pub mod DescriptorLaws
@@ -64,3 +69,9 @@ pub mod Confining
 pub mod Texts
 pub mod Cycling
 pub mod Apart
+pub mod TotalBytes
+pub mod QuotaRequests
+pub mod QuotaParts
+pub mod QuotaRows
+pub mod QuotaTurns
+pub mod QuotaRuns

@@ -30,10 +30,10 @@ use Rattle.wasi_turns.specs.declared.looked.Entry.{Entry as Stored}
 -- ---- steps and lists
 
 -- where two steps are answered, the first is, and then the second
-pub both_ok : {A B : Type 0} {b : B} (m : Result A ErrorCode) (next : A → Result B ErrorCode) → (m >>= next) ≡ Ok b
+pub both_ok : {A B E : Type 0} {b : B} (m : Result A E) (next : A → Result B E) → (m >>= next) ≡ Ok b
     → (a : A) × (m ≡ Ok a) × (next a ≡ Ok b)
 both_ok (Ok a) next is = (a, refl, is)
-both_ok (Err code) next is = absurd (cc)
+both_ok (Err e) next is = absurd (cc)
 
 in_front : (first : Entry) (others : List Entry) (m : Result (List Entry) ErrorCode)
     → m >>= (λ more. Ok (others ++ more)) >>= (λ more. Ok (first ∷ more)) ≡ m >>= (λ more. Ok ((first ∷ others) ++ more))

@@ -1,5 +1,5 @@
 -- To which state a turn leads.
-use Rattle.std.proofs.Common.{ℕ, ◌-◌, ◌*◌, ◌≡◌, ◌⊎◌, inl, inr, refl, ap, sym, nat_le, subst, Bool, true, false, List, [], ◌∷◌, Result, Ok, Err}
+use Rattle.std.proofs.Common.{ℕ, ◌-◌, ◌*◌, ◌≡◌, ◌⊎◌, inl, inr, refl, ap, sym, ◌∙◌, nat_le, subst, Bool, true, false, List, [], ◌∷◌, Result, Ok, Err}
 use Rattle.std.specs.Prelude.{All, MatchBool}
 use Rattle.std.proofs.lemmas.List.Elements.{All-nil, All-cons}
 use Rattle.wasi_host.specs.Tree.{Tree}
@@ -14,38 +14,77 @@ use Rattle.wasi_turns.specs.Front.{Front, CallFront, FueledCall, onward, free, c
 use Rattle.wasi_turns.specs.Parts.{from_guest}
 use Rattle.wasi_turns.specs.Rows.{turn}
 use Rattle.wasi_turns.specs.Run.{Turned, Played, Faulted, Gives, Run, Spends, ends}
-use Rattle.wasi_turns.specs.Turn.{IsTurn, StepTaken}
+use Rattle.wasi_turns.specs.Turn.{AfterFault, IsTurn, StepTaken, used_by}
+use Rattle.wasi_guest.specs.declared.quota.QuotaUsed.{QuotaUsed}
 use Rattle.wasi_turns.specs.declared.error.P1Error.{P1Error}
 use Rattle.wasi_guest.specs.declared.answer.Value.{Value}
 use Rattle.wasi_turns.proofs.Alike.{over, row_on, replied}
 use Rattle.wasi_turns.proofs.Nearness.Parts.{taken}
+use Rattle.wasi_turns.proofs.Uses.{used_counts, with_counts}
 
--- it stays, or is the row's, or has the row's step alone
+-- ---- what a call leaves that its row didn't answer
+
+-- the tree has the row's one step
+pub record TookStep (u : Tree) (row : Row (Value × State)) : Type 0 where
+  pub given : Value × State
+  pub answers : row ≡ Ok given
+  pub tree : u ≡ given.1.tree
+
+-- all stays but for counts of what is used and, maybe, the row's one step in the tree
+pub record StaysBut (s s' : State) (row : Row (Value × State)) : Type 0 where
+  pub used : QuotaUsed
+  pub guest : s'.guest ≡ with_counts used s.guest
+  pub tree : (s'.tree ≡ s.tree) ⊎ TookStep s'.tree row
+
+-- it is the row's, or all stays but for that
 abbrev pub Moves : State → State → Row (Value × State) → Type 0
-Moves s s' row = (s' ≡ s) ⊎ (((x : Value) × (row ≡ Ok (x, s'))) ⊎ StepTaken s s' row)
+Moves s s' row = ((x : Value) × (row ≡ Ok (x, s'))) ⊎ StaysBut s s' row
 
-pub turn_moves : (rose reaches : Type 0) {s s' : State} {row : Row (Value × State)} (r : Result Value P1Error)
-    → IsTurn rose reaches s s' r row → Moves s s' row
-turn_moves rose reaches (Ok x) is = inr (inl (x, is))
-turn_moves rose reaches (Err e) (inl refuses) = inl refuses.stays
-turn_moves rose reaches (Err e) (inr (inl wants)) = inl wants.stays
-turn_moves rose reaches (Err e) (inr (inr faults)) =
-    elim faults.state [ inl same ↦ inl same | inr step ↦ inr (inr step) ]
+module _ {s s' : State} {row : Row (Value × State)} where
+  -- all stays
+  pub stays : s' ≡ s → StaysBut s s' row
+  stays same = record {
+    used = s.guest.holdings.used;
+    guest = ap (λ (x : State). x.guest) same;
+    tree = inl (ap (λ (x : State). x.tree) same);
+  }
+
+  pub after_fault : (call : FueledCall) → AfterFault (used_by s call) s s' row → StaysBut s s' row
+  after_fault call (inl same) = stays same
+  after_fault call (inr (inl counted)) = record {
+    used = (used_by s call).holdings.used;
+    guest = ap (λ (x : State). x.guest) counted ∙ used_counts s call;
+    tree = inl (ap (λ (x : State). x.tree) counted);
+  }
+  after_fault call (inr (inr step)) = by row refl step
+    where
+      by : (m : Row (Value × State)) → row ≡ m → StepTaken (used_by s call) s' m → StaysBut s s' row
+      by (Ok p) is step = record {
+        used = (used_by s call).holdings.used;
+        guest = ap (λ (x : State). x.guest) step ∙ used_counts s call;
+        tree = inr (record { given = p; answers = is; tree = ap (λ (x : State). x.tree) step });
+      }
+      by (Err e) is step = absurd step
+
+pub turn_moves : (rose reaches : Type 0) {s s' : State} (call : FueledCall) {row : Row (Value × State)}
+    (r : Result Value P1Error) → IsTurn rose reaches (used_by s call) s s' r row → Moves s s' row
+turn_moves rose reaches call (Ok x) is = inl (x, is)
+turn_moves rose reaches call (Err e) (inl refuses) = inr (stays refuses.stays)
+turn_moves rose reaches call (Err e) (inr (inl wants)) = inr (stays wants.stays)
+turn_moves rose reaches call (Err e) (inr (inr faults)) = inr (after_fault call faults.state)
+
+-- a turn of a run that is faulted
+pub faulted_stays : {t : Turned} → Faulted t → StaysBut t.before t.after (turn t.before t.call)
+faulted_stays {t} faulted = after_fault t.call faulted.state
 
 -- a turn of a run, faulted or not
 pub turned_moves : (t : Turned) → Played t ⊎ Faulted t → Moves t.before t.after (turn t.before t.call)
 turned_moves t (inl played) = by (turn t.before t.call) played
   where
     by : (row : Row (Value × State)) → Gives row t.before t.answer t.after → Moves t.before t.after row
-    by (Ok p) (is, new) = inr (inl (p.0, ap (λ (s : State). Ok (p.0, s)) (sym new)))
-    by (Err e) (is, new) = inl new
-turned_moves t (inr faulted) = elim faulted.state [ inl same ↦ inl same | inr step ↦ inr (inr step) ]
-
--- the guest stays where the host failed
-pub guest_still : (s s' : State) (row : Row (Value × State)) → (s' ≡ s) ⊎ StepTaken s s' row → s'.guest ≡ s.guest
-guest_still s s' row (inl same) = ap (λ (x : State). x.guest) same
-guest_still s s' (Ok p) (inr step) = ap (λ (x : State). x.guest) step
-guest_still s s' (Err e) (inr step) = absurd step
+    by (Ok p) (is, new) = inl (p.0, ap (λ (s : State). Ok (p.0, s)) (sym new))
+    by (Err e) (is, new) = inr (stays new)
+turned_moves t (inr faulted) = inr (faulted_stays faulted)
 
 pub turned_by : {k j : ℕ} {t : Turned} → Spends k j t → Played t ⊎ Faulted t
 turned_by (inl (played, same)) = inl played

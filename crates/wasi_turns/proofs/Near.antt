@@ -2,7 +2,7 @@
 -- comes to a descriptor but from the reply, and else that of the descriptor from which it stems, as its permissions do;
 -- its step is permitted to the descriptors that its call names; it isn't refused after a step, nor before it asks because
 -- memory was wanted; it is refused by no error number that isn't listed; and it leaves bytes in memory.
-use Rattle.std.specs.Prelude.{ℕ, ◌≡◌, ◌≢◌, ◌⊎◌, List, [], All, slice_get, Contains, IsUtf8, Ok, Err, IfErr}
+use Rattle.std.specs.Prelude.{ℕ, ◌≡◌, ◌≢◌, ◌⊎◌, List, [], All, slice_get, Contains, IsUtf8, Some, None, Ok, Err, IfErr}
 use Rattle.wasi_fs.specs.declared.perms.FsPerms.{FsPerms}
 use Rattle.wasi_fs.specs.declared.perms.FsPerms.TheVariants.{ReadOnly, AppendOnly}
 use Rattle.wasi_host.specs.Tree.{Tree}
@@ -16,7 +16,7 @@ use Rattle.wasi_guest.specs.declared.call.Call.{Call}
 use Rattle.wasi_turns.specs.AppendOnly.{Adds, AppendsAtEnd}
 use Rattle.wasi_turns.specs.Guest.{Guest, node_in, open_nodes}
 use Rattle.wasi_turns.specs.Listing.{Entry}
-use Rattle.wasi_turns.specs.Request.{Request, Reply, Path, Direct, Behind, ListDirectory, reply_of, after, starts_at, Sizes}
+use Rattle.wasi_turns.specs.Request.{Request, Reply, Path, Direct, Behind, ListDirectory, Sizes, Grow, reply_of, after, starts_at}
 use Rattle.wasi_host.specs.Steps.{◌>>=◌}
 use Rattle.wasi_turns.specs.Row.{Row, Program, done, asking, give}
 use Rattle.wasi_turns.specs.Stems.{stems_by, HasPerms}
@@ -35,6 +35,8 @@ given_by (Direct call) answer = []
 given_by (Behind f piece) put = []
 given_by (ListDirectory d) listing = []
 given_by (Sizes ns) sizes = []
+given_by (Grow limit w) None = []
+given_by (Grow limit w) (Some grown) = given_by w grown.1
 
 -- what the types of the calls that make it give of every request: a path is a text, as is that of a link, and what is
 -- written are bytes
@@ -51,6 +53,7 @@ MayBeAsked (Direct call) = CanBeAsked call
 MayBeAsked (Behind f piece) = CanBeAsked (Append f piece)
 MayBeAsked (ListDirectory d) = Unit {0}
 MayBeAsked (Sizes ns) = Unit {0}
+MayBeAsked (Grow limit w) = MayBeAsked w
 
 -- a link's text are bytes
 abbrev pub PathGivesBytes : (p : PathRequest) → PathReply p → Type 0
@@ -72,6 +75,8 @@ GivesBytes (Direct call) answer = AnswerIsBytes call answer
 GivesBytes (Behind f piece) put = Unit {0}
 GivesBytes (ListDirectory d) listing = HasByteNames listing
 GivesBytes (Sizes ns) sizes = Unit {0}
+GivesBytes (Grow limit w) None = Unit {0}
+GivesBytes (Grow limit w) (Some grown) = GivesBytes w grown.1
 
 -- ---- of an answer
 

@@ -10,6 +10,7 @@ use Rattle.wasi_turns.specs.Rows.{row, args_get, args_sizes_get, environ_get, en
 use Rattle.wasi_turns.proofs.Near.{IsNear}
 use Rattle.wasi_turns.proofs.Wanting.{inval_never, sizes_never, clock_res_never, clock_time_never, exit_never, signal_never}
 pub mod Parts
+mod Spending
 mod Opening
 mod ReadingAndWriting
 mod PositionsAndSizes

@@ -1,13 +1,13 @@
 -- What a call does to the tree is permitted to the descriptors that it names. So one that names a descriptor under
 -- read-only permissions leaves the tree, and one under append-only permissions adds.
-use Rattle.std.proofs.Common.{◌≡◌, ◌⊎◌, inl, inr, refl, ap, sym, ◌∙◌, subst, Result, Ok, Err}
+use Rattle.std.proofs.Common.{◌≡◌, ◌⊎◌, inl, inr, refl, sym, ◌∙◌, subst, Result, Ok, Err}
 use Rattle.wasi_fs.specs.declared.perms.FsPerms.TheVariants.{ReadOnly, AppendOnly}
 use Rattle.wasi_host.specs.Meaning.{World}
 use Rattle.wasi_host.specs.Tree.{Tree}
 use Rattle.wasi_guest.specs.declared.answer.Value.{Value}
 use Rattle.wasi_guest.specs.declared.call.Call.{Call}
 use Rattle.wasi_turns.specs.AppendOnly.{Adds, nothing, AppendsAtEnd, AppendOnlyTurnsAdd}
-use Rattle.wasi_turns.specs.CallTurn.{Turns, NamesUnder, in_world}
+use Rattle.wasi_turns.specs.CallTurn.{Turns, NamesUnder}
 use Rattle.wasi_turns.specs.Front.{FueledCall}
 use Rattle.wasi_turns.specs.Guest.{Guest, State}
 use Rattle.wasi_turns.specs.ReadOnly.{IsReadOnlyGuest, ReadOnlyTurnsLeaveTheTree, ReadOnlyRunsLeaveTheTree}
@@ -33,20 +33,20 @@ row_permits g call t (Ok (asking r next)) p near is =
 row_permits g call t (Err e) p near is = absurd (cc)
 
 -- whatever it answers, to whichever state it leads
-moves_permit : {s s' : State} (call : FueledCall) (m : Row (Value × State)) → turn s call ≡ m → Moves s s' m
+moves_permit : {s s' : State} (call : FueledCall) → Moves s s' (turn s call)
     → Permitted s.guest call.call s.tree s'.tree
-moves_permit call m is (inl same) = leaves (ap (λ (x : State). x.tree) same)
-moves_permit {s} {s'} call m is (inr (inl given)) =
-    row_permits s.guest call.call s.tree (row s.guest call) (given.0, s') (row_near s.guest call) (is ∙ given.1)
-moves_permit {s} call (Ok p) is (inr (inr step)) =
-    subst (Permitted s.guest call.call s.tree) (ap (λ (x : State). x.tree) (sym step))
-    (row_permits s.guest call.call s.tree (row s.guest call) p (row_near s.guest call) is)
-moves_permit call (Err e) is (inr (inr step)) = absurd step
+moves_permit {s} {s'} call (inl given) =
+    row_permits s.guest call.call s.tree (row s.guest call) (given.0, s') (row_near s.guest call) given.1
+moves_permit {s} call (inr still) = elim still.tree [
+  | inl same ↦ leaves same
+  | inr step ↦ subst (Permitted s.guest call.call s.tree) (sym step.tree)
+      (row_permits s.guest call.call s.tree (row s.guest call) step.given (row_near s.guest call) step.answers)
+]
 
 -- faulted or not
 pub turned_permitted : (t : Turned) → Played t ⊎ Faulted t
     → Permitted t.before.guest t.call.call t.before.tree t.after.tree
-turned_permitted t took = moves_permit t.call (turn t.before t.call) refl (turned_moves t took)
+turned_permitted t took = moves_permit t.call (turned_moves t took)
 
 -- ---- a call that names a descriptor under read-only or append-only permissions
 
@@ -65,12 +65,12 @@ append_only_adds (changes perms all other adds) appends names =
 pub turn_permits : {rose : Type 0} {w v : World} {g g' : Guest} {call : FueledCall} {r : Result Value P1Error}
     → Turns rose w v g g' call r → NamesUnder ReadOnly g call.call → v.tree ≡ w.tree
 turn_permits {rose} {w} {v} {g} {g'} {call} {r} takes names =
-    read_only_leaves (moves_permit call (turn (in_world w g) call) refl (turn_moves rose _ r takes.turn)) names
+    read_only_leaves (moves_permit call (turn_moves rose _ call r takes.turn)) names
 
 pub turn_adds : {rose : Type 0} {w v : World} {g g' : Guest} {call : FueledCall} {r : Result Value P1Error}
     → Turns rose w v g g' call r → AppendsAtEnd g → NamesUnder AppendOnly g call.call → Adds w.tree v.tree
 turn_adds {rose} {w} {v} {g} {g'} {call} {r} takes appends names =
-    append_only_adds (moves_permit call (turn (in_world w g) call) refl (turn_moves rose _ r takes.turn)) appends names
+    append_only_adds (moves_permit call (turn_moves rose _ call r takes.turn)) appends names
 
 pub turned_permits : ReadOnlyTurnsLeaveTheTree
 turned_permits t took names = read_only_leaves (turned_permitted t took) names

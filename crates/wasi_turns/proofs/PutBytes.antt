@@ -1,9 +1,11 @@
 -- A byte that is written at an offset of a file is the one that is read there.
-use Rattle.std.proofs.Common.{ℕ, zero, suc, ◌+◌, ◌-◌, ◌<◌, ◌≤◌, ◌≡◌, Bool, true, false, List, [], ◌∷◌, ◌++◌, length, take, drop, replicate, refl, ap, sym, ◌∙◌, subst, arith, slice_get, slice_range, Option, Some, None, Ok, length-take}
+use Rattle.std.proofs.Common.{ℕ, zero, suc, ◌+◌, ◌-◌, ◌<◌, ◌≤◌, ◌≡◌, Bool, true, false, cond, List, [], ◌∷◌, ◌++◌, length, take, drop, replicate, refl, ap, sym, ◌∙◌, subst, arith, slice_get, slice_range, Option, Some, None, Ok, length-take}
 use Rattle.std.specs.Prelude.{min}
 use Rattle.std.specs.Option.{option_map}
 use Rattle.std.proofs.lemmas.List.{length-replicate}
 use Rattle.std.proofs.lemmas.Option.{slice_get_within, slice_get-get_or, slice_get-map}
+use Rattle.wasi_fs.specs.OpenFlags.{includes}
+use Rattle.wasi_fs.specs.OpenMode.{mode_bits}
 use Rattle.wasi_host.specs.HostCall.{Pread, Pwrite}
 use Rattle.wasi_host.specs.Meaning.{IsHeld}
 use Rattle.wasi_host.specs.Refusal.{refusal, can_write}
@@ -19,13 +21,16 @@ use Rattle.wasi_guest.specs.declared.answer.Value.{Value}
 use Rattle.wasi_guest.proofs.Ranges.{length_part, with_whole}
 use Rattle.wasi_turns.specs.Files.{file_in, read_place_in}
 use Rattle.wasi_turns.specs.Front.{ask}
-use Rattle.wasi_turns.specs.Guest.{OpenFile, State, file, file_by, guest_slot}
+use Rattle.wasi_turns.specs.Guest.{Guest, OpenFile, State, file, file_by, guest_slot}
 use Rattle.wasi_turns.specs.Parts.{range, may_write, held_by}
 use Rattle.wasi_turns.specs.PutBytes.{file_bytes, bytes_from, PutsAt, BytesArePut, FilesAreHeld, PutBytesStand, BytesAreGot, PutBytesAreGot}
-use Rattle.wasi_turns.specs.Putting.{put_call, count_in}
-use Rattle.wasi_turns.specs.Request.{Direct}
-use Rattle.wasi_turns.specs.Row.{give}
+use Rattle.wasi_turns.specs.Putting.{count_in, put_call, put_end}
+use Rattle.wasi_turns.specs.Quotas.{allowance, growth_to}
+use Rattle.wasi_turns.specs.Request.{Reply, Direct, size_at}
+use Rattle.wasi_turns.specs.Row.{Row, give}
 use Rattle.wasi_turns.specs.Rows.{fd_pread, fd_pwrite, write_into}
+use Rattle.wasi_turns.specs.Spending.{growing}
+use Rattle.wasi_turns.specs.Writing.{put_growth, with_grown}
 use Rattle.wasi_turns.specs.declared.slots.Slot.{Slot}
 use Rattle.wasi_turns.specs.declared.slots.Slot.TheVariants as slots
 use Rattle.wasi_turns.specs.declared.usage.FileUse.TheVariants.{WriteAt}
@@ -34,7 +39,7 @@ use Rattle.wasi_turns.proofs.Bytes.{range_is}
 use Rattle.wasi_turns.proofs.Changing.{file_is, read_place_is}
 use Rattle.wasi_turns.proofs.Moving.{gave_buffer, gave, replied_by}
 use Rattle.wasi_turns.proofs.Owning.{owned_live}
-use Rattle.wasi_turns.proofs.Writing.{number_is}
+use Rattle.wasi_turns.proofs.Spending.{answer_is, gave_growing, grew_to}
 
 -- ---- an element of a list
 
@@ -116,30 +121,42 @@ opened_for : (t : Tree) (held : Held) (offset : ℕ) (piece : List ℕ) → refu
 unfolding refusal
 opened_for t held offset piece none = grind arith
 
--- a piece is put whole, and nothing else changes
+-- a piece is put whole, the growth is counted, and nothing else changes
 record Puts (s s' : State) (f : OpenFile) (offset : ℕ) (piece : List ℕ) (x : Value) : Type 0 where
   may : can_write f.mode ≡ true
   answer : x ≡ Number (length piece)
-  after : s' ≡ record s { tree = write_step s.tree f.node offset piece }
+  after : s' ≡ record {
+    tree = write_step s.tree f.node offset piece;
+    guest = with_grown (put_growth s.tree f offset piece) s.guest;
+  }
 
 puts : (s s' : State) (f : OpenFile) (offset : ℕ) (piece : List ℕ) (left : ℕ) (x : Value) → f.modes.append ≡ false
     → row_on s.tree (write_into s.guest f offset piece left).0 ≡ Ok (x, s') → Puts s s' f offset piece x
 puts s s' f offset piece left x other is =
     let (u, permitted, rest) = gave s.tree (may_write f.perms) _ left is in by f.modes.append other rest
   where
+    counted : Bool → Guest
+    counted append =
+        with_grown (cond (includes (mode_bits f.open_mode) 2) (growth_to (size_at s.tree f.node) (put_end append offset piece)) 0) s.guest
+
+    next : (b : Bool) → Reply (Direct (put_call b (held_by f) offset piece)) → Row (Value × Guest)
+    next b answer = give (Number (count_in b (held_by f) offset piece answer), s.guest)
+
     by : (b : Bool) → b ≡ false
-        → row_on s.tree (ask (Direct (put_call b (held_by f) offset piece))
-        (λ answer. give (Number (count_in b (held_by f) offset piece answer), s.guest)) left).0 ≡ Ok (x, s')
+        → row_on s.tree (growing (allowance s.guest.holdings f.open_mode)
+        (ask (Direct (put_call b (held_by f) offset piece)) (next b)) left).0 ≡ Ok (x, s')
         → Puts s s' f offset piece x
     by true at is = absurd (cc)
     by false at is =
-        let did = replied_by s.tree (Direct (Pwrite (held_by f) offset piece)) _ is in
-        let whole : did.reply ≡ length piece = sym (unless_value _ did.is) in
-        let gives = number_is did.gives in
+        let grew = gave_growing s.tree (allowance s.guest.holdings f.open_mode)
+        (Direct (Pwrite (held_by f) offset piece)) (next false) left is in
+        let whole : grew.within.reply ≡ length piece = sym (unless_value _ grew.within.is) in
+        let gives = answer_is grew.within.gives in
+        let guest = grew_to s.guest f.open_mode grew gives.1 ∙ ap counted (sym other) in
         record {
-          may = opened_for s.tree (held_by f) offset piece (free_of s.tree (Pwrite (held_by f) offset piece) did.is);
+          may = opened_for s.tree (held_by f) offset piece (free_of s.tree (Pwrite (held_by f) offset piece) grew.within.is);
           answer = gives.0 ∙ ap (λ m. Number m) whole;
-          after = λ i. record { tree = did.tree i; guest = gives.1 i };
+          after = λ i. record { tree = grew.within.tree i; guest = guest i };
         }
 
 pub bytes_are_put : BytesArePut
@@ -158,7 +175,10 @@ bytes_are_put s s' fuel fd iovs n offset x f named other is =
       inside = part.inside;
       may = put.may;
       answer = put.answer ∙ ap (λ m. Number m) part.long;
-      after = put.after ∙ ap (λ l. record s { tree = write_step s.tree g.node offset l }) part.bytes_are;
+      after = put.after ∙ ap (λ l. record {
+        tree = write_step s.tree g.node offset l;
+        guest = with_grown (put_growth s.tree g offset l) s.guest;
+      }) part.bytes_are;
     })
 
 pub files_are_held : FilesAreHeld
@@ -197,7 +217,7 @@ bytes_are_got s s' fuel fd iovs n offset x f named is =
     let same : g ≡ f = (cc) in
     let read : did.reply ≡ bytes_from s.tree f.node offset buffer.buf_len =
     sym (unless_value _ did.is) ∙ ap (λ (h : OpenFile). bytes_from s.tree h.node offset buffer.buf_len) same in
-    let gives = number_is did.gives in
+    let gives = answer_is did.gives in
     let part = range_is s.guest.memory buffer.buf buffer.buf_len ranged in
     record {
       buffer = buffer;

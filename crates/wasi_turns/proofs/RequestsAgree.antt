@@ -1,7 +1,7 @@
 -- A request is answered alike over two trees with equal nodes where it starts, and leaves them with equal nodes there.
-use Rattle.std.proofs.Common.{ℕ, ◌≡◌, inl, inr, List, [], ◌∷◌, ◌++◌, refl, ap, ◌∙◌, false, arith, Option, Some, None, Ok, map, Result}
+use Rattle.std.proofs.Common.{ℕ, ◌≡◌, inl, inr, List, [], ◌∷◌, ◌++◌, refl, ap, ◌∙◌, true, false, cond, Bool, sym, subst, arith, Option, Some, None, Ok, map, Result}
 use Rattle.std.specs.Prelude.{Contains, codes}
-use Rattle.wasi_host.specs.HostCall.{Append, OpenAt, Stat}
+use Rattle.wasi_host.specs.HostCall.{Append, OpenAt, Pwrite, SetSize, Stat}
 use Rattle.wasi_host.specs.HostCall as calls
 use Rattle.wasi_host.specs.Refusal.{refusal}
 use Rattle.wasi_host.specs.Answer.{Listed, unless, reached, open_answer, list_answer, metadata_from, metadata_of}
@@ -17,8 +17,12 @@ use Rattle.wasi_resolve.proofs.Requests.{path_reply_same, path_after_agree, path
 use Rattle.wasi_resolve.specs.Meanings.{listing_options, lists_at}
 use Rattle.wasi_resolve.specs.PathRequest.{LookPath}
 use Rattle.wasi_turns.specs.Listing.{all_numbered_at, dots, listing_at}
-use Rattle.wasi_turns.specs.Request.{Request, Reply, Path, Direct, Behind, ListDirectory, reply_of, after, starts_at, Sizes, size_at}
-use Rattle.std.proofs.lemmas.List.Elements.{Contains-append_right}
+use Rattle.wasi_turns.specs.Quotas.{end_of_piece, growth_within, is_above}
+use Rattle.wasi_turns.specs.Request.{Request, Reply, Path, Direct, Behind, ListDirectory, Sizes, Grow, reply_of, after, growth_at, grown_reply, starts_at, size_at}
+use Rattle.wasi_turns.specs.declared.quotas.Allowance.{Allowance}
+use Rattle.wasi_turns.specs.declared.quotas.FileEnd.TheVariants as ends
+use Rattle.std.proofs.lemmas.List.Elements.{Contains-append_left, Contains-append_right}
+use Rattle.wasi_turns.proofs.Lengthening.{bounded_by}
 use Rattle.wasi_turns.proofs.Near.{given_by}
 use Rattle.wasi_turns.proofs.RequestsLeave.{request_leaves}
 
@@ -47,8 +51,32 @@ module _ {Seen : ℕ → Type 0} {t : Tree} (closed : IsClosed Seen t) where
   given_seen (Behind f piece) reply from is n has = absurd (omega (arith, has.1))
   given_seen (ListDirectory d) reply from is n has = absurd (omega (arith, has.1))
   given_seen (Sizes ns) reply from is n has = absurd (omega (arith, has.1))
+  given_seen (Grow limit w) None from is n has = absurd (omega (arith, has.1))
+  given_seen (Grow limit w) (Some grown) from is n has =
+      let did = bounded_by t limit w (Some grown) is in
+      subst (λ u. OrMade Seen t u n) (sym did.does) (given_seen w grown.1 from did.is n has)
 
 module _ {Seen : ℕ → Type 0} {t u : Tree} (closed : IsClosed Seen t) (agree : AgreeOn Seen t u) where
+  -- a node is looked at alike
+  size_same : (n : ℕ) → ((m : ℕ) → Contains (n ∷ []) m → Seen m) → size_at t n ≡ size_at u n
+  unfolding metadata_of
+  size_same n from = ap (λ node. (metadata_from n node).size) (agree.nodes n (from n (Contains-here n [])))
+
+  -- a file that is written or given a size has the same growth
+  growth_same : (limit : Allowance) (w : Request) → ((n : ℕ) → Contains (starts_at w) n → Seen n)
+      → growth_at t limit w ≡ growth_at u limit w
+  growth_same limit (Direct (Pwrite f offset piece)) from =
+      ap (growth_within limit (end_of_piece offset piece)) (size_same f.node from)
+  growth_same limit (Direct (SetSize f size)) from =
+      ap (growth_within limit (ends.At size)) (size_same f.node from)
+  growth_same limit w from = refl
+
+  -- the trees after a request that may be left out
+  left_or : {v v' : Tree} (b : Bool) → AgreeOn (OrMade Seen t v) v v'
+      → AgreeOn (OrMade Seen t (cond b t v)) (cond b t v) (cond b u v')
+  left_or true done = same_agree closed agree
+  left_or false done = done
+
   -- the trees after a request are again equal on the set and on what was made
   pub after_agree : (r : Request) → ((n : ℕ) → Contains (starts_at r) n → Seen n)
       → AgreeOn (OrMade Seen t (after t r)) (after t r) (after u r)
@@ -57,6 +85,10 @@ module _ {Seen : ℕ → Type 0} {t u : Tree} (closed : IsClosed Seen t) (agree 
   after_agree (Behind f piece) from = step_agree closed agree (Append f piece) from
   after_agree (ListDirectory d) from = same_agree closed agree
   after_agree (Sizes ns) from = same_agree closed agree
+  after_agree (Grow limit w) from =
+      let grown = after t (Grow limit w) in
+      subst (λ growth. AgreeOn (OrMade Seen t grown) grown (cond (is_above limit growth) u (after u w)))
+      (growth_same limit w from) (left_or (is_above limit (growth_at t limit w)) (after_agree w from))
 
   -- a directory that is opened as `.` is the same directory
   names_same : (d : ℕ) → ((n : ℕ) → Contains (d ∷ []) n → Seen n) → (lists_at t d).answer ≡ (lists_at u d).answer
@@ -86,10 +118,9 @@ module _ {Seen : ℕ → Type 0} {t u : Tree} (closed : IsClosed Seen t) (agree 
       >>= (λ own. numbered_same d from names i >>= (λ entries. Ok (dots own.node ++ entries))))
 
   sizes_same : (ns : List ℕ) → ((n : ℕ) → Contains ns n → Seen n) → map (size_at t) ns ≡ map (size_at u) ns
-  unfolding metadata_of
   sizes_same [] from = refl
   sizes_same (n ∷ ns) from =
-      let first = ap (λ node. (metadata_from n node).size) (agree.nodes n (from n (Contains-here n ns))) in
+      let first = size_same n (λ m has. from m (Contains-append_left (n ∷ []) ns m has)) in
       let rest = sizes_same ns (λ m has. from m (Contains-append_right (n ∷ []) ns m has)) in
       λ i. first i ∷ rest i
 
@@ -103,3 +134,6 @@ module _ {Seen : ℕ → Type 0} {t u : Tree} (closed : IsClosed Seen t) (agree 
       rw (answer_same closed agree (Append f piece) from, told) refl
   reply_same (ListDirectory d) from = listing_same d from
   reply_same (Sizes ns) from = ap (λ (sizes : List ℕ). let r : Result (List ℕ) ErrorCode = Ok sizes in r) (sizes_same ns from)
+  reply_same (Grow limit w) from =
+      let growth = growth_same limit w from in
+      λ i. grown_reply (is_above limit (growth i)) (growth i) (reply_same w from i)

@@ -10,7 +10,7 @@ use Rattle.wasi_turns.specs.Guest.{State, Guest}
 use Rattle.wasi_turns.specs.Rows.{row, turn, may_want}
 use Rattle.wasi_turns.specs.Request.{Path}
 use Rattle.wasi_turns.specs.Row.{Row, Program, done, asking, request_ends, request_comes}
-use Rattle.wasi_turns.specs.Turn.{IsTurn, ReachesHost, named_by, come_to_by}
+use Rattle.wasi_turns.specs.Turn.{IsTurn, ReachesHost, named_by, come_to_by, used_by}
 use Rattle.wasi_turns.specs.CallTurn.{Turns, Causes, in_world}
 use Rattle.wasi_turns.proofs.Completing.{run_completes}
 use Rattle.wasi_turns.specs.Run.{Turned, Run, Spends, Played, Faulted, Gives, Allows, answer_of, answers_of, is_io_errno, io_in, ios, ends, named, is_success, DidRun, StoodAt, GoOn}
@@ -91,7 +91,7 @@ answer_same : {a b : Answer} → Some a ≡ Some b → b ≡ a
 answer_same e = cc
 
 turn_of : {rose : Type 0} {s s' : State} {a : Answer} (call : FueledCall) (r : Result Value P1Error) → answer_of r ≡ Some a
-    → IsTurn rose (ReachesHost s call) s s' r (turn s call) → TurnOf rose (turned s call a s')
+    → IsTurn rose (ReachesHost s call) (used_by s call) s s' r (turn s call) → TurnOf rose (turned s call a s')
 turn_of {s = s} {s' = s'} {a = a} call (Ok x) is row =
     inl (subst (λ m. Gives m s a s') (sym row) (answer_same is, refl))
 turn_of {s = s} {s' = s'} {a = a} call (Err e) is (inl refuses) =

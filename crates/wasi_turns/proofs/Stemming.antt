@@ -1,5 +1,5 @@
 -- Each descriptor has the permissions of the one from which it stems.
-use Rattle.std.proofs.Common.{ℕ, ◌≡◌, ◌⊎◌, inl, inr, true, false, Bool, List, [], ◌∷◌, refl, ap, sym, ◌∙◌, subst, Some, Ok, Err}
+use Rattle.std.proofs.Common.{ℕ, ◌≡◌, ◌⊎◌, inl, inr, true, false, Bool, List, [], ◌∷◌, refl, ap, sym, ◌∙◌, subst, slice_get, Some, Ok, Err}
 use Rattle.std.specs.Prelude.{MatchBool}
 use Rattle.wasi_fs.specs.declared.perms.FsPerms.{FsPerms}
 use Rattle.wasi_guest.specs.declared.answer.Answer.{Answer}
@@ -9,7 +9,7 @@ use Rattle.wasi_guest.specs.declared.call.Call.{Call}
 use Rattle.wasi_turns.specs.Front.{FueledCall}
 use Rattle.wasi_guest.specs.declared.errno.Errno.TheVariants as errnos
 use Rattle.wasi_host.specs.Tree.{Tree}
-use Rattle.wasi_turns.specs.Guest.{Guest, State}
+use Rattle.wasi_turns.specs.Guest.{Guest, State, perms_in}
 use Rattle.wasi_turns.specs.Row.{Row, Program, done, asking}
 use Rattle.wasi_turns.specs.Rows.{Stem, itself, through, renumbering, stem_in, row, turn}
 use Rattle.wasi_turns.specs.Run.{Turned, Run, Played, Faulted, Gives, answer_of, ends, is_success}
@@ -17,7 +17,7 @@ use Rattle.wasi_turns.specs.Stems.{stems_by, stems_from, stem_of, HasPerms}
 use Rattle.wasi_turns.specs.declared.error.P1Error.{P1Error}
 use Rattle.wasi_turns.specs.declared.error.P1Error.TheVariants.{Errno, Trap, Exit, Memory}
 use Rattle.wasi_turns.proofs.Alike.{row_on}
-use Rattle.wasi_turns.proofs.Moving.{over_guest, replied_by, guest_still, turned_by}
+use Rattle.wasi_turns.proofs.Moving.{over_guest, replied_by, faulted_stays, turned_by}
 use Rattle.wasi_turns.proofs.Near.{IsNear, KeepsSlots, given_by}
 use Rattle.wasi_turns.proofs.Nearness.{row_near}
 
@@ -71,9 +71,10 @@ turn_stems t (inl played) n perms has = by (turn t.before t.call) refl played
         subst (λ k. HasPerms t.before.guest k perms) (sym (from_itself (stem_in t.call.call) e n answer))
         (subst (λ (s : State). HasPerms s.guest n perms) same has)
 turn_stems t (inr faulted) n perms has =
-    let still : t.after.guest ≡ t.before.guest = guest_still t.before t.after (turn t.before t.call) faulted.state in
+    let still = ap (λ (g : Guest). g.slots) (faulted_stays faulted).guest in
     let at = from_itself (stem_in t.call.call) (Errno errnos.Io) n (ap Some (sym faulted.io)) in
-    subst (λ k. HasPerms t.before.guest k perms) (sym at) (subst (λ (g : Guest). HasPerms g n perms) still has)
+    subst (λ k. HasPerms t.before.guest k perms) (sym at)
+    (subst (λ slots. perms_in (slice_get slots n) ≡ Some perms) still has)
 
 -- ---- a run
 

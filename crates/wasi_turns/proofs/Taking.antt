@@ -8,7 +8,7 @@ use Rattle.wasi_host.specs.Meaning.{World, Handles, Rose, FaultCount}
 use Rattle.wasi_host.specs.declared.held.Held.{Held}
 use Rattle.wasi_host.specs.declared.lookup.Lookup.{Lookup}
 use Rattle.wasi_turns.specs.Slots.{View}
-use Rattle.wasi_turns.specs.Guest.{Guest, guest_slots, guest_of, guest_by}
+use Rattle.wasi_turns.specs.Guest.{Guest, guest_slots, guest_of, guest_by, state_of}
 use Rattle.wasi_turns.specs.Request.{Request, Reply}
 use Rattle.wasi_turns.specs.Row.{Row, Program, give, done, asking, made_of_reply}
 use Rattle.wasi_turns.specs.Front.{with_fuel, ask}
@@ -16,8 +16,10 @@ use Rattle.wasi_turns.specs.Parts.{with_file}
 use Rattle.wasi_turns.specs.Rows.{front, row, fuel_left, descriptors_named, may_want}
 use Rattle.wasi_turns.specs.Owners.{handles, Owned, SlotsOfCall}
 use Rattle.wasi_turns.specs.CallParts.{Follows, IsReplied, Makes, WantsNoMemory, Stays, open_file_of}
-use Rattle.wasi_turns.specs.Asked.{Does}
-use Rattle.wasi_turns.specs.CallTurn.{FollowsRow, Kept, Same, Quiet, AtFront, TakesTurn}
+use Rattle.wasi_turns.specs.Asked.{Answered, Does}
+use Rattle.wasi_turns.specs.Spending.{spends_nothing}
+use Rattle.wasi_turns.specs.Turn.{used_by}
+use Rattle.wasi_turns.specs.CallTurn.{FollowsRow, Kept, KeptBut, Same, Quiet, AtFront, TakesTurn}
 use Rattle.wasi_guest.specs.declared.call.Call.{Call}
 use Rattle.wasi_turns.specs.declared.error.P1Error.{P1Error}
 use Rattle.wasi_guest.specs.declared.answer.Value.{Value}
@@ -34,6 +36,8 @@ use Rattle.wasi_turns.proofs.Permitting.{turn_permits}
 use Rattle.wasi_turns.proofs.GuestSlots.{guest_slots_stay, put_file_at}
 use Rattle.wasi_turns.proofs.Staying.{all_stay, put_stays}
 use Rattle.wasi_turns.proofs.Turns as turns
+use Rattle.wasi_turns.proofs.Turns.{Settled}
+use Rattle.wasi_turns.proofs.Uses.{no_use}
 
 -- why a call isn't answered Ok
 reason : {e f : P1Error} → (let r : Result Value P1Error = Err e in r) ≡ Err f → e ≡ f
@@ -43,7 +47,7 @@ never_ok : {x : Value} → (let r : Result Value P1Error = Ok x in r) ≡ Err Me
 never_ok is = absurd (cc)
 
 -- a row, and the fuel that is left at its end
-row_same : {p q : Row (Program (Value × Guest)) × ℕ} → p ≡ q → p.0 ≡ q.0
+pub row_same : {p q : Row (Program (Value × Guest)) × ℕ} → p ≡ q → p.0 ≡ q.0
 row_same at = ap (λ (p : Row (Program (Value × Guest)) × ℕ). p.0) at
 
 left_same : {p q : Row (Program (Value × Guest)) × ℕ} → p ≡ q → p.1 ≡ q.1
@@ -58,7 +62,7 @@ refused_at {H} {told} {world} {faults} {lookups} {inside} {view} {memory} {call}
     subst (λ v. FollowsRow told world faults lookups v (record inside { fuel = left }) memory memory call (Err e)) same
     (record {
       size = refl;
-      kept = record { slots = refl; table_max = refl; holdings = refl; memory = refl };
+      kept = record { slots = refl; table_max = refl; uses = inl refl; memory = refl };
       wants = λ want. absurd (never (reason want));
       slots = all_stay refl;
       fuel = left_same at;
@@ -112,7 +116,7 @@ wanted_by : {H : Type 0} {told : Bool} {world : H → World} {faults : H → Fau
     → FollowsRow told world faults lookups view (record view { fuel = left }) memory memory call (Err Memory)
 wanted_by {H} {told} {world} {faults} {lookups} {view} {memory} {call} {left} m may at wants = record {
   size = refl;
-  kept = record { slots = refl; table_max = refl; holdings = refl; memory = refl };
+  kept = record { slots = refl; table_max = refl; uses = inl refl; memory = refl };
   wants = λ _. may;
   slots = all_stay refl;
   fuel = left_same at;
@@ -149,7 +153,24 @@ GuestSlotsStay told world old new =
 abbrev guest_then : {H : Type 0} → (H → World) → View H → View H → List ℕ → Guest
 guest_then world old new after = guest_by (world old.host).held new after
 
-same_guest : {H : Type 0} {old new : View H} {before after : List ℕ} (world : H → World) → Kept old new before after
+-- a call that isn't answered counts no more than its use
+pub kept_but : {H : Type 0} {old new : View H} {before after : List ℕ} {call : Call} {e : P1Error}
+    → Kept old new before after → KeptBut call e old new before after
+kept_but kept = record {
+  slots = kept.slots;
+  table_max = kept.table_max;
+  uses = inl kept.holdings;
+  memory = kept.memory;
+}
+
+-- and the guest is settled so, over a host that tells
+abbrev pub SettledAt : {H : Type 0} → (H → World) → (H → FaultCount) → View H → View H → List ℕ → List ℕ → Call → P1Error
+    → Type 0
+SettledAt world faults old new before after call e =
+    Settled (Rose (faults old.host) (faults new.host)) (state_of world old before) (state_of world new after)
+    (used_by (state_of world old before) (with_fuel old.fuel call)) e
+
+pub same_guest : {H : Type 0} {old new : View H} {before after : List ℕ} (world : H → World) → Kept old new before after
     → guest_slots (world new.host).held new.slots ≡ guest_slots (world old.host).held old.slots
     → guest_of world new after ≡ guest_of world old before
 same_guest world kept slots = rw (slots, kept.table_max, kept.holdings, kept.memory) refl
@@ -187,7 +208,7 @@ abbrev pub guest_put : {H : Type 0} → (ℕ → Held) → View H → ℕ → Fi
 guest_put held old fd f after = with_file (guest_by held old after) fd (open_file_of held f)
 
 -- that is the guest after it, by what the handles stand for then
-put_guest : {H : Type 0} {old new : View H} {fd : ℕ} {f : FileSlot} {after : List ℕ} (y : Value) (held stands : ℕ → Held)
+pub put_guest : {H : Type 0} {old new : View H} {fd : ℕ} {f : FileSlot} {after : List ℕ} (y : Value) (held stands : ℕ → Held)
     → PutBack old new fd f → stands f.file.file ≡ held f.file.file
     → guest_slots stands old.slots ≡ guest_slots held old.slots
     → ◌≡◌ {A = Value × Guest} (y, guest_put held old fd f after) (y, guest_by stands new after)
@@ -202,6 +223,10 @@ put_guest {old = old} {new = new} {fd = fd} {f = f} {after = after} y held stand
         holdings = sym put.holdings i;
       },
     )
+
+-- what a reply leads to, as a row's answer
+abbrev as_answer : {A : Type 0} → (A → Value × Guest) → Row A → Row (Value × Guest)
+as_answer shown m = m >>= (λ x. give (shown x))
 
 module _ {H : Type 0} {told : Bool} {world : H → World} {faults : H → FaultCount} {lookups : H → List Lookup}
     {old new : View H} {before after : List ℕ} {call : Call} where
@@ -259,12 +284,11 @@ module _ {H : Type 0} {told : Bool} {world : H → World} {faults : H → FaultC
   module _ {r : Request} {A : Type 0} (next : Reply r → Row A) (shown : Guest → A → Value × Guest)
       (at : ask r (made_of_reply r next (shown (guest_of world old before))) new.fuel
       ≡ front (guest_of world old before) call old.fuel) where
-    -- the host refused, or failed, or wanted memory; or the row refused the reply
-    pub does_err : {e : P1Error} → IsReplied r next (Err e) → (e ≡ Memory → IsTrue (may_want call))
-        → Kept old new before after → GuestSlotsStay told world old new
-        → (IsTrue told → Did world faults old new r next (Err e))
+    -- it wasn't answered
+    err_follows : {e : P1Error} → IsReplied r next (Err e) → (e ≡ Memory → IsTrue (may_want call))
+        → KeptBut call e old new before after → (IsTrue told → Turn world faults old new before after call (Err e))
         → FollowsRow told world faults lookups old new before after call (Err e)
-    does_err {e} replied wants kept slots does = record {
+    err_follows {e} replied wants kept turn = record {
       size = ap length kept.memory;
       kept = kept;
       wants = λ want. wants (reason want);
@@ -272,21 +296,42 @@ module _ {H : Type 0} {told : Bool} {world : H → World} {faults : H → FaultC
       fuel = left_same at;
       front = subst (AtHost world faults lookups old new before after (Err e)) (row_same at) (elim replied [
         | inl from ↦ inl from
-        | inr (reply, may, is) ↦ inr (reply, may, ap then is)
+        | inr (reply, may, is) ↦ inr (reply, may, ap (as_answer (shown (guest_of world old before))) is)
       ]);
       turn = turn;
       permits = λ is names. turn_permits (turn is) names;
     }
-      where
-        then : Row A → Row (Value × Guest)
-        then m = m >>= (λ x. give (shown (guest_of world old before) x))
 
-        turn : IsTrue told → Turn world faults old new before after call (Err e)
-        turn is = elim (does is) [
-          | inl asked ↦ turns.asked_err (row_same at) (same_guest world kept (slots is)) asked
-          | inr (reply, asked, refused) ↦
-              turns.asked_then_err (row_same at) (same_guest world kept (slots is)) asked (ap then refused)
-        ]
+    -- the host refused, or failed, or wanted memory; or the row refused the reply
+    pub settled_err : {e : P1Error} → IsReplied r next (Err e) → (e ≡ Memory → IsTrue (may_want call))
+        → KeptBut call e old new before after
+        → (IsTrue told → SettledAt world faults old new before after call e)
+        → (IsTrue told → Did world faults old new r next (Err e))
+        → FollowsRow told world faults lookups old new before after call (Err e)
+    settled_err {e} replied wants kept settled does = err_follows replied wants kept (λ told. elim (does told) [
+      | inl asked ↦ turns.asked_err (row_same at) (settled told) asked
+      | inr (reply, asked, is) ↦ turns.asked_then_settled (row_same at) (settled told) asked
+          (ap (as_answer (shown (guest_of world old before))) is)
+    ])
+
+    -- the same of a call that has no use
+    pub does_err : {e : P1Error} → IsReplied r next (Err e) → (e ≡ Memory → IsTrue (may_want call))
+        → IsTrue (spends_nothing call r) → Kept old new before after → GuestSlotsStay told world old new
+        → (IsTrue told → Did world faults old new r next (Err e))
+        → FollowsRow told world faults lookups old new before after call (Err e)
+    does_err replied wants none kept slots = settled_err replied wants (kept_but kept)
+        (λ told. turns.unused (no_use _ _ (row_same at) none) (same_guest world kept (slots told)))
+
+    -- the row refused the reply
+    pub does_refused : {e : P1Error} → Follows r next (Err e) → (e ≡ Memory → IsTrue (may_want call))
+        → Kept old new before after → GuestSlotsStay told world old new
+        → (IsTrue told → Answered (Rose (faults old.host) (faults new.host)) (world old.host) (world new.host) r next
+        (Err e))
+        → FollowsRow told world faults lookups old new before after call (Err e)
+    does_refused follows wants kept slots does = err_follows (inr follows) wants (kept_but kept) (λ told.
+        let (reply, asked, is) = does told in
+        turns.asked_then_err (row_same at) (same_guest world kept (slots told)) asked
+        (ap (as_answer (shown (guest_of world old before))) is))
 
     -- the row answered the reply
     pub does_ok : {y : Value} {x x' : A} → length after ≡ length before → SlotsOfCall old.slots new.slots before call
@@ -297,19 +342,17 @@ module _ {H : Type 0} {told : Bool} {world : H → World} {faults : H → FaultC
         → FollowsRow told world faults lookups old new before after call (Ok y)
     does_ok {y} size slots (reply, may, is) shows does =
         answer_follows size slots (left_same at)
-        (subst (AtHost world faults lookups old new before after (Ok y)) (row_same at) (reply, may, ap then is ∙ ap give shows))
-        (λ told. let (did, shown_so) = does told in turns.asked_ok (row_same at) did.1 (ap then did.2 ∙ ap give shown_so))
-      where
-        then : Row A → Row (Value × Guest)
-        then m = m >>= (λ x. give (shown (guest_of world old before) x))
+        (subst (AtHost world faults lookups old new before after (Ok y)) (row_same at) (reply, may, ap (as_answer (shown (guest_of world old before))) is ∙ ap give shows))
+        (λ told. let (did, shown_so) = does told in turns.asked_ok (row_same at) did.1 (ap (as_answer (shown (guest_of world old before))) did.2 ∙ ap give shown_so))
 
     -- ---- of a request that leaves what live handles stand for
 
     module _ {live : Handles} (owned : Owned live (handles old.slots)) where
       pub makes_err : {e : P1Error} → IsReplied r next (Err e) → (e ≡ Memory → IsTrue (may_want call))
-          → Kept old new before after → (IsTrue told → Made world faults old new live r next (Err e))
+          → IsTrue (spends_nothing call r) → Kept old new before after
+          → (IsTrue told → Made world faults old new live r next (Err e))
           → FollowsRow told world faults lookups old new before after call (Err e)
-      makes_err replied wants kept makes = does_err replied wants kept
+      makes_err replied wants none kept makes = does_err replied wants none kept
           (λ told. ap (guest_slots (world new.host).held) kept.slots ∙ guest_slots_stay old.slots owned (makes told).keeps)
           (λ told. (makes told).does)
 

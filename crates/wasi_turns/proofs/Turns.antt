@@ -1,5 +1,5 @@
 -- From what a request did over a told host to the turn of its call.
-use Rattle.std.proofs.Common.{[], ◌≡◌, ◌⊎◌, inl, inr, refl, ap, sym, ◌∙◌, subst, Result, Ok, Err}
+use Rattle.std.proofs.Common.{[], ◌≡◌, inl, inr, refl, ap, sym, ◌∙◌, subst, Result, Ok, Err}
 use Rattle.std.specs.Prelude.{is_ok, if◌then◌else◌}
 use Rattle.wasi_host.specs.Agree.{Touches}
 use Rattle.wasi_host.specs.Meaning.{World}
@@ -9,7 +9,7 @@ use Rattle.wasi_turns.specs.Request.{Request, Reply, reply_of, after}
 use Rattle.wasi_host.specs.Steps.{◌>>=◌}
 use Rattle.wasi_turns.specs.Row.{Row, Program, done, asking, from_host, Asks, starts, request_comes}
 use Rattle.wasi_turns.specs.Rows.{row}
-use Rattle.wasi_turns.specs.Turn.{IsTurn, RowRefuses, Faults, Wants, StepTaken}
+use Rattle.wasi_turns.specs.Turn.{IsTurn, Faults, AfterFault, used_by}
 use Rattle.wasi_turns.specs.CallTurn.{Turns, in_world}
 use Rattle.wasi_turns.specs.Asked.{Asked, Hidden, GivesOrElse, TreeAfterRequest}
 use Rattle.wasi_guest.specs.declared.call.Call.{Call}
@@ -24,16 +24,19 @@ use Rattle.wasi_turns.proofs.Alike.{over, replied, row_on}
 use Rattle.wasi_turns.proofs.Nearness.{row_near}
 
 -- the turn of a row
-abbrev RowTurns : Type 0 → World → World → Guest → Guest → Row (Program (Value × Guest)) → Result Value P1Error → Type 0
-RowTurns rose w v g g' m result =
-    IsTurn rose (Asks m) (in_world w g) (in_world v g') result (row_on w.tree m)
+abbrev RowTurns : Type 0 → World → World → Guest → Guest → Guest → Row (Program (Value × Guest)) → Result Value P1Error
+    → Type 0
+RowTurns rose w v g g' used m result =
+    IsTurn rose (Asks m) used (in_world w g) (in_world v g') result (row_on w.tree m)
     × Touches w.tree v.tree (starts m) (if is_ok result then request_comes w.tree m else []) w.touched v.touched
 
 turns : {rose : Type 0} {w v : World} {g g' : Guest} {call : FueledCall} {result : Result Value P1Error}
     (m : Row (Program (Value × Guest)))
-    → m ≡ row g call → RowTurns rose w v g g' m result → Turns rose w v g g' call result
+    → m ≡ row g call → RowTurns rose w v g g' (used_by (in_world w g) call) m result → Turns rose w v g g' call result
 turns {rose} {w} {v} {g} {g'} {call} {result} m is both =
-    let at : RowTurns rose w v g g' (row g call) result = subst (λ x. RowTurns rose w v g g' x result) is both in
+    let used = used_by (in_world w g) call in
+    let at : RowTurns rose w v g g' used (row g call) result =
+    subst (λ x. RowTurns rose w v g g' used x result) is both in
     record { turn = at.0; touched = at.1 }
 
 -- a refusal before the host
@@ -70,50 +73,95 @@ host_answered (Err code) is = absurd (cc)
 same_state : {s s' : State} → s'.guest ≡ s.guest → s'.tree ≡ s.tree → s' ≡ s
 same_state guest tree = λ i. record { tree = tree i; guest = guest i }
 
--- what came of a request that wasn't answered Ok, where the guest stays
-module _ (s s' : State) {call : Call} {r : Request} {next : Reply r → Row (Value × Guest)}
-    (near : AsksNear s.guest call r next)
-    (same : s'.guest ≡ s.guest) where
-  abbrev is_replied : Row (Value × State)
-  is_replied = replied s.tree r next (reply_of s.tree r)
+-- ---- where a call isn't answered
 
-  -- a hidden step is the row's
-  stepped : (reply : Reply r) → reply_of s.tree r ≡ Ok reply → s'.tree ≡ after s.tree r → (m : Row (Value × Guest))
-      → next reply ≡ m
-      → (s' ≡ s) ⊎ StepTaken s s' (over (after s.tree r) m)
-  stepped reply is tree (Ok p) gives = inr (λ i. record { tree = tree i; guest = same i })
-  stepped reply is tree (Err e) gives =
-      inl (same_state same (tree ∙ (subst (Ends (after s.tree r ≡ s.tree)) gives (near.ends s.tree reply is)).1))
+-- The guest then. It stays, of a call that has no use, or where nothing was done, or at another refusal than a failure of
+-- the host; or the host failed, and the use is counted
+pub data Settled (rose : Type 0) (s s' : State) (used : Guest) (e : P1Error) : Type 0 where
+  unused : used ≡ s.guest → s'.guest ≡ s.guest → Settled rose s s' used e
+  undone : s' ≡ s → Settled rose s s' used e
+  unfailed : (e ≡ Errno errnos.Io → ⊥) → s'.guest ≡ s.guest → Settled rose s s' used e
+  counted : e ≡ Errno errnos.Io → rose → s'.guest ≡ used → Settled rose s s' used e
 
-  hidden : Hidden s.tree s'.tree r → (s' ≡ s) ⊎ StepTaken s s' is_replied
-  hidden hid = subst (λ a. (s' ≡ s) ⊎ StepTaken s s' (replied s.tree r next a)) (sym hid.answered)
-      (stepped hid.reply hid.answered hid.stepped (next hid.reply) refl)
+-- where the tree stays: the state does, or counts the use of a call in which the host failed
+data Still (rose : Type 0) (s s' : State) (used : Guest) (e : P1Error) : Type 0 where
+  still : s' ≡ s → Still rose s s' used e
+  used_up : e ≡ Errno errnos.Io → rose → s' ≡ record s { guest = used } → Still rose s s' used e
 
-  refused_here : (e : P1Error) (a : Result (Reply r) ErrorCode) → reply_of s.tree r ≡ a
-      → TreeAfterRequest s.tree s'.tree r (Err e)
-      → Err e ≡ from_host a → RowRefuses s s' e (replied s.tree r next a)
-  refused_here e (Ok reply) at tree is = absurd (cc)
-  refused_here e (Err code) at (inl tree) is = record {
-    stays = same_state same tree;
-    row_is = ap (λ m. over (after s.tree r) (m >>= next)) (sym is);
-  }
-  refused_here e (Err code) at (inr hid) is = let answered = hid.1.answered in absurd (cc)
+module _ {rose : Type 0} {s s' : State} {used : Guest} {e : P1Error} where
+  unstepped : Settled rose s s' used e → s'.tree ≡ s.tree → Still rose s s' used e
+  unstepped (unused none same) tree = still (same_state same tree)
+  unstepped (undone same) tree = still same
+  unstepped (unfailed other same) tree = still (same_state same tree)
+  unstepped (counted io up is) tree = used_up io up (λ i. record { tree = tree i; guest = is i })
 
-  wanted : (e : P1Error) → TreeAfterRequest s.tree s'.tree r (Err e) → e ≡ Memory → Wants s s' e
-  wanted e (inl tree) is = record { memory = is; stays = same_state same tree }
-  wanted e (inr hid) is = let io = hid.0 in absurd (cc)
+  -- the row's refusal; or the host failed
+  refuses : {m : Row (Value × State)} → m ≡ Err e → Still rose s s' used e
+      → IsTurn rose (Unit {0}) used s s' (Err e) m
+  refuses is (still same) = inl (record { stays = same; row_is = is })
+  refuses is (used_up io up counts) =
+      inr (inr (record { io = io; count = up; came = tt; state = inr (inl counts) }))
 
-  failed : {rose : Type 0} (e : P1Error) → TreeAfterRequest s.tree s'.tree r (Err e) → e ≡ Errno errnos.Io → rose
-      → Faults rose (Unit {0}) s s' e is_replied
-  failed e (inl tree) is up = record { io = is; count = up; came = tt; state = inl (same_state same tree) }
-  failed e (inr hid) is up = record { io = is; count = up; came = tt; state = hidden hid.1 }
+  wanted : {m : Row (Value × State)} → e ≡ Memory → Still rose s s' used e
+      → IsTurn rose (Unit {0}) used s s' (Err e) m
+  wanted is (still same) = inr (inl (record { memory = is; stays = same }))
+  wanted is (used_up io up counts) = absurd (cc)
 
-  err_turns : {rose : Type 0} (e : P1Error) → TreeAfterRequest s.tree s'.tree r (Err e)
-      → GivesOrElse rose (Err e) (from_host (reply_of s.tree r))
-      → IsTurn rose (Unit {0}) s s' (Err e) is_replied
-  err_turns e tree (inl is) = inl (refused_here e (reply_of s.tree r) refl tree is)
-  err_turns e tree (inr (inl is)) = inr (inl (wanted e tree (cc)))
-  err_turns e tree (inr (inr is)) = let io = is.0 in inr (inr (failed e tree (cc) is.1))
+  unstepped_fault : (m : Row (Value × State)) → Still rose s s' used e → AfterFault used s s' m
+  unstepped_fault m (still same) = inl same
+  unstepped_fault m (used_up io up counts) = inr (inl counts)
+
+  -- what came of a request that wasn't answered Ok
+  module _ {call : Call} {r : Request} {next : Reply r → Row (Value × Guest)} (near : AsksNear s.guest call r next)
+      (settled : Settled rose s s' used e) where
+    abbrev is_replied : Row (Value × State)
+    is_replied = replied s.tree r next (reply_of s.tree r)
+
+    -- a hidden step is the row's
+    stepped : e ≡ Errno errnos.Io → s'.tree ≡ after s.tree r → (p : Value × Guest) → Settled rose s s' used e
+        → AfterFault used s s' (over (after s.tree r) (Ok p))
+    stepped io tree p (unused none same) = inr (inr (λ i. record { tree = tree i; guest = (same ∙ sym none) i }))
+    stepped io tree p (undone same) = inl same
+    stepped io tree p (unfailed other same) = absurd (other io)
+    stepped io tree p (counted is up counts) = inr (inr (λ i. record { tree = tree i; guest = counts i }))
+
+    hidden : e ≡ Errno errnos.Io → Hidden s.tree s'.tree r → AfterFault used s s' is_replied
+    hidden io hid = subst (λ a. AfterFault used s s' (replied s.tree r next a)) (sym hid.answered)
+        (by (next hid.reply) refl)
+      where
+        by : (m : Row (Value × Guest)) → next hid.reply ≡ m → AfterFault used s s' (over (after s.tree r) m)
+        by (Ok p) gives = stepped io hid.stepped p settled
+        by (Err f) gives =
+            let kept = subst (Ends (after s.tree r ≡ s.tree)) gives (near.ends s.tree hid.reply hid.answered) in
+            unstepped_fault (over (after s.tree r) (Err f)) (unstepped settled (hid.stepped ∙ kept.1))
+
+    refused_here : (a : Result (Reply r) ErrorCode) → reply_of s.tree r ≡ a → TreeAfterRequest s.tree s'.tree r (Err e)
+        → Err e ≡ from_host a → IsTurn rose (Unit {0}) used s s' (Err e) (replied s.tree r next a)
+    refused_here (Ok reply) at tree is = absurd (cc)
+    refused_here (Err code) at (inl tree) is =
+        refuses (ap (λ m. over (after s.tree r) (m >>= next)) (sym is)) (unstepped settled tree)
+    refused_here (Err code) at (inr hid) is = let answered = hid.1.answered in absurd (cc)
+
+    wanted_here : TreeAfterRequest s.tree s'.tree r (Err e) → e ≡ Memory
+        → IsTurn rose (Unit {0}) used s s' (Err e) is_replied
+    wanted_here (inl tree) is = wanted is (unstepped settled tree)
+    wanted_here (inr hid) is = let io = hid.0 in absurd (cc)
+
+    failed : TreeAfterRequest s.tree s'.tree r (Err e) → e ≡ Errno errnos.Io → rose
+        → Faults rose (Unit {0}) used s s' e is_replied
+    failed (inl tree) is up =
+        record { io = is; count = up; came = tt; state = unstepped_fault is_replied (unstepped settled tree) }
+    failed (inr hid) is up = record { io = is; count = up; came = tt; state = hidden is hid.1 }
+
+    err_turns : TreeAfterRequest s.tree s'.tree r (Err e) → GivesOrElse rose (Err e) (from_host (reply_of s.tree r))
+        → IsTurn rose (Unit {0}) used s s' (Err e) is_replied
+    err_turns tree (inl is) = refused_here (reply_of s.tree r) refl tree is
+    err_turns tree (inr (inl is)) = wanted_here tree (cc)
+    err_turns tree (inr (inr is)) = let io = is.0 in inr (inr (failed tree (cc) is.1))
+
+near_at : (g : Guest) (call : FueledCall) {r : Request} {next : Reply r → Row (Value × Guest)}
+    → Ok (asking r next) ≡ row g call → AsksNear g call.call r next
+near_at g call front = subst (IsNear g call.call) (sym front) (row_near g call)
 
 module _ {rose : Type 0} {w v : World} {g g' : Guest} {call : FueledCall} {r : Request} {next : Reply r → Row (Value × Guest)}
     (front : Ok (asking r next) ≡ row g call) where
@@ -126,24 +174,30 @@ module _ {rose : Type 0} {w v : World} {g g' : Guest} {call : FueledCall} {r : R
     asked.touched,
   )
 
-  -- the host refused, or failed, or wanted memory
-  pub asked_err : {e : P1Error} → g' ≡ g → Asked rose w v r (Err e) → Turns rose w v g g' call (Err e)
-  asked_err {e} same asked =
-      let near = subst (IsNear g call.call) (sym front) (row_near g call) in
-      turns (Ok (asking r next)) front
-      (err_turns (in_world w g) (in_world v g') near same e asked.tree asked.reply, asked.touched)
+  -- it answered, and the row refused the reply
+  module _ {e : P1Error} {reply : Reply r} (asked : Asked rose w v r (Ok reply)) (is : next reply ≡ Err e) where
+    then_refused : (v.tree ≡ w.tree → Still rose (in_world w g) (in_world v g') (used_by (in_world w g) call) e)
+        → Turns rose w v g g' call (Err e)
+    then_refused stays =
+        let near = near_at g call front in
+        let undone = (near.ends w.tree reply (host_answered (reply_of w.tree r) (given asked.reply))) in
+        turns (Ok (asking r next)) front (
+          refuses (ap (λ m. over (after w.tree r) (m >>= next)) (given asked.reply) ∙ ap (over (after w.tree r)) is)
+              (stays (asked.tree ∙ (subst (Ends (after w.tree r ≡ w.tree)) is undone).1)),
+          no_ends asked.touched,
+        )
 
-  -- the host answered, and the row refused the reply
-  pub asked_then_err : {reply : Reply r} {e : P1Error} → g' ≡ g → Asked rose w v r (Ok reply) → next reply ≡ Err e
+  pub asked_then_err : {e : P1Error} {reply : Reply r} → g' ≡ g → Asked rose w v r (Ok reply) → next reply ≡ Err e
       → Turns rose w v g g' call (Err e)
-  asked_then_err {reply} {e} same asked is =
-      let near = subst (IsNear g call.call) (sym front) (row_near g call) in
-      let answered = given asked.reply in
-      let kept = near.ends w.tree reply (host_answered (reply_of w.tree r) answered) in
-      turns (Ok (asking r next)) front (
-        inl (record {
-          stays = same_state same (asked.tree ∙ (subst (Ends (after w.tree r ≡ w.tree)) is kept).1);
-          row_is = ap (λ m. over (after w.tree r) (m >>= next)) answered ∙ ap (over (after w.tree r)) is;
-        }),
-        no_ends asked.touched,
-      )
+  asked_then_err same asked is = then_refused asked is (λ tree. still (same_state same tree))
+
+  module _ {e : P1Error} (settled : Settled rose (in_world w g) (in_world v g') (used_by (in_world w g) call) e) where
+    -- the host refused, or failed, or wanted memory
+    pub asked_err : Asked rose w v r (Err e) → Turns rose w v g g' call (Err e)
+    asked_err asked =
+        turns (Ok (asking r next)) front (err_turns (near_at g call front) settled asked.tree asked.reply, asked.touched)
+
+    -- the host answered, and the row refused the reply
+    pub asked_then_settled : {reply : Reply r} → Asked rose w v r (Ok reply) → next reply ≡ Err e
+        → Turns rose w v g g' call (Err e)
+    asked_then_settled asked is = then_refused asked is (unstepped settled)

@@ -5,7 +5,7 @@ use Rattle.wasi_host.specs.declared.lookup.Lookup.{Lookup}
 use Rattle.wasi_guest.specs.declared.answer.Value.{Value}
 use Rattle.wasi_guest.specs.declared.call.Call.{Call}
 use Rattle.wasi_guest.specs.declared.errno.Errno.TheVariants.{Io}
-use Rattle.wasi_turns.specs.CallTurn.{FollowsRow, Turns, in_world}
+use Rattle.wasi_turns.specs.CallTurn.{FollowsRow, Kept, KeptBut, Turns, in_world}
 use Rattle.wasi_turns.specs.Front.{FueledCall}
 use Rattle.wasi_turns.specs.Guest.{Guest, State}
 use Rattle.wasi_turns.specs.Slots.{View}
@@ -22,13 +22,23 @@ refused_stays took other = elim took.turn [
   | inr (inr failed) ↦ absurd (other failed.io)
 ]
 
+-- and so does what is the guest's own
+kept_all : {H : Type 0} {old new : View H} {before after : List ℕ} {call : Call} {e : P1Error}
+    → KeptBut call e old new before after → (e ≡ Errno Io → ⊥) → Kept old new before after
+kept_all kept other = record {
+  slots = kept.slots;
+  table_max = kept.table_max;
+  holdings = elim kept.uses [ inl same ↦ same | inr counted ↦ absurd (other counted.0) ];
+  memory = kept.memory;
+}
+
 pub leaves_all : {H : Type 0} {told : Bool} {world : H → World} {faults : H → FaultCount} {lookups : H → List Lookup}
     {old new : View H} {before after : List ℕ} {call : Call} (result : Result Value P1Error)
     → FollowsRow told world faults lookups old new before after call result
     → LeavesAll told world old new before after result
 leaves_all (Ok x) does = tt
 leaves_all (Err e) does = λ other. record {
-  kept = does.kept;
+  kept = kept_all does.kept other;
   tree = λ told. ap (λ (s : State). s.tree) (refused_stays (does.turn told) other);
 }
 

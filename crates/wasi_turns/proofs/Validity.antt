@@ -8,6 +8,7 @@ use Rattle.wasi_host.specs.Step.{times_set}
 use Rattle.wasi_host.specs.declared.system_time.SystemTime.{SystemTime}
 use Rattle.wasi_guest.specs.declared.answer.Value.{Value}
 use Rattle.wasi_guest.specs.declared.call.Call.{Call}
+use Rattle.wasi_guest.specs.declared.quota.QuotaUsed.{QuotaUsed}
 use Rattle.wasi_turns.specs.Front.{FueledCall}
 use Rattle.wasi_host.specs.Meaning.{World}
 use Rattle.wasi_host.specs.Tree.{Tree, Node, Content, names_of, File, Directory, Link, node_at, next_of, bytes_of}
@@ -34,23 +35,24 @@ use Rattle.wasi_resolve.specs.Meanings.{listing_options, lists_at}
 use Rattle.wasi_resolve.specs.PathRequest.{PathRequest, OpenPath, LookPath, AtPlace, TimesPath, AtTwo, PathReply, answer_at, as_asked, times_through, path_reply, path_after}
 use Rattle.wasi_resolve.proofs.Requests.{as_opened}
 use Rattle.wasi_turns.specs.Listing.{Entry, dots, numbered_at, all_numbered_at, listing_at}
-use Rattle.wasi_turns.specs.Request.{Request, Reply, Path, Direct, Behind, ListDirectory, reply_of, after, Sizes}
+use Rattle.wasi_turns.specs.Request.{Request, Reply, Path, Direct, Behind, ListDirectory, Sizes, Grow, reply_of, after}
 use Rattle.wasi_turns.specs.Row.{Row, Program, done, asking}
 use Rattle.wasi_turns.specs.Rows.{row, turn}
-use Rattle.wasi_turns.specs.Turn.{StepTaken}
-use Rattle.wasi_turns.specs.Validity.{RunsStayValid, IsValidState}
+use Rattle.wasi_turns.specs.Validity.{RunsStayValid, HasBytes, IsValidState}
 use Rattle.wasi_turns.specs.declared.error.P1Error.{P1Error}
 use Rattle.wasi_host.proofs.Agreeing.{unless_value, below_or}
 use Rattle.wasi_turns.proofs.Alike.{row_on}
 use Rattle.wasi_paths.specs.Parts.{has_root}
 use Rattle.wasi_host.specs.declared.errors.ErrorCode.TheVariants.{NotPermitted}
-use Rattle.wasi_turns.proofs.Bytes.{cut}
+use Rattle.wasi_turns.proofs.Bytes.{cut, used_stock}
+use Rattle.wasi_turns.proofs.Lengthening.{bounded_by}
 use Rattle.wasi_turns.proofs.Listings.{both_ok}
 use Rattle.wasi_turns.proofs.Paging.{dots_bytes}
 use Rattle.wasi_turns.proofs.Utf8.{text_bytes}
 use Rattle.wasi_turns.proofs.Moving.{Moves, turn_moves, turned_moves, run_keeps, over_tree, over_guest, replied_by}
 use Rattle.wasi_turns.proofs.Near.{AreBytes, AreTexts, PathGivesBytes, HasByteNames, GivesBytes, KeepsBytes, MayBeAsked, IsNear}
 use Rattle.wasi_turns.proofs.Nearness.{row_near}
+use Rattle.wasi_turns.proofs.Uses.{with_counts}
 use Rattle.wasi_resolve.proofs.Asking.{HasUtf8Target, opening_asked, place_asked, places_asked, link_utf8}
 
 -- ---- what is read of a valid tree
@@ -143,6 +145,8 @@ gives_bytes t (Direct (Pread f offset n)) bytes valid is =
     let whole = content_bytes t f.node valid in
     subst AreBytes (unless_value _ is) (cut n _ (cut offset (bytes_of (node_at t f.node).content) whole).1).0
 gives_bytes t (ListDirectory d) listing valid is = listing_bytes t d valid is
+gives_bytes t (Grow limit w) (Some grown) valid is =
+    gives_bytes t w grown.1 valid (bounded_by t limit w (Some grown) is).is
 gives_bytes t r reply valid is = tt
 
 -- ---- a request
@@ -223,6 +227,11 @@ request_valid t (Direct call) valid may is = valid-step t call valid may (free_o
 request_valid t (Behind f piece) valid may is = valid-step t (Append f piece) valid may (free_of t (Append f piece) (both_ok _ _ is).1)
 request_valid t (ListDirectory d) valid may is = valid
 request_valid t (Sizes ns) valid may is = valid
+request_valid t (Grow limit w) {reply = None} valid may is =
+    subst IsValidTree (sym (bounded_by t limit w None is).leaves) valid
+request_valid t (Grow limit w) {reply = Some grown} valid may is =
+    let did = bounded_by t limit w (Some grown) is in
+    subst IsValidTree (sym did.does) (request_valid t w valid may did.is)
 
 -- ---- a turn
 
@@ -241,24 +250,26 @@ row_valid s call (Ok (asking r next)) p valid near is =
     }
 row_valid s call (Err e) p valid near is = absurd (cc)
 
+-- counts are no bytes
+counts_valid : (s s' : State) (used : QuotaUsed) → s'.guest ≡ with_counts used s.guest → IsValidTree s'.tree
+    → HasBytes s.guest → IsValidState s'
+counts_valid s s' used counts tree bytes =
+    record { tree = tree; bytes = subst HasBytes (sym counts) (bytes.0, used_stock s.guest.holdings used bytes.1) }
+
 -- to whatever state it leads
 pub moved_valid : (s s' : State) (call : FueledCall) → IsValidState s → Moves s s' (turn s call) → IsValidState s'
-moved_valid s s' call valid moves = elim moves [
-  | inl same ↦ subst IsValidState (sym same) valid
-  | inr (inl given) ↦ row_valid s call.call (row s.guest call) _ valid (row_near s.guest call) given.1
-  | inr (inr step) ↦ by (turn s call) refl step
-]
-  where
-    by : (m : Row (Value × State)) → turn s call ≡ m → StepTaken s s' m → IsValidState s'
-    by (Ok p) is step =
-        let after = row_valid s call.call (row s.guest call) p valid (row_near s.guest call) is in
-        subst IsValidState (sym step) (record { tree = after.tree; bytes = valid.bytes })
-    by (Err e) is step = absurd step
+moved_valid s s' call valid (inl given) =
+    row_valid s call.call (row s.guest call) _ valid (row_near s.guest call) given.1
+moved_valid s s' call valid (inr still) = counts_valid s s' still.used still.guest (elim still.tree [
+  | inl same ↦ subst IsValidTree (sym same) valid.tree
+  | inr step ↦ subst IsValidTree (sym step.tree)
+      (row_valid s call.call (row s.guest call) step.given valid (row_near s.guest call) step.answers).tree
+]) valid.bytes
 
 pub turn_valid : {rose : Type 0} {w v : World} {g g' : Guest} {call : FueledCall} {r : Result Value P1Error}
     → Turns rose w v g g' call r → IsValidState (in_world w g) → IsValidState (in_world v g')
 turn_valid {rose} {w} {v} {g} {g'} {call} {r} takes valid =
-    moved_valid (in_world w g) (in_world v g') call valid (turn_moves rose _ r takes.turn)
+    moved_valid (in_world w g) (in_world v g') call valid (turn_moves rose _ call r takes.turn)
 
 -- ---- a run
 

@@ -1,5 +1,7 @@
 -- What an answered write did.
 use Rattle.std.proofs.Common.{ℕ, ◌≡◌, ◌+◌, Bool, true, false, cond, refl, ap, sym, ◌∙◌, List, length, slice_get, Ok}
+use Rattle.wasi_fs.specs.OpenFlags.{includes}
+use Rattle.wasi_fs.specs.OpenMode.{mode_bits}
 use Rattle.wasi_host.specs.Answer.{metadata_of, size_of}
 use Rattle.wasi_host.specs.Step.{write_step}
 use Rattle.wasi_host.specs.Tree.{Tree, bytes_of, node_at}
@@ -9,26 +11,22 @@ use Rattle.wasi_guest.specs.declared.answer.Value.{Value}
 use Rattle.wasi_guest.specs.declared.answer.Value.TheVariants.{Number}
 use Rattle.wasi_guest.specs.declared.iovec.Iovec.{Iovec}
 use Rattle.wasi_turns.specs.Guest.{Guest, State}
-use Rattle.wasi_turns.specs.Putting.{put_request, put_in, put_answer}
-use Rattle.wasi_turns.specs.Request.{Direct, Behind}
+use Rattle.wasi_turns.specs.Putting.{put_answer, put_end, put_in, put_request}
+use Rattle.wasi_turns.specs.Quotas.{allowance, growth_to}
+use Rattle.wasi_turns.specs.Request.{Reply, Direct, Behind, size_at}
 use Rattle.wasi_turns.specs.Row.{Row, done, give}
 use Rattle.wasi_turns.specs.Parts.{Sink, output, into, sink_in, range, may_write, held_by, at_position, with_file}
 use Rattle.wasi_turns.specs.Front.{ask, charged_buffer}
 use Rattle.wasi_turns.specs.Rows.{fd_write, write_to}
+use Rattle.wasi_turns.specs.Spending.{growing}
+use Rattle.wasi_turns.specs.Writing.{WritesWhole, with_grown, written_to}
 use Rattle.wasi_turns.specs.declared.holdings.Output.{Output}
-use Rattle.wasi_turns.specs.Writing.{WritesWhole, written_to}
 use Rattle.wasi_host.proofs.Agreeing.{unless_value}
 use Rattle.wasi_turns.proofs.Alike.{row_on}
 use Rattle.wasi_turns.proofs.Appending.{behind_reply}
 use Rattle.wasi_turns.proofs.Bytes.{range_is}
-use Rattle.wasi_turns.proofs.Moving.{gave_buffer, gave, replied_by}
-
-pub number_is : {count : ℕ} {x : Value} {g g' : Guest}
-    → (let m : Row (Value × Guest) = Ok (Number count, g) in m) ≡ Ok (x, g')
-    → (x ≡ Number count) × (g' ≡ g)
-number_is {count} {x} {g} {g'} is =
-    let same : ◌≡◌ {A = Value × Guest} (Number count, g) (x, g') = (cc) in
-    (ap (λ (p : Value × Guest). p.0) (sym same), ap (λ (p : Value × Guest). p.1) (sym same))
+use Rattle.wasi_turns.proofs.Moving.{gave_buffer, gave}
+use Rattle.wasi_turns.proofs.Spending.{answer_is, gave_growing, grew_to}
 
 -- a row's answer is the answer and the state after it
 pub state_is : {t : Tree} {x y : Value} {g : Guest} {s' : State}
@@ -65,7 +63,8 @@ writes_whole s s' fuel fd iovs n x is =
     puts buffer left piece long (output o) is =
         let (answered, after) = state_is is in (answered ∙ ap (λ k. Number k) long, after)
     puts buffer left piece long (into f) is =
-        let (may, allowed, four) = gave s.tree (may_write f.perms) _ left is in by f.modes.append refl four
+        let (may, allowed, four) = gave s.tree (may_write f.perms) _ left is in
+        by f.modes.append refl four
       where
         answers : {count : ℕ} → x ≡ Number count → count ≡ length piece → x ≡ Number buffer.buf_len
         answers given whole = given ∙ ap (λ k. Number k) (whole ∙ long)
@@ -75,34 +74,37 @@ writes_whole s s' fuel fd iovs n x is =
             let put = write_step s.tree f.node (cond b (length (bytes_of (node_at s.tree f.node).content)) f.position) piece in
             record {
               tree = put;
-              guest = with_file s.guest fd
-                  (at_position f (cond b (size_of (node_at put f.node).content) (f.position + length piece)));
+              guest = with_grown (cond (includes (mode_bits f.open_mode) 2) (growth_to (size_at s.tree f.node) (put_end b f.position piece)) 0)
+                  (with_file s.guest fd
+                  (at_position f (cond b (size_of (node_at put f.node).content) (f.position + length piece))));
             }
 
+        moved : ℕ → Guest
+        moved position = with_file s.guest fd (at_position f position)
+
+        next : (b : Bool) → Reply (put_request b (held_by f) f.position piece) → Row (Value × Guest)
+        next b reply = give (put_answer s.guest fd f (put_in b (held_by f) f.position piece reply))
+
         by : (b : Bool) → f.modes.append ≡ b
-            → row_on s.tree (ask (put_request b (held_by f) f.position piece)
-            (λ reply. give (put_answer s.guest fd f (put_in b (held_by f) f.position piece reply))) left).0 ≡ Ok (x, s')
+            → row_on s.tree (growing (allowance s.guest.holdings f.open_mode) (ask (put_request b (held_by f) f.position piece) (next b)) left).0 ≡ Ok (x, s')
             → (x ≡ Number buffer.buf_len) × (s' ≡ written_to s fd piece (into f))
         by true at is =
-            let did = replied_by s.tree (Behind (held_by f) piece) _ is in
-            let put = behind_reply s.tree (held_by f) piece did.is in
-            let gives = number_is did.gives in (
+            let grew = gave_growing s.tree (allowance s.guest.holdings f.open_mode) (Behind (held_by f) piece) (next true) left is in
+            let put = behind_reply s.tree (held_by f) piece grew.within.is in
+            let gives = answer_is grew.within.gives in
+            let size = ap (λ (p : ℕ × Metadata). p.1.size) put ∙ told_size _ f.node in
+            let guest = grew_to (moved _) f.open_mode grew (gives.1 ∙ ap moved size) in (
               answers gives.0 (ap (λ (p : ℕ × Metadata). p.0) put),
-              (λ i. record {
-                tree = did.tree i;
-                guest = (gives.1 ∙ ap (λ (p : ℕ × Metadata). with_file s.guest fd (at_position f p.1.size)) put
-                    ∙ ap (λ k. with_file s.guest fd (at_position f k)) (told_size _ f.node)) i;
-              }) ∙ ap after (sym at),
+              (λ i. record { tree = grew.within.tree i; guest = guest i }) ∙ ap after (sym at),
             )
         by false at is =
-            let did = replied_by s.tree (Direct (Pwrite (held_by f) f.position piece)) _ is in
-            let whole : did.reply ≡ length piece = sym (unless_value _ did.is) in
-            let gives = number_is did.gives in (
+            let grew = gave_growing s.tree (allowance s.guest.holdings f.open_mode)
+            (Direct (Pwrite (held_by f) f.position piece)) (next false) left is in
+            let whole : grew.within.reply ≡ length piece = sym (unless_value _ grew.within.is) in
+            let gives = answer_is grew.within.gives in
+            let guest = grew_to (moved _) f.open_mode grew (gives.1 ∙ ap (λ k. moved (f.position + k)) whole) in (
               answers gives.0 whole,
-              (λ i. record {
-                tree = did.tree i;
-                guest = (gives.1 ∙ ap (λ k. with_file s.guest fd (at_position f (f.position + k))) whole) i;
-              }) ∙ ap after (sym at),
+              (λ i. record { tree = grew.within.tree i; guest = guest i }) ∙ ap after (sym at),
             )
 
 -- and what is written to an output is put so

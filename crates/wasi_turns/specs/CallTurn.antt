@@ -1,5 +1,5 @@
 -- What a call of the context does.
-use Rattle.std.specs.Prelude.{ℕ, ◌≡◌, ◌≤◌, ◌⊎◌, Bool, true, false, IsTrue, List, [], length, slice_get, Contains, Some, Result, Ok, Err, OnErr, is_ok, if◌then◌else◌}
+use Rattle.std.specs.Prelude.{ℕ, ◌≡◌, ◌≤◌, ◌⊎◌, Bool, true, false, IsTrue, List, [], length, slice_get, Contains, Some, Result, Ok, Err, IfErr, is_ok, if◌then◌else◌}
 use Rattle.wasi_host.specs.Agree.{Touches}
 use Rattle.wasi_fs.specs.declared.perms.FsPerms.{FsPerms}
 use Rattle.wasi_fs.specs.declared.perms.FsPerms.TheVariants.{ReadOnly}
@@ -12,7 +12,9 @@ use Rattle.wasi_turns.specs.Guest.{Guest, State, perms_in, guest_of, guest_by}
 use Rattle.wasi_turns.specs.Row.{Row, Program, done, asking}
 use Rattle.wasi_turns.specs.Front.{FueledCall, with_fuel}
 use Rattle.wasi_turns.specs.Rows.{row, turn, fuel_left, descriptors_named, may_want}
-use Rattle.wasi_turns.specs.Turn.{IsTurn, ReachesHost, come_to_by, roots_of}
+use Rattle.wasi_turns.specs.Spending.{makes, spent}
+use Rattle.wasi_turns.specs.Stock.{Stock}
+use Rattle.wasi_turns.specs.Turn.{IsTurn, ReachesHost, come_to_by, roots_of, used_by}
 use Rattle.wasi_guest.specs.declared.call.Call.{Call}
 use Rattle.wasi_guest.specs.declared.errno.Errno.TheVariants.{Io}
 use Rattle.wasi_turns.specs.declared.error.P1Error.{P1Error}
@@ -47,8 +49,8 @@ in_world w g = record { tree = w.tree; guest = g }
 -- under a handle by which its row asks the host
 pub record Turns (rose : Type 0) (w v : World) (g g' : Guest) (call : FueledCall)
     (result : Result Value P1Error) : Type 0 where
-  pub turn : IsTurn rose (ReachesHost (in_world w g) call) (in_world w g) (in_world v g') result
-      (turn (in_world w g) call)
+  pub turn : IsTurn rose (ReachesHost (in_world w g) call) (used_by (in_world w g) call) (in_world w g) (in_world v g')
+      result (turn (in_world w g) call)
   pub touched : Touches w.tree v.tree (roots_of (in_world w g) call)
       (if is_ok result then come_to_by (in_world w g) call else []) w.touched v.touched
 
@@ -67,6 +69,17 @@ pub record Kept {H : Type 0} (old new : View H) (before after : List ℕ) : Type
   pub slots : new.slots ≡ old.slots
   pub table_max : new.table_max ≡ old.table_max
   pub holdings : new.holdings ≡ old.holdings
+  pub memory : after ≡ before
+
+-- what a guest has beside its descriptors and memory stays; or, where the host failed, counts the use of the call
+abbrev pub OnlyUses : Call → P1Error → Stock → Stock → Type 0
+OnlyUses call e old new = (new ≡ old) ⊎ ((e ≡ Errno Io) × ((growth : ℕ) × (new ≡ spent (makes call) growth old)))
+
+-- what is the guest's own stays, but for what is so counted
+pub record KeptBut {H : Type 0} (call : Call) (e : P1Error) (old new : View H) (before after : List ℕ) : Type 0 where
+  pub slots : new.slots ≡ old.slots
+  pub table_max : new.table_max ≡ old.table_max
+  pub uses : OnlyUses call e old.holdings new.holdings
   pub memory : after ≡ before
 
 -- the host was asked nothing that it could fail at, and no look-up was made
@@ -94,14 +107,14 @@ pub record NamesUnder (perms : FsPerms) (g : Guest) (call : Call) : Type 0 where
   pub has : perms_in (slice_get g.slots fd) ≡ Some perms
 
 -- What a call does to its guest, by its row. Over every host: what the row says without the tree, where each handle
--- stands for what it stood for before the call; only an answered call changes what is the guest's own; descriptors stay
+-- stands for what it stood for before the call; only an answered call changes what is the guest's own, but for the use that a failed one counts; descriptors stay
 -- under their numbers with their handles, but for those that the call names or closes; and the fuel is what the row
 -- leaves. Over a host that tells its world: the turn, which leaves the tree, whatever it answers, where a descriptor
 -- that the call names is under read-only permissions
 pub record FollowsRow {H : Type 0} (told : Bool) (world : H → World) (faults : H → FaultCount) (lookups : H → List Lookup)
     (old new : View H) (before after : List ℕ) (call : Call) (result : Result Value P1Error) : Type 0 where
   pub size : length after ≡ length before
-  pub kept : OnErr result (Kept old new before after)
+  pub kept : IfErr result (λ e. KeptBut call e old new before after)
   pub wants : result ≡ Err Memory → IsTrue (may_want call)
   pub slots : SlotsOfCall old.slots new.slots before call
   pub fuel : new.fuel ≡ fuel_left (guest_of world old before) (with_fuel old.fuel call)

@@ -10,6 +10,7 @@ abbrev pub may_be_answered : Errno → Bool
 may_be_answered errnos.Acces = true
 may_be_answered errnos.Badf = true
 may_be_answered errnos.Busy = true
+may_be_answered errnos.Dquot = true
 may_be_answered errnos.Exist = true
 may_be_answered errnos.Fbig = true
 may_be_answered errnos.Ilseq = true

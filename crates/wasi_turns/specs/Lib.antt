@@ -1,4 +1,5 @@
 pub mod Stock
+pub mod Quotas
 pub mod Slots
 pub mod Numbering
 pub mod Owners
@@ -19,6 +20,7 @@ pub mod PageLaws
 pub mod Parts
 pub mod Files
 pub mod Front
+pub mod Spending
 pub mod Putting
 pub mod Services
 pub mod Subscriptions
@@ -41,6 +43,7 @@ pub mod PutBytes
 pub mod DescriptorLaws
 pub mod Validity
 pub mod AppendOnly
+pub mod QuotaLaws
 pub mod Asked
 pub mod CallParts
 pub mod EntriesSeen

@@ -15,7 +15,7 @@ use Rattle.wasi_turns.specs.Front.{with_fuel}
 use Rattle.wasi_turns.specs.Owners.{Owned, handles}
 use Rattle.wasi_turns.specs.Parts.{held_by}
 use Rattle.wasi_turns.specs.Rows.{turn}
-use Rattle.wasi_turns.specs.Writing.{buffer_bytes}
+use Rattle.wasi_turns.specs.Writing.{buffer_bytes, put_growth, with_grown}
 use Rattle.wasi_turns.specs.declared.slots.Slot.{Slot}
 
 -- the bytes of a file, by its node
@@ -26,15 +26,18 @@ file_bytes t n = bytes_of (node_at t n).content
 abbrev pub bytes_from : Tree → ℕ → ℕ → ℕ → List ℕ
 bytes_from t n offset buf_len = take (min buf_len 65536) (drop offset (file_bytes t n))
 
--- the first buffer that has bytes is put into the file whole, from the offset on, and its length is the answer; nothing
--- else changes
+-- the first buffer that has bytes is put into the file whole, from the offset on, and its length is the answer; the
+-- file's growth is counted where a bound is set, and nothing else changes
 pub record PutsAt (s s' : State) (f : OpenFile) (iovs n offset : ℕ) (x : Value) : Type 0 where
   pub buffer : Iovec
   pub first : first_buffer s.guest.memory iovs n ≡ Ok buffer
   pub inside : IsInMemory s.guest.memory buffer.buf buffer.buf_len
   pub may : can_write f.mode ≡ true
   pub answer : x ≡ Number buffer.buf_len
-  pub after : s' ≡ record s { tree = write_step s.tree f.node offset (buffer_bytes s.guest.memory buffer) }
+  pub after : s' ≡ record {
+    tree = write_step s.tree f.node offset (buffer_bytes s.guest.memory buffer);
+    guest = with_grown (put_growth s.tree f offset (buffer_bytes s.guest.memory buffer)) s.guest;
+  }
 
 -- so does every `fd_pwrite` that is answered, of a file that isn't in append mode
 abbrev pub BytesArePut : Type 0

@@ -1,5 +1,5 @@
 -- How a piece is put into a file: in append mode behind its last byte, and else from an offset on.
-use Rattle.std.specs.Prelude.{ℕ, ◌+◌, Bool, true, false, List}
+use Rattle.std.specs.Prelude.{ℕ, ◌+◌, Bool, true, false, List, length}
 use Rattle.wasi_host.specs.Answer.{HostAnswer}
 use Rattle.wasi_host.specs.HostCall.{HostCall, Append, Pwrite}
 use Rattle.wasi_host.specs.declared.held.Held.{Held}
@@ -9,6 +9,9 @@ use Rattle.wasi_guest.specs.declared.answer.Value.TheVariants.{Number}
 use Rattle.wasi_turns.specs.Guest.{Guest, OpenFile}
 use Rattle.wasi_turns.specs.Parts.{at_position, with_file}
 use Rattle.wasi_turns.specs.Request.{Request, Reply, Direct, Behind}
+use Rattle.wasi_turns.specs.Quotas.{end_of_piece}
+use Rattle.wasi_turns.specs.declared.quotas.FileEnd.{FileEnd}
+use Rattle.wasi_turns.specs.declared.quotas.FileEnd.TheVariants as ends
 use Rattle.wasi_turns.specs.declared.usage.Put.{Put}
 
 -- where the file's position stays: one call of the host
@@ -35,6 +38,11 @@ abbrev pub put_in : (append : Bool) (f : Held) (offset : ℕ) (piece : List ℕ)
     → Reply (put_request append f offset piece) → Put
 put_in true f offset piece put = appended_in put
 put_in false f offset piece count = record { count = count; position = offset + count }
+
+-- where the file ends then, if that is more than its size
+abbrev pub put_end : Bool → ℕ → List ℕ → FileEnd
+put_end true offset piece = ends.Behind (length piece)
+put_end false offset piece = end_of_piece offset piece
 
 -- the answer is how many bytes the file took, and the file is at that position
 abbrev pub put_answer : Guest → ℕ → OpenFile → Put → Value × Guest

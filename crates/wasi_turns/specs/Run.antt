@@ -9,7 +9,7 @@ use Rattle.wasi_turns.specs.Guest.{State}
 use Rattle.wasi_turns.specs.Row.{Row}
 use Rattle.wasi_turns.specs.Rows.{turn, may_want}
 use Rattle.wasi_turns.specs.Slots.{View}
-use Rattle.wasi_turns.specs.Turn.{StepTaken, ReachesHost, named_by}
+use Rattle.wasi_turns.specs.Turn.{AfterFault, ReachesHost, named_by, used_by}
 use Rattle.wasi_guest.specs.declared.answer.Answer.{Answer}
 use Rattle.wasi_guest.specs.declared.answer.Answer.TheVariants as answers
 use Rattle.wasi_guest.specs.declared.call.Call.{Call}
@@ -59,12 +59,12 @@ Gives (Err e) old answer new = (answer_of (Err e) ≡ Some answer) × (new ≡ o
 abbrev pub Played : Turned → Type 0
 Played t = Gives (turn t.before t.call) t.before t.answer t.after
 
--- the host failed in a call that came to it: the answer is `io`, and the state is the one before, or that with the
--- row's one step
+-- the host failed in a call that came to it: the answer is `io`, and the state is the one before; or that with the use
+-- of the call counted, and perhaps with the row's one step
 pub record Faulted (t : Turned) : Type 0 where
   pub came : ReachesHost t.before t.call
   pub io : t.answer ≡ answers.Errno Io
-  pub state : (t.after ≡ t.before) ⊎ StepTaken t.before t.after (turn t.before t.call)
+  pub state : AfterFault (used_by t.before t.call) t.before t.after (turn t.before t.call)
 
 -- a turn of a run that has k faulted turns left before it, and j after it
 abbrev pub Spends : ℕ → ℕ → Turned → Type 0

@@ -1,9 +1,12 @@
 -- What a guest has beside its descriptors and its memory.
 use Rattle.std.specs.Prelude.{ℕ, List, [], ◌∷◌, ◌++◌, map}
+use Rattle.wasi_guest.specs.Quotas.{no_quota, nothing_used}
 use Rattle.wasi_guest.specs.Services.{Handed}
+use Rattle.wasi_guest.specs.declared.quota.Quota.{Quota}
+use Rattle.wasi_guest.specs.declared.quota.QuotaUsed.{QuotaUsed}
 use Rattle.wasi_guest.specs.declared.services.WallDatetime.{WallDatetime}
 
--- What it was handed in, as far as that is left, and what it has written
+-- What it was handed in, as far as that is left, what it has written, and how much it may make and grow
 pub record Stock : Type 0 where
   -- the names of the directories that it was given, in order
   pub preopens : List (List ℕ)
@@ -22,6 +25,9 @@ pub record Stock : Type 0 where
   -- bytes that are given round and round, and the place of the next one
   pub random : List ℕ
   pub random_at : ℕ
+  -- how much it may make and grow in all, and how much of that is used
+  pub quota : Quota
+  pub used : QuotaUsed
 
 -- a variable, with `=` between its key and its value
 abbrev pub env_text : List ℕ × List ℕ → List ℕ
@@ -42,6 +48,8 @@ first_stock given names = record {
   monotonic_resolution = given.monotonic_resolution;
   random = given.random;
   random_at = 0;
+  quota = no_quota;
+  used = nothing_used;
 }
 
 -- the fuel of a new context

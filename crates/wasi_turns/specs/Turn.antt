@@ -1,8 +1,9 @@
 -- What a call did, against its row.
 use Rattle.std.specs.Prelude.{ℕ, List, ◌≡◌, ◌⊎◌, Result, Ok, Err}
-use Rattle.wasi_turns.specs.Guest.{State}
+use Rattle.wasi_turns.specs.Guest.{Guest, State}
 use Rattle.wasi_turns.specs.Row.{Row, Asks, starts, request_ends, request_comes}
 use Rattle.wasi_turns.specs.Rows.{row}
+use Rattle.wasi_turns.specs.Spending.{growth_of, makes, spent}
 use Rattle.wasi_turns.specs.Front.{FueledCall}
 use Rattle.wasi_guest.specs.declared.errno.Errno.TheVariants as errnos
 use Rattle.wasi_turns.specs.declared.error.P1Error.{P1Error}
@@ -19,24 +20,36 @@ pub record Wants (before after : State) (e : P1Error) : Type 0 where
   pub memory : e ≡ Memory
   pub stays : after ≡ before
 
--- the state before, with the one step that the row makes in the tree
-abbrev pub StepTaken : State → State → Row (Value × State) → Type 0
-StepTaken before after (Ok p) = after ≡ record before { tree = p.1.tree }
-StepTaken before after (Err e) = ⊥
+-- the guest with the use of a call added to its counts: one making of a call that makes something, and the growth of a
+-- write or a new size
+abbrev pub used_by : State → FueledCall → Guest
+used_by s call =
+    record s.guest { holdings = spent (makes call.call) (growth_of s.tree (row s.guest call)) s.guest.holdings }
 
--- the host failed where the row comes to it: the state stays, or has the row's step alone
-pub record Faults (rose reaches : Type 0) (before after : State) (e : P1Error)
+-- the one step that the row makes in the tree, beside the guest with its use
+abbrev pub StepTaken : Guest → State → Row (Value × State) → Type 0
+StepTaken used after (Ok p) = after ≡ record { tree = p.1.tree; guest = used }
+StepTaken used after (Err e) = ⊥
+
+-- a faulted call leaves the state; or the state but for the use, which is counted; or it takes the row's one step and
+-- counts the use
+abbrev pub AfterFault : Guest → State → State → Row (Value × State) → Type 0
+AfterFault used before after row =
+    (after ≡ before) ⊎ ((after ≡ record before { guest = used }) ⊎ StepTaken used after row)
+
+-- the host failed where the row comes to it
+pub record Faults (rose reaches : Type 0) (used : Guest) (before after : State) (e : P1Error)
     (row : Row (Value × State)) : Type 0 where
   pub io : e ≡ Errno errnos.Io
   pub count : rose
   pub came : reaches
-  pub state : (after ≡ before) ⊎ StepTaken before after row
+  pub state : AfterFault used before after row
 
 -- the answer and the state after it are the row's; or memory was wanted; or the host failed
-abbrev pub IsTurn : Type 0 → Type 0 → State → State → Result Value P1Error → Row (Value × State) → Type 0
-IsTurn rose reaches before after (Ok x) row = row ≡ Ok (x, after)
-IsTurn rose reaches before after (Err e) row =
-    RowRefuses before after e row ⊎ (Wants before after e ⊎ Faults rose reaches before after e row)
+abbrev pub IsTurn : Type 0 → Type 0 → Guest → State → State → Result Value P1Error → Row (Value × State) → Type 0
+IsTurn rose reaches used before after (Ok x) row = row ≡ Ok (x, after)
+IsTurn rose reaches used before after (Err e) row =
+    RowRefuses before after e row ⊎ (Wants before after e ⊎ Faults rose reaches used before after e row)
 
 -- no refusal of the row stands before its request
 abbrev pub ReachesHost : State → FueledCall → Type 0

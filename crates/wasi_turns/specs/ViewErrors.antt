@@ -1,4 +1,5 @@
 -- Which error of a call a refusal of preview2 becomes.
+use Rattle.std.specs.Prelude.{Result, Ok, Err}
 use Rattle.wasi_guest.specs.declared.answer.TrapKind.TheVariants.{TableFull}
 use Rattle.wasi_guest.specs.declared.errno.Errno.{Errno}
 use Rattle.wasi_guest.specs.declared.errno.Errno.TheVariants as errnos
@@ -62,3 +63,8 @@ abbrev pub view_error_of : FsError → P1Error
 view_error_of (Code code) = errors.Errno (errno_named code)
 view_error_of (Trap refused) = table_error_of refused
 view_error_of Memory = errors.Memory
+
+-- an answer of a view, with a refusal as a call's
+abbrev pub view_raised : {A : Type 0} → Result A FsError → Result A P1Error
+view_raised (Ok x) = Ok x
+view_raised (Err e) = Err (view_error_of e)

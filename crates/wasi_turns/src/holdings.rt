@@ -1,5 +1,5 @@
 //! What a guest has beside its descriptors and its memory.
-ghost use Rattle.std.specs.Prelude.{◌≡◌, ◌+◌, ◌-◌, ◌^◌, ◌≤◌, ◌<◌, ◌*◌, ◌%◌, ◌==◌, ◌&&◌, slice_index_or, slice_get, option_map, min, false, IfOk, IfErr, OnOk, OnErr, map, length};
+ghost use Rattle.std.specs.Prelude.{◌≡◌, ◌+◌, ◌-◌, ◌^◌, ◌≤◌, ◌<◌, ◌*◌, ◌%◌, ◌==◌, ◌&&◌, slice_index_or, slice_get, option_map, min, false, IsTrue, IfSome, Ok, IfOk, IfErr, OnOk, OnErr, map, length};
 ghost use Rattle.wasi_turns.specs.CallParts.{WantsNoMemory, with_after, is_failure};
 ghost use Rattle.std.specs.List.{range_with_len};
 ghost use Rattle.std.specs.String.{string_bytes};
@@ -11,15 +11,20 @@ ghost use Rattle.wasi_turns.specs.Stock.{first_stock, env_text};
 ghost use Rattle.std.specs.Int.{to_le_bytes, w32};
 ghost use Rattle.wasi_guest.specs.Range.{IsInMemory, in_memory, with_bytes};
 ghost use Rattle.wasi_guest.specs.Services.{env_pair, handed};
+ghost use Rattle.wasi_guest.specs.Quotas.{IsQuota};
+ghost use Rattle.wasi_turns.specs.Quotas.{allowance, counted_growth, counted_making, counted_makings, with_quota, IsWithinQuota};
+ghost use Rattle.wasi_turns.specs.Spending.{may_be_done, may_make, on_outcome};
 
 use crate::error::P1Error;
+use crate::quotas::Allowance;
 use crate::raw_numbers::INVALID;
 use crate::slots::P1Preopen;
 use std::alloc::{AllocError, Global};
 use std::marker::Model;
+use wasi_fs::OpenMode;
 use wasi_guest::{
-    Clockid, EnvPair, Errno, Flags, Iovec, Services, SubclockFlags, TrapKind, Value, WallDatetime,
-    write_bytes,
+    Clockid, EnvPair, Errno, Flags, Iovec, Quota, QuotaUsed, Services, SubclockFlags, TrapKind,
+    Value, WallDatetime, write_bytes,
 };
 
 /// What a guest was handed in, as far as that is left, and what it has written to the two outputs.
@@ -41,6 +46,9 @@ pub struct Holdings {
     random: Vec<u8>,
     /// The place of the next random byte.
     random_at: usize,
+    /// How much the guest may make and grow in all, and how much of that is used.
+    quota: Quota,
+    used: QuotaUsed,
 }
 
 impl Model for Holdings {
@@ -48,6 +56,7 @@ impl Model for Holdings {
     ghost use Rattle.std.specs.String.{string_bytes};
     ghost use Rattle.wasi_turns.specs.Slots.{given_name};
     ghost use Rattle.wasi_turns.specs.Stock.{Stock};
+    ghost use Rattle.wasi_turns.specs.Quotas.{IsWithinQuota};
 
     ghost Value = { Stock };
 
@@ -64,9 +73,12 @@ impl Model for Holdings {
       monotonic_resolution = h.monotonic_resolution;
       random = h.random.items;
       random_at = h.random_at;
+      quota = h.quota;
+      used = h.used;
     } };
 
-    ghost invariant = { λ h. (h.read ≤ length h.stdin.items) × (h.random_at ≤ length h.random.items - 1) };
+    ghost invariant = { λ h. (h.read ≤ length h.stdin.items) × (h.random_at ≤ length h.random.items - 1)
+        × IsWithinQuota h.quota h.used };
 }
 
 /// What a guest wrote to its two outputs.
@@ -131,6 +143,8 @@ impl Holdings {
             monotonic_resolution: services.monotonic_resolution,
             random: services.random,
             random_at: 0,
+            quota: Quota::NONE,
+            used: QuotaUsed { nodes: 0, bytes: 0 },
         })
     }
 
@@ -208,6 +222,92 @@ impl Holdings {
     {
         let clock = Clockid::from_number(id).ok_or(INVALID)?;
         moment_of(self.wall, self.monotonic, clock)
+    }
+}
+
+/// Whether what a part of a call asked of a host was done, or may have been, where the host failed.
+fn may_be_done<T>(outcome: &Result<T, P1Error>) -> bool
+    ensures { result ≡ may_be_done outcome.now }
+{
+    match outcome {
+        Ok(_) => true,
+        Err(P1Error::Errno(errno)) => *errno == Errno::Io,
+        Err(_) => false,
+    }
+}
+
+impl Holdings {
+    /// Sets how much the guest may make and grow from now on, and both counts to 0. Each bound is at most 2^62. It takes
+    /// no memory.
+    pub fn set_quota(&mut self, quota: Quota)
+        requires quota { IsQuota quota }
+        ensures set { self.new ≡ with_quota quota self.old }
+    {
+        self.quota = quota;
+        self.used = QuotaUsed { nodes: 0, bytes: 0 };
+    }
+
+    /// How much of the quota is used; never more than it.
+    pub fn quota_used(&self) -> QuotaUsed
+        ensures used { result ≡ self.now.used }
+        ensures within { IsWithinQuota self.now.quota result }
+    {
+        self.used
+    }
+
+    /// Dquot where no making is left.
+    #[tactic(auto, unfolding(crate::specs::Spending::may_make))]
+    pub fn check_making(&self) -> Result<(), P1Error>
+        ensures row { result ≡ may_make self.now }
+        ensures refusal { IfErr result (λ e. is_failure e ≡ false) }
+    {
+        match self.quota.nodes {
+            Some(most) if most <= self.used.nodes => Err(P1Error::Errno(Errno::Dquot)),
+            _ => Ok(()),
+        }
+    }
+
+    /// Counts a making, where it was done, or may have been, since the host failed.
+    #[tactic(auto, unfolding(crate::specs::Spending::may_make))]
+    pub fn count_making<T>(&mut self, outcome: &Result<T, P1Error>)
+        requires left { may_make self.old ≡ Ok tt }
+        ensures counted { self.new ≡ on_outcome outcome.now (counted_making self.old) self.old }
+    {
+        if may_be_done(outcome) && self.quota.nodes.is_some() {
+            self.used.nodes += 1;
+        }
+    }
+
+    /// Counts a making of an open, where it creates.
+    pub fn count_opening<T>(&mut self, creates: bool, outcome: &Result<T, P1Error>)
+        requires left { IsTrue creates → may_make self.old ≡ Ok tt }
+        ensures counted { self.new ≡ on_outcome outcome.now (counted_makings creates self.old) self.old }
+    {
+        if creates {
+            self.count_making(outcome);
+        }
+    }
+
+    /// What the bound on grown bytes leaves to a descriptor of this mode; `None` where there is no bound.
+    pub fn allowance(&self, mode: OpenMode) -> Option<Allowance>
+        ensures is { result ≡ allowance self.now mode }
+    {
+        let most = self.quota.bytes?;
+        Some(Allowance {
+            most,
+            used: self.used.bytes,
+            may_grow: mode.contains(OpenMode::WRITE),
+        })
+    }
+
+    /// Counts grown bytes, where a write or a new size was done, or may have been, since the host failed.
+    pub fn count_growth<T>(&mut self, growth: u64, outcome: &Result<T, P1Error>)
+        requires left { IfSome self.old.quota.bytes (λ most. self.old.used.bytes + growth ≤ most) }
+        ensures counted { self.new ≡ on_outcome outcome.now (counted_growth growth self.old) self.old }
+    {
+        if may_be_done(outcome) && self.quota.bytes.is_some() {
+            self.used.bytes += growth;
+        }
     }
 }
 

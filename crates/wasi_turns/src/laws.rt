@@ -7,6 +7,7 @@ ghost use Rattle.wasi_turns.specs.RunLaws.{OtherErrorsNeverCome, RowsAreComplete
 ghost use Rattle.wasi_turns.specs.Stems.{PermissionsStem};
 ghost use Rattle.wasi_turns.specs.ReadOnly.{ReadOnlyTurnsLeaveTheTree, ReadOnlyRunsLeaveTheTree};
 ghost use Rattle.wasi_turns.specs.AppendOnly.{AppendOnlyTurnsAdd, AppendingStays, RunsOnlyGrow, RunsKeepWhatIsApart};
+ghost use Rattle.wasi_turns.specs.QuotaLaws.{OpenedStays, RunsStayWithinQuotas, QuotasAreCounted};
 ghost use Rattle.wasi_turns.specs.Validity.{RunsStayValid};
 ghost use Rattle.wasi_turns.specs.Writing.{WritesAreWhole};
 ghost use Rattle.wasi_turns.specs.PutBytes.{BytesArePut, FilesAreHeld, PutBytesStand, BytesAreGot, PutBytesAreGot};
@@ -36,9 +37,9 @@ pub fn valid_calls_are_answered()
     ensures complete { RunsAreComplete }
 {}
 
-/// No call of a run is answered an error number but the 23 that `may_be_answered` lists, of the 38 of `Errno`. `again`,
-/// `already`, `deadlk`, `dquot`, `inprogress`, `msgsize`, `nodev`, `nolck`, `notrecoverable`, `notty`, `nxio`, `pipe`,
-/// `rofs`, `txtbsy` and `xdev` never come.
+/// No call of a run is answered an error number but the 24 that `may_be_answered` lists, of the 38 of `Errno`. `again`,
+/// `already`, `deadlk`, `inprogress`, `msgsize`, `nodev`, `nolck`, `notrecoverable`, `notty`, `nxio`, `pipe`, `rofs`,
+/// `txtbsy` and `xdev` never come.
 pub fn other_errors_never_come()
     ensures errnos { OtherErrorsNeverCome }
 {}
@@ -97,6 +98,21 @@ pub fn append_only_runs_keep()
     ensures appends { AppendingStays }
     ensures grows { RunsOnlyGrow }
     ensures apart { RunsKeepWhatIsApart }
+{}
+
+/// The nodes that a run makes are at most those that the quota of makings leaves at its start. The bytes by which it makes
+/// files longer are at most those that the quota of grown bytes leaves. It is so whatever the guest calls, and however
+/// often the host fails, of a guest whose files are written as they were opened, as `path_open` opens them and each call
+/// keeps them.
+pub fn runs_stay_within_quotas()
+    ensures opened { OpenedStays }
+    ensures within { RunsStayWithinQuotas }
+{}
+
+/// Each call that is answered Ok counts what it makes and grows, and one that is refused counts nothing; one in which the
+/// host failed does either. The quota stays.
+pub fn quotas_are_counted()
+    ensures counted { QuotasAreCounted }
 {}
 
 /// The live and the closed descriptor numbers together are those below a number, and a new descriptor takes the largest

@@ -11,6 +11,7 @@ use Rattle.wasi_turns.proofs.Adding.{open_adds, append_only_open, under_appends}
 use Rattle.wasi_turns.proofs.Changing.{named_directory, directory_perms, put_opened}
 use Rattle.wasi_turns.proofs.Keeping.{open_keeps, read_only_kept}
 use Rattle.wasi_turns.proofs.Nearness.Parts.{RowNear, then, then_text, asks_near, one_under, permitted_by}
+use Rattle.wasi_turns.proofs.Nearness.Spending.{making_near}
 use Rattle.wasi_turns.proofs.Wanting.{how_never, directory_never, room_never, open_known, permit_never}
 
 pub path_open_near : {g : Guest} {fd dirflags path len oflags base inheriting fdflags : ℕ}
@@ -19,7 +20,7 @@ unfolding path_open
 path_open_near {g} {fd} {fdflags = fdflags} = then _ (how_never _ _ _ _ _) (λ how _. then_text g _ _ (λ text read.
     then _ (directory_never (slice_get g.slots fd)) (λ d is. then _ (room_never g.slots g.table_max 1) (λ _ _.
     then _ (permit_never _ (open_known how d.perms)) (λ _ may.
-    let perms = directory_perms errnos.Notdir (slice_get g.slots fd) is in asks_near (record {
+    let perms = directory_perms errnos.Notdir (slice_get g.slots fd) is in making_near how.create (asks_near (record {
       starts = λ n has. named_directory errnos.Notdir g fd n (Contains-here fd []) is has;
       slots = λ found. put_opened g fd d.perms (mode_of how) (modes_under d.perms (modes_in fdflags)) found perms
           (under_appends d.perms (modes_in fdflags));
@@ -29,4 +30,4 @@ path_open_near {g} {fd} {fdflags = fdflags} = then _ (how_never _ _ _ _ _) (λ h
           (λ is _. open_adds t d.node text how (append_only_open how may is) answered);
       asked = λ _. read;
       bytes = λ are found _. are;
-    }))))))
+    })))))))

@@ -17,13 +17,13 @@ use Rattle.wasi_host.specs.declared.errors.ErrorCode.{ErrorCode}
 use Rattle.wasi_resolve.specs.PathRequest.{PathRequest, PathReply, path_reply, path_after, path_starts}
 use Rattle.wasi_turns.specs.Front.{Front, CallFront, onward, free, answer, ask, charge, charged_text, charged_buffer, at_path, at_buffer, known_or_asked, tells, done_if, ◌>>=◌}
 use Rattle.wasi_turns.specs.Guest.{Guest, GuestSlot, OpenFile, file, node_in, perms_in}
-use Rattle.wasi_turns.specs.Parts.{OpenNode, start_in, range, permit, from_guest, held_by, may_write}
+use Rattle.wasi_turns.specs.Parts.{OpenNode, start_in, range, permit, from_guest}
 use Rattle.wasi_turns.specs.AppendOnly.{Adds, AppendsAtEnd}
 use Rattle.wasi_turns.specs.Request.{Request, Reply, Path, reply_of, after, starts_at}
 use Rattle.wasi_turns.specs.Row.{Row, Program, give, made_of_reply}
 use Rattle.wasi_turns.specs.Rows.{Stem, front, descriptors_named, itself, stem_in}
 use Rattle.wasi_turns.specs.Stock.{Stock}
-use Rattle.wasi_turns.specs.Validity.{AreBytes, HasBytes}
+use Rattle.wasi_turns.specs.Validity.{HasBytes}
 use Rattle.wasi_turns.specs.declared.error.P1Error.TheVariants.{Errno}
 use Rattle.wasi_host.proofs.Agreeing.{one}
 use Rattle.wasi_host.proofs.Leaving.{Contains-here}
@@ -32,9 +32,8 @@ use Rattle.wasi_turns.proofs.Changing.{named_directory, named_file, directory_pe
 use Rattle.wasi_turns.proofs.Codes.{IsKnown}
 use Rattle.wasi_turns.proofs.Near.{Ends, IsNamed, AllUnder, Permitted, leaves, changes, StaysNear, AsksNear, IsNear, KeepsSlots, KeepsBytes, GivesBytes, MayBeAsked, AreTexts, given_by}
 use Rattle.wasi_turns.proofs.Adding.{no_altering}
-use Rattle.wasi_turns.proofs.Keeping.{no_act, no_write}
-use Rattle.wasi_turns.proofs.Putting.{PutsInto}
-use Rattle.wasi_turns.proofs.Wanting.{IsRefusal, Never, guest_never, start_never, permit_never, range_never, write_never}
+use Rattle.wasi_turns.proofs.Keeping.{no_act}
+use Rattle.wasi_turns.proofs.Wanting.{IsRefusal, Never, guest_never, start_never, permit_never, range_never}
 
 -- whatever fuel there is
 pub record AlwaysNear (g : Guest) (call : Call) (m : CallFront) : Type 0 where
@@ -210,20 +209,6 @@ file_asked {g} {call} fd named is starts slots ends permits asked bytes = asks_n
   asked = asked;
   bytes = bytes;
 })
-
--- a piece goes into it, where that is permitted
-pub piece_near : {g : Guest} {call : Call} {f : OpenFile} {piece : List ℕ} {r : Request}
-    {shown : Reply r → Value × Guest} (fd : ℕ)
-    → descriptors_named g.memory call ≡ fd ∷ [] → slice_get g.slots fd ≡ Some (file f) → PutsInto f.modes.append (held_by f) piece r
-    → (HasBytes g → AreBytes piece)
-    → ((reply : Reply r) → StaysNear g (stem_in call) (given_by r reply) (shown reply))
-    → ((reply : Reply r) → HasBytes g → HasBytes (shown reply).1)
-    → AlwaysNear g call (free (may_write f.perms) >>= (λ _. ask r (λ reply. give (shown reply))))
-piece_near {g} {call} {f} fd named is puts bytes slots still = then (may_write f.perms) (write_never f.perms) (λ _ may.
-    file_asked fd named is puts.starts slots (λ _ _. tt)
-    (λ t. permitted_by (one_under g call fd named (ap perms_in is)) (λ perms. absurd (no_write f.perms may perms))
-    (λ perms all. puts.adds t (all fd f is perms)))
-    (λ are. puts.asked (bytes are)) (λ are reply _. still reply are))
 
 -- the tree is asked only where something isn't known
 pub known_near : {A B : Type 0} {g : Guest} {call : Call} (part : B → Row A) {r : Request} (next : Reply r → Row A)

@@ -1,5 +1,5 @@
 -- What holds of the rows of the calls at the place that a path names.
-use Rattle.std.proofs.Common.{ℕ, ◌≡◌, List, length, [], ◌∷◌, refl, take, slice_get, Ok}
+use Rattle.std.proofs.Common.{ℕ, ◌≡◌, true, List, length, [], ◌∷◌, refl, take, slice_get, Ok}
 use Rattle.wasi_guest.specs.declared.call.Call.{Call}
 use Rattle.wasi_guest.specs.declared.call.Call.TheVariants as calls
 use Rattle.wasi_fs.specs.Calls.{may_do}
@@ -18,6 +18,7 @@ use Rattle.wasi_turns.proofs.Adding.{directory_adds, link_adds}
 use Rattle.wasi_turns.proofs.Changing.{written_slots, written_ends, written_bytes, stated_slots, stated_ends, stated_bytes}
 use Rattle.wasi_turns.proofs.Keeping.{no_act, no_link, link_leaves}
 use Rattle.wasi_turns.proofs.Nearness.Parts.{AddsAt, AlwaysNear, LetsThrough, RowNear, alters, then, then_text, then_path, asks_near, starts_near, done_if_at}
+use Rattle.wasi_turns.proofs.Nearness.Spending.{making_near}
 use Rattle.wasi_turns.proofs.Wanting.{act_known, link_known, filestat_never, follow_never, range_never, start_never}
 use Rattle.wasi_turns.proofs.Near.{leaves}
 use Rattle.wasi_fs.specs.declared.perms.Act.{Act}
@@ -35,10 +36,10 @@ done_near {g} fd path len act what stems named target lets =
 
 pub path_create_directory_near : {g : Guest} {fd path len : ℕ} → RowNear g (calls.PathCreateDirectory fd path len)
 unfolding path_create_directory
-path_create_directory_near = done_near _ _ _ Make CreateDir refl refl tt (λ perms _ may d text. record {
+path_create_directory_near = making_near true (done_near _ _ _ Make CreateDir refl refl tt (λ perms _ may d text. record {
   never = no_act perms Make may;
   adds = λ _ t _ answered. directory_adds t d text answered;
-})
+}))
 
 pub path_remove_directory_near : {g : Guest} {fd path len : ℕ} → RowNear g (calls.PathRemoveDirectory fd path len)
 unfolding path_remove_directory
@@ -76,7 +77,7 @@ pub path_symlink_near : {g : Guest} {old_path old_len fd new_path new_len : ℕ}
     → RowNear g (calls.PathSymlink old_path old_len fd new_path new_len)
 unfolding path_symlink
 path_symlink_near {g} {fd = fd} = then _ (start_never (slice_get g.slots fd)) (λ d is. then_text g _ _ (λ target told. then_text g _ _ (λ text read.
-    done_if_at _ (AtPlace d.node text (Symlink target)) fd refl refl is refl (λ _ may. record {
+    making_near true (done_if_at _ (AtPlace d.node text (Symlink target)) fd refl refl is refl (λ _ may. record {
       never = no_link d.perms target may;
       adds = λ _ t _ answered. link_adds t d.node text target answered;
-    }) (read, told) (link_known d.perms target))))
+    }) (read, told) (link_known d.perms target)))))

@@ -12,6 +12,7 @@ use Rattle.wasi_turns.specs.Rows.{itself, fd_advise, fd_allocate, fd_datasync, f
 use Rattle.wasi_turns.proofs.Changing.{file_is, put_back}
 use Rattle.wasi_turns.proofs.Near.{StaysNear, leaves, made_bytes, made_ends, made_slots}
 use Rattle.wasi_turns.proofs.Nearness.Parts.{AlwaysNear, RowNear, alters, let_through, one_under, then, done_at_file, file_asked, known_near, slots_near, tells_near}
+use Rattle.wasi_turns.proofs.Nearness.Spending.{growing_near}
 use Rattle.wasi_turns.proofs.Wanting.{act_known, file_never, inval_never, position_never}
 use Rattle.wasi_turns.specs.declared.usage.FileUse.TheVariants.{Itself, Position}
 use Rattle.wasi_fs.specs.declared.perms.Act.TheVariants.{Alter}
@@ -39,9 +40,9 @@ fd_sync_near {g} {fd} = then _ (file_never Itself (slice_get g.slots fd)) (λ f 
 pub fd_filestat_set_size_near : {g : Guest} {fd size : ℕ} → RowNear g (calls.FdFilestatSetSize fd size)
 unfolding fd_filestat_set_size
 fd_filestat_set_size_near {g} {fd} {size} = then _ (file_never Itself (slice_get g.slots fd)) (λ f is.
-    done_at_file (may_do f.perms Alter) (Direct (SetSize (held_by f) size)) fd refl refl (file_is Itself _ is) refl
+    growing_near _ (done_at_file (may_do f.perms Alter) (Direct (SetSize (held_by f) size)) fd refl refl (file_is Itself _ is) refl
     (λ _ may t. let_through (one_under g _ fd refl (ap perms_in (file_is Itself _ is))) (alters f.perms may)) tt
-    (act_known f.perms Alter))
+    (act_known f.perms Alter)))
 
 -- a position that is sought
 seeks_near : {g : Guest} {fd whence : ℕ} {offset : ℤ} (f : OpenFile) (base : Option ℕ)

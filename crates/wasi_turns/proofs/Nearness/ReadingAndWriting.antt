@@ -1,22 +1,30 @@
 -- What holds of the rows of the calls that read and write by a number.
-use Rattle.std.proofs.Common.{ℕ, ◌≡◌, ◌+◌, List, length, [], refl, slice_get, Ok}
+use Rattle.std.proofs.Common.{ℕ, ◌≡◌, ◌+◌, List, length, [], ◌∷◌, refl, ap, slice_get, Some, Ok}
 use Rattle.std.specs.Prelude.{min}
+use Rattle.wasi_guest.specs.declared.answer.Value.{Value}
 use Rattle.wasi_guest.specs.declared.answer.Value.TheVariants.{Number}
+use Rattle.wasi_guest.specs.declared.call.Call.{Call}
 use Rattle.wasi_guest.specs.declared.call.Call.TheVariants as calls
 use Rattle.wasi_guest.specs.declared.iovec.Iovec.{Iovec}
 use Rattle.wasi_host.specs.HostCall.{Pread}
-use Rattle.wasi_turns.specs.Guest.{Guest}
-use Rattle.wasi_turns.specs.Parts.{Source, input, from, source_in, Sink, output, into, sink_in, held_by}
-use Rattle.wasi_turns.specs.Request.{Direct}
-use Rattle.wasi_turns.specs.Rows.{fd_pread, fd_pwrite, fd_read, fd_write, read_from, write_to}
+use Rattle.wasi_turns.specs.Front.{free, ask, ◌>>=◌}
+use Rattle.wasi_turns.specs.Guest.{Guest, OpenFile, file, perms_in}
+use Rattle.wasi_turns.specs.Parts.{Source, input, from, source_in, Sink, output, into, sink_in, held_by, may_write}
+use Rattle.wasi_turns.specs.Quotas.{allowance}
+use Rattle.wasi_turns.specs.Request.{Request, Reply, Direct}
+use Rattle.wasi_turns.specs.Row.{give}
+use Rattle.wasi_turns.specs.Rows.{fd_pread, fd_pwrite, fd_read, fd_write, read_from, write_to, descriptors_named, stem_in}
 use Rattle.wasi_turns.specs.Services.{written}
+use Rattle.wasi_turns.specs.Spending.{growing}
 use Rattle.wasi_turns.specs.Validity.{AreBytes, HasBytes}
 use Rattle.wasi_turns.proofs.Bytes.{put_bytes, range_bytes, input_bytes, written_stock}
 use Rattle.wasi_turns.proofs.Changing.{file_is, read_place_is, source_is, sink_is, put_back, put_nothing}
-use Rattle.wasi_turns.proofs.Near.{leaves}
-use Rattle.wasi_turns.proofs.Nearness.Parts.{AlwaysNear, RowNear, then, then_at_buffer, file_asked, piece_near, answers_near}
-use Rattle.wasi_turns.proofs.Putting.{call_puts, request_puts}
-use Rattle.wasi_turns.proofs.Wanting.{file_never, read_place_never, source_never, sink_never, input_never}
+use Rattle.wasi_turns.proofs.Keeping.{no_write}
+use Rattle.wasi_turns.proofs.Near.{StaysNear, given_by, leaves}
+use Rattle.wasi_turns.proofs.Nearness.Parts.{AlwaysNear, RowNear, then, then_at_buffer, file_asked, one_under, permitted_by, answers_near}
+use Rattle.wasi_turns.proofs.Nearness.Spending.{growing_near}
+use Rattle.wasi_turns.proofs.Putting.{PutsInto, call_puts, request_puts}
+use Rattle.wasi_turns.proofs.Wanting.{file_never, read_place_never, source_never, sink_never, input_never, write_never}
 use Rattle.wasi_turns.specs.declared.usage.FileUse.TheVariants.{WriteAt}
 
 pub fd_pread_near : {g : Guest} {fd iovs n offset : ℕ} → RowNear g (calls.FdPread fd iovs n offset)
@@ -26,6 +34,21 @@ fd_pread_near {g} {fd} {offset = offset} =
     file_asked {r = Direct (Pread (held_by f) offset (min buffer.buf_len 65536))} fd refl
     (read_place_is g.slots g.table_max _ is) refl (λ _. put_nothing g) (λ _ _. tt) (λ _. leaves refl) (λ _. tt)
     (λ are bytes read. (put_bytes g.memory bytes buffer.buf are.0 read, are.1)))
+
+-- a piece goes into a file, where that is permitted
+piece_near : {g : Guest} {call : Call} {f : OpenFile} {piece : List ℕ} {r : Request}
+    {shown : Reply r → Value × Guest} (fd : ℕ)
+    → descriptors_named g.memory call ≡ fd ∷ [] → slice_get g.slots fd ≡ Some (file f) → PutsInto f.modes.append (held_by f) piece r
+    → (HasBytes g → AreBytes piece)
+    → ((reply : Reply r) → StaysNear g (stem_in call) (given_by r reply) (shown reply))
+    → ((reply : Reply r) → HasBytes g → HasBytes (shown reply).1)
+    → AlwaysNear g call (free (may_write f.perms)
+    >>= (λ _. growing (allowance g.holdings f.open_mode) (ask r (λ reply. give (shown reply)))))
+piece_near {g} {call} {f} {shown = shown} fd named is puts bytes slots still = then (may_write f.perms) (write_never f.perms) (λ _ may.
+    growing_near (allowance g.holdings f.open_mode) (file_asked {next = λ reply. give (shown reply)} fd named is puts.starts slots (λ _ _. tt)
+    (λ t. permitted_by (one_under g call fd named (ap perms_in is)) (λ perms. absurd (no_write f.perms may perms))
+    (λ perms all. puts.adds t (all fd f is perms)))
+    (λ are. puts.asked (bytes are)) (λ are reply _. still reply are)))
 
 pub fd_pwrite_near : {g : Guest} {fd iovs n offset : ℕ} → RowNear g (calls.FdPwrite fd iovs n offset)
 unfolding fd_pwrite

@@ -7,10 +7,12 @@ use Rattle.wasi_turns.specs.Guest.{Guest}
 use Rattle.wasi_turns.specs.Parts.{directory_in, room_for, permit, opened_in}
 use Rattle.wasi_turns.specs.RawFlags.{modes_in, modes_under, open_how}
 use Rattle.wasi_turns.specs.Request.{Path}
+use Rattle.wasi_turns.specs.Spending.{making}
 
 -- An unknown bit is refused `inval`; then a text of more bytes than the fuel, `nomem`; a range that leaves the memory
 -- traps; bytes that aren't a text are refused `ilseq`; then a number that isn't a directory's; one descriptor more than
--- may be live traps; then what isn't permitted below the directory; then as the walk of the text refuses, and the host
+-- may be live traps; then what isn't permitted below the directory; then, where a file
+-- is to be made and no making is left, `dquot`; then as the walk of the text refuses, and the host
 -- where it ends; then what isn't a directory and should be, `notdir`. The answer is the new descriptor's number
 unfoldable pub path_open : Guest → ℕ → ℕ → ℕ → ℕ → ℕ → ℕ → ℕ → ℕ → CallFront
 path_open g fd dirflags path len oflags base inheriting fdflags = do
@@ -19,4 +21,5 @@ path_open g fd dirflags path len oflags base inheriting fdflags = do
   d ← free (directory_in (slice_get g.slots fd))
   _ ← free (room_for g.slots g.table_max 1)
   _ ← free (permit (may_open how d.perms))
-  ask (Path (opens d.node text how)) (opened_in g d.perms (mode_of how) (modes_under d.perms (modes_in fdflags)))
+  making how.create g (ask (Path (opens d.node text how))
+      (opened_in g d.perms (mode_of how) (modes_under d.perms (modes_in fdflags))))

@@ -1,5 +1,5 @@
 -- The rows of the calls at the place that a path names.
-use Rattle.std.specs.Prelude.{ℕ, take, slice_get}
+use Rattle.std.specs.Prelude.{ℕ, true, take, slice_get}
 use Rattle.wasi_fs.specs.Calls.{may_do, may_link}
 use Rattle.wasi_fs.specs.declared.perms.Act.{Act}
 use Rattle.wasi_fs.specs.declared.perms.Act.TheVariants.{Make, Alter}
@@ -8,6 +8,7 @@ use Rattle.wasi_turns.specs.Guest.{Guest}
 use Rattle.wasi_turns.specs.Parts.{start_in, link_into, told_of}
 use Rattle.wasi_turns.specs.RawFlags.{follow_asked}
 use Rattle.wasi_turns.specs.Request.{Path}
+use Rattle.wasi_turns.specs.Spending.{making}
 use Rattle.wasi_resolve.specs.AtPlace.{PlaceCall, CreateDir, RemoveFile, RemoveDir, Symlink, ReadLink}
 use Rattle.wasi_resolve.specs.PathRequest.{LookPath, AtPlace}
 
@@ -17,8 +18,9 @@ abbrev pub done_at : Guest → ℕ → ℕ → ℕ → Act → PlaceCall → Cal
 done_at g fd path len act what =
     at_path g fd path len (λ d text. done_if (may_do d.perms act) (Path (AtPlace d.node text what)) g)
 
+-- where no making is left, it is refused `dquot` before the walk
 unfoldable pub path_create_directory : Guest → ℕ → ℕ → ℕ → CallFront
-path_create_directory g fd path len = done_at g fd path len Make CreateDir
+path_create_directory g fd path len = making true g (done_at g fd path len Make CreateDir)
 
 -- An unknown bit is refused `inval`; then the path; then as the look at it refuses; then a time that 64 bits of
 -- nanoseconds don't hold, `overflow`. The answer is what is told of the node
@@ -40,10 +42,11 @@ path_remove_directory g fd path len = done_at g fd path len Alter RemoveDir
 unfoldable pub path_unlink_file : Guest → ℕ → ℕ → ℕ → CallFront
 path_unlink_file g fd path len = done_at g fd path len Alter RemoveFile
 
--- as what is done at a place, with the text of the link read before that of the path, and one with a root not permitted
+-- as what is done at a place, with the text of the link read before that of the path, and one with a root not
+-- permitted; where no making is left, it is refused `dquot` before the walk
 unfoldable pub path_symlink : Guest → ℕ → ℕ → ℕ → ℕ → ℕ → CallFront
 path_symlink g old_path old_len fd new_path new_len = do
   d ← free (start_in (slice_get g.slots fd))
   target ← charged_text g.memory old_path old_len
   text ← charged_text g.memory new_path new_len
-  done_if (may_link d.perms target) (Path (AtPlace d.node text (Symlink target))) g
+  making true g (done_if (may_link d.perms target) (Path (AtPlace d.node text (Symlink target))) g)

@@ -10,8 +10,10 @@ use Rattle.wasi_turns.specs.Files.{base_in, file_in, host_advice, position_from,
 use Rattle.wasi_turns.specs.Front.{CallFront, free, done_if, known_or_asked, tells, ◌>>=◌}
 use Rattle.wasi_turns.specs.Guest.{Guest, OpenFile}
 use Rattle.wasi_turns.specs.Parts.{held_by}
+use Rattle.wasi_turns.specs.Quotas.{allowance}
 use Rattle.wasi_turns.specs.RawFlags.{or_inval}
 use Rattle.wasi_turns.specs.Request.{Direct}
+use Rattle.wasi_turns.specs.Spending.{growing}
 use Rattle.wasi_turns.specs.declared.error.P1Error.TheVariants.{Errno}
 use Rattle.wasi_turns.specs.declared.usage.FileUse.TheVariants.{Itself, Position}
 
@@ -40,11 +42,12 @@ fd_datasync g fd = stored g fd
 unfoldable pub fd_sync : Guest → ℕ → CallFront
 fd_sync g fd = stored g fd
 
--- a number that isn't a file's is refused; then what isn't permitted of it, and as its host does
+-- a number that isn't a file's is refused; then what isn't permitted of it; then what passes the bound on bytes,
+-- `dquot`; and as its host does
 unfoldable pub fd_filestat_set_size : Guest → ℕ → ℕ → CallFront
 fd_filestat_set_size g fd size = do
   f ← free (file_in Itself (slice_get g.slots fd))
-  done_if (may_do f.perms Alter) (Direct (SetSize (held_by f) size)) g
+  growing (allowance g.holdings f.open_mode) (done_if (may_do f.perms Alter) (Direct (SetSize (held_by f) size)) g)
 
 -- the position is so far from the start or from where it was; or from the end, for which the host is asked
 abbrev pub seek_from : Guest → ℕ → OpenFile → ℤ → Option ℕ → CallFront

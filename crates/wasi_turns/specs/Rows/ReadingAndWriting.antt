@@ -9,9 +9,11 @@ use Rattle.wasi_turns.specs.Front.{CallFront, free, answer, ask, at_buffer, ◌>
 use Rattle.wasi_turns.specs.Guest.{Guest, OpenFile}
 use Rattle.wasi_turns.specs.Parts.{Source, input, from, source_in, Sink, output, into, sink_in, held_by, may_write, at_position, with_file}
 use Rattle.wasi_turns.specs.Putting.{put_call, count_in, put_request, put_in, put_answer}
+use Rattle.wasi_turns.specs.Quotas.{allowance}
 use Rattle.wasi_turns.specs.Request.{Direct}
 use Rattle.wasi_turns.specs.Row.{give}
 use Rattle.wasi_turns.specs.Services.{input_into, written}
+use Rattle.wasi_turns.specs.Spending.{growing}
 use Rattle.wasi_turns.specs.declared.usage.FileUse.TheVariants.{WriteAt}
 
 -- a buffer is filled from a file at an offset, as its host refuses, with no more than 65,536 bytes at once
@@ -25,13 +27,13 @@ unfoldable pub fd_pread : Guest → ℕ → ℕ → ℕ → ℕ → CallFront
 fd_pread g fd iovs n offset = at_buffer g (read_place_in g.slots g.table_max (slice_get g.slots fd)) iovs n
     (λ f buffer _. read_into g f offset buffer)
 
--- a piece goes into a file, as its host refuses, and before that read-only permissions `badf`: behind the last byte in
--- append mode, and else from an offset on
+-- a piece goes into a file, as its host refuses, and before that read-only permissions `badf`, and what passes the bound
+-- on bytes `dquot`: behind the last byte in append mode, and else from an offset on
 abbrev pub write_into : Guest → OpenFile → ℕ → List ℕ → CallFront
 write_into g f offset piece = do
   _ ← free (may_write f.perms)
-  ask (Direct (put_call f.modes.append (held_by f) offset piece))
-      (λ answer. give (Number (count_in f.modes.append (held_by f) offset piece answer), g))
+  growing (allowance g.holdings f.open_mode) (ask (Direct (put_call f.modes.append (held_by f) offset piece))
+      (λ answer. give (Number (count_in f.modes.append (held_by f) offset piece answer), g)))
 
 -- of a number that is a file's, and not an output's; the position stays, and the answer is the number of bytes that were
 -- taken
@@ -56,15 +58,16 @@ unfoldable pub fd_read : Guest → ℕ → ℕ → ℕ → CallFront
 fd_read g fd iovs n =
     at_buffer g (source_in (slice_get g.slots fd)) iovs n (λ source buffer _. read_from g fd source buffer)
 
--- A piece goes to an output, or into a file, as its host refuses, and before that read-only permissions `badf`. The
--- position is behind the bytes; in append mode they go behind the last byte, and the position is the file's size
+-- A piece goes to an output, or into a file, as its host refuses, and before that read-only permissions `badf`, and what
+-- passes the bound on bytes `dquot`. The position is behind the bytes; in append mode they go behind the last byte, and
+-- the position is the file's size
 abbrev pub write_to : Guest → ℕ → Sink → List ℕ → CallFront
 write_to g fd (output o) piece =
     answer (Number (length piece), record g { holdings = written g.holdings o piece })
 write_to g fd (into f) piece = do
   _ ← free (may_write f.perms)
-  ask (put_request f.modes.append (held_by f) f.position piece)
-      (λ reply. give (put_answer g fd f (put_in f.modes.append (held_by f) f.position piece reply)))
+  growing (allowance g.holdings f.open_mode) (ask (put_request f.modes.append (held_by f) f.position piece)
+      (λ reply. give (put_answer g fd f (put_in f.modes.append (held_by f) f.position piece reply))))
 
 -- of a number that is a file's or an output's; the answer is the number of bytes that were taken
 unfoldable pub fd_write : Guest → ℕ → ℕ → ℕ → CallFront
