@@ -16,6 +16,8 @@ ghost use Rattle.wasi_turns.specs.Reach.{Confined, StaysTouched};
 ghost use Rattle.wasi_turns.specs.InTurn.{DoesCall, DoCalls, DoCallsUntil, SlotsOfRun};
 ghost use Rattle.wasi_turns.specs.StatesAgree.{SeesOnlyReach};
 ghost use Rattle.wasi_turns.specs.Unchanged.{LeavesAll};
+ghost use Rattle.wasi_turns.specs.QuotaLaws.{WritesAsOpened};
+ghost use Rattle.wasi_p1.specs.RunQuotas.{KeepsToQuotas, KeptToQuotas};
 ghost use Rattle.wasi_turns.specs.Validity.{IsValidState};
 
 use std::alloc::Global;
@@ -70,6 +72,8 @@ fn ends_run(answer: Answer) -> bool
 /// A call that names a descriptor under append-only permissions takes no step but one that adds, whatever it answers. It is
 /// so of a guest whose files under such permissions are in append mode, as those of a new context are, which has none, and
 /// as they are after each call.
+///
+/// Files that are written as they were opened, as those of a new context are, which has none, still are after each call.
 #[tactic(auto, using(wasi_turns::proofs::Completing::turn_completes))]
 pub fn call<H: Host>(
     context: &mut WasiP1Ctx<H>,
@@ -88,6 +92,8 @@ pub fn call<H: Host>(
         → Adds (H.world context.old.host).tree (H.world context.new.host).tree }
     ensures appends { IsTrue H.told → AppendsAtEnd (guest_of H.world context.old memory.old)
         → AppendsAtEnd (guest_of H.world context.new memory.new) }
+    ensures writes { IsTrue H.told → WritesAsOpened (guest_of H.world context.old memory.old)
+        → WritesAsOpened (guest_of H.world context.new memory.new) }
 {
     by_name(context, memory, call)
 }
@@ -310,6 +316,10 @@ fn call_with<H: Host>(
 /// nothing changed, or where the next call wants it, which is one of those that take some: all stands as after the
 /// calls that were answered.
 ///
+/// The nodes that a run makes, and the bytes by which it makes files longer, are at most what the quota leaves at its
+/// start, however often the host fails; and each call counts its use. It is so of a guest whose files are written as they
+/// were opened, as those of a new context are, which has none, and as they are after each run.
+///
 /// Where the host didn't fail, what a guest is answered, has in its memory and writes out rests on what is in its reach
 /// alone: from each state that differs from the one before only where the guest can't come to, the same calls are answered
 /// the same, and leave the same guest, and the same nodes where it could come to and of what it made.
@@ -339,6 +349,12 @@ pub fn run_calls<H: Host>(
     ensures memory { IsTrue H.told → IfErr result (λ e. StoodAt (H.faults context.old.host) (H.faults context.new.host)
         (state_of H.world context.old memory.old) (map (with_fuel fuel) calls.now.items) (answered_in e)
         (state_of H.world context.new memory.new) (H.world context.new.host).touched) }
+    ensures quotas { IsTrue H.told → WritesAsOpened (guest_of H.world context.old memory.old)
+        → IfOk result (λ a. KeepsToQuotas (state_of H.world context.old memory.old)
+        (map (with_fuel fuel) calls.now.items) a.answers (state_of H.world context.new memory.new)) }
+    ensures quotas_so_far { IsTrue H.told → WritesAsOpened (guest_of H.world context.old memory.old)
+        → IfErr result (λ e. KeptToQuotas (state_of H.world context.old memory.old)
+        (map (with_fuel fuel) calls.now.items) (answered_in e) (state_of H.world context.new memory.new)) }
     ensures touched { IsTrue H.told
         → StaysTouched (H.world context.old.host).touched (H.world context.new.host).touched }
     ensures confined { IsTrue H.told → (start : State)

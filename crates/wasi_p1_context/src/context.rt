@@ -4,7 +4,7 @@ ghost use Rattle.std.specs.FinSet.{contains};
 
 use std::alloc::Global;
 use std::marker::Model;
-use wasi_guest::Services;
+use wasi_guest::{Quota, QuotaUsed, Services};
 use wasi_host::{Host, SystemTime};
 use wasi_p1_parts::descriptors::Descriptors;
 use wasi_p2::WasiFilesystemCtx;
@@ -69,7 +69,9 @@ impl<H: Host> WasiP1Ctx<H> {
     ghost use Rattle.wasi_turns.specs.Owners.{OwnedApart, handles};
     ghost use Rattle.wasi_turns.specs.Slots.{first_slots, given_name, is_closed_slot};
     ghost use Rattle.wasi_turns.specs.declared.error.CtxError.TheVariants.{Full};
+    ghost use Rattle.wasi_guest.specs.Quotas.{IsQuota};
     ghost use Rattle.wasi_guest.specs.Services.{handed};
+    ghost use Rattle.wasi_turns.specs.Quotas.{with_quota, IsWithinQuota};
     ghost use Rattle.wasi_turns.specs.Stock.{first_fuel, first_stock};
 
     /// A context with the three standard streams as descriptors 0 to 2, and then the directories that the guest is
@@ -128,6 +130,23 @@ impl<H: Host> WasiP1Ctx<H> {
         ensures set { self.new ≡ record self.old { fuel = fuel } }
     {
         self.fuel = fuel;
+    }
+
+    /// Sets how much the guest may make and grow from now on, and both counts to 0. Each bound is at most 2^62. It takes
+    /// no memory. A new context has no bound.
+    pub fn set_quota(&mut self, quota: Quota)
+        requires quota { IsQuota quota }
+        ensures set { self.new ≡ record self.old { holdings = with_quota quota self.old.holdings } }
+    {
+        self.holdings.set_quota(quota);
+    }
+
+    /// How much of its quota the guest has used; never more than it.
+    pub fn quota_used(&self) -> QuotaUsed
+        ensures used { result ≡ self.now.holdings.used }
+        ensures within { IsWithinQuota self.now.holdings.quota result }
+    {
+        self.holdings.quota_used()
     }
 
     /// The descriptors have live handles, each its own.

@@ -6,9 +6,9 @@ use wasi_guest::{Errno, Value};
 use wasi_host::Host;
 use wasi_p1_context::WasiP1Ctx;
 use wasi_p1_parts::call_parts::put_back;
-use wasi_p1_parts::file_parts::{file_at, position_sought, view_advice};
-use wasi_p1_parts::view_parts::files::{AdviseOf, SetSizeOf, SyncDataOf, SyncOf, about_file};
-use wasi_turns::{FileSlot, FileUse, P1Error, advice_of, whence_of};
+use wasi_p1_parts::file_parts::{check_alter, check_growth, file_at, position_sought, view_advice};
+use wasi_p1_parts::view_parts::files::{AdviseOf, SyncDataOf, SyncOf, about_file, set_size};
+use wasi_turns::{FileEnd, FileSlot, FileUse, P1Error, advice_of, whence_of};
 
 /// Tells the host how `len` bytes of a file from `offset` on will be used, of which nothing changes. Refusals, in
 /// this order: Inval where the advice is none of preview1's; Badf where the number isn't a file's. No host refuses
@@ -102,9 +102,11 @@ pub fn fd_sync<H: Host>(
 }
 
 /// Cuts a file to `size` bytes, or fills it up to them with zeros; its position stays. Refusals, in this order: Badf
-/// where the number isn't a file's; Perm unless its permissions are read-write; then the host's, which are those of
+/// where the number isn't a file's; Perm unless its permissions are read-write; Dquot where a bound on grown bytes would
+/// be passed, for which the host is asked for the file's size; then the host's, which are those of
 /// POSIX's `ftruncate`: Inval where the file isn't open for writing, and of a size of 2^63 or more, and Fbig of more
-/// than 2^30 bytes.
+/// than 2^30 bytes. An answer counts the bytes by which the file grew, and so may a failure of the host; a smaller size
+/// gives none back.
 #[tactic(auto, using(wasi_turns::proofs::Taking::refusals), unfolding(wasi_turns::specs::Rows::PositionsAndSizes::fd_filestat_set_size))]
 pub fn fd_filestat_set_size<H: Host>(
     context: &mut WasiP1Ctx<H>,
@@ -116,13 +118,18 @@ pub fn fd_filestat_set_size<H: Host>(
     ensures turn { DoesItsRow H.Host context.old context.new memory.old memory.new (FdFilestatSetSize fd size) result }
 {
     let slot = file_at(&context.fs.host, &context.descriptors, fd, FileUse::Itself)?;
-    about_file(
+    check_alter(slot.file.perms)?;
+    let end = FileEnd::At(size as u128);
+    let growth = check_growth(&mut context.fs.host, &context.holdings, &slot.file, end)?;
+    let set = set_size(
         &mut context.fs,
         &mut context.descriptors,
         fd,
         &slot.file,
-        SetSizeOf { size },
-    )?;
+        size,
+    );
+    context.holdings.count_growth(growth, &set);
+    set?;
     Ok(Value::Unit)
 }
 

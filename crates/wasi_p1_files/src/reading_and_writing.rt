@@ -9,7 +9,7 @@ use wasi_guest::{Iovec, Value};
 use wasi_host::Host;
 use wasi_p1_context::WasiP1Ctx;
 use wasi_p1_parts::call_parts::{put_back, read_into, sink_at, source_at};
-use wasi_p1_parts::file_parts::{file_at, put_next, put_piece, read_place};
+use wasi_p1_parts::file_parts::{check_growth, file_at, put_end, put_next, put_piece, read_place};
 use wasi_turns::{FileSlot, FileUse, P1Error, Put, Sink, Source, buffer_at, bytes_at, check_write};
 
 /// How many bytes a read at an offset fills at most.
@@ -51,7 +51,9 @@ pub fn fd_pread<H: Host>(
 /// position stays. Refusals, in this order: Nomem where the records, or the buffer, are more than the fuel; trap
 /// Pointer where a record up to that one isn't aligned to 4 or leaves the memory; Spipe of an output, and Badf where
 /// the number else isn't a file's; trap Pointer where the buffer leaves the memory; Badf under read-only
-/// permissions; then the host's, which are those of POSIX's `pwrite`.
+/// permissions; Dquot where a bound on grown bytes would be passed, for which the host is asked for the file's size;
+/// then the host's, which are those of POSIX's `pwrite`. An answer counts the bytes by which the file grew, and so may a
+/// failure of the host.
 #[tactic(auto, using(wasi_turns::proofs::Taking::refusals), unfolding(wasi_turns::specs::Rows::ReadingAndWriting::fd_pwrite))]
 pub fn fd_pwrite<H: Host>(
     context: &mut WasiP1Ctx<H>,
@@ -69,9 +71,12 @@ pub fn fd_pwrite<H: Host>(
     let slot = file_at(&context.fs.host, &context.descriptors, fd, FileUse::WriteAt)?;
     let piece = bytes_at(memory, buffer.buf, buffer.buf_len)?;
     check_write(slot.file.perms)?;
+    let end = put_end(slot.modes, offset, piece);
+    let growth = check_growth(&mut context.fs.host, &context.holdings, &slot.file, end)?;
     let handle = slot.file.file;
-    let count = put_piece(&mut context.fs.host, handle, slot.modes, offset, piece)?;
-    Ok(Value::Number(count))
+    let count = put_piece(&mut context.fs.host, handle, slot.modes, offset, piece);
+    context.holdings.count_growth(growth, &count);
+    Ok(Value::Number(count?))
 }
 
 /// Reads a file's bytes at its position, or the next ones of the standard input, into the first buffer that has
@@ -119,7 +124,9 @@ pub fn fd_read<H: Host>(
 /// An output, and a host that tells its world, takes all of them. Refusals, in this order: Nomem where the records,
 /// or the buffer, are more than the fuel; trap Pointer where a record up to that one isn't aligned to 4 or leaves
 /// the memory; Badf where the number is neither a file's nor an output's; trap Pointer where the buffer leaves the
-/// memory; then of a file Badf under read-only permissions, and the host's, which are those of POSIX's `pwrite`.
+/// memory; then of a file Badf under read-only permissions, Dquot where a bound on grown bytes would be passed, for
+/// which the host is asked for the file's size, and the host's, which are those of POSIX's `pwrite`. An answer counts
+/// the bytes by which the file grew, and so may a failure of the host.
 #[tactic(auto, using(wasi_turns::proofs::Taking::refusals), unfolding(wasi_turns::specs::Rows::ReadingAndWriting::fd_write))]
 pub fn fd_write<H: Host>(
     context: &mut WasiP1Ctx<H>,
@@ -148,8 +155,11 @@ pub fn fd_write<H: Host>(
         Sink::File(slot) => slot,
     };
     check_write(file.perms)?;
-    let handle = file.file;
-    let Put { count, position } = put_next(&mut context.fs.host, handle, modes, position, piece)?;
+    let end = put_end(modes, position, piece);
+    let growth = check_growth(&mut context.fs.host, &context.holdings, &file, end)?;
+    let put = put_next(&mut context.fs.host, file.file, modes, position, piece);
+    context.holdings.count_growth(growth, &put);
+    let Put { count, position } = put?;
     put_back(&mut context.descriptors, fd, file, position, modes);
     Ok(Value::Number(count))
 }

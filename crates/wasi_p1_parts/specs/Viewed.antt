@@ -15,6 +15,8 @@ use Rattle.wasi_turns.specs.Numbering.{free_number, with_new}
 use Rattle.wasi_turns.specs.declared.slots.FileModes.{FileModes}
 use Rattle.wasi_host.specs.declared.errors.HostError.{HostError}
 use Rattle.wasi_turns.specs.Slots.{descriptor_in, is_closed_slot, slot_of}
+use Rattle.wasi_turns.specs.ViewErrors.{view_raised}
+use Rattle.wasi_turns.specs.declared.error.P1Error.{P1Error}
 use Rattle.wasi_turns.specs.declared.slots.Slot.{Slot}
 use Rattle.wasi_p2_errors.specs.FsErrors.{fs_error, raised}
 use Rattle.wasi_p2.specs.Views.{Performs}
@@ -28,6 +30,11 @@ descriptor_under None = None
 -- the lower call was made, and its answer is shown
 abbrev pub Lowered : {A B : Type 0} → (A → B) → (Result A HostError → Type 0) → Result B FsError → Type 0
 Lowered {A = A} shown Did result = (answer : Result A HostError) × (result ≡ raised shown answer) × Did answer
+
+-- the same, with a refusal as a call's
+abbrev pub LoweredTo : {A B : Type 0} → (A → B) → (Result A HostError → Type 0) → Result B P1Error → Type 0
+LoweredTo {A = A} shown Did result =
+    (answer : Result A HostError) × (result ≡ view_raised (raised shown answer)) × Did answer
 
 -- an open below a directory, which gave this or was refused so
 pub record OpenedBelow {H : Type 0} (host : Ghosts H) (old new : H) (dir : Dir) (path : List ℕ) (how : OpenHow)

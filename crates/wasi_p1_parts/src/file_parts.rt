@@ -1,5 +1,5 @@
 //! What the calls on files and on preopens do with a host and a guest's memory, a part at a time.
-ghost use Rattle.std.specs.Prelude.{◌≡◌, ◌≢◌, true, false, IsTrue, length, slice_get, option_map, Some, None, IfOk, IfErr, OnErr};
+ghost use Rattle.std.specs.Prelude.{◌≡◌, ◌≢◌, ◌+◌, ◌≤◌, true, false, IsTrue, length, slice_get, option_map, Some, None, Ok, IfSome, IfOk, IfErr, OnOk, OnErr};
 ghost use Rattle.std.specs.FinSet.{contains};
 ghost use Rattle.std.specs.Result.{result_map_both};
 ghost use Rattle.wasi_guest.specs.FlagSets.{fdflag_bits};
@@ -10,7 +10,12 @@ ghost use Rattle.wasi_turns.specs.CallTurn.{Causes};
 ghost use Rattle.wasi_turns.specs.Files.{base_in, file_in, host_advice, keeps_append, name_at, name_into, not_synchronized, or_refused, position_from, read_place_in, stream_refused};
 ghost use Rattle.wasi_turns.specs.Guest.{guest_slots};
 ghost use Rattle.wasi_turns.specs.Owners.{handles, Owned};
-ghost use Rattle.wasi_turns.specs.Putting.{appended_in, count_in, put_call, put_in, put_request};
+ghost use Rattle.wasi_turns.specs.Parts.{permit};
+ghost use Rattle.wasi_turns.specs.Putting.{appended_in, count_in, put_call, put_end, put_in, put_request};
+ghost use Rattle.wasi_turns.specs.Quotas.{allowance};
+ghost use Rattle.wasi_turns.specs.Spending.{growth_from};
+ghost use Rattle.wasi_fs.specs.Calls.{may_do};
+ghost use Rattle.wasi_fs.specs.declared.perms.Act.TheVariants.{Alter};
 ghost use Rattle.wasi_turns.specs.Request.{Direct, Behind};
 ghost use Rattle.wasi_turns.specs.Row.{give};
 ghost use Rattle.wasi_turns.specs.Services.{with_unit};
@@ -24,12 +29,13 @@ ghost use Rattle.wasi_turns.specs.declared.usage.FileUse.TheVariants.{ReadAt};
 use crate::call_parts::{room_at, write_piece};
 use crate::descriptors::Descriptors;
 use bitflags::Flags;
-use wasi_fs::{Descriptor, FsPerms};
+use wasi_fs::{Act, Descriptor, File, FsPerms};
 use wasi_guest::{Advice, Errno, FdFlags, Whence, write_bytes};
 use wasi_host::{Handle, Host};
 use wasi_p2::types;
 use wasi_turns::{
-    FileModes, FileSlot, FileUse, Holdings, INVALID, P1Error, Put, Slot, Stream, bytes_at,
+    Allowance, FileEnd, FileModes, FileSlot, FileUse, Holdings, INVALID, P1Error, Put, Slot,
+    Stream, bytes_at,
 };
 
 /// How a standard stream is refused where a file is asked for.
@@ -272,6 +278,87 @@ pub fn put_next<H: Host>(
         count,
         position: position + count,
     })
+}
+
+/// Where a file ends after a piece is put into it, if that is more than its size.
+pub fn put_end(modes: FileModes, offset: u64, piece: &[u8]) -> FileEnd
+    ensures { result ≡ put_end modes.append offset piece.now }
+{
+    if modes.append {
+        return FileEnd::Behind(piece.len() as u64);
+    }
+    FileEnd::of_piece(offset, piece)
+}
+
+/// How many bytes a file would grow by, with its size by its host. Refusal: Dquot where the bound would be passed.
+fn growth_of<H: Host>(
+    host: &mut H,
+    file: Handle,
+    limit: Allowance,
+    end: FileEnd,
+) -> Result<u64, P1Error>
+    requires live { contains (H.live host.old) file ≡ true }
+    ensures cause { Causes (H.faults host.old) (H.faults host.new) result }
+    ensures live { H.live host.new ≡ H.live host.old }
+    ensures logged { H.lookups host.new ≡ H.lookups host.old }
+    ensures never_wants { IfErr result WantsNoMemory }
+    ensures fits { IfOk result (λ growth. limit.used + growth ≤ limit.most) }
+
+    // The row, over every host and over one that tells its world.
+    ensures front { IsReplied (Direct (Stat ((H.world host.old).held file).node))
+        (λ metadata. growth_from limit end metadata.size) result }
+    ensures told { IsTrue H.told → Makes (Rose (H.faults host.old) (H.faults host.new)) (H.live host.old)
+        (H.world host.old) (H.world host.new) (Direct (Stat ((H.world host.old).held file).node))
+        (λ metadata. growth_from limit end metadata.size) result }
+{
+    let metadata = host.stat(file)?;
+    let growth = limit.growth_from(end, metadata.size)?;
+    Ok(growth)
+}
+
+/// How many bytes a file would grow by, where a bound on these is set: only then its host is asked for its size.
+/// Refusal: Dquot where the bound would be passed.
+pub fn check_growth<H: Host>(
+    host: &mut H,
+    holdings: &Holdings,
+    file: &File,
+    end: FileEnd,
+) -> Result<u64, P1Error>
+    requires live { contains (H.live host.old) file.now.file ≡ true }
+    ensures cause { Causes (H.faults host.old) (H.faults host.new) result }
+    ensures live { H.live host.new ≡ H.live host.old }
+    ensures logged { H.lookups host.new ≡ H.lookups host.old }
+    ensures never_wants { IfErr result WantsNoMemory }
+    ensures fits { IfOk result (λ growth. IfSome holdings.now.quota.bytes
+        (λ most. holdings.now.used.bytes + growth ≤ most)) }
+
+    // The row, over every host and over one that tells its world.
+    ensures unbound { allowance holdings.now file.now.open_mode ≡ None → (result ≡ Ok 0) × (host.new ≡ host.old) }
+    ensures front { (limit : Allowance) → allowance holdings.now file.now.open_mode ≡ Some limit
+        → IsReplied (Direct (Stat ((H.world host.old).held file.now.file).node))
+        (λ metadata. growth_from limit end metadata.size) result }
+    ensures told { IsTrue H.told → (limit : Allowance) → allowance holdings.now file.now.open_mode ≡ Some limit
+        → Makes (Rose (H.faults host.old) (H.faults host.new)) (H.live host.old)
+        (H.world host.old) (H.world host.new) (Direct (Stat ((H.world host.old).held file.now.file).node))
+        (λ metadata. growth_from limit end metadata.size) result }
+{
+    let Some(limit) = holdings.allowance(file.open_mode) else {
+        return Ok(0);
+    };
+    growth_of(host, file.file, limit, end)
+}
+
+/// Whether a file may be altered: Perm unless its permissions are read-write.
+#[tactic(auto, unfolding(wasi_fs::specs::Calls::may_do))]
+pub fn check_alter(perms: FsPerms) -> Result<(), P1Error>
+    ensures row { result ≡ permit (may_do perms Alter) }
+    ensures permitted { OnOk result (may_do perms Alter ≡ None) }
+    ensures refusal { IfErr result (λ e. is_failure e ≡ false) }
+{
+    if !perms.permits(Act::Alter) {
+        return Err(P1Error::Errno(Errno::Perm));
+    }
+    Ok(())
 }
 
 /// The advice of the same name.

@@ -7,5 +7,6 @@ pub mod descriptors;
 pub mod file_parts;
 pub mod filestats;
 pub mod look_parts;
+pub mod making_parts;
 pub mod poll_parts;
 pub mod view_parts;

@@ -13,6 +13,7 @@ ghost use Rattle.wasi_p2.specs.Nodes.{AboutIt};
 ghost use Rattle.wasi_p2.specs.Places.{BelowIt};
 ghost use Rattle.wasi_p2.specs.Views.{files_of, FilesOwned};
 ghost use Rattle.wasi_turns.specs.Owners.{handles};
+ghost use Rattle.wasi_turns.specs.ViewErrors.{view_raised};
 
 pub mod closing;
 pub mod files;
@@ -27,6 +28,7 @@ use wasi_host::Host;
 use wasi_p1_types::items::{Item, item_under};
 use wasi_p2::{FsResult, WasiFilesystemCtx, WasiFilesystemCtxView};
 use wasi_streams::Resource;
+use wasi_turns::P1Error;
 
 /// The resource that a live number names.
 #[tactic(auto, using(crate::proofs::Viewing::given_open))]
@@ -39,6 +41,16 @@ pub fn resource_under(items: &Vec<Item>, fd: u32) -> Resource
         Item::Stream(_, resource)
         | Item::Directory { resource, .. }
         | Item::File { resource, .. } => resource,
+    }
+}
+
+/// An answer of a view, with a refusal as a call's.
+pub fn raised<T>(answer: FsResult<T>) -> Result<T, P1Error>
+    ensures { result ≡ view_raised answer }
+{
+    match answer {
+        Ok(given) => Ok(given),
+        Err(refused) => Err(P1Error::from(refused)),
     }
 }
 

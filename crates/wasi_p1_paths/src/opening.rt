@@ -6,6 +6,7 @@ use wasi_guest::{Errno, Value};
 use wasi_host::Host;
 use wasi_p1_context::WasiP1Ctx;
 use wasi_p1_parts::call_parts::{directory_at, open_into, room_at};
+use wasi_p1_parts::making_parts::check_open;
 use wasi_p1_types::open_with::OpenWith;
 use wasi_turns::{P1Error, text_at};
 
@@ -25,11 +26,12 @@ use wasi_turns::{P1Error, text_at};
 /// than the fuel that is left; trap Pointer where it leaves the memory; Ilseq where its bytes aren't UTF-8; Badf
 /// where the number isn't a directory's or file's, Notdir where it is a file's; trap TableFull where as many
 /// descriptors are live as may be; Notsup of dsync, rsync and sync; Inval of DIRECTORY beside another of its flags;
-/// Perm of creat, trunc and FD_WRITE under read-only permissions, and of trunc under append-only ones; then those of
-/// the walk, at the part where it stops: Noent of an empty text, Perm of a leading slash, in a link's text too, and
+/// Perm of creat, trunc and FD_WRITE under read-only permissions, and of trunc under append-only ones; Dquot of creat
+/// where no making is left of the quota; then those of the walk, at the part where it stops: Noent of an empty text, Perm of a leading slash, in a link's text too, and
 /// of `..` at the start directory, Acces of `..` where a directory may not be searched, Loop of a link past the
 /// 40th, Isdir of a path that ends in `.` or `..` where creat, trunc or FD_WRITE is asked for, and at each name the
-/// host's, those of POSIX's `openat`; Notdir where DIRECTORY is asked for and no directory was opened.
+/// host's, those of POSIX's `openat`; Notdir where DIRECTORY is asked for and no directory was opened. With creat
+/// an answer counts a making, whether or not the file was there, and so may a failure of the host.
 #[tactic(auto, using(wasi_turns::proofs::Taking::refusals, wasi_turns::proofs::CallTracing::traced_from), unfolding(wasi_turns::specs::Rows::Opening::path_open))]
 pub fn path_open<H: Host>(
     context: &mut WasiP1Ctx<H>,
@@ -52,6 +54,7 @@ pub fn path_open<H: Host>(
     let text = text_at(memory, &mut context.fuel, path, path_len)?;
     let dir = directory_at(&context.fs.host, &context.descriptors, fd, Errno::Notdir)?;
     room_at(&context.fs.host, &context.descriptors, 1)?;
+    check_open(&context.holdings, dir.perms, with)?;
     let below = with.under(dir.perms);
     let number = open_into(
         &mut context.fs,
@@ -60,6 +63,7 @@ pub fn path_open<H: Host>(
         dir,
         text,
         below,
-    )?;
-    Ok(Value::Number(number))
+    );
+    context.holdings.count_opening(with.creates(), &number);
+    Ok(Value::Number(number?))
 }

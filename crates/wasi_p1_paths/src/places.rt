@@ -6,6 +6,7 @@ use wasi_guest::{Errno, Value};
 use wasi_host::Host;
 use wasi_p1_context::WasiP1Ctx;
 use wasi_p1_parts::call_parts::{directory_at, stat_both};
+use wasi_p1_parts::making_parts::{check_link, check_make, make_below};
 use wasi_p1_parts::view_parts::below;
 use wasi_p1_parts::view_parts::places::{
     CreateDirectoryAt, ReadlinkAt, RemoveDirectoryAt, SymlinkAt, UnlinkFileAt,
@@ -16,11 +17,12 @@ use wasi_turns::{P1Error, text_at, write_front};
 /// Makes an empty directory at the path in a range of memory, from the directory of a descriptor; slashes behind
 /// its name are let go. Refusals, in this order: Badf where the number isn't a directory's; Nomem where the range
 /// has more bytes than the fuel that is left; trap Pointer where it leaves the memory; Ilseq where its bytes aren't
-/// UTF-8; Perm under read-only permissions; those of the walk to the directory of the name, as in `path_open`,
+/// UTF-8; Perm under read-only permissions; Dquot where no making is left of the quota; those of the walk to the directory of the name, as in `path_open`,
 /// Noent of an empty text among them; then those of every host call by a name: Inval of one with a NUL, Nametoolong
 /// of one of more than 255 bytes, Acces where its directory may not be searched; then those of POSIX's `mkdirat`:
 /// Exist where the name is there, `.` and `..` among them, Noent where the directory is removed, Acces where it may
-/// not be written, Nospc where the tree has as many nodes as it may.
+/// not be written, Nospc where the tree has as many nodes as it may. An answer counts a making, and so may a failure of
+/// the host.
 #[tactic(auto, using(wasi_turns::proofs::Taking::refusals, wasi_turns::proofs::CallTracing::traced_below), unfolding(wasi_turns::specs::Rows::Places::path_create_directory))]
 pub fn path_create_directory<H: Host>(
     context: &mut WasiP1Ctx<H>,
@@ -36,8 +38,15 @@ pub fn path_create_directory<H: Host>(
 {
     let dir = directory_at(&context.fs.host, &context.descriptors, fd, Errno::Badf)?;
     let text = text_at(memory, &mut context.fuel, path, path_len)?;
-    let call = CreateDirectoryAt { path: text };
-    below(&mut context.fs, &mut context.descriptors, fd, &dir, call)?;
+    check_make(&context.holdings, dir.perms)?;
+    make_below(
+        &mut context.fs,
+        &mut context.descriptors,
+        &mut context.holdings,
+        fd,
+        &dir,
+        CreateDirectoryAt { path: text },
+    )?;
     Ok(Value::Unit)
 }
 
@@ -113,8 +122,15 @@ pub fn path_symlink<H: Host>(
     let dir = directory_at(&context.fs.host, &context.descriptors, fd, Errno::Badf)?;
     let target = text_at(memory, &mut context.fuel, old_path, old_path_len)?;
     let text = text_at(memory, &mut context.fuel, new_path, new_path_len)?;
-    let call = SymlinkAt { target, path: text };
-    below(&mut context.fs, &mut context.descriptors, fd, &dir, call)?;
+    check_link(&context.holdings, dir.perms, target)?;
+    make_below(
+        &mut context.fs,
+        &mut context.descriptors,
+        &mut context.holdings,
+        fd,
+        &dir,
+        SymlinkAt { target, path: text },
+    )?;
     Ok(Value::Unit)
 }
 

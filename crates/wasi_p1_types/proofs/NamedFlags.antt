@@ -1,13 +1,17 @@
 -- What the flag sets of preview2 ask for, by the flags of the same names.
-use Rattle.std.proofs.Common.{◌≡◌, ℕ, Bool, true, false, not, ◌||◌, [], ◌∷◌, refl}
+use Rattle.std.proofs.Common.{◌≡◌, ℕ, Bool, true, false, not, ◌||◌, [], ◌∷◌, refl, ap, sym, ◌∙◌}
 use Rattle.wasi_fs.specs.Calls.{bits_set}
 use Rattle.wasi_fs.specs.OpenFlags.{includes}
+use Rattle.wasi_fs.specs.OpenHow.{OpenHow, may_open}
+use Rattle.wasi_fs.specs.declared.perms.FsPerms.{FsPerms}
 use Rattle.wasi_fs.proofs.Flagging.{of_both, each, of_four, each_of_four}
 use Rattle.wasi_p2_types.specs.FlagNames.{how_named}
 use Rattle.wasi_p2_types.specs.declared.flags.PathFlags.{PathFlags}
 use Rattle.wasi_p2_types.specs.declared.flags.OpenFlags.{OpenFlags}
 use Rattle.wasi_p2_types.specs.declared.flags.DescriptorFlags.{DescriptorFlags}
 use Rattle.wasi_p2_types.specs.FlagBits.{path_set, open_set, descriptor_set}
+use Rattle.wasi_turns.specs.Parts.{permit}
+use Rattle.wasi_turns.specs.Row.{Row}
 
 abbrev same : Bool → Bool → Bool
 same true b = b
@@ -37,7 +41,9 @@ each_of_six : (p : Bool → Bool → Bool → Bool → Bool → Bool → Bool) �
     → p a b c d e f ≡ true
 each_of_six p all a b = each_of_four (p a b) (each (λ b. of_four (p a b)) (each (λ a. of_both (λ b. of_four (p a b))) all a) b)
 
-pub how_is : (path : PathFlags) (open_flags : OpenFlags) (flags : DescriptorFlags) → how_named path open_flags flags ≡ record {
+-- by the bits of the three sets
+abbrev pub how_by : PathFlags → OpenFlags → DescriptorFlags → OpenHow
+how_by path open_flags flags = record {
   follow = includes (path_set path) 1;
   create = includes (open_set open_flags) 1;
   directory = includes (open_set open_flags) 2;
@@ -47,6 +53,9 @@ pub how_is : (path : PathFlags) (open_flags : OpenFlags) (flags : DescriptorFlag
   write = includes (descriptor_set flags) 2;
   sync = includes (descriptor_set flags) 4 || includes (descriptor_set flags) 8 || includes (descriptor_set flags) 16;
 }
+
+pub how_is : (path : PathFlags) (open_flags : OpenFlags) (flags : DescriptorFlags)
+    → how_named path open_flags flags ≡ how_by path open_flags flags
 how_is path open_flags flags = λ i. record {
   follow = path_bit (includes (path_set path) 1) i;
   create = of_open 1 (λ a b c d. a) refl i;
@@ -75,3 +84,9 @@ how_is path open_flags flags = λ i. record {
         → includes (six (g 1) (g 2) (g 4) (g 8) (g 16) (g 32)) flag ≡ its (g 1) (g 2) (g 4) (g 8) (g 16) (g 32)
     of_flags flag its all = same_is _ _ (each_of_six (λ a b c d e f. same (includes (six a b c d e f) flag)
         (its a b c d e f)) all (g 1) (g 2) (g 4) (g 8) (g 16) (g 32))
+
+-- so is what is refused of it
+pub checked : {result : Row (Unit {0})} (path : PathFlags) (open_flags : OpenFlags) (flags : DescriptorFlags) (perms : FsPerms)
+    → result ≡ permit (may_open (how_by path open_flags flags) perms)
+    → result ≡ permit (may_open (how_named path open_flags flags) perms)
+checked path open_flags flags perms is = is ∙ ap (λ how. permit (may_open how perms)) (sym (how_is path open_flags flags))

@@ -1,20 +1,23 @@
 //! How a path is opened or looked at.
-ghost use Rattle.std.specs.Prelude.{◌≡◌, false, IfOk, IfErr};
+ghost use Rattle.std.specs.Prelude.{◌≡◌, false, not, ◌&&◌, ◌||◌, IfOk, IfErr};
 ghost use Rattle.std.specs.Result.{result_map_both};
-ghost use Rattle.wasi_fs.specs.OpenHow.{is_followed};
+ghost use Rattle.wasi_fs.specs.OpenHow.{is_followed, may_open};
+ghost use Rattle.wasi_fs.specs.Perms.{permits};
+ghost use Rattle.wasi_fs.specs.declared.perms.Act.TheVariants.{Make, Append, Alter};
 ghost use Rattle.wasi_fs.specs.OpenFlags.{includes};
 ghost use Rattle.wasi_guest.specs.FlagSets.{lookupflag_bits, oflag_bits, fdflag_bits, right_bits};
 ghost use Rattle.wasi_guest.specs.Flags as flag;
 ghost use Rattle.wasi_guest.specs.Flags.{has};
 ghost use Rattle.wasi_turns.specs.RawFlags.{modes_in, modes_under, open_how, follow_asked};
 ghost use Rattle.wasi_turns.specs.CallParts.{is_failure};
+ghost use Rattle.wasi_turns.specs.Parts.{permit};
 ghost use Rattle.wasi_p2_types.specs.FlagBits.{path_set, open_set, descriptor_set};
 ghost use Rattle.wasi_p2_types.specs.FlagNames.{path_flags_named};
 ghost use Rattle.wasi_p2_types.specs.FlagNames.{how_named};
 
 use bitflags::Flags;
-use wasi_fs::FsPerms;
-use wasi_guest::{FdFlags, LookupFlags, OFlags, Rights};
+use wasi_fs::{Act, FsPerms};
+use wasi_guest::{Errno, FdFlags, LookupFlags, OFlags, Rights};
 use wasi_p2_types::{DescriptorFlags, OpenFlags, PathFlags};
 use wasi_turns::{FileModes, INVALID, P1Error};
 
@@ -67,6 +70,65 @@ impl OpenWith {
             },
             ..self
         }
+    }
+
+    /// Whether a missing file is made.
+    pub fn creates(self) -> bool
+        ensures { result ≡ (how_named self.path_flags self.open_flags self.flags).create }
+    {
+        self.open_flags.contains(OpenFlags::CREATE)
+    }
+
+    /// Whether this may be asked of a directory of these permissions, as `wasi_fs` decides it. Refusals, in this order:
+    /// Notsup of a flag of integrity; Inval of DIRECTORY beside another of its flags; Perm of creat, trunc and FD_WRITE
+    /// under read-only permissions, and of trunc under append-only ones.
+    #[tactic(auto, unfolding(wasi_fs::specs::OpenHow::may_open))]
+    pub fn check(self, perms: FsPerms) -> Result<(), P1Error>
+        ensures row { result ≡ permit (may_open (how_named self.path_flags self.open_flags self.flags) perms) }
+        ensures refusal { IfErr result (λ e. is_failure e ≡ false) }
+    {
+        if self.is_synchronized() {
+            return Err(P1Error::Errno(Errno::Notsup));
+        }
+        if self.is_mixed() {
+            return Err(INVALID);
+        }
+        if self.is_unpermitted(perms) {
+            return Err(P1Error::Errno(Errno::Perm));
+        }
+        Ok(())
+    }
+
+    /// Whether a flag of integrity is asked for.
+    fn is_synchronized(self) -> bool
+        ensures { result ≡ (includes (descriptor_set self.flags) 4 || includes (descriptor_set self.flags) 8
+            || includes (descriptor_set self.flags) 16) }
+    {
+        self.flags.contains(DescriptorFlags::FILE_INTEGRITY_SYNC)
+            || self.flags.contains(DescriptorFlags::DATA_INTEGRITY_SYNC)
+            || self.flags.contains(DescriptorFlags::REQUESTED_WRITE_SYNC)
+    }
+
+    /// Whether a directory is asked for, and beside it a flag that makes or cuts a file.
+    fn is_mixed(self) -> bool
+        ensures { result ≡ (includes (open_set self.open_flags) 2 && (includes (open_set self.open_flags) 1
+            || includes (open_set self.open_flags) 4 || includes (open_set self.open_flags) 8)) }
+    {
+        self.open_flags.contains(OpenFlags::DIRECTORY)
+            && (self.open_flags.contains(OpenFlags::CREATE)
+                || self.open_flags.contains(OpenFlags::EXCLUSIVE)
+                || self.open_flags.contains(OpenFlags::TRUNCATE))
+    }
+
+    /// Whether it creates, writes or cuts where that isn't permitted.
+    fn is_unpermitted(self, perms: FsPerms) -> bool
+        ensures { result ≡ (includes (open_set self.open_flags) 1 && not (permits perms Make))
+            || (includes (descriptor_set self.flags) 2 && not (permits perms Append))
+            || (includes (open_set self.open_flags) 8 && not (permits perms Alter)) }
+    {
+        (self.open_flags.contains(OpenFlags::CREATE) && !perms.permits(Act::Make))
+            || (self.flags.contains(DescriptorFlags::WRITE) && !perms.permits(Act::Append))
+            || (self.open_flags.contains(OpenFlags::TRUNCATE) && !perms.permits(Act::Alter))
     }
 }
 

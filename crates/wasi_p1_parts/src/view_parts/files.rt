@@ -1,5 +1,5 @@
 //! The calls of views about a file.
-ghost use Rattle.std.specs.Prelude.{◌≡◌, slice_get, IfErr, None, Result, Some};
+ghost use Rattle.std.specs.Prelude.{◌≡◌, slice_get, IfErr, IsTrue, None, Result, Some};
 ghost use Rattle.std.specs.FinMap.{get};
 ghost use Rattle.wasi_fs.specs.Calls.{asks_at, may_do, syncs, NotMemory};
 ghost use Rattle.wasi_fs.specs.declared.descriptor.Descriptor.TheVariants.{File as AFile};
@@ -13,15 +13,21 @@ ghost use Rattle.wasi_p2_types.specs.Advices.{advice_named};
 ghost use Rattle.wasi_p2_errors.specs.FsErrors.{FsCause};
 ghost use Rattle.wasi_p2.specs.Views.{files_of, AsksHost, FilesOwned, Performs};
 ghost use Rattle.wasi_streams.specs.declared.entry.Entry.TheVariants.{Descriptor as AnOpened};
+ghost use Rattle.wasi_host.specs.Meaning.{Rose};
+ghost use Rattle.wasi_turns.specs.CallParts.{IsReplied, Makes};
+ghost use Rattle.wasi_turns.specs.CallTurn.{Causes};
 ghost use Rattle.wasi_turns.specs.Owners.{handles};
+ghost use Rattle.wasi_turns.specs.Request.{Direct};
+ghost use Rattle.wasi_turns.specs.Row.{give};
 
 use crate::descriptors::Descriptors;
-use crate::view_parts::resource_under;
+use crate::view_parts::{raised, resource_under};
 use wasi_fs::{Descriptor, File};
 use wasi_host::Host;
 use wasi_p2::types::Advice;
 use wasi_p2::{FsResult, WasiFilesystemCtx, WasiFilesystemCtxView};
 use wasi_streams::Resource;
+use wasi_turns::P1Error;
 
 /// A call of a view about a file, which looks up no name of one.
 pub trait FileCall<H: Host> {
@@ -100,6 +106,32 @@ impl<H: Host> FileCall<H> for SetSizeOf {
     fn made(self, view: &mut WasiFilesystemCtxView<'_, H>, fd: Resource) -> FsResult<()> {
         view.set_size(fd, self.size)
     }
+}
+
+/// Gives a file this size, which its permissions permit, and says so as a call.
+pub fn set_size<H: Host>(
+    fs: &mut WasiFilesystemCtx<H>,
+    descriptors: &mut Descriptors,
+    fd: u32,
+    file: &File,
+    size: u64,
+) -> Result<(), P1Error>
+    requires holds { HoldsHandles (H.live fs.old.host) (handles descriptors.old.slots) fs.old.preopens.items }
+    requires stands { descriptor_under (slice_get descriptors.old.slots fd) ≡ Some (Descriptor.File file.now) }
+    requires permitted { may_do file.now.perms Alter ≡ None }
+    ensures ctx { fs.new ≡ record fs.old { host = fs.new.host } }
+    ensures same { descriptors.new ≡ descriptors.old }
+    ensures cause { Causes (H.faults fs.old.host) (H.faults fs.new.host) result }
+    ensures live { H.live fs.new.host ≡ H.live fs.old.host }
+    ensures logged { H.lookups fs.new.host ≡ H.lookups fs.old.host }
+
+    // The row, over every host and over one that tells its world.
+    ensures front { IsReplied (Direct (SetSize ((H.world fs.old.host).held file.now.file) size)) (λ _. give tt) result }
+    ensures told { IsTrue H.told → Makes (Rose (H.faults fs.old.host) (H.faults fs.new.host)) (H.live fs.old.host)
+        (H.world fs.old.host) (H.world fs.new.host)
+        (Direct (SetSize ((H.world fs.old.host).held file.now.file) size)) (λ _. give tt) result }
+{
+    raised(about_file(fs, descriptors, fd, file, SetSizeOf { size }))
 }
 
 /// Waits until a file's bytes are stored.

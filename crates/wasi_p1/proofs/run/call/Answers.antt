@@ -2,6 +2,7 @@ use Rattle.wasi_turns.proofs.Apart.{turn_appends}
 use Rattle.wasi_turns.proofs.ErrorNumbers.{turn_errnos}
 use Rattle.wasi_turns.proofs.Permitting.{turn_adds}
 use Rattle.wasi_turns.proofs.Unchanged.{leaves_all}
+use Rattle.wasi_p1.proofs.Spending.{turn_writes}
 use Rattle.wasi_p1.proofs.run.call.Goals as goal
 
 pub returns-clause-errnos : goal.returns-clause-errnos
@@ -15,3 +16,6 @@ returns-clause-adds g c = λ told. turn_adds (c.by_name.ensures.turn.turn told)
 
 pub returns-clause-appends : goal.returns-clause-appends
 returns-clause-appends g c = λ told. turn_appends (c.by_name.ensures.turn.turn told)
+
+pub returns-clause-writes : goal.returns-clause-writes
+returns-clause-writes g c = λ told. turn_writes (c.by_name.ensures.turn.turn told)

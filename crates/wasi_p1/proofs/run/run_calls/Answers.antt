@@ -14,6 +14,7 @@ use Rattle.wasi_turns.proofs.Confining.{turn_confines}
 use Rattle.wasi_turns.proofs.ErrorNumbers.{did_errnos}
 use Rattle.wasi_turns.proofs.Staying.{all_stay}
 use Rattle.wasi_turns.proofs.Validity.{turn_valid}
+use Rattle.wasi_p1.proofs.Spending.{did_keep, stood_keep}
 use Rattle.wasi_p1.proofs.run.run_calls.Goals as goal
 
 -- ---- no call yet
@@ -225,3 +226,17 @@ returns-clause-in_turn g c =
 
 pub returns-clause-agree : goal.returns-clause-agree
 returns-clause-agree g c = λ told never. did_same (returns-clause-run g c told) never
+
+-- ---- the quota
+
+pub returns-in_default-clause-quotas_so_far : goal.returns-in_default-clause-quotas_so_far
+returns-in_default-clause-quotas_so_far g c = λ told. stood_keep (returns-in_default-clause-memory g c told)
+
+pub returns-in-None-clause-quotas_so_far : goal.returns-in-None-clause-quotas_so_far
+returns-in-None-clause-quotas_so_far g c = λ told. stood_keep (returns-in-None-clause-memory g c told)
+
+pub returns-then-ends_run-clause-quotas : goal.returns-then-ends_run-clause-quotas
+returns-then-ends_run-clause-quotas g c = λ told. did_keep (returns-then-ends_run-clause-run g c told)
+
+pub returns-clause-quotas : goal.returns-clause-quotas
+returns-clause-quotas g c = λ told. did_keep (returns-clause-run g c told)

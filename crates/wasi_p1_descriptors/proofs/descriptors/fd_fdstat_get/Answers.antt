@@ -23,7 +23,7 @@ returns-in_err-fdstat-in-Directory-clause-turn g c =
     rw (given.same, ← c.context.view_is) (on_err c.from_residual-in_err-fdstat-in-Directory.ensures.1 (makes_err {r = Direct (Flags _)}
     (λ _. give directory_fdstat) with_fdstat
     (rw (← c.in_ok-slot.ensures.row, c.in-Directory.is, ← c.if-is_some.ensures) refl) c.context.invariant.owned given.makes.front
-    (λ is. absurd (given.makes.never_wants is)) unchanged given.makes.told))
+    (λ is. absurd (given.makes.never_wants is)) refl unchanged given.makes.told))
 
 pub open_file_fdstat-requires : goal.open_file_fdstat-requires
 open_file_fdstat-requires g c = record {
@@ -38,7 +38,7 @@ returns-in_err-fdstat-in-File-clause-turn g c =
     rw (given.same, ← c.context.view_is) (on_err c.from_residual-in_err-fdstat-in-File.ensures.1 (makes_err {r = Direct (Stat _)}
     (λ metadata. give (file_told (open_file_of (g.H.Host.world c.context.inside.fs.host).held c.in-File.file) metadata)) with_fdstat
     (rw (← c.in_ok-slot.ensures.row, c.in-File.is) refl) c.context.invariant.owned given.makes.front
-    (λ is. absurd (given.makes.never_wants is)) unchanged given.makes.told))
+    (λ is. absurd (given.makes.never_wants is)) refl unchanged given.makes.told))
 
 pub returns-in_ok-fdstat-in-Directory-clause-turn : goal.returns-in_ok-fdstat-in-Directory-clause-turn
 unfolding fd_fdstat_get

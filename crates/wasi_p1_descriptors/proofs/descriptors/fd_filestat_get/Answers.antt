@@ -21,7 +21,7 @@ returns-in_err-filestat-in-Directory-clause-turn g c =
     rw (given.same, ← c.context.view_is) (on_err c.from_residual-in_err-filestat-in-Directory.ensures.1 (makes_err {r = Direct (Stat _)}
     (λ metadata. filestat_in (stat_both metadata)) with_filestat
     (rw (← c.in_ok-slot.ensures.row, c.in-Directory.is) refl) c.context.invariant.owned given.makes.front
-    (λ is. absurd (given.makes.never_wants is)) unchanged given.makes.told))
+    (λ is. absurd (given.makes.never_wants is)) refl unchanged given.makes.told))
 
 pub node_filestat-requires-in-File : goal.node_filestat-requires-in-File
 node_filestat-requires-in-File g c = record {
@@ -36,7 +36,7 @@ returns-in_err-filestat-in-File-clause-turn g c =
     rw (given.same, ← c.context.view_is) (on_err c.from_residual-in_err-filestat-in-File.ensures.1 (makes_err {r = Direct (Stat _)}
     (λ metadata. filestat_in (stat_both metadata)) with_filestat
     (rw (← c.in_ok-slot.ensures.row, c.in-File.is) refl) c.context.invariant.owned given.makes.front
-    (λ is. absurd (given.makes.never_wants is)) unchanged given.makes.told))
+    (λ is. absurd (given.makes.never_wants is)) refl unchanged given.makes.told))
 
 pub returns-in_ok-filestat-in-Directory-clause-turn : goal.returns-in_ok-filestat-in-Directory-clause-turn
 unfolding fd_filestat_get

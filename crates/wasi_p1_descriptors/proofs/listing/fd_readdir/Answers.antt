@@ -21,7 +21,7 @@ returns-in_err-entries-clause-turn g c =
     let given = c.in_err-entries.ensures in
     rw (← c.context.view_is) (on_err c.from_residual-in_err-entries.ensures.1 (makes_err {r = ListDirectory _}
     (λ listing. text_to c.args.memory.now c.args.buf (page listing c.args.cookie c.args.buf_len)) with_text
-    (rw (← c.in_ok-dir.ensures.row, ← c.in_ok-room_at.ensures.row) refl) c.context.invariant.owned (inl (_, refl)) (λ _. refl) unchanged
+    (rw (← c.in_ok-dir.ensures.row, ← c.in_ok-room_at.ensures.row) refl) c.context.invariant.owned (inl (_, refl)) (λ _. refl) refl unchanged
     (λ told. record {
       keeps = (given.told told).keeps;
       does = inl (resolved_err {r = ListDirectory _} _ (λ is. given.cause.io (ap Err is)) (given.told told));
@@ -38,7 +38,7 @@ returns-in_err-count-clause-turn g c =
     rw (← c.context.view_is) (on_err c.from_residual-in_err-count.ensures.1 (makes_err {r = ListDirectory _}
     (λ listing. text_to c.args.memory.now c.args.buf (page listing c.args.cookie c.args.buf_len)) with_text
     (rw (← c.in_ok-dir.ensures.row, ← c.in_ok-room_at.ensures.row) refl) c.context.invariant.owned
-    (inr (listing, given.short, row)) (λ is. absurd (put.never_wants is))
+    (inr (listing, given.short, row)) (λ is. absurd (put.never_wants is)) refl
     (record { slots = refl; table_max = refl; holdings = refl; memory = put.same })
     (λ told. record {
       keeps = (given.told told).keeps;

@@ -17,7 +17,7 @@ returns-in_err-about-clause-turn g c =
     let node = open_node_of (g.H.Host.world c.context.inside.fs.host).held c.in_ok-descriptor.descriptor in
     rw (given.same, ← c.context.view_is) (on_refusal lower c.from_residual-in_err-about.ensures.1 (changed_err {r = Direct (SetTimes node.node c.in_ok-times.times.atime c.in_ok-times.times.mtime)}
     (rw (← (rw c.wall.ensures.wall at c.in_ok-times.ensures.row), ← c.in_ok-descriptor.ensures.row) refl)
-    c.context.invariant.owned unchanged _ lower.did.1.permit (not_wanted _ lower.did.0) (λ told none.
+    c.context.invariant.owned refl unchanged _ lower.did.1.permit (not_wanted _ lower.did.0) (λ told none.
     (lower.did.1.does told none).keeps) (λ told none. set_err _ (λ is. lower.cause.io (ap Err is)) (lower.did.1.does told none))))
 
 pub returns-clause-turn : goal.returns-clause-turn

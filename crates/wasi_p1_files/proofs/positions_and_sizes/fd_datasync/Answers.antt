@@ -14,7 +14,7 @@ returns-in_err-about_file-clause-turn g c =
     let given = c.in_err-about_file.ensures in
     let lower = lowered_err _ given.cause given.did in
     rw (given.same, ← c.context.view_is) (on_refusal lower c.from_residual-in_err-about_file.ensures.1 (changed_err {own = None} {r = Direct (Sync _)}
-    (rw (← c.in_ok-slot.ensures.row) refl) c.context.invariant.owned unchanged _ tt (not_wanted _ lower.did.0)
+    (rw (← c.in_ok-slot.ensures.row) refl) c.context.invariant.owned refl unchanged _ tt (not_wanted _ lower.did.0)
     (λ told _. (lower.did.1.does told refl).keeps)
     (λ told _. called_err _ (λ is. lower.cause.io (ap Err is)) (lower.did.1.does told refl))))
 

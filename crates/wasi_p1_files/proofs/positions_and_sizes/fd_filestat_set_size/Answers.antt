@@ -1,28 +1,38 @@
 use Rattle.std.proofs.Common.{refl, ap, Err}
-use Rattle.wasi_host.specs.HostCall.{SetSize}
-use Rattle.wasi_turns.specs.Request.{Direct}
 use Rattle.wasi_turns.specs.Rows.PositionsAndSizes.{fd_filestat_set_size}
-use Rattle.wasi_turns.proofs.Below.{changed_err, changed_ok}
-use Rattle.wasi_turns.proofs.Setting.{called_ok, called_err}
-use Rattle.wasi_turns.proofs.Taking.{unchanged}
-use Rattle.wasi_p1_parts.proofs.Viewing.{lowered_err, lowered_ok, on_refusal}
+use Rattle.wasi_turns.proofs.RowEnds.{with_nothing}
+use Rattle.wasi_turns.proofs.Taking.{on_err}
+use Rattle.wasi_p1_files.proofs.Growing.{growth_done, growth_err, growth_refused, size_grows}
 use Rattle.wasi_p1_files.proofs.positions_and_sizes.fd_filestat_set_size.Goals as goal
 
-pub returns-in_err-about_file-clause-turn : goal.returns-in_err-about_file-clause-turn
+pub returns-in_err-growth-clause-turn : goal.returns-in_err-growth-clause-turn
 unfolding fd_filestat_set_size
-returns-in_err-about_file-clause-turn g c =
-    let given = c.in_err-about_file.ensures in
-    let lower = lowered_err _ given.cause given.did in
-    rw (given.same, ← c.context.view_is) (on_refusal lower c.from_residual-in_err-about_file.ensures.1 (changed_err {r = Direct (SetSize _ _)}
-    (rw (← c.in_ok-slot.ensures.row) refl) c.context.invariant.owned unchanged _ lower.did.permit (λ _. refl)
-    (λ told none. (lower.did.does told none).keeps)
-    (λ told none. called_err _ (λ is. lower.cause.io (ap Err is)) (lower.did.does told none))))
+returns-in_err-growth-clause-turn g c =
+    let looked = c.in_err-growth.ensures in
+    rw (← c.context.view_is) (on_err c.from_residual-in_err-growth.ensures.1 (growth_refused (size_grows c.args.size)
+    with_nothing c.in_ok-slot.slot.file.file
+    (rw (← c.in_ok-slot.ensures.row, ← c.in_ok-check_alter.ensures.row) refl)
+    c.context.invariant.owned (record { unbound = looked.unbound; front = looked.front; tells = looked.told }) looked.never_wants))
+
+pub returns-in_err-set-clause-turn : goal.returns-in_err-set-clause-turn
+unfolding fd_filestat_set_size
+returns-in_err-set-clause-turn g c =
+    let looked = c.in_ok-growth.ensures in
+    let given = rw c.in_err-set.was at c.set_size-set.ensures in
+    rw (given.same, ← c.context.view_is) (on_err c.from_residual-in_err-set.ensures.1 (growth_err (size_grows c.args.size)
+    with_nothing c.in_ok-slot.slot.file.file
+    (rw (← c.in_ok-slot.ensures.row, ← c.in_ok-check_alter.ensures.row) refl)
+    c.context.invariant.owned (record { unbound = looked.unbound; front = looked.front; tells = looked.told })
+    looked.cause.later looked.live c.in_ok-slot.ensures.live given.front (λ _. refl) given.told
+    (λ is. given.cause.io (ap Err is)) refl (rw c.in_err-set.was at c.count_growth.ensures.counted)))
 
 pub returns-clause-turn : goal.returns-clause-turn
 unfolding fd_filestat_set_size
 returns-clause-turn g c =
-    let given = c.in_ok-about_file.ensures in
-    let lower = lowered_ok _ given.did in
-    rw (given.same, ← c.context.view_is) (changed_ok {r = Direct (SetSize _ _)} (rw (← c.in_ok-slot.ensures.row) refl)
-    c.context.invariant.owned unchanged tt tt lower.permit (λ told none. (lower.does told none).keeps)
-    (λ told none. called_ok refl (lower.does told none)))
+    let looked = c.in_ok-growth.ensures in
+    let given = rw c.in_ok-set.was at c.set_size-set.ensures in
+    rw (given.same, ← c.context.view_is) (growth_done (size_grows c.args.size) with_nothing c.in_ok-slot.slot.file.file
+    (rw (← c.in_ok-slot.ensures.row, ← c.in_ok-check_alter.ensures.row) refl)
+    c.context.invariant.owned (record { unbound = looked.unbound; front = looked.front; tells = looked.told })
+    looked.cause.later looked.live c.in_ok-slot.ensures.live given.front refl
+    (rw c.in_ok-set.was at c.count_growth.ensures.counted) given.told)

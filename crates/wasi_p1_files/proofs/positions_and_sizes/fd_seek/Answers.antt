@@ -25,7 +25,7 @@ returns-in_err-position-clause-turn g c = let given = c.in_err-position.ensures 
     rw (← c.context.view_is) (on_err c.from_residual-in_err-position.ensures.1 (known_err {r = Direct (Stat _)}
     so (λ metadata. so metadata.size) (with_sought c.args.fd (open_file_of (g.H.Host.world c.context.inside.fs.host).held c.in_ok-file.field-0))
     (rw (← c.in_ok-place.ensures.row, ← c.in_ok-file.ensures.row, back) refl)
-    c.context.invariant.owned given.known given.front (λ is. absurd (given.never_wants is)) unchanged given.told))
+    c.context.invariant.owned given.known given.front (λ is. absurd (given.never_wants is)) refl unchanged given.told))
 
 pub returns-clause-turn : goal.returns-clause-turn
 unfolding fd_seek

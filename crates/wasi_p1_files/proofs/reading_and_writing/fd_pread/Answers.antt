@@ -13,7 +13,7 @@ returns-in_err-count-clause-turn g c =
     let given = c.in_err-count.ensures in
     rw (← c.context.view_is) (on_err c.from_residual-in_err-count.ensures.1 (makes_err {r = Direct (Pread _ _ c.min.result)} (filled_at _ _) with_text
     (rw (← (rw c.in_ok-buffer.was at c.buffer_at.ensures.row), ← c.in_ok-slot.ensures.row, ← c.in_ok-bytes_at.ensures.row, c.min.ensures) refl)
-    c.context.invariant.owned given.front (λ is. absurd (given.never_wants is))
+    c.context.invariant.owned given.front (λ is. absurd (given.never_wants is)) refl
     (record { slots = refl; table_max = refl; holdings = refl; memory = given.same }) given.told))
 
 pub returns-clause-turn : goal.returns-clause-turn

@@ -12,7 +12,7 @@ returns-in_err-count-clause-turn g c = let given = c.in_err-count.ensures in
     rw (← c.context.view_is) (on_err c.from_residual-in_err-count.ensures.1 (makes_err (filled_at _ _)
     (with_memory c.args.fd (open_file_of (g.H.Host.world c.context.inside.fs.host).held c.in-File.slot))
     (rw (← (rw c.in_ok-buffer.was at c.buffer_at.ensures.row), ← (rw c.in-File.is at c.in_ok-source.ensures.row), ← c.in_ok-bytes_at.ensures.row) refl)
-    c.context.invariant.owned given.front (λ is. absurd (given.never_wants is))
+    c.context.invariant.owned given.front (λ is. absurd (given.never_wants is)) refl
     (record { slots = refl; table_max = refl; holdings = refl; memory = given.same }) given.told))
 
 pub returns-clause-turn : goal.returns-clause-turn

@@ -1,31 +1,53 @@
-use Rattle.std.proofs.Common.{refl, []}
+use Rattle.std.proofs.Common.{refl, [], ap, Err}
 use Rattle.wasi_host.proofs.Leaving.{Contains-here}
 use Rattle.wasi_turns.specs.CallParts.{open_file_of}
-use Rattle.wasi_turns.specs.Putting.{put_request, put_in}
-use Rattle.wasi_turns.specs.Row.{give}
 use Rattle.wasi_turns.specs.Rows.ReadingAndWriting.{fd_write}
-use Rattle.wasi_turns.proofs.Taking.{refused_at, makes_err, put_ok, unchanged, on_err}
+use Rattle.wasi_turns.proofs.Taking.{refused_at, on_err}
 use Rattle.wasi_turns.proofs.RowEnds.{with_position}
 use Rattle.wasi_turns.proofs.Writing.{writes_whole, output_whole}
+use Rattle.wasi_p1_files.proofs.Growing.{growth_err, growth_put, growth_refused, request_grows}
 use Rattle.wasi_p1_files.proofs.reading_and_writing.fd_write.Goals as goal
+
+pub returns-in_err-growth-clause-turn : goal.returns-in_err-growth-clause-turn
+unfolding fd_write
+returns-in_err-growth-clause-turn g c =
+    let slot = c.in-File.slot in
+    let looked = rw c.put_end-end.ensures at c.in_err-growth.ensures in
+    rw (← c.context.view_is) (on_err c.from_residual-in_err-growth.ensures.1 (growth_refused
+    (request_grows slot.modes.append slot.position c.in_ok-piece.piece.now)
+    (with_position c.args.fd (open_file_of (g.H.Host.world c.context.inside.fs.host).held slot)) slot.file.file
+    (rw (← (rw c.in_ok-buffer.was at c.buffer_at.ensures.row), ← (rw c.in-File.is at c.in_ok-sink.ensures.row), ← c.in_ok-piece.ensures.row, ← c.in_ok-check_write.ensures.row) refl)
+    c.context.invariant.owned (record { unbound = looked.unbound; front = looked.front; tells = looked.told }) looked.never_wants))
 
 pub returns-in_err-count-clause-turn : goal.returns-in_err-count-clause-turn
 unfolding fd_write
-returns-in_err-count-clause-turn g c = let given = c.in_err-count.ensures in
-    rw (← c.context.view_is) (on_err c.from_residual-in_err-count.ensures.1 (makes_err {r = put_request _ _ _ _}
-    (λ reply. give (put_in _ _ _ _ reply)) (with_position c.args.fd (open_file_of (g.H.Host.world c.context.inside.fs.host).held c.in-File.slot))
+returns-in_err-count-clause-turn g c =
+    let slot = c.in-File.slot in
+    let looked = rw c.put_end-end.ensures at c.in_ok-growth.ensures in
+    let given = rw c.in_err-count.was at c.put_next-put.ensures in
+    rw (← c.context.view_is) (on_err c.from_residual-in_err-count.ensures.1 (growth_err
+    (request_grows slot.modes.append slot.position c.in_ok-piece.piece.now)
+    (with_position c.args.fd (open_file_of (g.H.Host.world c.context.inside.fs.host).held slot)) slot.file.file
     (rw (← (rw c.in_ok-buffer.was at c.buffer_at.ensures.row), ← (rw c.in-File.is at c.in_ok-sink.ensures.row), ← c.in_ok-piece.ensures.row, ← c.in_ok-check_write.ensures.row) refl)
-    c.context.invariant.owned given.front (λ _. refl) unchanged given.told))
+    c.context.invariant.owned (record { unbound = looked.unbound; front = looked.front; tells = looked.told })
+    looked.cause.later looked.live (rw c.in-File.is at c.in_ok-sink.ensures.live) given.front (λ _. refl) given.told
+    (λ is. given.cause.io (ap Err is)) refl (rw c.in_err-count.was at c.count_growth.ensures.counted)))
 
 pub returns-clause-turn : goal.returns-clause-turn
 unfolding fd_write
-returns-clause-turn g c = let given = c.in_ok-count.ensures in let put = c.put_back.ensures in
-    rw (← c.context.view_is) (put_ok {r = put_request _ _ _ _} (λ reply. give (put_in _ _ _ _ reply))
-    (with_position c.args.fd (open_file_of (g.H.Host.world c.context.inside.fs.host).held c.in-File.slot))
+returns-clause-turn g c =
+    let slot = c.in-File.slot in
+    let looked = rw c.put_end-end.ensures at c.in_ok-growth.ensures in
+    let given = rw c.in_ok-count.was at c.put_next-put.ensures in
+    let back = c.put_back.ensures in
+    rw (← c.context.view_is, back.max) (growth_put
+    (request_grows slot.modes.append slot.position c.in_ok-piece.piece.now)
+    (with_position c.args.fd (open_file_of (g.H.Host.world c.context.inside.fs.host).held slot)) slot.file.file
     (rw (← (rw c.in_ok-buffer.was at c.buffer_at.ensures.row), ← (rw c.in-File.is at c.in_ok-sink.ensures.row), ← c.in_ok-piece.ensures.row, ← c.in_ok-check_write.ensures.row) refl)
-    c.context.invariant.owned refl given.front refl (record { slots = put.slots; table_max = put.max; holdings = refl })
+    c.context.invariant.owned (record { unbound = looked.unbound; front = looked.front; tells = looked.told })
+    looked.cause.later looked.live (rw c.in-File.is at c.in_ok-sink.ensures.live) c.args.fd _ slot given.front refl back.slots
     (Contains-here _ []) (rw c.in-File.is at c.in_ok-sink.ensures.is) refl
-    (rw c.in-File.is at c.in_ok-sink.ensures.live) given.told)
+    (rw c.in-File.is at c.in_ok-sink.ensures.live) (rw c.in_ok-count.was at c.count_growth.ensures.counted) given.told)
 
 pub returns-clause-whole : goal.returns-clause-whole
 returns-clause-whole g c = λ told. writes_whole _ _ _ _ _ _ _ ((returns-clause-turn g c).turn told).turn

@@ -20,7 +20,7 @@ returns-in_err-both-clause-turn g c =
     (stat_both metadata)) with_filestat
     (rw (← c.in_ok-flags.ensures.row, ← c.in_ok-dir.ensures.row, ← c.in_ok-text.ensures.row) refl)
     c.context.invariant.owned (inl (_, refl)) (λ _. refl)
-    unchanged (λ told. record {
+    refl unchanged (λ told. record {
       keeps = (lower.did.1.does told refl).keeps;
       does = inl (made_not (Path (LookPath _ _ _)) stat_both _ (λ is. lower.cause.io (ap Err is)) (lower.did.1.does told refl));
     })))
@@ -34,7 +34,7 @@ returns-in_err-filestat-clause-turn g c =
     (stat_both metadata)) with_filestat
     (rw (← c.in_ok-flags.ensures.row, ← c.in_ok-dir.ensures.row, ← c.in_ok-text.ensures.row) refl)
     c.context.invariant.owned (inr (stated_reply shown.2.0 (shown_row shown.0 shown.1 c.in_err-filestat.ensures.row))) (λ _. refl)
-    unchanged (λ told. record {
+    refl unchanged (λ told. record {
       keeps = (shown.2.1.does told refl).keeps;
       does = inr (stated_again (made_ok (Path (LookPath _ _ _)) stat_both (shown.2.1.does told refl))
           (shown_row shown.0 shown.1 c.in_err-filestat.ensures.row));

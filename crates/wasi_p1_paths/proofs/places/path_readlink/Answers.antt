@@ -17,7 +17,7 @@ returns-in_err-link-clause-turn g c =
     let lower = lowered_err _ given.cause given.did in
     rw (given.same, ← c.context.view_is) (on_refusal lower c.from_residual-in_err-link.ensures.1 (found_err {p = AtPlace _ _ ReadLink} (λ link. text_to c.args.memory.now c.args.buf (take c.args.buf_len link)) with_text
     (rw (← c.in_ok-dir.ensures.row, ← c.in_ok-text.ensures.row) refl) c.context.invariant.owned _ lower.cause refl
-    unchanged (λ told. lower.did.1.does told refl)))
+    refl unchanged (λ told. lower.did.1.does told refl)))
 
 pub returns-in_err-count-clause-turn : goal.returns-in_err-count-clause-turn
 unfolding path_readlink

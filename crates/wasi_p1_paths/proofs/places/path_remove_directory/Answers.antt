@@ -13,7 +13,7 @@ returns-in_err-below-clause-turn g c =
     let lower = lowered_err _ given.cause given.did in
     rw (given.same, ← c.context.view_is) (on_refusal lower c.from_residual-in_err-below.ensures.1 (done_err
     (AtPlace _ _ RemoveDir) (rw (← c.in_ok-dir.ensures.row, ← c.in_ok-text.ensures.row) refl) c.context.invariant.owned _
-    lower.cause lower.did.permit refl lower.did.does))
+    lower.cause lower.did.permit refl refl lower.did.does))
 
 pub returns-clause-turn : goal.returns-clause-turn
 unfolding path_remove_directory

@@ -14,7 +14,7 @@ returns-in_err-between-clause-turn g c =
     let lower = lowered_err _ given.cause given.did in
     rw (given.same, ← c.context.view_is) (on_refusal lower c.from_residual-in_err-between.ensures.1 (done_err (AtTwo _ _ _ _ HardLink)
     (rw (← c.in_ok-flags.ensures.row, ← c.in_ok-old.ensures.row, ← c.in_ok-new.ensures.row, ← c.in_ok-old_text.ensures.row, ← c.in_ok-new_text.ensures.row) refl) c.context.invariant.owned _ lower.cause
-    lower.did.permit refl lower.did.does))
+    lower.did.permit refl refl lower.did.does))
 
 pub returns-clause-turn : goal.returns-clause-turn
 unfolding path_link

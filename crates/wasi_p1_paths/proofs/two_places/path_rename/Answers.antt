@@ -13,7 +13,7 @@ returns-in_err-between-clause-turn g c =
     let given = c.in_err-between.ensures in
     let lower = lowered_err _ given.cause given.did in
     rw (given.same, ← c.context.view_is) (on_refusal lower c.from_residual-in_err-between.ensures.1 (done_err (AtTwo _ _ _ _ Rename)
-    (rw (← c.in_ok-old.ensures.row, ← c.in_ok-new.ensures.row, ← c.in_ok-old_text.ensures.row, ← c.in_ok-new_text.ensures.row) refl) c.context.invariant.owned _ lower.cause lower.did.permit refl lower.did.does))
+    (rw (← c.in_ok-old.ensures.row, ← c.in_ok-new.ensures.row, ← c.in_ok-old_text.ensures.row, ← c.in_ok-new_text.ensures.row) refl) c.context.invariant.owned _ lower.cause lower.did.permit refl refl lower.did.does))
 
 pub returns-clause-turn : goal.returns-clause-turn
 unfolding path_rename

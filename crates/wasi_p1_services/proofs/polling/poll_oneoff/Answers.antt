@@ -102,7 +102,7 @@ returns-in_err-sizes-clause-turn g c =
       room = c.in_ok-room_at.ensures.row;
       later = c.in_ok-clocks.ensures.row;
     }) (rw c.deref-2.ensures.value (sym c.in_ok-waited.ensures.row)) (rw c.deref-2.ensures.value (some_of (rw c.deref.ensures.value at c.reads_files.ensures) c.if-not-reads_files.false)))
-    c.context.invariant.owned c.in_err-sizes.ensures.front (λ _. refl) unchanged
+    c.context.invariant.owned c.in_err-sizes.ensures.front (λ _. refl) refl unchanged
     c.in_err-sizes.ensures.told))
 
 pub returns-clause-turn : goal.returns-clause-turn
