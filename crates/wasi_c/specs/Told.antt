@@ -50,6 +50,11 @@ pub data TellsStart (bytes : List ℕ) : Held → ℕ → Type 0 where
 abbrev pub TellsAnswered : Held → ℕ → Type 0
 TellsAnswered held n = Holds held (λ s. n ≡ s.answered)
 
+-- how much of its quotas was used
+abbrev pub TellsUsed : Held → ℕ → ℕ → Type 0
+TellsUsed held nodes bytes = Holds held (λ s.
+    (nodes ≡ s.context.holdings.used.nodes) × (bytes ≡ s.context.holdings.used.bytes))
+
 -- The report's length, and its text in front of the bytes that were lent, of which the others stay, where it isn't longer
 -- than these; else they stay. Memory may have been wanted, and then all stays
 pub data ReportTold (s : Sandbox) (before after : List ℕ) (len len' : ℕ) : ℕ → Type 0 where

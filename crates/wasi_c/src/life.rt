@@ -1,6 +1,6 @@
 //! How a sandbox is begun, told of and ended.
 ghost use Rattle.std.specs.Prelude.{◌≡◌, ◌≢◌, None, IsSome};
-ghost use Rattle.wasi_c.specs.Told.{TellsAnswered, TellsReport, TellsStart};
+ghost use Rattle.wasi_c.specs.Told.{TellsAnswered, TellsReport, TellsStart, TellsUsed};
 
 use crate::codes::{NO_MEMORY, SHORT, start_code};
 use crate::handle::SandboxHandle;
@@ -43,6 +43,28 @@ pub extern "C" fn wasi_c_answered(
     let answered = held.answered;
     sandbox.put(held);
     answered
+}
+
+/// Writes how much of its quotas the guest has used: to `nodes` how many makings were counted, and to `bytes` how many
+/// grown bytes were. A count without a bound is 0.
+#[unsafe(no_mangle)]
+pub extern "C" fn wasi_c_quota_used(
+    alloc: Global,
+    sandbox: &mut SandboxHandle,
+    empty: SandboxHandle,
+    nodes: &mut u64,
+    bytes: &mut u64,
+)
+    requires held { IsSome sandbox.old.value }
+    requires empty { empty.value ≡ None }
+    ensures same { sandbox.new.value ≡ sandbox.old.value }
+    ensures told { TellsUsed sandbox.old.value nodes.new bytes.new }
+{
+    let held = sandbox.take(empty);
+    let used = held.quota_used();
+    sandbox.put(held);
+    *nodes = used.nodes;
+    *bytes = used.bytes;
 }
 
 /// Writes the report of the sandbox as it stands to the front of the bytes that are lent, and to `len` how many bytes

@@ -21,7 +21,7 @@ has_no_guest plan = length plan.calls == 0 && length plan.show == 0 && plan.size
 
 -- the sandbox stands as the plan begins: nothing was done yet
 pub record IsBegunBy (plan : Plan) (s : Sandbox) : Type 0 where
-  pub begun : IsBegun s.context (tree_of plan.nodes plan.limits) plan.preopens plan.services plan.table
+  pub begun : IsBegun s.context (tree_of plan.nodes plan.limits) plan.preopens plan.services plan.quota plan.table
   pub faults : s.context.host.calls ≡ record { faults = plan.faults; calls = 0 }
   pub fuel : s.fuel ≡ plan.fuel
   pub answered : s.answered ≡ 0

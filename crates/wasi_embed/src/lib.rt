@@ -9,5 +9,6 @@ mod starting;
 pub use error::StartError;
 pub use sandbox::Sandbox;
 pub use starting::start;
+pub use wasi_guest::QuotaUsed;
 pub use wasi_p1::{Call, Errno, P1Error, TrapKind, Value};
 pub use wasi_results::{Places, Shape};

@@ -2,10 +2,11 @@
 ghost use Rattle.std.specs.Prelude.{◌≡◌, length, IfOk};
 ghost use Rattle.wasi_embed.specs.Calling.{answered_after, Called, CalledInto};
 ghost use Rattle.wasi_embed.specs.Telling.{Tells};
+ghost use Rattle.wasi_turns.specs.Quotas.{IsWithinQuota};
 
 use std::alloc::{AllocError, Global};
 use wasi_faults::FailAt;
-use wasi_guest::Answers;
+use wasi_guest::{Answers, QuotaUsed};
 use wasi_p1::{Call, P1Error, TrapKind, Value, WasiP1Ctx, call, turns_are_confined};
 use wasi_report::{Outcome, report};
 use wasi_results::{Places, Shape};
@@ -63,6 +64,14 @@ impl Sandbox {
         let value = self.call(memory, request)?;
         shape.put(memory, to, value);
         Ok(value)
+    }
+
+    /// How much of its quotas the guest has used so far; never more than them. A count without a bound stays 0.
+    pub fn quota_used(&self) -> QuotaUsed
+        ensures used { result ≡ self.now.context.holdings.used }
+        ensures within { IsWithinQuota self.now.context.holdings.quota result }
+    {
+        self.context.quota_used()
     }
 
     /// The report of the sandbox as it stands: what was written out, the nodes that were touched, and the tree. No answers

@@ -17,8 +17,8 @@ fn has_no_guest(script: &Script) -> bool
 }
 
 /// A sandbox that stands as a script begins: over the tree of its nodes, with its preopens, all that its guest is handed
-/// in, its table and its fuel, and with its faults to come. `docs/SCRIPT.md` says what a script is; this one has no calls,
-/// no memory and nothing to be shown.
+/// in, its quotas, its table and its fuel, and with its faults to come. `docs/SCRIPT.md` says what a script is; this one
+/// has no calls, no memory and nothing to be shown.
 pub fn start(alloc: Global, text: &[u8]) -> Result<Sandbox, StartError>
     ensures starts { StartsBy text.now result }
 {

@@ -7,6 +7,7 @@ use Rattle.std.proofs.lemmas.Bool.{and_parts, leb-true}
 use Rattle.std.proofs.lemmas.Bool.Decides.{same_from_decides}
 use Rattle.serde_json.specs.Data.{Data}
 use Rattle.wasi_faults.specs.Faults.{numbers_rise}
+use Rattle.wasi_guest.specs.Quotas.{IsQuota}
 use Rattle.wasi_guest.specs.Services.{AreWithin}
 use Rattle.wasi_host.specs.Steps.{◌>>=◌}
 use Rattle.wasi_host.specs.ValidTree.{AreLimits}
@@ -137,6 +138,7 @@ pub record IsAccepted (p : Plan) : Type 0 where
   pub limits : AreLimits p.limits
   pub fit : AreFit p.limits p.nodes
   pub faults : IsTrue (numbers_rise p.faults)
+  pub quota : IsQuota p.quota
   pub services : AreWithin p.services
 
 accepted_within : (q p : Plan) (within : Bool) → is_within_limits q ≡ within → AreFit q.limits q.nodes
@@ -149,6 +151,7 @@ accepted_within q p true within fit is e =
       limits = is.limits;
       fit = fit;
       faults = is.faults;
+      quota = is.quota;
       services = is.services;
     })
 accepted_within q p false within fit is e = let refused = rw within at e in absurd (cc)

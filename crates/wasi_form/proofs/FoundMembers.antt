@@ -11,10 +11,11 @@ use Rattle.wasi_form.specs.declared.services.ServiceKey.TheVariants.{Args, Env, 
 use Rattle.wasi_form.specs.MemoryForm.{memory_rows, memory_in}
 use Rattle.wasi_form.specs.ScriptForm.{part_rows, script_keys, found_in}
 use Rattle.wasi_form.specs.LimitsForm.{limits_rows, limits_in}
+use Rattle.wasi_form.specs.QuotaForm.{quota_rows, quota_in}
 use Rattle.wasi_form.specs.PreopenForm.{preopen_rows, preopen_in}
 use Rattle.wasi_form.specs.NodeForm.{node_rows, node_parts_in}
 use Rattle.wasi_form.specs.FoundNodes.{with_node_member}
-use Rattle.wasi_form.specs.FoundParts.{with_service, with_beside, with_member, with_memory_member, with_limits_member, with_preopen_member}
+use Rattle.wasi_form.specs.FoundParts.{with_service, with_beside, with_member, with_memory_member, with_limits_member, with_quota_member, with_preopen_member}
 use Rattle.wasi_form.proofs.Members.{all_keys-put, puts, stays, by_rows}
 use Rattle.wasi_form.proofs.ServiceMembers.{name_of, at_service, in_no_row}
 
@@ -46,7 +47,7 @@ unfolding script_keys
 at_no_key k d ms none =
     let still = stays script_keys k d ms none in
     rw (all_keys-put, none)
-    (rw (still (codes "nodes") refl, still (codes "preopens") refl, still (codes "calls") refl, still (codes "memory") refl, still (codes "show") refl, still (codes "limits") refl, still (codes "fuel") refl, still (codes "table") refl, still (codes "faults") refl)
+    (rw (still (codes "nodes") refl, still (codes "preopens") refl, still (codes "calls") refl, still (codes "memory") refl, still (codes "show") refl, still (codes "limits") refl, still (codes "fuel") refl, still (codes "table") refl, still (codes "faults") refl, still (codes "quota") refl)
     (rw (still (codes "args") refl, still (codes "env") refl, still (codes "stdin") refl, still (codes "wall") refl, still (codes "wall_res") refl, still (codes "mono") refl, still (codes "mono_res") refl, still (codes "random") refl) refl))
 
 -- a member at another key than those of the parts
@@ -62,7 +63,7 @@ pub found_in-put : (k : List ℕ) (d : Data) (ms : Members) → found_in (put k 
 unfolding with_member script_keys
 found_in-put k d ms =
     by_rows (λ key. found_in (put key d ms)) part_rows (with_beside (service_key k)) d (found_in ms) k
-    (simp puts, (simp puts, (simp puts, (simp puts, (simp puts, (simp puts, (simp puts, (simp puts, (simp puts, tt)))))))))
+    (simp puts, (simp puts, (simp puts, (simp puts, (simp puts, (simp puts, (simp puts, (simp puts, (simp puts, (simp puts, tt))))))))))
     (λ none. at_beside k d ms (service_key k) none refl)
 
 pub memory_in-put : (k : List ℕ) (d : Data) (ms : Members)
@@ -82,6 +83,14 @@ limits_in-put k d ms =
     (simp puts, (simp puts, tt))
     (λ none. let still = stays (names limits_rows) k d ms none in
     rw (all_keys-put, none, still (codes "nodes") refl, still (codes "links") refl) refl)
+
+pub quota_in-put : (k : List ℕ) (d : Data) (ms : Members) → quota_in (put k d ms) ≡ with_quota_member k d (quota_in ms)
+unfolding with_quota_member
+quota_in-put k d ms =
+    by_rows (λ key. quota_in (put key d ms)) quota_rows (λ _ all. record all { known = false }) d (quota_in ms) k
+    (simp puts, (simp puts, tt))
+    (λ none. let still = stays (names quota_rows) k d ms none in
+    rw (all_keys-put, none, still (codes "nodes") refl, still (codes "bytes") refl) refl)
 
 pub preopen_in-put : (k : List ℕ) (d : Data) (ms : Members)
     → preopen_in (put k d ms) ≡ with_preopen_member k d (preopen_in ms)

@@ -1,6 +1,6 @@
--- What of a script is within its range: the limits of its tree, the numbers of its faults, and what its wall clock stands
--- at.
-use Rattle.std.proofs.Common.{◌≡◌, ◌^◌, [], List, Bool, true, false, Option, Some, None, refl, lit≤, lit<, ◌&&◌, codes}
+-- What of a script is within its range: the limits of its tree, the numbers of its faults, its guest's quotas, and what
+-- its wall clock stands at.
+use Rattle.std.proofs.Common.{◌≡◌, ℕ, ◌^◌, [], List, Bool, true, false, Option, Some, None, refl, lit≤, lit<, ◌&&◌, codes}
 use Rattle.std.specs.Prelude.{IfSome, IsTrue, if◌then◌else◌, nat_lt}
 use Rattle.std.proofs.lemmas.Bool.{and_parts, leb-true, ltb-true}
 use Rattle.serde_json.specs.Data.{Data, Members}
@@ -10,12 +10,15 @@ use Rattle.wasi_host.specs.ValidTree.{AreLimits}
 use Rattle.wasi_host.specs.declared.limits.Limits.{Limits}
 use Rattle.wasi_faults.specs.Faults.{numbers_rise}
 use Rattle.wasi_faults.specs.declared.fault.Fault.{Fault}
+use Rattle.wasi_guest.specs.Quotas.{IsQuota, no_quota}
 use Rattle.wasi_guest.specs.Services.{IsWallMoment, AreWithin}
+use Rattle.wasi_guest.specs.declared.quota.Quota.{Quota}
 use Rattle.wasi_guest.specs.declared.services.WallDatetime.{WallDatetime}
 use Rattle.wasi_form.specs.FaultsForm.{fault_of, where_rising, faults_of}
 use Rattle.wasi_form.specs.Lists.{◌>>=◌, only_if, optional, list_of}
 use Rattle.wasi_form.specs.Shapes.{u64_of, u32_of, two_in}
 use Rattle.wasi_form.specs.LimitsForm.{default_limits, is_limit, LimitsFound, limits_in, limits_found, limits_of}
+use Rattle.wasi_form.specs.QuotaForm.{is_bound, QuotaFound, quota_in, quota_found, quota_of}
 use Rattle.wasi_form.specs.ServicesForm.{wall_of, default_wall, default_wall_resolution, ServicesFound, services_in, services_found}
 use Rattle.wasi_form.specs.Plan.{Plan}
 use Rattle.wasi_form.specs.ScriptForm.{ScriptFound, found_in, script_found, script_of}
@@ -127,29 +130,53 @@ faults_found : (part : Option Data) → IfSome (optional faults_of [] part) Rise
 faults_found None = refl
 faults_found (Some d) = kept Rise (list_of fault_of d) _ rise_tested
 
+-- ---- its guest's quotas
+
+-- with both bounds
+abbrev bounded_by : ℕ → ℕ → Quota
+bounded_by nodes bytes = record { nodes = Some nodes; bytes = Some bytes }
+
+quota_tested : (nodes bytes : ℕ) (test : Bool) → is_bound nodes && is_bound bytes ≡ test
+    → IfSome (only_if test >>= (λ _. Some (bounded_by nodes bytes))) IsQuota
+quota_tested nodes bytes true is =
+    let both = and_parts _ _ is in record { nodes = leb-true _ _ both.0; bytes = leb-true _ _ both.1 }
+quota_tested nodes bytes false is = tt
+
+quota_within : (found : QuotaFound) → IfSome (quota_found found) IsQuota
+unfolding quota_found
+quota_within found =
+    kept IsQuota (only_if found.known) _ (λ _. kept IsQuota found.nodes _ (λ nodes.
+    kept IsQuota found.bytes _ (λ bytes. quota_tested nodes bytes _ refl)))
+
+quota_found_in : (part : Option Data) → IfSome (optional quota_of no_quota part) IsQuota
+quota_found_in None = record { nodes = tt; bytes = tt }
+quota_found_in (Some d) = kept IsQuota (find.as_object d) _ (λ ms. quota_within (quota_in ms))
+
 -- ---- the script
 
 -- a plan of which all is within its range
 pub record IsInRange (p : Plan) : Type 0 where
   pub limits : AreLimits p.limits
   pub faults : Rise p.faults
+  pub quota : IsQuota p.quota
   pub services : AreWithin p.services
 
 found_in_range : (found : ScriptFound) → IfSome found.limits AreLimits → IfSome found.faults Rise
-    → AreWallsFound found.services → IfSome (script_found found) IsInRange
+    → IfSome found.quota IsQuota → AreWallsFound found.services → IfSome (script_found found) IsInRange
 unfolding script_found
-found_in_range found are rise walls =
+found_in_range found are rise bounds walls =
     kept IsInRange (only_if _) _ (λ _. kept IsInRange found.nodes _ (λ nodes. kept IsInRange found.preopens _ (λ preopens.
     kept IsInRange found.calls _ (λ calls. kept IsInRange found.memory _ (λ memory.
     kept IsInRange found.show _ (λ show. kept_of IsInRange AreLimits found.limits _ are (λ limits range.
     kept IsInRange found.fuel _ (λ fuel. kept IsInRange found.table _ (λ table.
     kept_of IsInRange Rise found.faults _ rise (λ faults rising.
+    kept_of IsInRange IsQuota found.quota _ bounds (λ quota bounded.
     kept_of IsInRange AreWithin (services_found found.services) _ (services_within found.services walls) (λ services within.
-    record { limits = range; faults = rising; services = within })))))))))))
+    record { limits = range; faults = rising; quota = bounded; services = within }))))))))))))
 
 -- of what is read as a script all is within its range
 pub script_in_range : (d : Data) → IfSome (script_of d) IsInRange
 script_in_range d =
     kept IsInRange (find.as_object d) _ (λ ms.
     found_in_range (found_in ms) (limits_at (get_member (codes "limits") ms))
-    (faults_found (get_member (codes "faults") ms)) (walls_found ms))
+    (faults_found (get_member (codes "faults") ms)) (quota_found_in (get_member (codes "quota") ms)) (walls_found ms))

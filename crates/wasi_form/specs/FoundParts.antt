@@ -8,6 +8,7 @@ use Rattle.wasi_form.specs.declared.limits.LimitsParts.{LimitsParts}
 use Rattle.wasi_form.specs.declared.memory.MemoryParts.{MemoryParts}
 use Rattle.wasi_form.specs.declared.parts.Parts.{Parts}
 use Rattle.wasi_form.specs.declared.preopens.PreopenParts.{PreopenParts}
+use Rattle.wasi_form.specs.declared.quota.QuotaParts.{QuotaParts}
 use Rattle.wasi_form.specs.declared.services.ServiceKey.{ServiceKey}
 use Rattle.wasi_form.specs.declared.services.ServiceKey.TheVariants.{Args, Env, Stdin, Wall, WallResolution, Monotonic, MonotonicResolution, Random}
 use Rattle.wasi_form.specs.declared.services.ServiceParts.{ServiceParts}
@@ -16,6 +17,7 @@ use Rattle.wasi_form.specs.Plan.{planned_preopen, planned_piece, planned_memory}
 use Rattle.wasi_form.specs.LimitsForm.{limits_rows, LimitsFound}
 use Rattle.wasi_form.specs.MemoryForm.{memory_rows, MemoryFound}
 use Rattle.wasi_form.specs.PreopenForm.{preopen_rows, PreopenFound}
+use Rattle.wasi_form.specs.QuotaForm.{quota_rows, QuotaFound}
 use Rattle.wasi_form.specs.ServicesForm.{args_of, env_of, wall_of, service_key, ServicesFound}
 use Rattle.wasi_form.specs.Shapes.{u64_of, hex_of}
 use Rattle.wasi_form.specs.ScriptForm.{part_rows, ScriptFound}
@@ -46,6 +48,7 @@ found_of parts = record {
   fuel = option_map same parts.fuel;
   table = option_map same parts.table;
   faults = option_map (λ v. v.items) parts.faults;
+  quota = option_map same parts.quota;
   services = services_found_of parts.services;
 }
 
@@ -90,6 +93,15 @@ limits_found_of parts =
 -- with one more member, which counts for those before it at its key
 unfoldable pub with_limits_member : List ℕ → Data → LimitsFound → LimitsFound
 with_limits_member key d found = unwrap_or (at_name limits_rows key) (λ _ all. record all { known = false }) d found
+
+-- of the quotas that were read
+abbrev pub quota_found_of : QuotaParts → QuotaFound
+quota_found_of parts =
+    record { known = parts.known; nodes = option_map same parts.nodes; bytes = option_map same parts.bytes }
+
+-- with one more member, which counts for those before it at its key
+unfoldable pub with_quota_member : List ℕ → Data → QuotaFound → QuotaFound
+with_quota_member key d found = unwrap_or (at_name quota_rows key) (λ _ all. record all { known = false }) d found
 
 -- of the directory that was read
 abbrev pub preopen_found_of : PreopenParts → PreopenFound

@@ -10,6 +10,7 @@ pub mod LimitsForm
 pub mod CallForm
 pub mod ServicesForm
 pub mod FaultsForm
+pub mod QuotaForm
 pub mod ListedLaws
 pub mod ScriptForm
 pub mod Within

@@ -7,6 +7,7 @@ use Rattle.wasi_tree.specs.Given.{Given, given}
 use Rattle.wasi_fs.specs.declared.perms.FsPerms.{FsPerms}
 use Rattle.wasi_guest.specs.Services.{Handed, handed}
 use Rattle.wasi_guest.specs.declared.call.Call.{Call}
+use Rattle.wasi_guest.specs.declared.quota.Quota.{Quota}
 use Rattle.wasi_form.specs.declared.script.Script.{Script}
 use Rattle.wasi_form.specs.declared.script.Draft.{Draft}
 use Rattle.wasi_form.specs.declared.script.Session.{Session}
@@ -43,6 +44,7 @@ pub record Plan : Type 0 where
   pub fuel : ℕ
   pub table : ℕ
   pub faults : List Fault
+  pub quota : Quota
   pub services : Handed
 
 abbrev pub planned_preopen : ScriptPreopen → PlannedPreopen
@@ -67,6 +69,7 @@ planned nodes limits s = record {
   fuel = s.fuel;
   table = s.table;
   faults = s.faults.items;
+  quota = s.quota;
   services = handed s.services;
 }
 

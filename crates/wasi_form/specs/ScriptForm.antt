@@ -3,7 +3,9 @@ use Rattle.std.specs.Prelude.{ℕ, List, [], ◌∷◌, ◌++◌, Bool, codes, O
 use Rattle.serde_json.specs.Data.{Data, Members}
 use Rattle.serde_json.specs.Find as find
 use Rattle.serde_json.specs.Find.{get_member}
+use Rattle.wasi_guest.specs.Quotas.{no_quota}
 use Rattle.wasi_guest.specs.declared.call.Call.{Call}
+use Rattle.wasi_guest.specs.declared.quota.Quota.{Quota}
 use Rattle.wasi_host.specs.declared.limits.Limits.{Limits}
 use Rattle.wasi_tree.specs.Given.{Given}
 use Rattle.wasi_faults.specs.declared.fault.Fault.{Fault}
@@ -18,6 +20,7 @@ use Rattle.wasi_form.specs.MemoryForm.{no_memory, memory_of, shown_of}
 use Rattle.wasi_form.specs.CallForm.{call_of}
 use Rattle.wasi_form.specs.ServicesForm.{service_keys, ServicesFound, services_in, services_found}
 use Rattle.wasi_form.specs.FaultsForm.{faults_of}
+use Rattle.wasi_form.specs.QuotaForm.{quota_of}
 
 -- how much fuel each call has in a script that doesn't say it
 abbrev pub default_fuel : ℕ
@@ -40,6 +43,7 @@ pub record ScriptFound : Type 0 where
   pub fuel : Option ℕ
   pub table : Option ℕ
   pub faults : Option (List Fault)
+  pub quota : Option Quota
   pub services : ServicesFound
 
 -- the keys of its own parts, each with what a member adds there
@@ -54,6 +58,7 @@ part_rows =
     ∷ (codes "fuel", λ d found. record found { fuel = u64_of d })
     ∷ (codes "table", λ d found. record found { table = u32_of d })
     ∷ (codes "faults", λ d found. record found { faults = faults_of d })
+    ∷ (codes "quota", λ d found. record found { quota = quota_of d })
     ∷ []
 
 unfoldable pub script_keys : List (List ℕ)
@@ -72,6 +77,7 @@ found_in ms = record {
   fuel = optional u64_of default_fuel (get_member (codes "fuel") ms);
   table = optional u32_of default_table (get_member (codes "table") ms);
   faults = optional faults_of [] (get_member (codes "faults") ms);
+  quota = optional quota_of no_quota (get_member (codes "quota") ms);
   services = services_in ms;
 }
 
@@ -88,6 +94,7 @@ script_found found = do
   fuel ← found.fuel
   table ← found.table
   faults ← found.faults
+  quota ← found.quota
   services ← services_found found.services
   Some (record {
     nodes = nodes;
@@ -100,6 +107,7 @@ script_found found = do
     fuel = fuel;
     table = table;
     faults = faults;
+    quota = quota;
     services = services;
   })
 

@@ -12,6 +12,7 @@ mod nodes;
 mod objects;
 mod parts;
 mod preopens;
+mod quota;
 mod script;
 mod services;
 mod shapes;

@@ -14,6 +14,7 @@ use crate::limits::{DEFAULT_LIMITS, limits};
 use crate::lists::list;
 use crate::memory::{ScriptMemory, memory, no_memory};
 use crate::objects::{Fields, object};
+use crate::quota::quota;
 use crate::script::{Draft, ScriptPreopen, Session, Shown};
 use crate::services::{ServiceKey, ServiceParts};
 use crate::shapes::Reading;
@@ -21,7 +22,7 @@ use crate::tokens::pass;
 use json::Reader;
 use std::alloc::Global;
 use wasi_faults::Fault;
-use wasi_guest::Call;
+use wasi_guest::{Call, Quota};
 use wasi_host::Limits;
 use wasi_tree::NewNode;
 
@@ -48,6 +49,7 @@ struct Parts {
     fuel: Option<u64>,
     table: Option<u32>,
     faults: Option<Vec<Fault>>,
+    quota: Option<Quota>,
     services: ServiceParts,
 }
 
@@ -76,6 +78,7 @@ impl Fields for Parts {
             fuel: Some(DEFAULT_FUEL),
             table: Some(DEFAULT_TABLE),
             faults: Some(Vec::new(alloc)),
+            quota: Some(Quota::NONE),
             services: ServiceParts::none(alloc),
         }
     }
@@ -117,6 +120,10 @@ impl Fields for Parts {
             }
             "faults" => {
                 self.faults = faults(self.alloc, reader, depth)?;
+                Ok(self)
+            }
+            "quota" => {
+                self.quota = quota(self.alloc, reader, depth)?;
                 Ok(self)
             }
             _ => self.with_other(key, reader, depth),
@@ -162,6 +169,7 @@ impl Parts {
             fuel,
             table,
             faults,
+            quota,
             services,
         } = self;
         if !known {
@@ -176,6 +184,7 @@ impl Parts {
         let fuel = fuel?;
         let table = table?;
         let faults = faults?;
+        let quota = quota?;
         let services = services.services()?;
         Some(Draft {
             nodes,
@@ -189,6 +198,7 @@ impl Parts {
                 fuel,
                 table,
                 faults,
+                quota,
                 services,
             },
         })

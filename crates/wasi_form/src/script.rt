@@ -3,7 +3,7 @@
 use smallvec::SmallVec;
 use wasi_faults::Fault;
 use wasi_fs::FsPerms;
-use wasi_guest::{Call, Services};
+use wasi_guest::{Call, Quota, Services};
 use wasi_host::Limits;
 use wasi_tree::{FitNodes, NewNode};
 
@@ -38,8 +38,8 @@ pub struct Shown {
 
 /// What is run on a tree of files: the directories that the guest is given, the size of its memory in bytes, the pieces
 /// that are written there before the run, the ranges that are shown after it, the calls, how much fuel each of them has,
-/// how many descriptors may be live, streams and preopens among them, which calls of the host fail, and what the guest is
-/// handed in beside the directories.
+/// how many descriptors may be live, streams and preopens among them, which calls of the host fail, how much the guest
+/// may make and grow, and what it is handed in beside the directories.
 #[derive(Drop)]
 pub struct Session {
     pub preopens: Vec<ScriptPreopen>,
@@ -50,6 +50,7 @@ pub struct Session {
     pub fuel: u64,
     pub table: u32,
     pub faults: Vec<Fault>,
+    pub quota: Quota,
     pub services: Services,
 }
 

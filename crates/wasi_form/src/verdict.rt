@@ -2,6 +2,7 @@
 ghost use Rattle.std.specs.Prelude.{◌≡◌, ℕ, List, Result, option_map, IfOk, IsTrue};
 ghost use Rattle.serde_json.specs.Read.{read as read_text};
 ghost use Rattle.wasi_faults.specs.Faults.{numbers_rise};
+ghost use Rattle.wasi_guest.specs.Quotas.{IsQuota};
 ghost use Rattle.wasi_guest.specs.Services.{handed, AreWithin};
 ghost use Rattle.wasi_form.specs.IsRead.{IsRead};
 ghost use Rattle.wasi_form.specs.Plan.{Plan, drafted};
@@ -56,8 +57,8 @@ impl From<AllocError> for ScriptError {
 }
 
 /// The script that bytes are: the text of a JSON object with the keys `nodes`, `preopens` and `calls`, and with `memory`,
-/// `show`, `limits`, `fuel`, `table`, `faults`, `args`, `env`, `stdin`, `wall`, `wall_res`, `mono`, `mono_res` and `random`
-/// where they are wanted. Numbers are whole, of 64 or 32 bits. Of equal keys the last counts.
+/// `show`, `limits`, `fuel`, `table`, `faults`, `quota`, `args`, `env`, `stdin`, `wall`, `wall_res`, `mono`, `mono_res` and
+/// `random` where they are wanted. Numbers are whole, of 64 or 32 bits. Of equal keys the last counts.
 ///
 /// A node is `{"dir": {NAME: NODE ..}}`, `{"file": HEX}` or `{"link": TEXT}`, with `"bits"` beside it, as `"r--"`, and
 /// `"times"`, `[ACCESSED, MODIFIED, CREATED]`, where they aren't those of a new node. A time is `[SECONDS, NANOSECONDS]`
@@ -74,7 +75,9 @@ impl From<AllocError> for ScriptError {
 /// their resolutions are a nanosecond; of the rest there is nothing.
 ///
 /// The faults are a list of `[NUMBER, "before"]` or `[NUMBER, "after"]`, of calls of the host that fail, by numbers that rise
-/// from 1 or more on; where they aren't said, none does.
+/// from 1 or more on; where they aren't said, none does. The quotas are `{"nodes": BOUND, "bytes": BOUND}`, each 0 to 2^62:
+/// how many makings the guest has, and how many bytes by which it may make files longer; where they aren't said, it has no
+/// bound.
 ///
 /// More than 16,777,216 bytes are `Long`. (No clause says that they aren't looked at, nor that what is kept only while
 /// the text is read is of `room`: the code does so.)
@@ -86,6 +89,7 @@ pub fn read_script<A: Allocator + Copy>(
     ensures verdict { Reads result (IsVerdict bytes.now) }
     ensures services { IfOk result (λ script. AreWithin (handed script.session.services)) }
     ensures rising { IfOk result (λ script. IsTrue (numbers_rise script.session.faults.items)) }
+    ensures quota { IfOk result (λ script. IsQuota script.session.quota) }
 {
     let draft = read_draft(alloc, room, bytes)?;
     let script = tested(alloc, draft)?;

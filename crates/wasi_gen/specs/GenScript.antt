@@ -2,6 +2,7 @@
 use Rattle.std.specs.Prelude.{ℕ, ◌+◌, ◌*◌, List, [], ◌∷◌, ◌++◌, length, codes, decimal}
 use Rattle.std.specs.List.{flat_map}
 use Rattle.wasi_fs.specs.declared.perms.FsPerms.TheVariants.{ReadWrite}
+use Rattle.wasi_guest.specs.Quotas.{no_quota}
 use Rattle.wasi_guest.specs.Services.{Handed}
 use Rattle.wasi_guest.specs.declared.call.Call.{Call}
 use Rattle.wasi_guest.specs.declared.call.Call.TheVariants.{PathOpen, FdRead, FdClose, PathCreateDirectory}
@@ -78,5 +79,6 @@ gen_script n = record {
   fuel = default_fuel;
   table = default_table;
   faults = [];
+  quota = no_quota;
   services = gen_services;
 }

@@ -2,6 +2,7 @@
 ghost use Rattle.std.specs.Prelude.{◌≡◌, ◌<◌, ◌≤◌, true, IfOk, map};
 ghost use Rattle.wasi_form.specs.Plan.{plan, planned_preopen};
 ghost use Rattle.wasi_form.specs.Within.{is_within_limits};
+ghost use Rattle.wasi_guest.specs.Quotas.{IsQuota};
 ghost use Rattle.wasi_guest.specs.Services.{handed};
 ghost use Rattle.wasi_gen.specs.GenScript as specs;
 
@@ -10,7 +11,7 @@ use crate::turns::{Turns, all_turns};
 use std::alloc::{AllocError, Global};
 use wasi_form::{DEFAULT_FUEL, DEFAULT_LIMITS, DEFAULT_TABLE, Script, ScriptPreopen, Session};
 use wasi_fs::FsPerms;
-use wasi_guest::{Services, WallDatetime};
+use wasi_guest::{Quota, Services, WallDatetime};
 
 // The one directory that the guest is given: node 0, which may be changed.
 fn preopens(alloc: Global) -> Result<Vec<ScriptPreopen>, AllocError>
@@ -60,6 +61,7 @@ pub fn gen_script(alloc: Global, n: u64) -> Result<Script, AllocError>
     requires few { n < 10000 }
     ensures script { IfOk result (λ script. plan script ≡ specs.gen_script n) }
     ensures within { IfOk result (λ script. is_within_limits (plan script) ≡ true) }
+    ensures quota { IfOk result (λ script. IsQuota script.session.quota) }
 {
     let nodes = gen_nodes(alloc, n, DEFAULT_LIMITS)?;
     let Turns { pieces, calls } = all_turns(alloc, n)?;
@@ -74,6 +76,7 @@ pub fn gen_script(alloc: Global, n: u64) -> Result<Script, AllocError>
             fuel: DEFAULT_FUEL,
             table: DEFAULT_TABLE,
             faults: Vec::new(alloc),
+            quota: Quota::NONE,
             services: services(alloc),
         },
     })

@@ -30,6 +30,8 @@ use Rattle.wasi_turns.specs.Slots.{View}
 use Rattle.wasi_start.specs.Start.{start, with_pieces, world_behind, IsBegun}
 use Rattle.wasi_turns.specs.Guest.{State, state_of}
 use Rattle.wasi_guest.specs.declared.answer.Answer.{Answer}
+use Rattle.wasi_turns.proofs.QuotaRuns.{run_counts, run_within}
+use Rattle.wasi_script.proofs.KeptTrees.{starts_opened}
 
 -- what a set made of a list has is in the list
 in_listed : (nodes : List ℕ) (n : ℕ) → contains (from_list {R = nat_cmp} nodes) n ≡ true → Contains nodes n
@@ -76,7 +78,7 @@ few_listed {faults} before now begins most fits k allows =
     (let few = (counts_few now).few in omega (arith, same)) fits allows
 
 pub begun_at : {context : View (Failing MemState)} {memory : List ℕ} (plan : Plan)
-    → IsBegun context (tree_of plan.nodes plan.limits) plan.preopens plan.services plan.table
+    → IsBegun context (tree_of plan.nodes plan.limits) plan.preopens plan.services plan.quota plan.table
     → memory ≡ with_pieces (replicate plan.size 0) plan.pieces → state_of world_behind context memory ≡ start plan
 begun_at {memory} plan is memory-is = is.state memory ∙ (rw memory-is refl)
 
@@ -117,6 +119,8 @@ reports {plan} {last} {answers} {touched} listed (Ok text) run nodes-are rising 
       rising = rising;
       ends = All-weaker (λ n. contains touched n ≡ true) (Contains listed) (λ n has. in_listed listed n (rw nodes-are has))
           (named run.turns) run.ends;
+      within = run_within (length plan.faults) (start plan) last (fueled_calls plan) run.turns run.run (starts_opened plan);
+      counts = run_counts (length plan.faults) (start plan) last (fueled_calls plan) run.turns run.run;
       in_reach = λ n has. run.confined.touched_in n (subst (λ t. contains t n ≡ true) nodes-are (in_list listed n has));
       ordered = subst IsOrdered told_is ordered;
       text_is = text-is ∙ ap report_text told_is;

@@ -19,6 +19,7 @@ use Rattle.wasi_form.specs.Within.{is_directory_given, is_within_limits}
 use Rattle.wasi_form.proofs.Accepted.{IsAccepted, accepted, limits_kept}
 use Rattle.wasi_tree.specs.Given.{Given, GivenContent, file, directory, link, content_from, content_given, given_of, node_from, nodes_from, tree_of}
 use Rattle.wasi_tree.proofs.FitValid.{fit_is_valid, next_is, node_is}
+use Rattle.wasi_turns.specs.QuotaLaws.{WritesAsOpened}
 use Rattle.wasi_turns.specs.AppendOnly.{AppendsAtEnd, HasStill, KeepsNode, MayAlterNothing, NodesAreThere}
 use Rattle.wasi_turns.specs.Guest.{GuestSlot, stream, file as open_file, node_in, perms_in}
 use Rattle.wasi_turns.specs.ReadOnly.{IsReadOnlyGuest}
@@ -98,6 +99,12 @@ starts_unaltering plan gives n perms has =
 -- it has no files yet
 starts_appending : (plan : Plan) → AppendsAtEnd (start plan).guest
 starts_appending plan n f has is = elim (first_slot plan.preopens n (open_file f) has) [
+  | inl (s, same) ↦ absurd (cc)
+  | inr given ↦ absurd (let same = given.is in cc)
+]
+
+pub starts_opened : (plan : Plan) → WritesAsOpened (start plan).guest
+starts_opened plan n f has writes = elim (first_slot plan.preopens n (open_file f) has) [
   | inl (s, same) ↦ absurd (cc)
   | inr given ↦ absurd (let same = given.is in cc)
 ]

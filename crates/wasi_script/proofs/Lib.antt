@@ -1,5 +1,5 @@
-mod Headlines
 mod KeptTrees
+mod Headlines
 mod Tops
 mod Numerals
 mod Summaries

@@ -13,6 +13,7 @@ use Rattle.wasi_turns.specs.Front.{FueledCall, with_fuel}
 use Rattle.wasi_turns.specs.Reach.{InReach}
 use Rattle.wasi_report.specs.Report.{Report, report_text}
 use Rattle.wasi_report.specs.ReadBack.{IsOrdered}
+use Rattle.wasi_turns.specs.QuotaLaws.{CountsUse, StaysWithinQuotas}
 use Rattle.wasi_turns.specs.Run.{Turned, Run, answers_of, ios, named}
 use Rattle.wasi_form.specs.Plan.{Plan}
 use Rattle.wasi_start.specs.ReportAfter.{report_after}
@@ -26,8 +27,9 @@ fueled_calls plan = map (with_fuel plan.fuel) plan.calls
 -- The text is the report of a run of the plan's calls from its start, in which at most as many turns are faulted, and
 -- at most as many answers are `io`, as the plan lists faults. So without one it is the report of the one run there is,
 -- with no `io`. The touched nodes are listed rising; each at which a path of a call answered Ok ended is among them,
--- and each is reached from a directory that the guest was given, or was made by the run. It is in range and order, so
--- that its text tells it.
+-- and each is reached from a directory that the guest was given, or was made by the run. The nodes that the run makes, and
+-- the bytes by which it makes files longer, are at most what the plan's quota has, and each turn counts its use. The
+-- report is in range and order, so that its text tells it.
 pub record Reports (plan : Plan) (text : List ℕ) : Type 0 where
   pub turns : List Turned
   pub last : State
@@ -37,6 +39,8 @@ pub record Reports (plan : Plan) (text : List ℕ) : Type 0 where
   pub rising : IsStrictlySortedBy nat_cmp touched
   pub ends : All (Contains touched) (named turns)
   pub in_reach : (n : ℕ) → Contains touched n → InReach (start plan) last n
+  pub within : StaysWithinQuotas (start plan).guest.holdings turns
+  pub counts : All CountsUse turns
   pub ordered : IsOrdered (report_after plan.show turns last touched)
   pub text_is : text ≡ report_text (report_after plan.show turns last touched)
 

@@ -3,6 +3,7 @@ ghost use Rattle.std.specs.Prelude.{◌≡◌, true, IfOk, IsTrue};
 ghost use Rattle.wasi_faults.specs.Faults.{numbers_rise};
 ghost use Rattle.wasi_form.specs.Plan.{plan};
 ghost use Rattle.wasi_form.specs.Within.{is_within_limits};
+ghost use Rattle.wasi_guest.specs.Quotas.{IsQuota};
 ghost use Rattle.wasi_script.specs.HasRun.{IsRanOf};
 
 use std::alloc::{AllocError, Global};
@@ -28,6 +29,7 @@ pub struct Ran {
 pub fn run(alloc: Global, script: Script) -> Result<Ran, AllocError>
     requires within { is_within_limits (plan script) ≡ true }
     requires rising { IsTrue (numbers_rise script.session.faults.items) }
+    requires quota { IsQuota script.session.quota }
     ensures { IfOk result (IsRanOf (plan script)) }
 {
     let mut begun = begin(alloc, script)?;

@@ -5,6 +5,7 @@ ghost use Rattle.wasi_faults.specs.Faults.{numbers_rise};
 ghost use Rattle.wasi_host.specs.Meaning.{Risen};
 ghost use Rattle.wasi_form.specs.Plan.{plan};
 ghost use Rattle.wasi_form.specs.Within.{is_within_limits};
+ghost use Rattle.wasi_guest.specs.Quotas.{IsQuota};
 ghost use Rattle.wasi_script.specs.Headline.{Reports};
 ghost use Rattle.wasi_script.specs.Words.{task_of};
 ghost use Rattle.wasi_script.specs.Due.{the_usage, the_line, refusal_line, OfDue, IsDue, Writes, WritesOfSome, KeepsTree, LeavesBytes, KeepsSink, EndsReading, EndsGenerated, ReadsSome, ReadsScript, Written};
@@ -47,6 +48,7 @@ fn read_from<S: Source, A: Allocator + Copy>(
     ensures ends { IfErr result EndsReading }
     ensures within { IfOk result (λ script. is_within_limits (plan script) ≡ true) }
     ensures rising { IfOk result (λ script. IsTrue (numbers_rise script.session.faults.items)) }
+    ensures quota { IfOk result (λ script. IsQuota script.session.quota) }
     ensures some { ReadsSome result }
     ensures read { IsTrue S.told → ReadsScript result (S.left source.old) (S.left source.new) }
 {
@@ -63,6 +65,7 @@ fn report_of<A: Allocator + Copy>(
 ) -> Result<Vec<u8>, AllocError>
     requires within { is_within_limits (plan script) ≡ true }
     requires rising { IsTrue (numbers_rise script.session.faults.items) }
+    requires quota { IsQuota script.session.quota }
     ensures { IfOk result (λ text. Reports (plan script) text.items) }
 {
     let ran = run(alloc, script)?;

@@ -23,10 +23,12 @@ use Rattle.wasi_faults.specs.Faults.{Failing}
 use Rattle.wasi_tree.specs.MemState.{HeldMap, MemState, live_of, held_in}
 use Rattle.wasi_guest.specs.Range.{with_bytes}
 use Rattle.wasi_guest.specs.Services.{Handed}
+use Rattle.wasi_guest.specs.declared.quota.Quota.{Quota}
 use Rattle.wasi_turns.specs.Reach.{Confined}
 use Rattle.wasi_form.specs.Plan.{PlannedPreopen, PlannedPiece, planned_preopen, planned_piece}
 use Rattle.wasi_form.specs.Within.{are_preopens_directories, is_directory_given, is_piece_within}
 use Rattle.wasi_turns.specs.Slots.{first_slots, given_mode, given_directory, given_name, given_slot, given_slots}
+use Rattle.wasi_turns.specs.Quotas.{with_quota}
 use Rattle.wasi_turns.specs.Stock.{first_stock}
 use Rattle.wasi_turns.specs.Owners.{handles, one_if, uses, uses_in, IsHandle}
 use Rattle.wasi_turns.specs.declared.slots.P1Preopen.{P1Preopen}
@@ -173,7 +175,7 @@ given_more {old} {new} {planned} {p} preopens given are is = record {
 
 -- a context over a tree in memory that has given handles, whose calls fail
 pub begun_by : {host : Failing MemState} {tree : Tree} {preopens : List PlannedPreopen} {services : Handed}
-    {table fuel : ℕ} {list : List P1Preopen}
+    {quota : Quota} {table fuel : ℕ} {list : List P1Preopen}
     → host.inner.tree ≡ tree → host.inner.touched ≡ empty → host.inner.lookups ≡ []
     → AreGiven host.inner.handles preopens list
     → IsBegun
@@ -181,10 +183,10 @@ pub begun_by : {host : Failing MemState} {tree : Tree} {preopens : List PlannedP
       host = host;
       slots = first_slots list;
       table_max = table;
-      holdings = first_stock services (map given_name list);
+      holdings = with_quota quota (first_stock services (map given_name list));
       fuel = fuel;
     })
-    tree preopens services table
+    tree preopens services quota table
 begun_by {list = list} tree-is none unasked are = record {
   state = λ memory. rw (tree-is, are.slots, are.names) refl;
   untouched = none;

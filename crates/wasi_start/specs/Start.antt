@@ -9,10 +9,12 @@ use Rattle.wasi_faults.specs.Faults.{Failing}
 use Rattle.wasi_tree.specs.MemState.{MemState, HeldMap, live_of, held_in, world_of}
 use Rattle.wasi_guest.specs.Range.{with_bytes}
 use Rattle.wasi_guest.specs.Services.{Handed}
+use Rattle.wasi_guest.specs.declared.quota.Quota.{Quota}
 use Rattle.wasi_form.specs.Plan.{Plan, PlannedPiece, PlannedPreopen}
 use Rattle.wasi_turns.specs.Slots.{View, given_mode, given_slots}
 use Rattle.wasi_turns.specs.Guest.{State, GuestSlot, stream, directory, guest_slot, state_of}
 use Rattle.wasi_turns.specs.Owners.{handles, IsHandle}
+use Rattle.wasi_turns.specs.Quotas.{with_quota}
 use Rattle.wasi_turns.specs.Stock.{first_stock}
 use Rattle.wasi_start.specs.declared.start.Beginning.{Beginning}
 use Rattle.wasi_turns.specs.declared.slots.P1Preopen.{P1Preopen}
@@ -43,22 +45,22 @@ abbrev pub with_pieces : List ℕ → List PlannedPiece → List ℕ
 with_pieces memory [] = memory
 with_pieces memory (piece ∷ pieces) = with_pieces (with_bytes memory piece.offset piece.bytes) pieces
 
--- over a tree, with these directories, all that is handed in, and so many descriptors that may be live; nothing is written
--- out yet
-abbrev pub begun : Tree → List PlannedPreopen → Handed → ℕ → List ℕ → State
-begun tree preopens services table memory = record {
+-- over a tree, with these directories, all that is handed in, this quota, and so many descriptors that may be live;
+-- nothing is written out yet, and nothing of the quota is used
+abbrev pub begun : Tree → List PlannedPreopen → Handed → Quota → ℕ → List ℕ → State
+begun tree preopens services quota table memory = record {
   tree = tree;
   guest = record {
     slots = first_guest_slots preopens;
     table_max = table;
     memory = memory;
-    holdings = first_stock services (map (λ preopen. preopen.name) preopens);
+    holdings = with_quota quota (first_stock services (map (λ preopen. preopen.name) preopens));
   };
 }
 
--- a plan's tree, directories, services and table, and its pieces over zeros
+-- a plan's tree, directories, services, quota and table, and its pieces over zeros
 abbrev pub start : Plan → State
-start plan = begun (tree_of plan.nodes plan.limits) plan.preopens plan.services plan.table
+start plan = begun (tree_of plan.nodes plan.limits) plan.preopens plan.services plan.quota plan.table
     (with_pieces (replicate plan.size 0) plan.pieces)
 
 -- the world of a tree in memory behind calls that fail
@@ -72,15 +74,16 @@ OwnAll slots held = (h : ℕ) → contains (live_of held) h ≡ true → IsHandl
 -- a context in which nothing was done yet: no node was touched, nothing looked up, and no handle is live but the
 -- descriptors'
 pub record IsBegun (context : View (Failing MemState)) (tree : Tree) (preopens : List PlannedPreopen)
-    (services : Handed) (table : ℕ) : Type 0 where
-  pub state : (memory : List ℕ) → state_of world_behind context memory ≡ begun tree preopens services table memory
+    (services : Handed) (quota : Quota) (table : ℕ) : Type 0 where
+  pub state : (memory : List ℕ)
+      → state_of world_behind context memory ≡ begun tree preopens services quota table memory
   pub untouched : (world_behind context.host).touched ≡ empty
   pub unasked : context.host.inner.lookups ≡ []
   pub alone : OwnAll context.slots context.host.inner.handles
 
 -- a plan's beginning: nothing was called yet
 pub record Begins (plan : Plan) (b : Beginning) : Type 0 where
-  pub begun : IsBegun b.context (tree_of plan.nodes plan.limits) plan.preopens plan.services plan.table
+  pub begun : IsBegun b.context (tree_of plan.nodes plan.limits) plan.preopens plan.services plan.quota plan.table
   pub faults : b.context.host.calls ≡ record { faults = plan.faults; calls = 0 }
   pub written : b.memory ≡ with_pieces (replicate plan.size 0) plan.pieces
   pub size : length b.memory ≡ plan.size

@@ -6,6 +6,7 @@ ghost use Rattle.std.specs.FinSet.{empty};
 ghost use Rattle.wasi_tree.specs.Given.{tree_of};
 ghost use Rattle.wasi_tree.specs.MemState.{live_of};
 ghost use Rattle.wasi_faults.specs.Faults.{numbers_rise};
+ghost use Rattle.wasi_guest.specs.Quotas.{IsQuota};
 ghost use Rattle.wasi_guest.specs.Services.{handed};
 ghost use Rattle.wasi_form.specs.Plan.{plan, planned_piece, planned_preopen};
 ghost use Rattle.wasi_form.specs.Within.{are_preopens_directories, is_piece_within, is_shown_within, is_within_limits};
@@ -15,7 +16,7 @@ ghost use Rattle.wasi_start.specs.ReportAfter.{bytes_shown};
 use std::alloc::{AllocError, Global};
 use wasi_faults::{FailAt, Fault};
 use wasi_form::{Piece, Script, ScriptPreopen, Shown};
-use wasi_guest::{Call, GuestMemory, Services, slice_at};
+use wasi_guest::{Call, GuestMemory, Quota, Services, slice_at};
 use wasi_p1_context::WasiP1Ctx;
 use wasi_tree::{FitNodes, HandleError, MemTree};
 use wasi_turns::{CtxError, P1Preopen};
@@ -61,28 +62,33 @@ fn given_handles(
     Ok(given)
 }
 
-// A context over the tree of these nodes, in which the guest is handed in these services and given these directories, as
-// many descriptors may be live as its table has room for, and these calls of the host fail.
+// A context over the tree of these nodes, in which the guest is handed in these services and given these directories and
+// this quota, as many descriptors may be live as its table has room for, and these calls of the host fail.
 fn first_context(
     alloc: Global,
     nodes: FitNodes,
     services: Services,
     faults: Vec<Fault>,
+    quota: Quota,
     preopens: &[ScriptPreopen],
     table: u32,
 ) -> Result<WasiP1Ctx<FailAt<MemTree>>, AllocError>
     requires directories { are_preopens_directories nodes.nodes (map planned_preopen preopens.now) ≡ true }
     requires table { 3 + length preopens.now ≤ table }
     requires rising { IsTrue (numbers_rise faults.items) }
+    requires quota { IsQuota quota }
     ensures begun { IfOk result (λ c. IsBegun c (tree_of nodes.nodes nodes.limits)
-        (map planned_preopen preopens.now) (handed services) table) }
+        (map planned_preopen preopens.now) (handed services) quota table) }
     ensures faults { IfOk result (λ c. c.host.calls ≡ record { faults = faults.items; calls = 0 }) }
 {
     let mut tree = MemTree::of(alloc, nodes)?;
     let given = given_handles(alloc, &mut tree, preopens)?;
     let host = FailAt::new(tree, faults);
     match WasiP1Ctx::new(alloc, host, given, services, table) {
-        Ok(context) => Ok(context),
+        Ok(mut context) => {
+            context.set_quota(quota);
+            Ok(context)
+        }
         Err(refused) => match refused.error {
             CtxError::Memory => Err(AllocError),
             CtxError::Full => unreachable!(),
@@ -108,6 +114,7 @@ fn first_memory(alloc: Global, size: u32, pieces: &[Piece]) -> Result<GuestMemor
 pub fn begin(alloc: Global, script: Script) -> Result<Beginning, AllocError>
     requires within { is_within_limits (plan script) ≡ true }
     requires rising { IsTrue (numbers_rise script.session.faults.items) }
+    requires quota { IsQuota script.session.quota }
     ensures begins { IfOk result (Begins (plan script)) }
 {
     let Script { nodes, session } = script;
@@ -117,6 +124,7 @@ pub fn begin(alloc: Global, script: Script) -> Result<Beginning, AllocError>
         nodes,
         session.services,
         session.faults,
+        session.quota,
         session.preopens.as_slice(),
         session.table,
     )?;

@@ -9,6 +9,7 @@ pub begin-requires : goal.begin-requires
 begin-requires c = record {
   within = (accepted c.in_ok-script.ensures.verdict).within;
   rising = c.in_ok-script.ensures.rising;
+  quota = c.in_ok-script.ensures.quota;
 }
 
 pub returns-in_err-script : goal.returns-in_err-script

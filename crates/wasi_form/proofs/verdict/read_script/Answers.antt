@@ -22,4 +22,9 @@ pub returns : goal.returns
 returns g c =
     let script = tested c.in_ok-script.script c.in_ok-draft.ensures c.in_ok-script.ensures in
     let verdict = taken script refl (sym c.if-not-is_within_limits.ensures) in
-    record { verdict = verdict; services = (accepted verdict).services; rising = (accepted verdict).faults }
+    record {
+      verdict = verdict;
+      services = (accepted verdict).services;
+      rising = (accepted verdict).faults;
+      quota = (accepted verdict).quota;
+    }

@@ -8,7 +8,7 @@ use Rattle.wasi_script.proofs.Headlines.{begun_at, few_listed, has_run}
 use Rattle.wasi_script.proofs.ran.run.Goals as goal
 
 pub begin-requires : goal.begin-requires
-begin-requires c = record { within = c.requires.within; rising = c.requires.rising }
+begin-requires c = record { within = c.requires.within; rising = c.requires.rising; quota = c.requires.quota }
 
 pub returns : goal.returns
 returns c =

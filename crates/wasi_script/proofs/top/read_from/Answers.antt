@@ -22,6 +22,9 @@ returns-clause-within g c = (accepted c.in_ok-read_script.ensures.verdict).withi
 pub returns-clause-rising : goal.returns-clause-rising
 returns-clause-rising g c = c.in_ok-read_script.ensures.rising
 
+pub returns-clause-quota : goal.returns-clause-quota
+returns-clause-quota g c = c.in_ok-read_script.ensures.quota
+
 pub returns-clause-read : goal.returns-clause-read
 returns-clause-read g c = λ told.
     let all = c.in_ok-buffer.ensures.bytes told in

@@ -13,6 +13,7 @@ first_context-requires c =
     record {
       directories = rw c.as_slice-2.ensures.value parts.preopens;
       rising = c.requires.rising;
+      quota = c.requires.quota;
       table = rw c.as_slice-2.ensures.value (omega (arith, parts.table, length-map c.args.script.session.preopens.items planned_preopen));
     }
 

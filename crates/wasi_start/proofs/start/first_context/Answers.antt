@@ -18,10 +18,10 @@ returns-in-Ok c =
     let given = c.in_ok-given.ensures in
     let host = c.new-host.ensures in
     record {
-      begun = rw c.in-Ok.ensures.made (begun_by (ap (λ (t : MemState). t.tree) host.inner ∙ given.tree ∙ tree.tree)
+      begun = rw (c.set_quota.ensures.set, c.in-Ok.ensures.made) (begun_by (ap (λ (t : MemState). t.tree) host.inner ∙ given.tree ∙ tree.tree)
           (ap (λ (t : MemState). t.touched) host.inner ∙ given.touched ∙ tree.touched)
           (ap (λ (t : MemState). t.lookups) host.inner ∙ given.lookups ∙ tree.lookups) (rw host.inner given.given));
-      faults = rw c.in-Ok.ensures.made host.calls;
+      faults = rw (c.set_quota.ensures.set, c.in-Ok.ensures.made) host.calls;
     }
 
 pub unreachable-requires : goal.unreachable-requires
