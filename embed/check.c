@@ -8,8 +8,13 @@
 
 #define SCRIPT "{\"nodes\": [{\"dir\": {\"f\": 1}}, {\"file\": \"746f70\"}], " \
                "\"preopens\": [{\"node\": 0, \"name\": \"/\", \"perms\": \"rw\"}], \"calls\": [], \"random\": \"5a\"}"
+// The same with a quota of one making and of nine grown bytes.
+#define QUOTA "{\"nodes\": [{\"dir\": {\"f\": 1}}, {\"file\": \"746f70\"}], " \
+              "\"preopens\": [{\"node\": 0, \"name\": \"/\", \"perms\": \"rw\"}], \"calls\": [], " \
+              "\"quota\": {\"nodes\": 1, \"bytes\": 9}}"
 #define NOENT 44
 #define BADF 8
+#define DQUOT 19
 #define PAGE 65536
 #define ROUNDS 20000
 
@@ -35,6 +40,8 @@ static void of_the_empty_one(void) {
         need(calls[place].answer(&sandbox, memory, sizeof memory, words) == WASI_EMPTY, calls[place].name);
     }
     need(wasi_answered(&sandbox) == 0, "answered of the empty one");
+    uint64_t used = 7;
+    need(wasi_quota_used(&sandbox, &used, &used) == WASI_EMPTY && used == 7, "the quotas of the empty one");
     need(wasi_report(&sandbox, memory, sizeof memory, &length) == WASI_EMPTY, "report of the empty one");
     wasi_end(&sandbox);
     need(sandbox.at == NULL, "the empty one stays");
@@ -121,6 +128,28 @@ static void of_two(void) {
     free(memory);
 }
 
+static int has_used(wasi_sandbox *sandbox, uint64_t nodes, uint64_t bytes) {
+    uint64_t used[2] = {7, 7};
+    return wasi_quota_used(sandbox, &used[0], &used[1]) == 0 && used[0] == nodes && used[1] == bytes;
+}
+
+static void of_quotas(void) {
+    wasi_sandbox sandbox = {0};
+    uint8_t *memory = calloc(1, PAGE);
+    start(&sandbox, QUOTA);
+    need(has_used(&sandbox, 0, 0), "nothing is used");
+    need(open_path(&sandbox, memory, "f", 1) == 0 && has_used(&sandbox, 1, 0), "an open that creates");
+    need(wasi_fd_filestat_set_size(&sandbox, memory, PAGE, 4, 7) == 0 && has_used(&sandbox, 1, 4), "a larger size");
+    need(wasi_fd_filestat_set_size(&sandbox, memory, PAGE, 4, 0) == 0 && has_used(&sandbox, 1, 4), "a smaller one");
+    need(wasi_fd_filestat_set_size(&sandbox, memory, PAGE, 4, 6) == DQUOT && has_used(&sandbox, 1, 4), "grown bytes");
+    need(open_path(&sandbox, memory, "f", 1) == DQUOT && has_used(&sandbox, 1, 4), "makings");
+    wasi_end(&sandbox);
+    start(&sandbox, SCRIPT);
+    need(open_path(&sandbox, memory, "g", 1) == 0 && has_used(&sandbox, 0, 0), "no bound, and no count");
+    wasi_end(&sandbox);
+    free(memory);
+}
+
 static uint32_t state = 1;
 
 static uint32_t dice(void) {
@@ -174,6 +203,7 @@ int main(void) {
     of_reports();
     of_results();
     of_two();
+    of_quotas();
     of_stray_calls();
     printf("check: %d failures\n", failures);
     return failures != 0;

@@ -25,9 +25,10 @@ typedef struct {
 ///
 /// After an error number but `io`, and after the numbers from WASI_TRAP_POINTER to WASI_NO_MEMORY, these stand as
 /// before the call: the descriptors and how many there may be, the guest's memory, what it was handed in and has
-/// written, and the tree. The host calls that were made keep their numbers for the script's `faults`, the nodes that
-/// they came to are told as touched, and one answer more is counted, but for WASI_NO_MEMORY. A call whose result has
-/// no place in the memory isn't made: it is WASI_TRAP_POINTER too, and nothing changes.
+/// written, what it has used of its quotas, and the tree. The host calls that were made keep their numbers for the
+/// script's `faults`, the nodes that they came to are told as touched, and one answer more is counted, but for
+/// WASI_NO_MEMORY. A call whose result has no place in the memory isn't made: it is WASI_TRAP_POINTER too, and nothing
+/// changes.
 enum {
     /// The guest gave an address outside its memory, or one that isn't aligned.
     WASI_TRAP_POINTER = 256,
@@ -89,6 +90,18 @@ uint64_t wasi_c_answered(wasi_sandbox *sandbox, wasi_sandbox empty);
 /// guest's memory. 0 of an empty sandbox.
 static inline uint64_t wasi_answered(wasi_sandbox *sandbox) {
     return sandbox->at ? wasi_c_answered(sandbox, wasi_nothing()) : 0;
+}
+
+void wasi_c_quota_used(wasi_sandbox *sandbox, wasi_sandbox empty, uint64_t *nodes, uint64_t *bytes);
+
+/// How much of the script's `quota` the guest has used so far: 0, how many makings, and how many bytes by which files
+/// became longer; or WASI_EMPTY, and neither. A count without a bound is 0.
+static inline uint32_t wasi_quota_used(wasi_sandbox *sandbox, uint64_t *nodes, uint64_t *bytes) {
+    if (!sandbox->at) {
+        return WASI_EMPTY;
+    }
+    wasi_c_quota_used(sandbox, wasi_nothing(), nodes, bytes);
+    return 0;
 }
 
 uint32_t wasi_c_report(wasi_sandbox *sandbox, wasi_sandbox empty, uint8_t *text, size_t room, size_t *len);

@@ -10,7 +10,7 @@ from typing import Any, Dict, List, NamedTuple, Tuple
 
 from wasitools.folders import Folder
 from wasitools.replay import NANO
-from wasitools.scripts import MOST_BYTES, Mistake
+from wasitools.scripts import MOST_BYTES, MOST_QUOTA, Mistake
 
 RANDOM_BYTES = 4096  # which a guest gets for random ones, from the first to the last and then again from the first
 UNSET = [[0, 0]] * 3  # the times of a node that a guest made
@@ -60,8 +60,10 @@ def read_folders(folders: List[Given]) -> Tuple[List[Node], List[Root]]:
     return nodes, roots
 
 
-def script_of(nodes: List[Node], roots: List[Root], args: List[str], env: List[Tuple[str, str]], given: bytes) -> bytes:
-    """The script by which a guest is begun, with the bytes that it is given on its standard input."""
+def script_of(nodes: List[Node], roots: List[Root], args: List[str], env: List[Tuple[str, str]], given: bytes,
+              quota: Dict[str, int]) -> bytes:
+    """The script by which a guest is begun, with the bytes that it is given on its standard input. Of a quota one bound
+    may be set alone: the other is the largest then, to which no guest comes."""
     script = {
         "nodes": nodes,
         "preopens": [{"node": root.node, "name": root.given.guest, "perms": root.given.perms} for root in roots],
@@ -72,6 +74,8 @@ def script_of(nodes: List[Node], roots: List[Root], args: List[str], env: List[T
         "random": os.urandom(RANDOM_BYTES).hex(),
         "wall": list(divmod(time.time_ns(), NANO)),
     }
+    if quota:
+        script["quota"] = {"nodes": MOST_QUOTA, "bytes": MOST_QUOTA, **quota}
     text = json.dumps(script, ensure_ascii=False, separators=(",", ":")).encode()
     if len(text) > MOST_BYTES:
         raise Mistake(f"the folders and the standard input make a script of more than {MOST_BYTES:,} bytes")

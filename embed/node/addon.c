@@ -247,6 +247,24 @@ static napi_value on_answered(napi_env env, napi_callback_info info) {
     return napi_create_double(env, (double)wasi_answered(&held->sandbox), &answered) == napi_ok ? answered : NULL;
 }
 
+// quotaUsed(SANDBOX): how many makings and how many grown bytes are counted, as a list of two BigInts.
+static napi_value on_quota_used(napi_env env, napi_callback_info info) {
+    struct held *held = take_held(env, info, NULL);
+    uint64_t used[2];
+    napi_value list, count;
+    if (!held || wasi_quota_used(&held->sandbox, &used[0], &used[1]) != 0 ||
+        napi_create_array_with_length(env, 2, &list) != napi_ok) {
+        return NULL;
+    }
+    for (uint32_t place = 0; place < 2; place += 1) {
+        if (napi_create_bigint_uint64(env, used[place], &count) != napi_ok ||
+            napi_set_element(env, list, place, count) != napi_ok) {
+            return fail(env, "there isn't enough memory");
+        }
+    }
+    return list;
+}
+
 // Asks for the report with some room, and with as much as it needs where that was too little.
 static uint32_t take_report(struct held *held, uint8_t **text, size_t *length) {
     uint32_t code = WASI_SHORT;
@@ -300,6 +318,7 @@ NAPI_MODULE_INIT() {
                 export_function(env, exports, "imports", on_imports) &&
                 export_function(env, exports, "lend", on_lend) &&
                 export_function(env, exports, "answered", on_answered) &&
+                export_function(env, exports, "quotaUsed", on_quota_used) &&
                 export_function(env, exports, "report", on_report) && export_function(env, exports, "end", on_end);
     return made ? exports : fail(env, "there isn't enough memory");
 }

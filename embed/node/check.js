@@ -11,6 +11,7 @@ const { Sandbox, SandboxError, Refused, Trap, Exit, Ended } = require("./sandbox
 
 const PREVIEW1 = "wasi_snapshot_preview1";
 const BADF = 8;
+const DQUOT = 19;
 const NOENT = 44;
 const PERM = 63;
 
@@ -118,6 +119,16 @@ test("a descriptor too many is a trap", () => {
   assert.throws(() => open(sandbox, "a"), (error) => error instanceof Trap && error.reason === "table");
 });
 
+test("quotas bound what a guest makes and grows", () => {
+  const sandbox = begin({ quota: { nodes: 1, bytes: 9 } });
+  assert.deepStrictEqual(sandbox.quotaUsed, { nodes: 0n, bytes: 0n });
+  assert.strictEqual(open(sandbox, "a", 1)[0], 0);
+  assert.strictEqual(open(sandbox, "b", 1)[0], DQUOT);
+  assert.strictEqual(sandbox.imports.fd_filestat_set_size(4, 8n), 0);
+  assert.strictEqual(sandbox.imports.fd_filestat_set_size(4, 10n), DQUOT);
+  assert.deepStrictEqual(sandbox.quotaUsed, { nodes: 1n, bytes: 8n });
+});
+
 test("a guest that ended calls nothing more", () => {
   const sandbox = begin();
   lent(sandbox);
@@ -132,7 +143,8 @@ test("what is used after the end is told", () => {
   lent(sandbox);
   sandbox.end();
   sandbox.end();
-  const uses = [() => sandbox.report(), () => sandbox.answered, () => lent(sandbox), () => imports.fd_close(3)];
+  const uses = [() => sandbox.report(), () => sandbox.answered, () => sandbox.quotaUsed, () => lent(sandbox),
+    () => imports.fd_close(3)];
   for (const use of uses) assert.throws(use, (error) => error instanceof Ended && error instanceof SandboxError);
 });
 

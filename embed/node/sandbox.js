@@ -125,6 +125,13 @@ class Sandbox {
     return native.answered(this.#held);
   }
 
+  /** How much of its quotas the guest has used, as BigInts: `nodes`, its makings, and `bytes`, by which files grew. */
+  get quotaUsed() {
+    this.#check();
+    const [nodes, bytes] = native.quotaUsed(this.#held);
+    return { nodes, bytes };
+  }
+
   /** The report of the sandbox as it stands: a JSON text, in which `answers` and `memory` are empty. */
   report() {
     this.#check();

@@ -24,6 +24,8 @@ MOST_OF_A_PREAD = 65_536
 MOST_OF_A_FILE = 1_073_741_824
 MOST_GROWN = 268_435_456  # bytes of gaps and of new sizes, which take memory here
 MOST_LOST = 8  # calls of which a fault may hide what they did
+MAKING = frozenset(("path_create_directory", "path_symlink"))  # as does an open that creates
+GROWING = frozenset(("fd_write", "fd_pwrite", "fd_filestat_set_size"))
 CHANGING = frozenset((
     "path_open", "fd_write", "fd_pwrite", "fd_filestat_set_size", "fd_filestat_set_times", "path_filestat_set_times",
     "path_create_directory", "path_symlink", "path_link", "path_rename", "path_remove_directory", "path_unlink_file",
@@ -58,6 +60,16 @@ class Change:
 
 
 @dataclass
+class Use:
+    """What a call used of a quota, and how much of that is used then: more, maybe, where the host failed in a call."""
+
+    key: str  # nodes, which are makings, or bytes
+    more: int
+    used: int
+    is_sure: bool
+
+
+@dataclass
 class Told:
     """A call as it was made: its numbers by argument, what stood under its descriptors and in its texts and buffers,
     its answer, and what it did."""
@@ -77,6 +89,8 @@ class Told:
     subscriptions: List[bytes] = field(default_factory=list)
     changes: List[Change] = field(default_factory=list)
     lost: str = ""  # of a call that the host failed in: what became of what it was to change
+    grown: int = 0  # bytes by which it made a file longer
+    use: Optional[Use] = None  # of a quota that the guest has
 
 
 class Replay:
@@ -95,6 +109,8 @@ class Replay:
         for number, given in enumerate(script.preopens, FIRST_PREOPEN):
             self.descriptors[number] = Descriptor(given.node, given.name, given.perms)
         self.told: List[Told] = []
+        self.used = {"nodes": 0, "bytes": 0}  # of the quotas, without what calls used in which the host failed
+        self.unsure = {"nodes": False, "bytes": False}  # whether there are such calls
         self.paths = Paths(self.nodes)
 
     # What stands where.
@@ -147,9 +163,20 @@ class Replay:
             raise NotItsReport(f"call {number} is {name}, which isn't answered as the report says")
         if "ok" in answer:
             self.do(told)
+            self.count_use(told)
         elif number in self.hidden:
             self.change_tree(told)
+        if answer.get("errno") == "io":
+            self.unsure["nodes"] |= makes(told)
+            self.unsure["bytes"] |= name in GROWING
         return told
+
+    def count_use(self, told: Told) -> None:
+        """Counts what an answered call used of the guest's quotas, where they are set."""
+        key, more = ("nodes", 1) if makes(told) else ("bytes", told.grown)
+        if self.script.quota is not None and more:
+            self.used[key] += more
+            told.use = Use(key, more, self.used[key], not self.unsure[key])
 
     def do(self, told: Told) -> None:
         """Does what a call did."""
@@ -262,8 +289,10 @@ class Replay:
         told.sent, told.sent_to = data, self.paths.of(open_.node)
         told.nodes.append(open_.node)
         if data:
+            size = len(file)
             self.grow(told, file, place)
             file[place:place + len(data)] = data
+            told.grown = len(file) - size
             self.change(told, open_.node, "bytes")
         return place + len(data)
 
@@ -289,6 +318,7 @@ class Replay:
         data = self.nodes[node].data
         if size != len(data):
             self.change(told, node, "size")
+        told.grown = max(0, size - len(data))
         del data[size:]
         self.grow(told, data, size)
 
@@ -556,6 +586,11 @@ def shown_text(text: str) -> str:
         return mark if mark.isprintable() else f"\\u{{{ord(mark):x}}}"
 
     return '"' + "".join(map(shown, text)) + '"'
+
+
+def makes(told: Told) -> bool:
+    """Whether a call makes something: a directory, a link, or an open that creates, whether or not the file is there."""
+    return told.name in MAKING or (told.name == "path_open" and bool(told.numbers["oflags"][0] & bit("oflags", "creat")))
 
 
 def differences(replay: Replay, report: Report) -> List[str]:

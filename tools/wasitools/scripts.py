@@ -14,6 +14,7 @@ from typing import Any, Dict, List, Optional, Tuple
 from .calls import CALLS, ERRNO_WORDS, FIELDS, TRAPS, U32, U64
 
 MOST_BYTES = 16_777_216
+MOST_QUOTA = 2**62
 EPOCHS = ((0, 0), (0, 0), (0, 0))
 
 
@@ -75,6 +76,7 @@ class Script:
     mono: int = 0
     limits: Dict[str, Any] = field(default_factory=dict)  # fuel, table and limits, where they are given
     faults: List[Tuple[int, str]] = field(default_factory=list)  # calls of the host that fail, before or after
+    quota: Optional[Dict[str, int]] = None  # how many makings, `nodes`, and how many grown `bytes`
 
 
 @dataclass
@@ -253,11 +255,17 @@ def faults_of(value: Any) -> List[Tuple[int, str]]:
     return faults
 
 
+def quota_of(value: Any) -> Dict[str, int]:
+    """How much the guest may make and grow."""
+    found = keyed(value, "'quota'", "nodes bytes")
+    return {key: number(found[key], f"{key!r} of 'quota'", MOST_QUOTA) for key in ("nodes", "bytes")}
+
+
 def script_of(data: bytes) -> Script:
     """The script that some bytes are."""
     need(len(data) <= MOST_BYTES, f"the script has more than {MOST_BYTES:,} bytes")
     found = keyed(json_of(data, "the script"), "the script", "nodes preopens calls",
-                  "memory show limits fuel table faults args env stdin random wall wall_res mono mono_res")
+                  "memory show limits fuel table faults quota args env stdin random wall wall_res mono mono_res")
     nodes = nodes_of(found["nodes"], "the script")
     memory = memory_of(found["memory"]) if "memory" in found else bytearray()
     calls = [call_of(call, f"call {place}") for place, call in enumerate(listed(found["calls"], "'calls'"), 1)]
@@ -270,6 +278,7 @@ def script_of(data: bytes) -> Script:
         moment(found.get("wall", [0, 0]), "'wall'"), number(found.get("mono", 0), "'mono'"),
         {key: found[key] for key in ("fuel", "table", "limits") if key in found},
         faults_of(found.get("faults", [])),
+        quota_of(found["quota"]) if "quota" in found else None,
     )
 
 

@@ -21,6 +21,7 @@ LINE = 16  # bytes of a line of a dump
 MOST_LINES = 256  # of a dump
 MOST_CALLS = 8  # of a cause
 KINDS = {"dir": "directory", "file": "file", "link": "link"}
+MEASURES = {"nodes": "making", "bytes": "grown byte"}  # of a quota
 WHEN = {"before": "before it is made", "after": "after it is made"}
 WHAT = {"made": "made", "bytes": "bytes", "size": "size", "times": "times", "name": "named", "unname": "gone"}
 
@@ -215,7 +216,14 @@ def answer_words(told: Told) -> Tuple[str, str]:
     return f"the guest ends with status {given}", "end"
 
 
-def call_words(told: Told) -> CallWords:
+def use_words(told: Told, quota: Dict[str, int]) -> str:
+    """What a call used of the guest's quotas."""
+    use = told.use
+    least = "" if use.is_sure else "at least "
+    return f"counts {count(use.more, MEASURES[use.key])}: {least}{use.used:,} of {quota[use.key]:,} so far"
+
+
+def call_words(told: Told, script: Script) -> CallWords:
     answer, state = answer_words(told)
     arguments = [(argument.name, argument_words(told, argument)) for argument in CALLS[told.name].arguments]
     found = CallWords(told.number, told.name, arguments, answer, state)
@@ -232,6 +240,8 @@ def call_words(told: Told) -> CallWords:
         found.details += [f"at {address}: {shortened(data[:-1])}" for address, data in written[1::2]]
     else:
         found.details += [f"at {address}: {shortened(data)}" for address, data in written]
+    if told.use:
+        found.details.append(use_words(told, script.quota))
     found.changes = [change_words(change) for change in told.changes]
     return found
 
@@ -439,6 +449,8 @@ def given_of(script: Script) -> List[Tuple[str, str]]:
         found.append(("monotonic clock", f"{script.mono} ns"))
     if script.random:
         found.append(("random bytes", f"hex {script.random[:MOST_SHOWN // 2].hex(' ', -4)}"))
+    if script.quota is not None:
+        found.append(("quota", ", ".join(count(most, MEASURES[key]) for key, most in script.quota.items())))
     if script.faults:
         found.append(("faults", "; ".join(f"host call {number}, {WHEN[when]}" for number, when in script.faults)))
     for key in sorted(script.limits):
@@ -462,7 +474,7 @@ def summary_of(calls: List[CallWords]) -> str:
 def telling_of(title: str, replay: Replay, report: Report) -> Telling:
     changes = [change for told in replay.told for change in told.changes]
     script = replay.script
-    calls = [call_words(told) for told in replay.told]
+    calls = [call_words(told, script) for told in replay.told]
     return Telling(
         title,
         given_of(script),

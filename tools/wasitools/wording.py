@@ -13,7 +13,7 @@ from typing import Any, Dict, List, Optional, Sequence, Tuple
 
 from .calls import CALLS, CHOICES, EVENT, FIRST_PREOPEN, SETS, SUBSCRIPTION, U32, U64, Argument, Row, bit
 from .folders import Folder
-from .scripts import PERMS, Mistake
+from .scripts import MOST_QUOTA, PERMS, Mistake
 from .writing import Layout
 
 # A word, the call that it stands for, and what stands behind it, in order: names of the call's arguments. `path@fd` is
@@ -70,7 +70,7 @@ shutdown     sock_shutdown            fd ..
 ROOM_ALIGN = 16  # so that dumps of buffers are easy to read
 ALIASES = {"read": "fd_read", "write": "fd_write", "follow": "symlink_follow"}
 NUMBERS = {"fuel": U64, "table": U32, "mono": U64, "mono_res": U64}
-SETTINGS = "preopen args env stdin random wall wall_res limits faults".split() + list(NUMBERS)
+SETTINGS = "preopen args env stdin random wall wall_res limits quota faults".split() + list(NUMBERS)
 ESCAPES = {"n": b"\n", "t": b"\t", "r": b"\r", "0": b"\0", "\\": b"\\", '"': b'"'}
 TOKEN = re.compile(r'\s*(?:#.*|"((?:[^"\\]|\\.)*)"|([^\s"]+))')
 ESCAPE = re.compile(r"\\(?:x([0-9a-fA-F]{2})|u\{([0-9a-fA-F]{1,6})\}|(.))")
@@ -205,6 +205,8 @@ def setting(found: Settings, tokens: List[Token], folder: Folder) -> None:
         found.others[name] = number_of(given[0], name, 0, NUMBERS[name])
     elif name == "limits" and len(given) == 2:
         found.others[name] = {key: number_of(word, key, 1, 2**32) for key, word in zip(("nodes", "links"), given)}
+    elif name == "quota" and len(given) == 2:
+        found.others[name] = {key: number_of(word, key, 0, MOST_QUOTA) for key, word in zip(("nodes", "bytes"), given)}
     elif name == "faults" and given and len(given) % 2 == 0:
         found.others[name] = faults_of(given)
     else:

@@ -109,6 +109,15 @@ impl fmt::Display for Refused {
 
 impl std::error::Error for Refused {}
 
+/// How much a guest has used of the quotas that its script gives it. A count without a bound is 0.
+#[derive(Clone, Copy, Debug, PartialEq, Eq)]
+pub struct QuotaUsed {
+    /// How many makings: of directories and links, and by opens that create.
+    pub nodes: u64,
+    /// By how many bytes files became longer.
+    pub bytes: u64,
+}
+
 /// A sandbox: a tree, the descriptors of one guest, and what it is handed in. It stays on its thread:
 ///
 /// ```compile_fail
@@ -123,6 +132,7 @@ pub struct Sandbox {
 extern "C" {
     fn wasi_c_start(sandbox: *mut Raw, script: *const u8, script_len: usize) -> u32;
     fn wasi_c_answered(sandbox: *mut Raw, empty: Raw) -> u64;
+    fn wasi_c_quota_used(sandbox: *mut Raw, empty: Raw, nodes: *mut u64, bytes: *mut u64);
     fn wasi_c_report(sandbox: *mut Raw, empty: Raw, text: *mut u8, room: usize, len: *mut usize) -> u32;
     fn wasi_c_end(sandbox: *mut Raw, empty: Raw);
 }
@@ -142,6 +152,14 @@ impl Sandbox {
     pub fn answered(&mut self) -> u64 {
         // SAFETY: the sandbox isn't empty, since `start` began it and only `drop` ends it.
         unsafe { wasi_c_answered(&mut self.raw, nothing()) }
+    }
+
+    /// How much of its quotas the guest has used so far.
+    pub fn quota_used(&mut self) -> QuotaUsed {
+        let mut used = QuotaUsed { nodes: 0, bytes: 0 };
+        // SAFETY: the sandbox isn't empty; both counts are borrowed for the call.
+        unsafe { wasi_c_quota_used(&mut self.raw, nothing(), &mut used.nodes, &mut used.bytes) }
+        used
     }
 
     /// How the guest was stopped, if it was: no call is made any more.

@@ -1,10 +1,11 @@
 //! `cargo test --offline`
 
-use wasi_embed::{Refused, Sandbox, Stop};
+use wasi_embed::{QuotaUsed, Refused, Sandbox, Stop};
 
 const SCRIPT: &str = r#"{"nodes": [{"dir": {"f": 1}}, {"file": "746f70"}],
     "preopens": [{"node": 0, "name": "/", "perms": "rw"}], "calls": [], "table": 5, "random": "5a"}"#;
 const BADF: u32 = 8;
+const DQUOT: u32 = 19;
 const NOENT: u32 = 44;
 
 fn open(sandbox: &mut Sandbox, memory: &mut [u8], path: &[u8], flags: u32) -> Result<u32, Stop> {
@@ -42,6 +43,19 @@ fn calls_answer_and_traps_stop() {
     assert_eq!(sandbox.fd_close(&mut memory, 77), Err(Stop::Table));
     assert_eq!(sandbox.stop(), Some(Stop::Table));
     assert_eq!(sandbox.answered(), 4);
+}
+
+#[test]
+fn quotas_are_counted() {
+    let script = SCRIPT.replace("{\"nodes\"", r#"{"quota": {"nodes": 1, "bytes": 9}, "nodes""#);
+    let mut sandbox = Sandbox::start(&script).unwrap();
+    let mut memory = vec![0; 65536];
+    assert_eq!(sandbox.quota_used(), QuotaUsed { nodes: 0, bytes: 0 });
+    assert_eq!(open(&mut sandbox, &mut memory, b"new", 1), Ok(0));
+    assert_eq!(sandbox.path_create_directory(&mut memory, 3, 64, 1), Ok(DQUOT));
+    assert_eq!(sandbox.fd_filestat_set_size(&mut memory, 4, 8), Ok(0));
+    assert_eq!(sandbox.fd_filestat_set_size(&mut memory, 4, 10), Ok(DQUOT));
+    assert_eq!(sandbox.quota_used(), QuotaUsed { nodes: 1, bytes: 8 });
 }
 
 #[test]
