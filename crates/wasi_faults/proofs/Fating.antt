@@ -56,6 +56,17 @@ alone_too inner s alone (suc n) t = alone_too (passed_on fate inner) (one_came s
     passed FailsBefore m = alone m
     passed FailsAfter m = alone (m + 1)
 
+module _ (tells : Bool) (s : Calls) where
+  -- the fates under a list stay with those of the inner host
+  pub fates_stay : {f g : Fates} → (IsTrue tells → (n : ℕ) → f n ≡ g n)
+      → IsTrue tells → (n : ℕ) → fates_of f s n ≡ fates_of g s n
+  fates_stay {f = f} {g = g} same told = same_fates f g s (same told)
+
+  -- and so does what others do
+  pub others_stay : {f g : Others} → (IsTrue tells → (n : ℕ) (t : Tree) → f n t ≡ g n t)
+      → IsTrue tells → (n : ℕ) (t : Tree) → others_of f s n t ≡ others_of g s n t
+  others_stay {f = f} {g = g} same told = same_others f g s (same told)
+
 -- the fates after one call of which that becomes by the list
 later_by : (inner inner' : Fates) (s : Calls) {s' : Calls} (fate : Fate) → fate ≡ next_fate s → s' ≡ one_came s
     → ((n : ℕ) → inner' n ≡ passed_on fate inner n) → (n : ℕ) → fates_of inner' s' n ≡ fates_of inner s (n + 1)
@@ -249,3 +260,5 @@ pub ruleset fate_rules = (
   made_after,
   made_hosted,
 )
+
+pub ruleset forget_rules = (fates_stay, others_stay)

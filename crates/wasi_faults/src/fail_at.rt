@@ -7,8 +7,8 @@ use crate::schedule::Schedule;
 use std::alloc::Global;
 use std::marker::Model;
 use wasi_host::{
-    Advice, DirEntry, ErrorCode, Fate, Handle, Host, HostError, Metadata, OpenOptions, SyncFlags,
-    SystemTime,
+    Advice, DirEntry, ErrorCode, Fate, Forget, Handle, Host, HostError, Metadata, OpenOptions,
+    SyncFlags, SystemTime,
 };
 use wasi_paths::Name;
 
@@ -247,5 +247,12 @@ impl<H: Host> Host for FailAt<H> {
 
     fn laws(&self) {
         self.inner.laws();
+    }
+}
+
+#[tactic(auto, using(crate::proofs::Fating::forget_rules))]
+impl<H: Forget> Forget for FailAt<H> {
+    fn forget(&mut self) {
+        self.inner.forget();
     }
 }

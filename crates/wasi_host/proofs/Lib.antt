@@ -15,3 +15,4 @@ pub mod Leaving
 pub mod Agreeing
 pub mod Refusals
 pub mod Touching
+mod Walks

@@ -1,7 +1,7 @@
 -- What the calls of a host do to its meanings: the laws that every host keeps, and those of one that tells its world.
 use Rattle.std.specs.Prelude.{◌≡◌, ◌⊎◌, ℕ, ◌+◌, ◌-◌, ◌^◌, ◌<◌, ◌≤◌, min, true, false, List, [], ◌∷◌, ◌++◌, Option, Some, None, Result, Ok, Err}
 use Rattle.std.specs.Ordering.{nat_cmp}
-use Rattle.std.specs.FinSet.{FinSet, contains, insert}
+use Rattle.std.specs.FinSet.{FinSet, contains, insert, empty}
 use Rattle.wasi_host.specs.Tree.{Tree, Nodes, node_at, next_of, is_file}
 use Rattle.wasi_host.specs.HostCall.{HostCall}
 use Rattle.wasi_host.specs.Refusal.{refusal, can_write}
@@ -24,6 +24,10 @@ pub record World : Type 0 where
   pub tree : Tree
   pub held : ℕ → Held
   pub touched : Nodes
+
+-- the world with no node touched
+abbrev pub forgotten : World → World
+forgotten w = record w { touched = empty }
 
 -- how often a host has failed by itself, and how often it fails at most
 pub record FaultCount : Type 0 where

@@ -13,7 +13,7 @@ use std::alloc::Global;
 use std::collections::VecDeque;
 use std::marker::Model;
 use wasi_host::{
-    Advice, DirEntry, ErrorCode, Handle, Host, HostError, Metadata, OpenOptions, SyncFlags,
+    Advice, DirEntry, ErrorCode, Forget, Handle, Host, HostError, Metadata, OpenOptions, SyncFlags,
     SystemTime,
 };
 use wasi_paths::Name;
@@ -289,4 +289,11 @@ impl Host for Shared {
     }
 
     fn laws(&self) {}
+}
+
+#[tactic(auto, using(crate::proofs::Finding::shared_rules))]
+impl Forget for Shared {
+    fn forget(&mut self) {
+        self.tree.forget();
+    }
 }

@@ -3,7 +3,6 @@
 #![tactic(auto)]
 
 mod changes;
-mod looks;
 mod trees;
 mod walks;
 

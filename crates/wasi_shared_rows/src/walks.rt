@@ -4,7 +4,6 @@ ghost use Rattle.std.specs.FinSet.{contains};
 ghost use Rattle.wasi_tree.specs.MemState.{live_of};
 
 use crate::changes::changes_of;
-use crate::looks::{told_lineage, told_opens};
 use crate::trees::{small_tree, walked_tree};
 use std::alloc::{AllocError, Global};
 use wasi_host::{Handle, Host, HostError, Metadata, dir_options};
@@ -20,8 +19,9 @@ pub struct WalkRows;
 impl Answering for WalkRows {
     fn answer(&mut self, asked: &Asked<'_>) -> Told {
         match asked.what {
-            "lineage" => walk_in(walked_tree(asked.alloc), asked),
-            _ => walk_in(small_tree(asked.alloc), asked),
+            "open" => walk_in(small_tree(asked.alloc), asked),
+            "linked" => walk_in(walked_tree(asked.alloc), asked),
+            _ => unknown(asked.alloc),
         }
     }
 }
@@ -38,13 +38,7 @@ fn walk_in(tree: Result<MemTree, TreeError>, asked: &Asked<'_>) -> Told {
         return Err(AllocError);
     };
     let mut host = Shared::new(tree, changes_of(alloc, list)?);
-    let opened = open_node(alloc, &mut host, root, path);
-    match asked.what {
-        "open" => answered(alloc, opened),
-        "opens" => told_opens(alloc, host.inner().lookups(), root),
-        "lineage" => told_lineage(alloc, host.inner().lookups(), root),
-        _ => unknown(alloc),
-    }
+    answered(alloc, open_node(alloc, &mut host, root, path))
 }
 
 /// Opens a directory, and gives its node.

@@ -1,18 +1,19 @@
 -- Marks of nodes beside the set of numbers that they stand for.
-use Rattle.std.proofs.Common.{◌≡◌, ◌<◌, ◌≤◌, ℕ, zero, suc, ◌+◌, Bool, true, false, cond, List, [], ◌∷◌, ◌++◌, length, drop, append_assoc, inl, inr, refl, sym, ap, ◌∙◌, subst, arith, slice_index_or, slice_set, replicate}
+use Rattle.std.proofs.Common.{◌≡◌, ◌<◌, ◌≤◌, ℕ, zero, suc, ◌+◌, Bool, true, false, cond, List, [], ◌∷◌, ◌++◌, length, drop, append_assoc, inl, inr, refl, sym, ap, ◌∙◌, subst, arith, slice_index_or, slice_set, replicate, ◌==◌}
 use Rattle.std.proofs.lemmas.Grind.{common_steps}
 use Rattle.std.proofs.Math.Seq.{get_or-append_seam}
 use Rattle.std.proofs.lemmas.Bool.{cases_eq, cases_lt}
-use Rattle.std.proofs.lemmas.List.{get_or-set_other, get_or_append_left, get_or_past, length-append, append-nil}
+use Rattle.std.proofs.lemmas.List.{get_or-set_other, get_or_append_left, get_or_past, length-append, length-map, map-append, map-set, append-nil}
+use Rattle.std.proofs.lemmas.List.Elements.{All-head, All-tail, All-replicate, All-set, All-push, All-weaker}
 use Rattle.std.proofs.Math.ListN.{drop_of_length-le}
 use Rattle.std.proofs.lemmas.Bool.Decides.{nat_tests}
 use Rattle.std.specs.Ordering.{nat_cmp}
-use Rattle.std.specs.List.{AllByRecursion}
+use Rattle.std.specs.List.{All, AllByRecursion}
 use Rattle.std.specs.List.Sorted.{IsStrictlySortedBy}
 use Rattle.std.specs.declared.cmp.Ordering.TheVariants.{Less}
 use Rattle.std.specs.FinSet.{contains, empty, insert, from_list, members, contains-empty, same_set, nat_cmp-IsAntisymmetric}
 use Rattle.std.specs.Cmp.{nat_cmp_total}
-use Rattle.wasi_tree.specs.Marks.{marked_from, marked}
+use Rattle.wasi_tree.specs.Marks.{AreRounds, marked_from, marked, marks_in}
 
 marked_before : (k : ℕ) (marks : List Bool) (q : ℕ) → q < k → contains (marked_from k marks) q ≡ false
 marked_before k [] q before = contains-empty nat_cmp q
@@ -111,7 +112,7 @@ places-next marks i within =
     at_place k (mark ∷ marks) zero within = cases k mark marks
     at_place k (mark ∷ marks) (suc i) within = at_place k marks i (omega arith)
 
-pub next_marked : (marks : List Bool) (i : ℕ) (xs all : List ℕ) → i < length marks
+next_marked : (marks : List Bool) (i : ℕ) (xs all : List ℕ) → i < length marks
     → slice_index_or marks i false ≡ true → xs ++ places_from i (drop i marks) ≡ all
     → (xs ++ i ∷ []) ++ places_from (i + 1) (drop (i + 1) marks) ≡ all
 next_marked marks i xs all within mark so_far =
@@ -119,14 +120,14 @@ next_marked marks i xs all within mark so_far =
     ∙ ap (λ l. xs ++ l) (sym (places-next marks i within ∙ ap (λ b. cond b (i ∷ places_from (i + 1) (drop (i + 1) marks)) (places_from (i + 1) (drop (i + 1) marks))) mark))
     ∙ so_far
 
-pub next_unmarked : (marks : List Bool) (i : ℕ) (xs all : List ℕ) → i < length marks
+next_unmarked : (marks : List Bool) (i : ℕ) (xs all : List ℕ) → i < length marks
     → slice_index_or marks i false ≡ false → xs ++ places_from i (drop i marks) ≡ all
     → xs ++ places_from (i + 1) (drop (i + 1) marks) ≡ all
 next_unmarked marks i xs all within mark so_far =
     ap (λ l. xs ++ l) (sym (places-next marks i within ∙ ap (λ b. cond b (i ∷ places_from (i + 1) (drop (i + 1) marks)) (places_from (i + 1) (drop (i + 1) marks))) mark))
     ∙ so_far
 
-pub places_done : (marks : List Bool) (i : ℕ) (xs : List ℕ) → length marks ≤ i → xs ++ places_from i (drop i marks) ≡ xs
+places_done : (marks : List Bool) (i : ℕ) (xs : List ℕ) → length marks ≤ i → xs ++ places_from i (drop i marks) ≡ xs
 places_done marks i xs done = ap (λ l. xs ++ places_from i l) (drop_of_length-le marks done) ∙ append-nil xs
 
 pub listed_set : (marks : List Bool) (ns : List ℕ) → ns ≡ places_from 0 marks → from_list ns ≡ marked marks
@@ -135,4 +136,96 @@ listed_set marks ns is = ap from_list is ∙ from_list-marked marks
 pub listed_rising : (marks : List Bool) (ns : List ℕ) → ns ≡ places_from 0 marks → IsStrictlySortedBy nat_cmp ns
 listed_rising marks ns is = subst (IsStrictlySortedBy nat_cmp) (sym is) (rising_places 0 marks)
 
-pub ruleset mark_rules = (marked-set, marked-push, marked-none, members)
+-- ---- marks in rounds
+
+begun_again : (n : ℕ) → (n == n) ≡ true
+begun_again n = grind (arith, nat_tests)
+
+not_ahead : (last round : ℕ) → last ≤ round → (last == round + 1) ≡ false
+not_ahead last round past = grind (arith, nat_tests)
+
+-- a place is marked where this round stands at it
+marked_there : (round : ℕ) (rounds : List ℕ) (i : ℕ) → i < length rounds
+    → slice_index_or (marks_in round rounds) i false ≡ (slice_index_or rounds i 0 == round)
+marked_there round [] i within = absurd (omega arith)
+marked_there round (last ∷ rounds) zero within = refl
+marked_there round (last ∷ rounds) (suc i) within = marked_there round rounds i (omega arith)
+
+in_reach : (round : ℕ) (rounds : List ℕ) (i : ℕ) → i < length rounds → i < length (marks_in round rounds)
+in_reach round rounds i within = omega (arith, within, length-map rounds (λ last. last == round))
+
+module _ (round : ℕ) (rounds : List ℕ) (i : ℕ) (xs all : List ℕ) (within : i < length rounds)
+    (so_far : xs ++ places_from i (drop i (marks_in round rounds)) ≡ all) where
+  pub next_in : (slice_index_or rounds i 0 == round) ≡ true
+      → (xs ++ i ∷ []) ++ places_from (i + 1) (drop (i + 1) (marks_in round rounds)) ≡ all
+  next_in now =
+      next_marked (marks_in round rounds) i xs all (in_reach round rounds i within)
+      (marked_there round rounds i within ∙ now) so_far
+
+  pub next_out : (slice_index_or rounds i 0 == round) ≡ false → xs ++ places_from (i + 1) (drop (i + 1) (marks_in round rounds)) ≡ all
+  next_out other =
+      next_unmarked (marks_in round rounds) i xs all (in_reach round rounds i within)
+      (marked_there round rounds i within ∙ other) so_far
+
+pub rounds_done : (round : ℕ) (rounds : List ℕ) (i : ℕ) (xs : List ℕ) → length rounds ≤ i
+    → xs ++ places_from i (drop i (marks_in round rounds)) ≡ xs
+rounds_done round rounds i xs done =
+    places_done (marks_in round rounds) i xs (omega (arith, done, length-map rounds (λ last. last == round)))
+
+-- a node is marked
+pub rounds-set : (round : ℕ) (rounds : List ℕ) (i : ℕ) → i < length rounds
+    → marked (marks_in round (slice_set rounds i round)) ≡ insert (marked (marks_in round rounds)) i
+rounds-set round rounds i within =
+    ap marked (map-set (λ last. last == round) rounds i round
+    ∙ ap (λ mark. slice_set (marks_in round rounds) i mark) (begun_again round))
+    ∙ marked-set (marks_in round rounds) i (in_reach round rounds i within)
+
+-- one node more, which is marked
+pub rounds-push : (round : ℕ) (rounds : List ℕ)
+    → marked (marks_in round (rounds ++ round ∷ [])) ≡ insert (marked (marks_in round rounds)) (length rounds)
+rounds-push round rounds =
+    ap marked (map-append (λ last. last == round) rounds (round ∷ [])
+    ∙ ap (λ mark. marks_in round rounds ++ mark ∷ []) (begun_again round))
+    ∙ marked-push (marks_in round rounds)
+    ∙ ap (λ n. insert (marked (marks_in round rounds)) n) (length-map rounds (λ last. last == round))
+
+none_ahead : (round : ℕ) (rounds : List ℕ) → All (λ last. last ≤ round) rounds
+    → marks_in (round + 1) rounds ≡ replicate (length rounds) false
+none_ahead round [] past = refl
+none_ahead round (last ∷ rounds) past =
+    ap (λ mark. mark ∷ marks_in (round + 1) rounds)
+    (not_ahead last round (All-head (λ last. last ≤ round) last rounds past))
+    ∙ ap (λ marks. false ∷ marks) (none_ahead round rounds (All-tail (λ last. last ≤ round) last rounds past))
+
+-- the next round begins with no mark
+pub next_round : (round : ℕ) (rounds : List ℕ) → AreRounds round rounds → marked (marks_in (round + 1) rounds) ≡ empty
+next_round round rounds are = ap marked (none_ahead round rounds are.past) ∙ marked-none (length rounds)
+
+-- so does the first one
+pub first_round : (n : ℕ) → marked (marks_in 1 (replicate n 0)) ≡ empty
+first_round n =
+    ap marked (none_ahead 0 (replicate n 0) (All-replicate (λ last. last ≤ 0) n 0 (omega arith)))
+    ∙ marked-none (length (replicate n 0))
+
+pub are_first : (n : ℕ) → AreRounds 1 (replicate n 0)
+are_first n = record { begun = omega arith; past = All-replicate (λ last. last ≤ 1) n 0 (omega arith) }
+
+pub are_set : (round : ℕ) (rounds : List ℕ) (i : ℕ) → AreRounds round rounds → AreRounds round (slice_set rounds i round)
+are_set round rounds i are = record {
+  begun = are.begun;
+  past = All-set (λ last. last ≤ round) rounds i round (omega arith) are.past;
+}
+
+pub are_pushed : (round : ℕ) (rounds : List ℕ) → AreRounds round rounds → AreRounds round (rounds ++ round ∷ [])
+are_pushed round rounds are = record {
+  begun = are.begun;
+  past = All-push (λ last. last ≤ round) rounds round are.past (omega arith);
+}
+
+pub are_next : (round : ℕ) (rounds : List ℕ) → AreRounds round rounds → AreRounds (round + 1) rounds
+are_next round rounds are = record {
+  begun = omega arith;
+  past = All-weaker (λ last. last ≤ round) (λ last. last ≤ round + 1) (λ last past. omega arith) rounds are.past;
+}
+
+pub ruleset mark_rules = (rounds-set, rounds-push, next_round, first_round, are_first, are_set, are_pushed, are_next, members)

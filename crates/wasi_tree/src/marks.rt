@@ -9,25 +9,30 @@ use std::alloc::{AllocError, Global};
 use std::marker::Model;
 
 /// Some of a tree's nodes, as those that were touched. Contracts see the count of nodes, the set of the marked ones,
-/// and for how many more nodes there is room.
+/// and for how many more nodes there is room. The marks are set and cleared in rounds: a node is marked where it was
+/// marked in the round of now.
 #[derive(Debug, Drop)]
 pub struct Marks {
-    rows: Vec<bool>,
+    /// Of each node the round in which it was marked last, 0 where it never was.
+    rounds: Vec<u32>,
+    round: u32,
 }
 
 impl Model for Marks {
     ghost use Rattle.std.specs.Prelude.{◌-◌, length, vec_len, vec_capacity};
-    ghost use Rattle.wasi_tree.specs.Marks.{Marked, marked_code, marked};
+    ghost use Rattle.wasi_tree.specs.Marks.{AreRounds, Marked, marked_code, marked, marks_in};
 
     ghost Value = { Marked };
 
     ghost coded = { marked_code };
 
     ghost view = { λ a. record {
-      count = length a.rows.items;
-      nodes = marked a.rows.items;
-      room = vec_capacity a.rows - vec_len a.rows;
+      count = length a.rounds.items;
+      nodes = marked (marks_in a.round a.rounds.items);
+      room = vec_capacity a.rounds - vec_len a.rounds;
     } };
+
+    ghost invariant = { λ a. AreRounds a.round a.rounds.items };
 }
 
 #[tactic(auto, using(crate::proofs::MarkLemmas::mark_rules))]
@@ -38,7 +43,8 @@ impl Marks {
         ensures nodes { IfOk result (λ marks. marks.nodes ≡ empty) }
     {
         Ok(Marks {
-            rows: vec![in alloc; false; count]?,
+            rounds: vec![in alloc; 0; count]?,
+            round: 1,
         })
     }
 
@@ -48,7 +54,7 @@ impl Marks {
         ensures nodes { self.new.nodes ≡ self.old.nodes }
         ensures room { OnOk result (0 < self.new.room) }
     {
-        self.rows.reserve(1)
+        self.rounds.reserve(1)
     }
 
     /// One node more, which is marked.
@@ -57,7 +63,7 @@ impl Marks {
         ensures count { self.new.count ≡ self.old.count + 1 }
         ensures nodes { self.new.nodes ≡ insert self.old.nodes self.old.count }
     {
-        self.rows.push_reserved(true);
+        self.rounds.push_reserved(self.round);
     }
 
     /// Marks a node.
@@ -67,7 +73,7 @@ impl Marks {
         ensures nodes { self.new.nodes ≡ insert self.old.nodes node }
         ensures room { self.new.room ≡ self.old.room }
     {
-        self.rows[node as usize] = true;
+        self.rounds[node as usize] = self.round;
     }
 
     /// Marks the directory of a look-up, and the node that it found.
@@ -83,14 +89,30 @@ impl Marks {
         }
     }
 
+    /// No node is marked from here on. It takes a constant time, but for once in 2^32 - 1 times, when it goes over all.
+    pub fn clear(&mut self)
+        ensures count { self.new.count ≡ self.old.count }
+        ensures nodes { self.new.nodes ≡ empty }
+        ensures room { self.new.room ≡ self.old.room }
+    {
+        match self.round.checked_add(1) {
+            Some(next) => self.round = next,
+            None => {
+                self.rounds.fill(0);
+                self.round = 1;
+            }
+        }
+    }
+
     /// The marked nodes, rising.
     pub fn list(&self, alloc: Global) -> Result<Vec<u64>, AllocError>
         ensures nodes { IfOk result (λ nodes. from_list nodes.items ≡ self.now.nodes) }
         ensures rising { IfOk result (λ nodes. IsStrictlySortedBy nat_cmp nodes.items) }
     {
+        let round = self.round;
         let mut nodes = Vec::new(alloc);
-        for (node, &mark) in self.rows.iter().enumerate() {
-            if mark {
+        for (node, &last) in self.rounds.iter().enumerate() {
+            if last == round {
                 nodes.push(node as u64)?;
             }
         }

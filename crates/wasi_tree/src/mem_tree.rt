@@ -1,12 +1,12 @@
 //! The tree in memory, as a host.
-ghost use Rattle.std.specs.Prelude.{◌≡◌, ◌↔◌, ◌+◌, ◌<◌, ◌≤◌, ℕ, true, false, List, [], ◌∷◌, ◌++◌, vec_len, vec_capacity, None, Err, IfOk, IfErr, OnOk, OnErr, map};
+ghost use Rattle.std.specs.Prelude.{◌≡◌, ◌↔◌, ◌+◌, ◌<◌, ◌≤◌, ℕ, true, false, List, [], ◌∷◌, ◌++◌, None, Err, IfOk, IfErr, OnOk, OnErr, map};
 ghost use Rattle.std.specs.Ordering.{nat_cmp};
 ghost use Rattle.std.specs.List.Sorted.{IsStrictlySortedBy};
 ghost use Rattle.std.specs.FinSet.{contains, insert, empty, from_list};
 ghost use Rattle.wasi_host.specs.Tree.{next_of, node_at, is_directory};
 ghost use Rattle.wasi_tree.specs.Given.{given, given_of, tree_of};
 ghost use Rattle.wasi_host.specs.declared.fate.Fate.TheVariants.{Passes};
-ghost use Rattle.wasi_host.specs.Meaning.{both_looked, never_fails};
+ghost use Rattle.wasi_host.specs.Meaning.{both_looked, one_looked, never_fails};
 ghost use Rattle.wasi_host.specs.ValidTree.{AreLimits};
 ghost use Rattle.wasi_tree.specs.Fit.{AreFit, IsTreeCause};
 ghost use Rattle.wasi_tree.specs.Changed.{changed};
@@ -22,17 +22,18 @@ use crate::touched_tree::TouchedTree;
 use std::alloc::{AllocError, Global};
 use std::marker::Model;
 use wasi_host::{
-    AccessMode, Advice, DirEntry, ErrorCode, Handle, Held, Host, HostError, Limits, LookKind,
-    Lookup, Metadata, OpenOptions, SyncFlags, SystemTime,
+    AccessMode, Advice, DirEntry, ErrorCode, Forget, Handle, Held, Host, HostError, Limits,
+    LookKind, Lookup, LookupLog, Metadata, OpenOptions, SyncFlags, SystemTime,
 };
 use wasi_paths::Name;
 
-/// A tree of files in memory, with its live handles, the nodes that calls have touched, and the look-ups so far.
+/// A tree of files in memory, with its live handles, the nodes that calls have touched since they were forgotten last,
+/// and the look-ups so far. Those are for contracts alone, and take no memory.
 #[derive(Debug, Drop)]
 pub struct MemTree {
     tree: TouchedTree,
     slots: Slots,
-    log: Vec<Lookup>,
+    log: LookupLog,
 }
 
 impl Model for MemTree {
@@ -82,7 +83,7 @@ impl MemTree {
         Ok(MemTree {
             tree: TouchedTree::of(alloc, fit)?,
             slots: Slots::new(alloc),
-            log: Vec::new(alloc),
+            log: LookupLog::new(),
         })
     }
 
@@ -141,28 +142,19 @@ impl MemTree {
         self.tree.change(change);
     }
 
-    /// The numbers of the touched nodes, rising: of each call's handles, of the nodes under its names, and of those made.
+    /// The numbers of the touched nodes, rising: of each call's handles, of the nodes under its names, and of those made,
+    /// since the last `forget`. It goes over all nodes.
     pub fn touched(&self, alloc: Global) -> Result<Vec<u64>, AllocError>
         ensures nodes { IfOk result (λ nodes. from_list nodes.items ≡ self.now.touched) }
         ensures rising { IfOk result (λ nodes. IsStrictlySortedBy nat_cmp nodes.items) }
     {
         self.tree.touched().list(alloc)
     }
-
-    /// The look-ups of all calls so far, the first one first: each with the handle that it began from, and the handle
-    /// that it made, if it made one.
-    pub fn lookups(&self) -> &Vec<Lookup>
-        ensures lookups { result.now.items ≡ self.now.lookups }
-    {
-        &self.log
-    }
 }
 
-/// Makes a call of the tree, given what a handle stands for, and logs the look-up from that handle. Room for it is taken
-/// first, so that nothing has changed where memory is wanted.
+/// Makes a call of the tree, given what a handle stands for, and logs the look-up from that handle.
 macro_rules! logged {
     ($host:ident, $kind:ident from $start:ident, |$at:ident| $call:ident($($argument:expr),*)) => {{
-        $host.log.reserve(1)?;
         let $at = $host.slots.held($start);
         let answer = $host.tree.$call($($argument),*);
         log_look(&mut $host.log, LookKind::$kind, $start);
@@ -201,12 +193,11 @@ impl Host for MemTree {
         options: &OpenOptions,
     ) -> Result<Handle, HostError> {
         self.slots.reserve()?;
-        self.log.reserve(1)?;
         let directory = self.slots.held(start).node;
         match self.tree.open_at(directory, name, options) {
             Ok(held) => {
                 let handle = self.slots.give(held);
-                self.log.push_reserved(Lookup {
+                self.log = self.log.and(&Lookup {
                     kind: LookKind::Open,
                     from: start,
                     got: Some(handle),
@@ -249,7 +240,6 @@ impl Host for MemTree {
         new: Handle,
         new_name: Name<'_>,
     ) -> Result<(), HostError> {
-        self.log.reserve(2)?;
         let from = self.slots.held(old).node;
         let to = self.slots.held(new).node;
         let answer = self.tree.link_at(from, old_name, to, new_name);
@@ -265,7 +255,6 @@ impl Host for MemTree {
         new_name: Name<'_>,
         requires_dir: bool,
     ) -> Result<(), HostError> {
-        self.log.reserve(2)?;
         let from = self.slots.held(old).node;
         let to = self.slots.held(new).node;
         let answer = self
@@ -304,10 +293,9 @@ impl Host for MemTree {
 
     fn dup(&mut self, handle: Handle) -> Result<Handle, HostError> {
         self.slots.reserve()?;
-        self.log.reserve(1)?;
         let held = self.slots.held(handle);
         let copy = self.slots.give(held);
-        self.log.push_reserved(Lookup {
+        self.log = self.log.and(&Lookup {
             kind: LookKind::Dup,
             from: handle,
             got: Some(copy),
@@ -383,29 +371,27 @@ impl Host for MemTree {
     }
 }
 
+#[tactic(auto, using(crate::proofs::MemLemmas::mem_rules))]
+impl Forget for MemTree {
+    /// It takes a constant time, but for once in 2^32 - 1 times, when it goes over all nodes.
+    fn forget(&mut self) {
+        self.tree.forget();
+    }
+}
+
 /// Logs the two look-ups of a call with two names, which made no handle.
-fn log_both(log: &mut Vec<Lookup>, kind: LookKind, old: Handle, new: Handle)
-    requires { vec_len log.old + 2 ≤ vec_capacity log.old }
+fn log_both(log: &mut LookupLog, kind: LookKind, old: Handle, new: Handle)
     ensures { log.new.items ≡ log.old.items ++ both_looked kind old new }
 {
-    log.push_reserved(Lookup {
-        kind,
-        from: old,
-        got: None,
-    });
-    log.push_reserved(Lookup {
-        kind,
-        from: new,
-        got: None,
-    });
+    log_look(log, kind, old);
+    log_look(log, kind, new);
 }
 
 /// Logs a look-up that made no handle.
-fn log_look(log: &mut Vec<Lookup>, kind: LookKind, from: Handle)
-    requires { vec_len log.old < vec_capacity log.old }
-    ensures { log.new.items ≡ log.old.items ++ record { kind = kind; from = from; got = None } ∷ [] }
+fn log_look(log: &mut LookupLog, kind: LookKind, from: Handle)
+    ensures { log.new.items ≡ log.old.items ++ one_looked kind from }
 {
-    log.push_reserved(Lookup {
+    *log = log.and(&Lookup {
         kind,
         from,
         got: None,

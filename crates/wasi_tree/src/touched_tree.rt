@@ -103,6 +103,14 @@ impl TouchedTree {
         &self.touched
     }
 
+    /// No node is touched from here on.
+    pub fn forget(&mut self)
+        ensures tree { self.new.tree ≡ self.old.tree }
+        ensures touched { self.new.touched ≡ empty }
+    {
+        self.touched.clear();
+    }
+
     /// Opens a name in a directory, and gives what its handle stands for.
     pub fn open_at(
         &mut self,

@@ -6,8 +6,8 @@ use crate::listed::{chain, listed, tree_of};
 use crate::opened::with_opened;
 use crate::reports::told_report;
 use std::alloc::{AllocError, Global};
-use wasi_host::Limits;
-use wasi_table::{Answering, Asked, Told, number, told, word};
+use wasi_host::{Forget, Limits};
+use wasi_table::{Answering, Asked, Told, done, number, told, word};
 use wasi_tree::{MemTree, NewNode, TreeError};
 
 /// What answers the lines: the tree that the last `tree` gave.
@@ -82,7 +82,7 @@ fn ask(tree: &mut MemTree, asked: &Asked<'_>) -> Told {
     match asked.what {
         "touched" => told(alloc, &tree.touched(alloc)?),
         "nodes" => told(alloc, &tree.nodes(alloc)?),
-        "looks" => told_looks(alloc, tree),
+        "forget" => forgotten(alloc, tree),
         "report" => told_report(alloc, tree, asked.rest),
         "many" => many(alloc, tree, asked.rest),
         _ => ask_root(tree, asked),
@@ -102,13 +102,10 @@ fn ask_root(tree: &mut MemTree, asked: &Asked<'_>) -> Told {
     }
 }
 
-/// The kinds of the look-ups.
-fn told_looks(alloc: Global, tree: &MemTree) -> Told {
-    let mut kinds = Vec::new(alloc);
-    for lookup in tree.lookups() {
-        kinds.push(lookup.kind)?;
-    }
-    told(alloc, &kinds)
+/// Forgets which nodes were touched.
+fn forgotten(alloc: Global, tree: &mut MemTree) -> Told {
+    tree.forget();
+    done(alloc, Ok(()))
 }
 
 /// `CALL COUNT`, of the names `d0`, `d1` .. in node 0: how many nodes there are then.
