@@ -5,7 +5,7 @@ ghost use Rattle.std.specs.FinSet.{contains};
 use std::alloc::Global;
 use std::marker::Model;
 use wasi_guest::{Quota, QuotaUsed, Services};
-use wasi_host::{Host, SystemTime};
+use wasi_host::{Forget, Host, SystemTime};
 use wasi_p1_parts::descriptors::Descriptors;
 use wasi_p2::WasiFilesystemCtx;
 use wasi_streams::ResourceTable;
@@ -204,5 +204,27 @@ impl<H: Host> WasiP1Ctx<H> {
             host: fs.host,
             holdings: self.holdings,
         }
+    }
+}
+
+impl<H: Forget> WasiP1Ctx<H> {
+    ghost use Rattle.std.specs.Prelude.{ℕ, IsTrue};
+    ghost use Rattle.wasi_host.specs.Meaning.{forgotten};
+    ghost use Rattle.wasi_host.specs.Tree.{Tree};
+
+    /// Has the host forget which nodes were touched, so that those of the calls to come are known by themselves. All else
+    /// stays. It takes no memory.
+    pub fn forget_touched(&mut self)
+        ensures kept { self.new ≡ record self.old { host = self.new.host } }
+        ensures faults { H.faults self.new.host ≡ H.faults self.old.host }
+        ensures live { H.live self.new.host ≡ H.live self.old.host }
+        ensures logged { H.lookups self.new.host ≡ H.lookups self.old.host }
+        ensures world { IsTrue H.told → H.world self.new.host ≡ forgotten (H.world self.old.host) }
+        ensures fails { IsTrue H.tells_fails → (n : ℕ) → H.fails self.new.host n ≡ H.fails self.old.host n }
+        ensures others { IsTrue H.tells_found → (n : ℕ) (t : Tree) → H.others self.new.host n t ≡ H.others self.old.host n t }
+        ensures found { IsTrue H.tells_found → H.found self.new.host ≡ H.found self.old.host }
+        ensures left { IsTrue H.tells_found → H.left self.new.host ≡ forgotten (H.left self.old.host) }
+    {
+        self.fs.host.forget();
     }
 }

@@ -1,8 +1,9 @@
 -- The nodes and the permissions of descriptors that change.
-use Rattle.std.proofs.Common.{ℕ, zero, suc, ◌==◌, ◌≡◌, ◌≢◌, ◌⊎◌, inl, inr, true, false, cond, Bool, List, [], ◌∷◌, ◌++◌, length, refl, ap, sym, ◌∙◌, subst, arith, slice_get, slice_set, Option, Some, None, Ok, Err}
+use Rattle.std.proofs.Common.{ℕ, zero, suc, ◌+◌, ◌==◌, ◌≤◌, ◌≡◌, ◌≢◌, ◌⊎◌, inl, inr, true, false, cond, Bool, nat_le, List, [], ◌∷◌, ◌++◌, length, length-append, refl, ap, sym, ◌∙◌, subst, arith, slice_get, slice_set, Option, Some, None, Ok, Err}
 use Rattle.std.specs.Prelude.{Contains, unwrap_or}
 use Rattle.std.specs.Option.{option_map_or}
 use Rattle.std.proofs.lemmas.Bool.Decides.{nat_tests}
+use Rattle.std.proofs.lemmas.List.{length-set}
 use Rattle.std.proofs.lemmas.Option.{slice_get_past}
 use Rattle.std.proofs.lemmas.List.Elements.{Contains-append_cases, Contains-append_left, Contains-append_right}
 use Rattle.wasi_fs.specs.declared.open_mode.OpenMode.{OpenMode}
@@ -15,12 +16,15 @@ use Rattle.wasi_guest.specs.Range.{with_bytes}
 use Rattle.wasi_guest.specs.declared.call.Call.{Call}
 use Rattle.wasi_guest.specs.declared.errno.Errno.{Errno as ErrorNumber}
 use Rattle.wasi_guest.specs.declared.filestat.Filestat.{Filestat}
+use Rattle.wasi_turns.specs.DescriptorLaws.{FitsTable}
 use Rattle.wasi_turns.specs.Guest.{Guest, GuestSlot, OpenFile, closed, stream, directory, file, is_closed, new_number, with_guest_slot, node_in, open_nodes, perms_in}
-use Rattle.wasi_turns.specs.Numbering.{last_where, free_number, put_at, with_new}
+use Rattle.wasi_turns.specs.Numbering.{last_where, free_number, live_count, put_at, with_new}
 use Rattle.wasi_resolve.specs.PathRequest.{Opened}
 use Rattle.wasi_turns.specs.Row.{Row, give}
 use Rattle.wasi_turns.specs.Files.{file_in, read_place_in}
 use Rattle.wasi_turns.specs.Parts.{OpenNode, node_of, directory_or, from, source_in, into, sink_in, open_node_in, new_guest_slot, room_for, with_file, live_in}
+use Rattle.wasi_guest.specs.declared.answer.TrapKind.TheVariants.{TableFull}
+use Rattle.wasi_turns.specs.declared.error.P1Error.TheVariants.{Trap}
 use Rattle.wasi_turns.specs.declared.slots.FileModes.{FileModes}
 use Rattle.wasi_turns.specs.declared.slots.Stream.TheVariants as streams
 use Rattle.wasi_turns.specs.declared.usage.FileUse.{FileUse}
@@ -29,7 +33,7 @@ use Rattle.wasi_turns.specs.Stock.{Stock}
 use Rattle.wasi_turns.specs.Validity.{HasBytes}
 use Rattle.wasi_turns.proofs.Near.{Ends, Has, IsNamed, KeepsSlots, StaysNear, AreBytes, KeepsBytes}
 use Rattle.wasi_turns.proofs.Bytes.{put_bytes}
-use Rattle.wasi_turns.proofs.Numbers.{last_passes}
+use Rattle.wasi_turns.proofs.Numbers.{all_live, last_passes}
 use Rattle.wasi_turns.proofs.Wanting.{Never}
 use Rattle.wasi_turns.proofs.RowEnds.{with_slots, with_text, with_filestat}
 use Rattle.wasi_turns.specs.Rows.{Stem, itself, through, descriptors_named}
@@ -262,6 +266,30 @@ new_slot_file {f} perms mode modes found is = by found.is_dir is
 abbrev pub StaysAppending : OpenFile → FileModes → Type 0
 StaysAppending f modes = f.perms ≡ AppendOnly → f.modes.append ≡ true → modes.append ≡ true
 
+-- no more numbers are given than before, where one stands for something else
+pub set_fits : (g : Guest) (fd : ℕ) (slot : GuestSlot) (most : ℕ) → FitsTable most g
+    → FitsTable most (record g { slots = slice_set g.slots fd slot })
+set_fits g fd slot most fits = (rw (length-set g.slots fd slot) fits.0, fits.1)
+
+-- and where there is room for a new one no more than may be
+new_fits : {u : Unit {0}} (g : Guest) (slot : GuestSlot) → room_for g.slots g.table_max 1 ≡ Ok u → (most : ℕ)
+    → FitsTable most g → FitsTable most (record g { slots = with_guest_slot g.slots slot })
+unfolding room_for with_new
+new_fits {u} g slot room most fits = (by (last_where is_closed g.slots) refl, fits.1)
+  where
+    least : (b : Bool) → nat_le (live_count is_closed g.slots + 1) g.table_max ≡ b
+        → (let m : Row (Unit {0}) = cond b (Ok tt) (Err (Trap TableFull)) in m) ≡ Ok u
+        → live_count is_closed g.slots + 1 ≤ g.table_max
+    least true is roomy = grind (arith, nat_tests)
+    least false is roomy = absurd (cc)
+
+    by : (o : Option ℕ) → last_where is_closed g.slots ≡ o → length (put_at o slot g.slots) ≤ most
+    by (Some n) at = rw (length-set g.slots n slot) fits.0
+    by None at =
+        let live = all_live is_closed g.slots at in
+        let below = least (nat_le (live_count is_closed g.slots + 1) g.table_max) refl room in
+        omega (arith, live, below, fits.1, length-append g.slots (slot ∷ []))
+
 -- a file's descriptor is put back, at another position or with other modes
 pub put_back : {f : OpenFile} {x : Value} {memory : List ℕ} (g : Guest) (fd position : ℕ) (modes : FileModes) (given : List ℕ)
     → slice_get g.slots fd ≡ Some (file f) → StaysAppending f modes
@@ -284,6 +312,7 @@ put_back {f} g fd position modes given is appends =
             ap (λ (h : OpenFile). h.modes.append) (sym same)
             ∙ let mine : f.perms ≡ AppendOnly = ap (λ (h : OpenFile). h.perms) same ∙ under in appends mine (all fd f is mine)
       ];
+      fits = set_fits g fd (file now);
     }
 
 -- a number becomes closed
@@ -293,6 +322,7 @@ put_closed g fd = record {
   nodes = λ k n has. inl (still at_open k has);
   perms = λ k perms has. still under_open k has;
   appends = λ all k f has under. all k f (still file_open k has) under;
+  fits = set_fits g fd closed;
 }
   where
     still : {Is : Option GuestSlot → Type 0} → IsOfOpen Is → (n : ℕ) → Is (slice_get (slice_set g.slots fd closed) n)
@@ -304,10 +334,11 @@ put_closed g fd = record {
 
 -- a new one comes
 pub put_opened : (g : Guest) (fd : ℕ) (perms : FsPerms) (mode : OpenMode) (modes : FileModes) (found : Opened)
+    {u : Unit {0}} → room_for g.slots g.table_max 1 ≡ Ok u
     → perms_in (slice_get g.slots fd) ≡ Some perms → (perms ≡ AppendOnly → modes.append ≡ true)
     → StaysNear g (through fd) (found.held.node ∷ [])
     (with_slots g (new_number g.slots, with_guest_slot g.slots (new_guest_slot perms mode modes found)))
-put_opened g fd perms mode modes found is appends = record {
+put_opened g fd perms mode modes found roomy is appends = record {
   nodes = λ k n has. elim (new_stems (IsAt n) at_open g.slots fd k new has) [
     | inl was ↦ inl was
     | inr (at, own) ↦ inr (node_for perms mode modes found n own, rw at refl)
@@ -322,6 +353,7 @@ put_opened g fd perms mode modes found is appends = record {
     | inr (_, own) ↦ let (same, modes_are) = new_slot_file perms mode modes found own in
         ap (λ (m : FileModes). m.append) modes_are ∙ appends (sym same ∙ under)
   ];
+  fits = new_fits g new roomy;
 }
   where
     new : GuestSlot
@@ -330,7 +362,12 @@ put_opened g fd perms mode modes found is appends = record {
 -- nothing comes, and nothing goes
 pub put_nothing : {x : Value} {memory given : List ℕ} {stock : Stock} (g : Guest)
     → StaysNear g itself given (x, record g { memory = memory; holdings = stock })
-put_nothing g = record { nodes = λ k n has. inl has; perms = λ k perms has. has; appends = λ all. all }
+put_nothing g = record {
+  nodes = λ k n has. inl has;
+  perms = λ k perms has. has;
+  appends = λ all. all;
+  fits = λ most is. is;
+}
 
 -- so a node of a descriptor was one of a descriptor, or is given
 pub nodes_stay : {g : Guest} {stem : Stem} {given : List ℕ} {p : Value × Guest} → StaysNear g stem given p → (n : ℕ)

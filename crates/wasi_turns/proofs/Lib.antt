@@ -24,6 +24,7 @@ pub mod Alike
 pub mod Uses
 pub mod Moving
 pub mod Permitting
+pub mod TouchingNear
 pub mod Completing
 pub mod Unchanged
 pub mod ErrorNumbers
@@ -61,6 +62,7 @@ pub mod Writing
 pub mod PutBytes
 pub mod DescriptorLaws
 pub mod Stemming
+pub mod Closing
 pub mod Validity
 pub mod RunsAlike
 pub mod InReach

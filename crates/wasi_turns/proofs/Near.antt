@@ -14,6 +14,7 @@ use Rattle.wasi_guest.specs.declared.answer.Answer.TheVariants as answers
 use Rattle.wasi_guest.specs.declared.answer.Value.{Value}
 use Rattle.wasi_guest.specs.declared.call.Call.{Call}
 use Rattle.wasi_turns.specs.AppendOnly.{Adds, AppendsAtEnd}
+use Rattle.wasi_turns.specs.DescriptorLaws.{FitsTable}
 use Rattle.wasi_turns.specs.Guest.{Guest, node_in, open_nodes}
 use Rattle.wasi_turns.specs.Listing.{Entry}
 use Rattle.wasi_turns.specs.Request.{Request, Reply, Path, Direct, Behind, ListDirectory, Sizes, Grow, reply_of, after, starts_at}
@@ -89,13 +90,15 @@ abbrev pub HasNode : Guest → ℕ → ℕ → Type 0
 HasNode g fd n = Contains (node_in (slice_get g.slots fd)) n
 
 -- Each descriptor's node is that of the one from which it stems so, or is given, where it was opened through that one; it
--- has the permissions of that one; and files under append-only permissions are still appended to
+-- has the permissions of that one; files under append-only permissions are still appended to; and no more numbers are given
+-- than descriptors may be live
 pub record StaysNear (g : Guest) (stem : Stem) (given : List ℕ) (p : Value × Guest) : Type 0 where
   pub nodes : (fd n : ℕ) → HasNode p.1 fd n → HasNode g (stems_by stem (answers.Ok p.0) fd) n
       ⊎ (Contains given n × (stem ≡ through (stems_by stem (answers.Ok p.0) fd)))
   pub perms : (fd : ℕ) (perms : FsPerms) → HasPerms p.1 fd perms
       → HasPerms g (stems_by stem (answers.Ok p.0) fd) perms
   pub appends : AppendsAtEnd g → AppendsAtEnd p.1
+  pub fits : (most : ℕ) → FitsTable most g → FitsTable most p.1
 
 abbrev pub KeepsSlots : Guest → Stem → List ℕ → Row (Value × Guest) → Type 0
 KeepsSlots g stem given (Ok p) = StaysNear g stem given p

@@ -110,6 +110,18 @@ module _ {A : Type 0} (p : A → Bool) where
       let one = ap {B = ℕ} (λ b. cond (not b) 1 0) live in
       omega (arith, cons, one)
 
+  -- where none is closed all are live
+  pub all_live : (xs : List A) → last_where p xs ≡ None → live_count p xs ≡ length xs
+  unfolding live_count
+  all_live [] none = refl
+  all_live (x ∷ xs) none = by (last_where p xs) (all_live xs) (p x) refl none
+    where
+      by : (o : Option ℕ) → (o ≡ None → live_count p xs ≡ length xs) → (b : Bool) → p x ≡ b
+          → later_or_here b o ≡ None → live_count p (x ∷ xs) ≡ length (x ∷ xs)
+      by (Some k) rest b at is = absurd (cc)
+      by None rest true at is = absurd (cc)
+      by None rest false at is = let all = rest refl in omega (arith, live_more x xs at, all)
+
 -- ---- a table whose items are seen in another way
 
 module _ {A B : Type 0} (f : A → B) (p : A → Bool) (q : B → Bool) (same : (x : A) → q (f x) ≡ p x) where

@@ -10,6 +10,7 @@ use Rattle.wasi_host.specs.Meaning.{World, Handles}
 use Rattle.wasi_host.specs.declared.lookup.Lookup.{Lookup}
 use Rattle.wasi_guest.specs.declared.answer.Value.{Value}
 use Rattle.wasi_turns.specs.CallParts.{Rests, Stays}
+use Rattle.wasi_turns.specs.DescriptorLaws.{FitsTable}
 use Rattle.wasi_turns.specs.Guest.{Guest, GuestSlot, closed}
 use Rattle.wasi_turns.specs.Numbering.{renumbered}
 use Rattle.wasi_turns.specs.Rows.{renumbering}
@@ -17,7 +18,7 @@ use Rattle.wasi_turns.specs.Owners.{handle_in, handles, uses, uses_in, without, 
 use Rattle.wasi_turns.specs.declared.slots.Slot.{Slot}
 use Rattle.wasi_turns.specs.declared.slots.Slot.TheVariants as slots
 use Rattle.wasi_turns.proofs.CallTracing.{traced_less}
-use Rattle.wasi_turns.proofs.Changing.{IsOfOpen, IsUnder, IsAt, IsFileOf, under_open, at_open, file_open, in_set}
+use Rattle.wasi_turns.proofs.Changing.{IsOfOpen, IsUnder, IsAt, IsFileOf, under_open, at_open, file_open, in_set, set_fits}
 use Rattle.wasi_turns.proofs.Counting.{handle_at, handle_put, uses-set}
 use Rattle.wasi_turns.proofs.GuestSlots.{released_stays}
 use Rattle.wasi_turns.proofs.Near.{StaysNear}
@@ -186,6 +187,12 @@ module _ (Is : Option GuestSlot → Type 0) (live : IsOfOpen Is) where
         | inr (same, _) ↦ absurd (other_number n to at same)
       ]
 
+renumbered_fits : (g : Guest) (from to most : ℕ) → FitsTable most g
+    → FitsTable most (record g { slots = renumbered closed g.slots from to })
+unfolding renumbered
+renumbered_fits g from to most fits =
+    set_fits (record g { slots = slice_set g.slots from closed }) to _ most (set_fits g from closed most fits)
+
 -- what the row of a renumbering does to them
 pub put_renumbered : {x : Value} (g : Guest) (from to : ℕ)
     → StaysNear g (renumbering from to) [] (x, record g { slots = renumbered closed g.slots from to })
@@ -193,4 +200,5 @@ put_renumbered g from to = record {
   nodes = λ k n has. inl (renumbered_is (IsAt n) at_open g.slots from to k has);
   perms = λ k perms has. renumbered_is (IsUnder perms) under_open g.slots from to k has;
   appends = λ all k f has. all _ f (renumbered_is (IsFileOf f) file_open g.slots from to k has);
+  fits = renumbered_fits g from to;
 }

@@ -13,7 +13,7 @@ use Rattle.wasi_turns.specs.Row.{Row, Program, done, asking, request_ends, reque
 use Rattle.wasi_turns.specs.Turn.{IsTurn, ReachesHost, named_by, come_to_by, used_by}
 use Rattle.wasi_turns.specs.CallTurn.{Turns, Causes, in_world}
 use Rattle.wasi_turns.proofs.Completing.{run_completes}
-use Rattle.wasi_turns.specs.Run.{Turned, Run, Spends, Played, Faulted, Gives, Allows, answer_of, answers_of, is_io_errno, io_in, ios, ends, named, is_success, DidRun, StoodAt, GoOn}
+use Rattle.wasi_turns.specs.Run.{Turned, Run, Spends, Played, Faulted, Gives, Allows, answer_of, answers_of, is_io_errno, io_in, ios, ends, ends_of, named, is_success, DidRun, StoodAt, GoOn}
 use Rattle.wasi_guest.specs.declared.answer.Answer.{Answer}
 use Rattle.wasi_guest.specs.declared.answer.Answer.TheVariants as answers
 use Rattle.wasi_guest.specs.declared.call.Call.{Call}
@@ -90,7 +90,7 @@ TurnOf rose t = Played t ⊎ (Faulted t × rose)
 answer_same : {a b : Answer} → Some a ≡ Some b → b ≡ a
 answer_same e = cc
 
-turn_of : {rose : Type 0} {s s' : State} {a : Answer} (call : FueledCall) (r : Result Value P1Error) → answer_of r ≡ Some a
+pub turn_of : {rose : Type 0} {s s' : State} {a : Answer} (call : FueledCall) (r : Result Value P1Error) → answer_of r ≡ Some a
     → IsTurn rose (ReachesHost s call) (used_by s call) s s' r (turn s call) → TurnOf rose (turned s call a s')
 turn_of {s = s} {s' = s'} {a = a} call (Ok x) is row =
     inl (subst (λ m. Gives m s a s') (sym row) (answer_same is, refl))
@@ -144,14 +144,15 @@ nothing_yet = record {
   ends_touched = All-nil _;
 }
 
--- the nodes at which the paths of a turn ended
-abbrev named_in : Turned → List ℕ
-named_in t = if is_success t.answer then named_by t.before t.call else []
+pub nothing_yet_turns : (before : FaultCount) (old : State) (touched : Nodes)
+    → (nothing_yet {before = before} {old = old} {touched = touched}).turns ≡ []
+unfolding nothing_yet
+nothing_yet_turns before old touched = refl
 
 named-append : (xs ys : List Turned) → named (xs ++ ys) ≡ named xs ++ named ys
 named-append [] ys = refl
 named-append (x ∷ xs) ys =
-    ap (λ l. named_in x ++ l) (named-append xs ys) ∙ sym (append_assoc (named_in x) (named xs) (named ys))
+    ap (λ l. ends_of x ++ l) (named-append xs ys) ∙ sym (append_assoc (ends_of x) (named xs) (named ys))
 
 -- an answered call comes to these
 ends_come : {A : Type 0} (P : ℕ → Type 0) (t : Tree) (m : Row (Program A)) → All P (request_comes t m)
@@ -174,6 +175,15 @@ success_same (Err (Trap kind)) {a} is = let same : a ≡ answers.Trap kind = (cc
 success_same (Err (Exit status)) {a} is = let same : a ≡ answers.Exit status = (cc) in ap is_success same
 success_same (Err Memory) is = absurd (cc)
 
+-- an answered call touches the nodes at which its paths end
+pub turn_ends : {rose : Type 0} {w v : World} {g g' : Guest} {call : FueledCall} {r : Result Value P1Error} {answer : Answer}
+    → answer_of r ≡ Some answer → Turns rose w v g g' call r
+    → All (λ n. contains v.touched n ≡ true) (ends_of (turned (in_world w g) call answer (in_world v g')))
+turn_ends {w = w} {v = v} {g = g} {call = call} {r = r} is takes =
+    subst (All (λ n. contains v.touched n ≡ true))
+    (ap (λ b. if b then named_by (in_world w g) call else []) (sym (success_same r is)))
+    (named_touched (λ n. contains v.touched n ≡ true) (in_world w g) call (is_ok r) takes.touched.ends)
+
 -- one call more
 module _ {before now after : FaultCount} {start : State} {w v : World} {g g' : Guest} {calls : List FueledCall}
     {answered : List Answer} {call : FueledCall}
@@ -190,12 +200,8 @@ module _ {before now after : FaultCount} {start : State} {w v : World} {g g' : G
 
   touched_named : All (λ n. contains v.touched n ≡ true) (named (so.turns ++ t ∷ []))
   touched_named =
-      let here : All (λ n. contains v.touched n ≡ true) (named_in t) =
-      subst (All (λ n. contains v.touched n ≡ true))
-      (ap (λ b. if b then named_by (in_world w g) call else []) (sym (success_same r is)))
-      (named_touched (λ n. contains v.touched n ≡ true) (in_world w g) call (is_ok r) takes.touched.ends) in
       rw (named-append so.turns (t ∷ []), append-nil)
-      (All-append (λ n. contains v.touched n ≡ true) (named so.turns) (named_in t) still_touched here)
+      (All-append (λ n. contains v.touched n ≡ true) (named so.turns) (ends_of t) still_touched (turn_ends is takes))
 
   answers_more : answered ++ answer ∷ [] ≡ answers_of (so.turns ++ t ∷ [])
   answers_more =
@@ -216,6 +222,10 @@ module _ {before now after : FaultCount} {start : State} {w v : World} {g g' : G
     ends_touched = touched_named;
   }
 
+  pub turned_on_turns : (goes : ends answer ≡ false) → (turned_on goes).turns ≡ so.turns ++ t ∷ []
+  unfolding turned_on
+  turned_on_turns goes = refl
+
   -- an answer ends the run
   pub ended : (more : List FueledCall) → ends answer ≡ true
       → DidRun before after start (calls ++ call ∷ more) (answered ++ answer ∷ []) (in_world v g') v.touched
@@ -232,6 +242,10 @@ module _ {before now after : FaultCount} {start : State} {w v : World} {g g' : G
         ends_touched = touched_named;
       }
 
+  pub ended_turns : (more : List FueledCall) (stops : ends answer ≡ true) → (ended more stops).turns ≡ so.turns ++ t ∷ []
+  unfolding ended
+  ended_turns more stops = refl
+
 -- the calls end with no answer that ends the run
 pub all_done : {before now : FaultCount} {old new : State} {calls : List FueledCall} {answered : List Answer} {touched : Nodes}
     → SoFar before now old calls answered new touched → DidRun before now old calls answered new touched
@@ -246,6 +260,11 @@ all_done {old = old} {new = new} {calls = calls} so =
       complete = run_completes _ _ _ _ _ run;
       ends_touched = so.ends_touched;
     }
+
+pub all_done_turns : {before now : FaultCount} {old new : State} {calls : List FueledCall} {answered : List Answer}
+    {touched : Nodes} (so : SoFar before now old calls answered new touched) → (all_done so).turns ≡ so.turns
+unfolding all_done
+all_done_turns so = refl
 
 -- ---- want of memory
 

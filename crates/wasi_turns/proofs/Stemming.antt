@@ -6,6 +6,7 @@ use Rattle.wasi_guest.specs.declared.answer.Answer.{Answer}
 use Rattle.wasi_guest.specs.declared.answer.Answer.TheVariants as answers
 use Rattle.wasi_guest.specs.declared.answer.Value.{Value}
 use Rattle.wasi_guest.specs.declared.call.Call.{Call}
+use Rattle.wasi_turns.specs.DescriptorLaws.{FitsTable, NumbersFit}
 use Rattle.wasi_turns.specs.Front.{FueledCall}
 use Rattle.wasi_guest.specs.declared.errno.Errno.TheVariants as errnos
 use Rattle.wasi_host.specs.Tree.{Tree}
@@ -75,6 +76,28 @@ turn_stems t (inr faulted) n perms has =
     let at = from_itself (stem_in t.call.call) (Errno errnos.Io) n (ap Some (sym faulted.io)) in
     subst (λ k. HasPerms t.before.guest k perms) (sym at)
     (subst (λ slots. perms_in (slice_get slots n) ≡ Some perms) still has)
+
+-- ---- how many numbers are given
+
+row_fits : (most : ℕ) (g : Guest) (call : Call) (t : Tree) (m : Row (Program (Value × Guest))) (p : Value × State)
+    → IsNear g call m → row_on t m ≡ Ok p → FitsTable most g → FitsTable most p.1.guest
+row_fits most g call t (Ok (done q)) p near is =
+    (subst (KeepsSlots g (stem_in call) []) (over_guest t (Ok q) is) near.slots).fits most
+row_fits most g call t (Ok (asking r next)) p near is =
+    let did = replied_by t r next is in
+    (subst (KeepsSlots g (stem_in call) (given_by r did.reply)) did.gives (near.slots did.reply)).fits most
+row_fits most g call t (Err e) p near is = absurd (cc)
+
+pub numbers_fit : NumbersFit
+numbers_fit most t (inl played) fits = by (turn t.before t.call) refl played
+  where
+    by : (m : Row (Value × State)) → turn t.before t.call ≡ m → Gives m t.before t.answer t.after
+        → FitsTable most t.after.guest
+    by (Ok p) is (answer, new) = subst (λ (s : State). FitsTable most s.guest) (sym new)
+        (row_fits most t.before.guest t.call.call t.before.tree (row t.before.guest t.call) p
+        (row_near t.before.guest t.call) is fits)
+    by (Err e) is (answer, same) = subst (λ (s : State). FitsTable most s.guest) (sym same) fits
+numbers_fit most t (inr faulted) fits = subst (FitsTable most) (sym (faulted_stays faulted).guest) fits
 
 -- ---- a run
 

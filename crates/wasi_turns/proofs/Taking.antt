@@ -32,6 +32,7 @@ use Rattle.wasi_host.specs.declared.errors.HostError.TheVariants.{Memory as NoMe
 use Rattle.wasi_turns.proofs.Near.{IsNear}
 use Rattle.wasi_turns.proofs.Nearness.{row_near}
 use Rattle.wasi_turns.proofs.Wanting.{wants_none}
+use Rattle.wasi_turns.proofs.TouchingNear.{turn_touches_near}
 use Rattle.wasi_turns.proofs.Permitting.{turn_permits}
 use Rattle.wasi_turns.proofs.GuestSlots.{guest_slots_stay, put_file_at}
 use Rattle.wasi_turns.proofs.Staying.{all_stay, put_stays}
@@ -70,6 +71,7 @@ refused_at {H} {told} {world} {faults} {lookups} {inside} {view} {memory} {call}
           (inl refl, (refl, refl));
       turn = λ told. turns.refused is;
       permits = λ told names. refl;
+      near = λ told. turn_touches_near (turns.refused {rose = Unit {0}} is);
     })
   where
     g : Guest
@@ -124,6 +126,7 @@ wanted_by {H} {told} {world} {faults} {lookups} {view} {memory} {call} {left} m 
       (Err Memory)) (row_same at) wants;
   turn = λ told. turns.wants_memory;
   permits = λ told names. refl;
+  near = λ told. turn_touches_near (turns.wants_memory {rose = Unit {0}} {call = with_fuel view.fuel call});
 }
   where
     new : View H
@@ -245,6 +248,7 @@ module _ {H : Type 0} {told : Bool} {world : H → World} {faults : H → FaultC
     front = front;
     turn = turn;
     permits = λ is names. turn_permits (turn is) names;
+    near = λ is. turn_touches_near (turn is);
   }
 
   -- an answer without a request
@@ -300,6 +304,7 @@ module _ {H : Type 0} {told : Bool} {world : H → World} {faults : H → FaultC
       ]);
       turn = turn;
       permits = λ is names. turn_permits (turn is) names;
+      near = λ is. turn_touches_near (turn is);
     }
 
     -- the host refused, or failed, or wanted memory; or the row refused the reply

@@ -9,6 +9,7 @@ use Rattle.wasi_turns.specs.Slots.{View}
 use Rattle.wasi_turns.specs.Owners.{handles, unowned, CallTraced, SlotsOfCall}
 use Rattle.wasi_turns.specs.CallParts.{IsReplied, with_after, is_errno}
 use Rattle.wasi_turns.specs.Guest.{Guest, State, perms_in, guest_of, guest_by}
+use Rattle.wasi_turns.specs.Near.{TouchesOnlyNear}
 use Rattle.wasi_turns.specs.Row.{Row, Program, done, asking}
 use Rattle.wasi_turns.specs.Front.{FueledCall, with_fuel}
 use Rattle.wasi_turns.specs.Rows.{row, turn, fuel_left, descriptors_named, may_want}
@@ -110,7 +111,7 @@ pub record NamesUnder (perms : FsPerms) (g : Guest) (call : Call) : Type 0 where
 -- stands for what it stood for before the call; only an answered call changes what is the guest's own, but for the use that a failed one counts; descriptors stay
 -- under their numbers with their handles, but for those that the call names or closes; and the fuel is what the row
 -- leaves. Over a host that tells its world: the turn, which leaves the tree, whatever it answers, where a descriptor
--- that the call names is under read-only permissions
+-- that the call names is under read-only permissions, and which touches nothing but what is near the call
 pub record FollowsRow {H : Type 0} (told : Bool) (world : H → World) (faults : H → FaultCount) (lookups : H → List Lookup)
     (old new : View H) (before after : List ℕ) (call : Call) (result : Result Value P1Error) : Type 0 where
   pub size : length after ≡ length before
@@ -124,6 +125,7 @@ pub record FollowsRow {H : Type 0} (told : Bool) (world : H → World) (faults :
       (with_fuel old.fuel call) result
   pub permits : IsTrue told → NamesUnder ReadOnly (guest_of world old before) call
       → (world new.host).tree ≡ (world old.host).tree
+  pub near : IsTrue told → TouchesOnlyNear (world old.host) (world new.host) (guest_of world old before) call
 
 -- a call is valid where its row answers it: no refusal holds
 abbrev pub IsValidCall : State → FueledCall → Type 0

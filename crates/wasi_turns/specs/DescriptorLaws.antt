@@ -7,6 +7,7 @@ use Rattle.wasi_guest.specs.declared.call.Call.TheVariants as calls
 use Rattle.wasi_turns.specs.Front.{with_fuel}
 use Rattle.wasi_turns.specs.Guest.{Guest, GuestSlot, State, closed, is_closed}
 use Rattle.wasi_turns.specs.Rows.{turn}
+use Rattle.wasi_turns.specs.Run.{Turned, Played, Faulted}
 
 -- ---- numbers
 
@@ -36,6 +37,14 @@ OpensTheLargestClosed =
     (s s' : State) (x : Value) (fuel fd dirflags path path_len oflags base inheriting fdflags : ℕ)
     → turn s (with_fuel fuel (calls.PathOpen fd dirflags path path_len oflags base inheriting fdflags)) ≡ Ok (x, s')
     → (n : ℕ) × (x ≡ Number n) × IsLargestClosed s.guest n
+
+-- no more numbers were given than so many, which is how many descriptors may be live
+abbrev pub FitsTable : ℕ → Guest → Type 0
+FitsTable most g = (length g.slots ≤ most) × (g.table_max ≡ most)
+
+-- and each turn keeps it so: a number is new only where none is closed
+abbrev pub NumbersFit : Type 0
+NumbersFit = (most : ℕ) (t : Turned) → Played t ⊎ Faulted t → FitsTable most t.before.guest → FitsTable most t.after.guest
 
 -- ---- positions
 

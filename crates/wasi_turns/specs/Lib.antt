@@ -27,6 +27,7 @@ pub mod Subscriptions
 pub mod Polling
 pub mod Rows
 pub mod Turn
+pub mod Near
 pub mod CallTurn
 pub mod Method
 pub mod Run

@@ -114,9 +114,13 @@ is_success (answers.Errno e) = false
 is_success (answers.Trap kind) = false
 is_success (answers.Exit status) = false
 
--- the nodes at which the paths of the calls answered Ok ended
+-- the nodes at which the paths of a call ended, if it is answered Ok
+abbrev pub ends_of : Turned → List ℕ
+ends_of t = if is_success t.answer then named_by t.before t.call else []
+
+-- those of all calls
 abbrev pub named : List Turned → List ℕ
-named turns = flat_map (λ t. if is_success t.answer then named_by t.before t.call else []) turns
+named turns = flat_map ends_of turns
 
 -- a call that is valid in the state before it is answered Ok, unless the host failed in it
 abbrev pub IsComplete : Turned → Type 0

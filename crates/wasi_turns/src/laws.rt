@@ -11,7 +11,7 @@ ghost use Rattle.wasi_turns.specs.QuotaLaws.{OpenedStays, RunsStayWithinQuotas, 
 ghost use Rattle.wasi_turns.specs.Validity.{RunsStayValid};
 ghost use Rattle.wasi_turns.specs.Writing.{WritesAreWhole};
 ghost use Rattle.wasi_turns.specs.PutBytes.{BytesArePut, FilesAreHeld, PutBytesStand, BytesAreGot, PutBytesAreGot};
-ghost use Rattle.wasi_turns.specs.DescriptorLaws.{NumbersAreDense, OpensTheLargestClosed, SeeksAreTold, OffsetsLeavePositions};
+ghost use Rattle.wasi_turns.specs.DescriptorLaws.{NumbersAreDense, OpensTheLargestClosed, NumbersFit, SeeksAreTold, OffsetsLeavePositions};
 
 use wasi_host::Host;
 
@@ -115,11 +115,12 @@ pub fn quotas_are_counted()
     ensures counted { QuotasAreCounted }
 {}
 
-/// The live and the closed descriptor numbers together are those below a number, and a new descriptor takes the largest
-/// closed one.
+/// The live and the closed descriptor numbers together are those below a number, which is never above how many descriptors
+/// may be live, and a new descriptor takes the largest closed one.
 pub fn descriptor_numbers()
     ensures dense { NumbersAreDense }
     ensures largest { OpensTheLargestClosed }
+    ensures fit { NumbersFit }
 {}
 
 /// What `fd_seek` answered is told by `fd_tell`, and what is read or written at an offset leaves all positions.

@@ -18,11 +18,11 @@ pub path_open_near : {g : Guest} {fd dirflags path len oflags base inheriting fd
     → RowNear g (calls.PathOpen fd dirflags path len oflags base inheriting fdflags)
 unfolding path_open
 path_open_near {g} {fd} {fdflags = fdflags} = then _ (how_never _ _ _ _ _) (λ how _. then_text g _ _ (λ text read.
-    then _ (directory_never (slice_get g.slots fd)) (λ d is. then _ (room_never g.slots g.table_max 1) (λ _ _.
+    then _ (directory_never (slice_get g.slots fd)) (λ d is. then _ (room_never g.slots g.table_max 1) (λ _ roomy.
     then _ (permit_never _ (open_known how d.perms)) (λ _ may.
     let perms = directory_perms errnos.Notdir (slice_get g.slots fd) is in making_near how.create (asks_near (record {
       starts = λ n has. named_directory errnos.Notdir g fd n (Contains-here fd []) is has;
-      slots = λ found. put_opened g fd d.perms (mode_of how) (modes_under d.perms (modes_in fdflags)) found perms
+      slots = λ found. put_opened g fd d.perms (mode_of how) (modes_under d.perms (modes_in fdflags)) found roomy perms
           (under_appends d.perms (modes_in fdflags));
       ends = λ t found answered. tt;
       permits = λ t found answered. permitted_by (one_under g _ fd refl perms)

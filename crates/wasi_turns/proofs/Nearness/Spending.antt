@@ -32,7 +32,8 @@ counted used p = (p.0, record p.1 { holdings = record p.1.holdings { used = used
 module _ (used : Stock → QuotaUsed) where
   counted_slots : (g : Guest) (stem : Stem) (given : List ℕ) (m : Row (Value × Guest)) → KeepsSlots g stem given m
       → KeepsSlots g stem given (m >>= (λ p. give (counted used p)))
-  counted_slots g stem given (Ok p) stays = record { nodes = stays.nodes; perms = stays.perms; appends = stays.appends }
+  counted_slots g stem given (Ok p) stays =
+      record { nodes = stays.nodes; perms = stays.perms; appends = stays.appends; fits = stays.fits }
   counted_slots g stem given (Err e) stays = tt
 
   counted_ends : {P Q : Type 0} (m : Row (Value × Guest)) → (P → Q) → Ends P m

@@ -1,11 +1,25 @@
-use Rattle.std.proofs.Common.{refl, sym, ap, Err, ◌∙◌}
+use Rattle.std.proofs.Common.{refl, sym, ap, true, Err, ◌∙◌}
+use Rattle.wasi_fs.specs.Calls.{may_do}
+use Rattle.wasi_fs.specs.declared.perms.Act.TheVariants.{Make}
 use Rattle.wasi_resolve.specs.AtPlace.{CreateDir}
 use Rattle.wasi_resolve.specs.PathRequest.{AtPlace}
+use Rattle.wasi_turns.proofs.RowEnds.{with_nothing}
 use Rattle.wasi_turns.proofs.Taking.{on_err}
+use Rattle.wasi_turns.specs.Request.{Path}
+use Rattle.wasi_turns.specs.Row.{give}
 use Rattle.wasi_turns.specs.Rows.Places.{path_create_directory}
 use Rattle.wasi_p1_parts.proofs.Raising.{lowered_to_err, lowered_to_ok}
-use Rattle.wasi_p1_paths.proofs.Making.{made_at_err, made_at_ok}
+use Rattle.wasi_p1_paths.proofs.Making.{made_at_err, made_at_ok, making_refused}
 use Rattle.wasi_p1_paths.proofs.places.path_create_directory.Goals as goal
+
+pub returns-in_err-check_make-clause-turn : goal.returns-in_err-check_make-clause-turn
+unfolding path_create_directory
+returns-in_err-check_make-clause-turn g c =
+    let start = ((g.H.Host.world c.context.inside.fs.host).held c.in_ok-dir.dir.dir).node in
+    rw (← c.context.view_is) (on_err c.from_residual-in_err-check_make.ensures.1 (making_refused true
+    (may_do c.in_ok-dir.dir.perms Make) (Path (AtPlace start c.in_ok-text.text.now CreateDir)) (λ _. give tt)
+    with_nothing refl (sym c.in_err-check_make.ensures.row)
+    (rw (← c.in_ok-dir.ensures.row, ← c.in_ok-text.ensures.row) refl)))
 
 pub returns-in_err-make_below-clause-turn : goal.returns-in_err-make_below-clause-turn
 unfolding path_create_directory
