@@ -44,7 +44,7 @@ use wasi_p1_services::{
 use wasi_turns::{P1Error, RunError};
 
 /// The answer of a call; want of memory is none.
-fn answer_of(outcome: Result<Value, P1Error>) -> Option<Answer>
+pub fn answer_of(outcome: Result<Value, P1Error>) -> Option<Answer>
     ensures { result ≡ answer_of outcome }
 {
     match outcome {
@@ -57,7 +57,7 @@ fn answer_of(outcome: Result<Value, P1Error>) -> Option<Answer>
 }
 
 /// Whether a run ends with an answer: a trap, or the guest's own exit.
-fn ends_run(answer: Answer) -> bool
+pub fn ends_run(answer: Answer) -> bool
     ensures { result ≡ ends answer }
 {
     matches!(answer, Answer::Trap(_) | Answer::Exit(_))
