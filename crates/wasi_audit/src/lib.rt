@@ -1,0 +1,13 @@
+//! The audit of a run: through which preopened directory each touched node was come to.
+#![tactic(auto)]
+
+mod audit;
+mod effect;
+mod lists;
+mod nodes;
+mod stems;
+#[cfg(test)]
+mod tests;
+
+pub use audit::Audit;
+pub use effect::AuditEffect;
