@@ -170,6 +170,7 @@ accepted {bytes} {p} is = accepted_plan (read_plan bytes) is.fit p is.is_test (p
 pub record KeepsLimits (p : Plan) : Type 0 where
   pub preopens : are_preopens_directories p.nodes p.preopens ≡ true
   pub table : 3 + length p.preopens ≤ p.table
+  pub most : p.table ≤ 65536
   pub size : p.size ≤ most_memory
   pub pieces : list_all (is_piece_within p.size) p.pieces ≡ true
   pub show : list_all (is_shown_within p.size) p.show ≡ true
@@ -187,6 +188,7 @@ limits_kept p e =
     record {
       preopens = table.0;
       table = leb-true _ _ fit.0;
+      most = leb-true _ _ fit.1;
       size = leb-true _ _ size.1;
       pieces = pieces.1;
       show = show.1;

@@ -43,13 +43,13 @@ use Rattle.wasi_report.specs.ReadBack.{FitsNumber, FitsValue, FitsAnswer, FitsEn
 
 -- ---- the JSON of a value has numbers, and is shallow
 
-record IsShallow (n : ℕ) (j : json.Json) : Type 0 where
-  numbers : tree.HasNumbers j
-  depth : tree.depth j ≤ n
+pub record IsShallow (n : ℕ) (j : json.Json) : Type 0 where
+  pub numbers : tree.HasNumbers j
+  pub depth : tree.depth j ≤ n
 
-record AreShallow (n : ℕ) (js : json.Items) : Type 0 where
-  numbers : tree.ItemsHaveNumbers js
-  depth : tree.items_depth js ≤ n
+pub record AreShallow (n : ℕ) (js : json.Items) : Type 0 where
+  pub numbers : tree.ItemsHaveNumbers js
+  pub depth : tree.items_depth js ≤ n
 
 record AreMembersShallow (n : ℕ) (ms : json.Members) : Type 0 where
   numbers : tree.MembersHaveNumbers ms
@@ -58,9 +58,21 @@ record AreMembersShallow (n : ℕ) (ms : json.Members) : Type 0 where
 abbrev Same : ℕ → ℕ → Type 0
 Same m n = m ≡ n
 
+-- two lines with the texts of such values are one only where the values have one JSON
+pub same_outline : (d e : Data) → IsShallow 128 (outline d) → IsShallow 128 (outline e)
+    → compact_text d ++ 10 ∷ [] ≡ compact_text e ++ 10 ∷ [] → outline d ≡ outline e
+same_outline d e p q lines =
+    let texts : compact_text d ≡ compact_text e = append_cancel_right _ _ (10 ∷ []) lines in
+    let printed : print (tree.json_tokens (outline d)) ≡ print (tree.json_tokens (outline e)) =
+    print-outline d ∙ texts ∙ sym (print-outline e) in
+    let documents : Some (outline d) ≡ Some (outline e) =
+    sym (document-print (outline d) p.numbers p.depth) ∙ ap json.document printed
+    ∙ document-print (outline e) q.numbers q.depth in
+    cc
+
 -- ---- values of lists, one after another
 
-shallow_list : {A : Type 0} (n : ℕ) (P : A → Type 0) (value_of : A → Data) → ((a : A) → P a → IsShallow n (outline (value_of a)))
+pub shallow_list : {A : Type 0} (n : ℕ) (P : A → Type 0) (value_of : A → Data) → ((a : A) → P a → IsShallow n (outline (value_of a)))
     → (items : List A) → All P items → AreShallow n (items_outline (items_of (map value_of items)))
 shallow_list n P value_of each [] all = record { numbers = tt; depth = omega arith }
 shallow_list n P value_of each (a ∷ items) all =
@@ -68,7 +80,7 @@ shallow_list n P value_of each (a ∷ items) all =
     let rest = shallow_list n P value_of each items (All-tail P a items all) in
     record { numbers = (first.numbers, rest.numbers); depth = omega arith }
 
-same_list : {A : Type 0} (P : A → Type 0) (value_of : A → Data) → ((a b : A) → P a → P b → outline (value_of a) ≡ outline (value_of b) → a ≡ b)
+pub same_list : {A : Type 0} (P : A → Type 0) (value_of : A → Data) → ((a b : A) → P a → P b → outline (value_of a) ≡ outline (value_of b) → a ≡ b)
     → (xs ys : List A) → All P xs → All P ys → items_outline (items_of (map value_of xs)) ≡ items_outline (items_of (map value_of ys)) → xs ≡ ys
 same_list P value_of each [] [] p q e = refl
 same_list P value_of each [] (b ∷ ys) p q e = absurd (cc)
@@ -81,7 +93,7 @@ same_list P value_of each (a ∷ xs) (b ∷ ys) p q e =
 
 -- ---- the parts of a JSON value
 
-abbrev members_in : json.Json → json.Members
+abbrev pub members_in : json.Json → json.Members
 members_in (json.object ms) = ms
 members_in _ = json.no_members
 
@@ -95,24 +107,24 @@ text_in (json.number s) = s
 text_in (json.string s) = s
 text_in _ = []
 
-abbrev after_first : json.Members → json.Members
+abbrev pub after_first : json.Members → json.Members
 after_first json.no_members = json.no_members
 after_first (json.member k j ms) = ms
 
-abbrev items_first : json.Members → json.Items
+abbrev pub items_first : json.Members → json.Items
 items_first json.no_members = json.no_items
 items_first (json.member k j ms) = items_in j
 
-abbrev text_first : json.Members → List ℕ
+abbrev pub text_first : json.Members → List ℕ
 text_first json.no_members = []
 text_first (json.member k j ms) = text_in j
 
 -- ---- numbers, bytes and names
 
-same_number : (m n : ℕ) → FitsNumber m → FitsNumber n → outline (number_value m) ≡ outline (number_value n) → m ≡ n
+pub same_number : (m n : ℕ) → FitsNumber m → FitsNumber n → outline (number_value m) ≡ outline (number_value n) → m ≡ n
 same_number m n p q e = let text : decimal m ≡ decimal n = cc in decimal_injective m n p q text
 
-shallow_number : (n : ℕ) → FitsNumber n → IsShallow 0 (outline (number_value n))
+pub shallow_number : (n : ℕ) → FitsNumber n → IsShallow 0 (outline (number_value n))
 shallow_number n fits = record { numbers = IsNumber-decimal n fits; depth = omega arith }
 
 same_bytes : (xs ys : List ℕ) → IsBytes xs → IsBytes ys → encode_lower xs ≡ encode_lower ys → xs ≡ ys
@@ -435,7 +447,7 @@ shallow_report r h =
     record { numbers = (answers.numbers, (memory.numbers, (tt, (tt, (touched.numbers, (nodes.numbers, tt)))))); depth = omega arith }
 
 -- the JSON of a list
-abbrev list_json : {A : Type 0} → (A → Data) → List A → json.Items
+abbrev pub list_json : {A : Type 0} → (A → Data) → List A → json.Items
 list_json value_of items = items_outline (items_of (map value_of items))
 
 same_report : (a b : Report) → IsOrdered a → IsOrdered b → outline (report_value a) ≡ outline (report_value b) → a ≡ b
@@ -465,11 +477,4 @@ same_report a b p q e =
 pub told : ReportsAreTold
 unfolding report_text
 told a b p q e =
-    let first = shallow_report a p in
-    let second = shallow_report b q in
-    let texts : compact_text (report_value a) ≡ compact_text (report_value b) = append_cancel_right _ _ (10 ∷ []) e in
-    let printed : print (tree.json_tokens (outline (report_value a))) ≡ print (tree.json_tokens (outline (report_value b))) =
-    print-outline (report_value a) ∙ texts ∙ sym (print-outline (report_value b)) in
-    let documents : Some (outline (report_value a)) ≡ Some (outline (report_value b)) =
-    sym (document-print (outline (report_value a)) first.numbers first.depth) ∙ ap json.document printed ∙ document-print (outline (report_value b)) second.numbers second.depth in
-    same_report a b p q (cc)
+    same_report a b p q (same_outline (report_value a) (report_value b) (shallow_report a p) (shallow_report b q) e)

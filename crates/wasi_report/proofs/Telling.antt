@@ -90,6 +90,11 @@ pub told_seen : {A B : Type 0} (value_of : B → Data) (see : A → B) (items : 
     → new ≡ old ++ told_at name (list_value (λ a. value_of (see a)) items) → new ≡ old ++ told_at name (list_value value_of (map see items))
 told_seen value_of see items name old new added = added ∙ ap (λ ds. old ++ told_at name (array ds)) (mapped value_of see items)
 
+-- four parts one after another
+pub four : (s t u v all a b c d : List Token) → t ≡ s ++ a → u ≡ t ++ b → v ≡ u ++ c → all ≡ v ++ d
+    → all ≡ s ++ (a ++ (b ++ (c ++ d)))
+four s t u v all a b c d p q r i = rw (i, r, q, p) (simp append_assoc)
+
 -- eight parts one after another
 pub eight : (s t u v w x y z all a b c d e f g h : List Token) → t ≡ s ++ a → u ≡ t ++ b → v ≡ u ++ c → w ≡ v ++ d → x ≡ w ++ e → y ≡ x ++ f → z ≡ y ++ g → all ≡ z ++ h
     → all ≡ s ++ (a ++ (b ++ (c ++ (d ++ (e ++ (f ++ (g ++ h)))))))

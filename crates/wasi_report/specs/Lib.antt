@@ -1,3 +1,5 @@
 pub mod Report
 pub mod Told
 pub mod ReadBack
+pub mod Audit
+pub mod AuditReadBack

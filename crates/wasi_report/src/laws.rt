@@ -1,8 +1,14 @@
 //! Laws of what is defined.
+ghost use Rattle.wasi_report.specs.AuditReadBack.{AuditsAreTold};
 ghost use Rattle.wasi_report.specs.ReadBack.{ReportsAreTold};
 
 /// Two reports with the same text are the same, where numbers fit 64 bits, bytes are bytes, and the names in each
 /// directory stand in strictly rising byte order, as in each report that `report` writes.
 pub fn reports_are_told()
     ensures told { ReportsAreTold }
+{}
+
+/// Two audits with the same text are the same, where numbers fit 64 bits, as in each audit that `audit_in` writes.
+pub fn audits_are_told()
+    ensures told { AuditsAreTold }
 {}

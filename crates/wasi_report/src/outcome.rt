@@ -6,7 +6,7 @@ ghost use Rattle.wasi_report.specs.ReadBack.{FitsNode, IsOrdered};
 ghost use Rattle.wasi_report.specs.Report.{reported, report_value, report_text, list_value, hex_value, node_value};
 ghost use Rattle.wasi_report.specs.Told.{told, told_at};
 
-use crate::told::{DigitRoom, Told, tell_bytes, tell_list};
+use crate::told::{DigitRoom, tell_bytes, tell_list_at};
 use crate::told_answers::tell_answers;
 use crate::told_nodes::tell_node;
 use json::Writer;
@@ -79,20 +79,6 @@ fn tell_outcome<A: Allocator + Copy>(
     out.key("tree")?;
     tell_tree(digits, tree, out)?;
     out.end_object()
-}
-
-fn tell_list_at<A: Allocator + Copy, T: Told>(
-    digits: DigitRoom<A>,
-    name: &str,
-    items: &[T],
-    out: &mut Writer,
-) -> Result<(), AllocError>
-    ensures before { out.new.before ≡ out.old.before }
-    ensures tokens { OnOk result (out.new.tokens ≡ out.old.tokens ++ told_at name.now (list_value T.value items.now)) }
-    ensures fits { OnOk result (All T.fits items.now) }
-{
-    out.key(name)?;
-    tell_list(digits, items, out)
 }
 
 fn tell_bytes_at<A: Allocator + Copy>(

@@ -4,7 +4,7 @@ ghost use Rattle.hex.specs.Hex.{IsBytes};
 ghost use Rattle.serde_json.specs.Data.{Data};
 ghost use Rattle.wasi_report.specs.ReadBack.{FitsNumber, FitsTime};
 ghost use Rattle.wasi_report.specs.Report.{list_value, hex_value, number_value, time_value};
-ghost use Rattle.wasi_report.specs.Told.{told};
+ghost use Rattle.wasi_report.specs.Told.{told, told_at};
 
 use json::Writer;
 use std::alloc::{AllocError, Allocator, Global};
@@ -113,4 +113,19 @@ pub fn tell_list<A: Allocator + Copy, T: Told>(
         item.tell(digits, out)?;
     }
     out.end_array()
+}
+
+/// A member: a name, and the items of a list in order.
+pub fn tell_list_at<A: Allocator + Copy, T: Told>(
+    digits: DigitRoom<A>,
+    name: &str,
+    items: &[T],
+    out: &mut Writer,
+) -> Result<(), AllocError>
+    ensures before { out.new.before ≡ out.old.before }
+    ensures tokens { OnOk result (out.new.tokens ≡ out.old.tokens ++ told_at name.now (list_value T.value items.now)) }
+    ensures fits { OnOk result (All T.fits items.now) }
+{
+    out.key(name)?;
+    tell_list(digits, items, out)
 }
