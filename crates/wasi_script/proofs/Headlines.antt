@@ -1,15 +1,12 @@
 -- The report of a run over a tree in memory.
-use Rattle.std.proofs.Common.{ℕ, ◌-◌, ◌^◌, ◌<◌, ◌≤◌, ◌≡◌, inl, inr, Bool, true, false, List, [], ◌∷◌, length, replicate, refl, sym, ap, ◌∙◌, subst, arith, nat_eq, Result, Ok, Err}
+use Rattle.std.proofs.Common.{ℕ, ◌-◌, ◌^◌, ◌<◌, ◌≤◌, ◌≡◌, inl, inr, Bool, true, false, List, [], ◌∷◌, length, replicate, refl, ap, ◌∙◌, subst, arith, Result, Ok, Err}
 use Rattle.std.specs.Prelude.{Contains, IfOk, MatchBool, OnOk, Vec}
 use Rattle.std.specs.Global.{Global}
 use Rattle.std.specs.declared.alloc.AllocError.{AllocError}
 use Rattle.std.specs.List.Sorted.{IsStrictlySortedBy}
 use Rattle.std.specs.Ordering.{nat_cmp}
-use Rattle.std.specs.FinSet.{contains, from_list, contains-from_list_nat}
-use Rattle.std.proofs.lemmas.Bool.{eqb-true, eq-eqb}
+use Rattle.std.specs.FinSet.{contains, from_list}
 use Rattle.std.proofs.lemmas.List.Elements.{All-weaker}
-use Rattle.std.proofs.lemmas.List.Folds.{list_any_at}
-use Rattle.std.proofs.lemmas.Map.Views.{Contains-from_any}
 use Rattle.wasi_host.specs.Tree.{Nodes}
 use Rattle.wasi_tree.specs.Given.{tree_of}
 use Rattle.wasi_faults.specs.Faults.{Calls, Failing, counted}
@@ -32,16 +29,10 @@ use Rattle.wasi_turns.specs.Guest.{State, state_of}
 use Rattle.wasi_guest.specs.declared.answer.Answer.{Answer}
 use Rattle.wasi_turns.proofs.QuotaRuns.{run_counts, run_within}
 use Rattle.wasi_script.proofs.KeptTrees.{starts_opened}
-
--- what a set made of a list has is in the list
-in_listed : (nodes : List ℕ) (n : ℕ) → contains (from_list {R = nat_cmp} nodes) n ≡ true → Contains nodes n
-in_listed nodes n has = Contains-from_any {eq = λ x y. nat_eq y x} (λ x y same. sym (eqb-true y x same)) n nodes (sym (contains-from_list_nat nodes n) ∙ has)
-
-in_list : (nodes : List ℕ) (n : ℕ) → Contains nodes n → contains (from_list {R = nat_cmp} nodes) n ≡ true
-in_list nodes n (k, within, is) = contains-from_list_nat nodes n ∙ list_any_at (λ y. nat_eq y n) nodes k n within (eq-eqb _ _ is)
+use Rattle.wasi_script.proofs.ListLemmas.{in_listed, in_list}
 
 -- a run with so many faulted turns at most is one with more of them at most
-run_more : (calls : List FueledCall) (turns : List Turned) (j k : ℕ) (old new : State) → j ≤ k
+pub run_more : (calls : List FueledCall) (turns : List Turned) (j k : ℕ) (old new : State) → j ≤ k
     → Run j old calls turns new → Run k old calls turns new
 run_more [] [] j k old new fits run = run
 run_more [] (t ∷ turns) j k old new fits run = absurd run

@@ -28,7 +28,7 @@ use Rattle.wasi_turns.specs.declared.slots.Stream.{Stream}
 use Rattle.wasi_turns.specs.declared.slots.Stream.TheVariants.{Input, Output, Error}
 use Rattle.wasi_turns.proofs.Apart.{run_grows, run_keeps_apart}
 use Rattle.wasi_turns.proofs.Permitting.{run_leaves}
-use Rattle.wasi_script.specs.Due.{Due, the_usage, the_refusal, the_report, the_line, IsOwed, OfDue, Writes, KeepsTree}
+use Rattle.wasi_script.specs.Due.{Due, the_usage, the_refusal, the_outcome, the_line, IsOwed, OfDue, Writes, KeepsTree}
 use Rattle.wasi_start.specs.ReportAfter.{report_after}
 use Rattle.wasi_script.specs.Headline.{Reports, GivesNoAltering, GivesReadOnly, IsStillTold, MayNotBeAltered, TellsKeptNodes, TellsOwnTree, TellsStill, fueled_calls, names_told, own_nodes, node_in_order}
 use Rattle.wasi_start.specs.Start.{start, first_guest_slots, given_guest_slot, given_guest_slots}
@@ -36,6 +36,7 @@ use Rattle.wasi_script.specs.declared.status.Status.{Status}
 use Rattle.wasi_script.specs.declared.status.Status.TheVariants as statuses
 use Rattle.wasi_script.specs.declared.words.Task.{Task}
 use Rattle.wasi_script.specs.declared.words.Task.TheVariants as tasks
+use Rattle.wasi_script.specs.declared.words.ScriptTask.TheVariants.{Run, Audit}
 
 -- ---- the guest at the start
 
@@ -230,17 +231,19 @@ took_kept : (status : Status) (task : Task) (left : List ℕ) (d : Due) (taken n
 took_kept statuses.Done task left the_usage taken now owed wrote = tt
 took_kept statuses.Done task left (the_refusal refusal) taken now owed wrote = tt
 took_kept statuses.Done task left (the_line n) taken now owed wrote = tt
-took_kept statuses.Done tasks.Run left (the_report plan) taken now owed wrote =
-    (wrote.text, wrote.took, tells_kept plan owed wrote.is_text, tells_own plan wrote.is_text)
-took_kept statuses.Done tasks.Usage left (the_report plan) taken now owed wrote = absurd owed
-took_kept statuses.Done (tasks.Generate m) left (the_report plan) taken now owed wrote = absurd owed
+took_kept statuses.Done task left (the_outcome Audit plan) taken now owed wrote = tt
+took_kept statuses.Done (tasks.Script task) left (the_outcome Run plan) taken now owed wrote =
+    (wrote.text, wrote.took, tells_kept plan owed.1 wrote.is_text, tells_own plan wrote.is_text)
+took_kept statuses.Done tasks.Usage left (the_outcome Run plan) taken now owed wrote = absurd owed
+took_kept statuses.Done (tasks.Generate m) left (the_outcome Run plan) taken now owed wrote = absurd owed
 took_kept statuses.WriteFault task left the_usage taken now owed wrote = tt
 took_kept statuses.WriteFault task left (the_refusal refusal) taken now owed wrote = tt
 took_kept statuses.WriteFault task left (the_line n) taken now owed wrote = tt
-took_kept statuses.WriteFault tasks.Run left (the_report plan) taken now owed wrote =
-    (wrote.text, wrote.front, tells_kept plan owed wrote.is_text, tells_own plan wrote.is_text)
-took_kept statuses.WriteFault tasks.Usage left (the_report plan) taken now owed wrote = absurd owed
-took_kept statuses.WriteFault (tasks.Generate m) left (the_report plan) taken now owed wrote = absurd owed
+took_kept statuses.WriteFault task left (the_outcome Audit plan) taken now owed wrote = tt
+took_kept statuses.WriteFault (tasks.Script task) left (the_outcome Run plan) taken now owed wrote =
+    (wrote.text, wrote.front, tells_kept plan owed.1 wrote.is_text, tells_own plan wrote.is_text)
+took_kept statuses.WriteFault tasks.Usage left (the_outcome Run plan) taken now owed wrote = absurd owed
+took_kept statuses.WriteFault (tasks.Generate m) left (the_outcome Run plan) taken now owed wrote = absurd owed
 took_kept statuses.Usage task left d taken now owed wrote = tt
 took_kept (statuses.Refused refusal) task left d taken now owed wrote = tt
 took_kept statuses.ReadFault task left d taken now owed wrote = tt

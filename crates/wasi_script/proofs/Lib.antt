@@ -1,4 +1,9 @@
 mod KeptTrees
+mod StemLemmas
+mod ListLemmas
+mod Auditing
+mod AuditedCalls
+mod AuditTexts
 mod Headlines
 mod Tops
 mod Numerals

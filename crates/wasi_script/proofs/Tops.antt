@@ -12,12 +12,13 @@ use Rattle.wasi_form.specs.declared.verdict.ScriptError.{ScriptError}
 use Rattle.wasi_form.specs.declared.verdict.ScriptError.TheVariants as scripts
 use Rattle.wasi_form.proofs.Accepted.{too_many, refused_before}
 use Rattle.wasi_script.specs.Exit.{unfinished_status, script_status}
-use Rattle.wasi_script.specs.Due.{Due, the_usage, the_refusal, the_report, the_line, EndsGenerated, IsOwed, OfDue, left_unread, LeavesBytes, KeepsSink, NotRead, RefusesSome}
+use Rattle.wasi_script.specs.Due.{Due, the_usage, the_refusal, the_outcome, the_line, EndsGenerated, IsOwed, OfDue, left_unread, LeavesBytes, KeepsSink, NotRead, RefusesSome}
 use Rattle.wasi_script.specs.Due.{IsText, IsDue, Writes, Written, whole, in_part, status_of}
 use Rattle.wasi_script.specs.declared.status.Status.{Status}
 use Rattle.wasi_script.specs.declared.status.Status.TheVariants as statuses
 use Rattle.wasi_script.specs.declared.words.Task.{Task}
 use Rattle.wasi_script.specs.declared.words.Task.TheVariants as tasks
+use Rattle.wasi_script.specs.declared.words.ScriptTask.TheVariants.{Run, Audit}
 
 -- ---- reading
 
@@ -114,8 +115,10 @@ writes {text} the_usage tells is (whole took) = record { text = text; is_text = 
 writes {text} the_usage tells is (in_part failed took) = record { text = text; is_text = is; front = took tells }
 writes {text} (the_refusal refusal) tells is (whole took) = record { text = text; is_text = is; took = took tells }
 writes {text} (the_refusal refusal) tells is (in_part failed took) = record { text = text; is_text = is; front = took tells }
-writes {text} (the_report plan) tells is (whole took) = record { text = text; is_text = is; took = took tells }
-writes {text} (the_report plan) tells is (in_part failed took) = record { text = text; is_text = is; front = took tells }
+writes {text} (the_outcome Run plan) tells is (whole took) = record { text = text; is_text = is; took = took tells }
+writes {text} (the_outcome Audit plan) tells is (whole took) = record { text = text; is_text = is; took = took tells }
+writes {text} (the_outcome Run plan) tells is (in_part failed took) = record { text = text; is_text = is; front = took tells }
+writes {text} (the_outcome Audit plan) tells is (in_part failed took) = record { text = text; is_text = is; front = took tells }
 writes {text} (the_line n) tells is (whole took) = record { text = text; is_text = is; took = took tells }
 writes {text} (the_line n) tells is (in_part failed took) = record { text = text; is_text = is; front = took tells }
 
@@ -125,8 +128,8 @@ is_due the_usage (whole took) = refl
 is_due the_usage (in_part failed took) = tt
 is_due (the_refusal refusal) (whole took) = refl
 is_due (the_refusal refusal) (in_part failed took) = tt
-is_due (the_report plan) (whole took) = refl
-is_due (the_report plan) (in_part failed took) = tt
+is_due (the_outcome wanted plan) (whole took) = refl
+is_due (the_outcome wanted plan) (in_part failed took) = tt
 is_due (the_line n) (whole took) = refl
 is_due (the_line n) (in_part failed took) = tt
 
@@ -138,8 +141,8 @@ of_due task left Holds the_usage owed (whole took) holds = (the_usage, owed, hol
 of_due task left Holds the_usage owed (in_part failed took) holds = (the_usage, owed, holds)
 of_due task left Holds (the_refusal refusal) owed (whole took) holds = (the_refusal refusal, owed, holds)
 of_due task left Holds (the_refusal refusal) owed (in_part failed took) holds = (the_refusal refusal, owed, holds)
-of_due task left Holds (the_report plan) owed (whole took) holds = (the_report plan, owed, holds)
-of_due task left Holds (the_report plan) owed (in_part failed took) holds = (the_report plan, owed, holds)
+of_due task left Holds (the_outcome wanted plan) owed (whole took) holds = (the_outcome wanted plan, owed, holds)
+of_due task left Holds (the_outcome wanted plan) owed (in_part failed took) holds = (the_outcome wanted plan, owed, holds)
 of_due task left Holds (the_line n) owed (whole took) holds = (the_line n, owed, holds)
 of_due task left Holds (the_line n) owed (in_part failed took) holds = (the_line n, owed, holds)
 

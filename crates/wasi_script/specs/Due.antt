@@ -1,10 +1,13 @@
 -- What the program has to write, and what stands after it, by its status.
 use Rattle.std.specs.Prelude.{◌≡◌, ℕ, ◌+◌, ◌++◌, List, [], ◌∷◌, drop, codes, Result, Ok, Err, ⊤}
 use Rattle.wasi_ends.specs.Ends.{ReadFront, TookFront}
+use Rattle.wasi_script.specs.Audited.{Audits}
 use Rattle.wasi_script.specs.Headline.{Reports, GivesReadOnly, TellsKeptNodes, TellsOwnTree}
 use Rattle.wasi_script.specs.Summary.{Summarizes}
 use Rattle.wasi_script.specs.declared.words.Task.{Task}
 use Rattle.wasi_script.specs.declared.words.Task.TheVariants as tasks
+use Rattle.wasi_script.specs.declared.words.ScriptTask.{ScriptTask}
+use Rattle.wasi_script.specs.declared.words.ScriptTask.TheVariants.{Run, Audit}
 use Rattle.wasi_form.specs.Plan.{Plan, plan}
 use Rattle.wasi_form.specs.Verdict.{most_script, IsVerdict}
 use Rattle.wasi_form.specs.declared.verdict.Refusal.{Refusal}
@@ -18,7 +21,7 @@ unfoldable pub left_unread : List ℕ → List ℕ
 left_unread left = drop (most_script + 1) left
 
 abbrev pub usage_line : List ℕ
-usage_line = codes "usage: wasirun run | wasirun gen N" ++ 10 ∷ []
+usage_line = codes "usage: wasirun run | wasirun gen N | wasirun audit" ++ 10 ∷ []
 
 abbrev pub refusal_line : Refusal → List ℕ
 refusal_line Long = codes "refused: long" ++ 10 ∷ []
@@ -31,37 +34,45 @@ refusal_line Limit = codes "refused: limit" ++ 10 ∷ []
 pub data Due : Type 0 where
   the_usage : Due
   the_refusal : Refusal → Due
-  the_report : Plan → Due
+  -- what came of a script that was run: its report, or its audit
+  the_outcome : ScriptTask → Plan → Due
   the_line : ℕ → Due
+
+-- the words ask for a script to be read
+abbrev pub TakesScript : Task → Type 0
+TakesScript (tasks.Script task) = ⊤
+TakesScript (tasks.Generate n) = ⊥
+TakesScript tasks.Usage = ⊥
 
 -- This is due, by what the words ask for, and by the bytes that the source has left: the usage line; the line of a script
 -- that is made; or what the verdict on the bytes says.
 abbrev pub IsOwed : Task → List ℕ → Due → Type 0
-IsOwed tasks.Run left the_usage = ⊥
-IsOwed tasks.Run left (the_refusal refusal) = IsVerdict left (Err refusal)
-IsOwed tasks.Run left (the_report plan) = IsVerdict left (Ok plan)
-IsOwed tasks.Run left (the_line n) = ⊥
+IsOwed (tasks.Script task) left the_usage = ⊥
+IsOwed (tasks.Script task) left (the_refusal refusal) = IsVerdict left (Err refusal)
+IsOwed (tasks.Script task) left (the_outcome wanted plan) = (wanted ≡ task) × IsVerdict left (Ok plan)
+IsOwed (tasks.Script task) left (the_line n) = ⊥
 IsOwed (tasks.Generate m) left the_usage = ⊥
 IsOwed (tasks.Generate m) left (the_refusal refusal) = ⊥
-IsOwed (tasks.Generate m) left (the_report plan) = ⊥
+IsOwed (tasks.Generate m) left (the_outcome wanted plan) = ⊥
 IsOwed (tasks.Generate m) left (the_line n) = n ≡ m
 IsOwed tasks.Usage left the_usage = ⊤
 IsOwed tasks.Usage left (the_refusal refusal) = ⊥
-IsOwed tasks.Usage left (the_report plan) = ⊥
+IsOwed tasks.Usage left (the_outcome wanted plan) = ⊥
 IsOwed tasks.Usage left (the_line n) = ⊥
 
 -- the text is what is due
 abbrev pub IsText : Due → List ℕ → Type 0
 IsText the_usage text = text ≡ usage_line
 IsText (the_refusal refusal) text = text ≡ refusal_line refusal
-IsText (the_report plan) text = Reports plan text
+IsText (the_outcome Run plan) text = Reports plan text
+IsText (the_outcome Audit plan) text = Audits plan text
 IsText (the_line n) text = Summarizes n text
 
 -- the status of what was written whole
 abbrev pub status_of : Due → Status
 status_of the_usage = statuses.Usage
 status_of (the_refusal refusal) = statuses.Refused refusal
-status_of (the_report plan) = statuses.Done
+status_of (the_outcome wanted plan) = statuses.Done
 status_of (the_line n) = statuses.Done
 
 -- a status that isn't one of a fault or of want of memory is the one that is due
@@ -114,7 +125,8 @@ abbrev pub TookKept : Due → (List ℕ → Type 0) → Type 0
 TookKept the_usage Took = ⊤
 TookKept (the_refusal refusal) Took = ⊤
 TookKept (the_line n) Took = ⊤
-TookKept (the_report plan) Took =
+TookKept (the_outcome Audit plan) Took = ⊤
+TookKept (the_outcome Run plan) Took =
     (text : List ℕ) × Took text × TellsKeptNodes plan text × (GivesReadOnly plan → TellsOwnTree plan text)
 
 -- the same by the status: of a text that was taken whole, or a front of it
@@ -126,7 +138,7 @@ KeepsTree (statuses.Refused refusal) d taken now = ⊤
 KeepsTree statuses.ReadFault d taken now = ⊤
 KeepsTree statuses.NoMemory d taken now = ⊤
 
--- What the source has left, by the status, where the words are `run`. Where it wasn't read to its end, at most one byte
+-- What the source has left, by the status, where the words ask for a script. Where it wasn't read to its end, at most one byte
 -- past the limit was taken of it.
 abbrev pub LeavesBytes : Status → List ℕ → List ℕ → Type 0
 LeavesBytes statuses.Done left rest = rest ≡ left_unread left

@@ -2,5 +2,8 @@ pub mod Exit
 pub mod Words
 pub mod Headline
 pub mod HasRun
+pub mod Through
+pub mod AuditedRun
+pub mod Audited
 pub mod Summary
 pub mod Due

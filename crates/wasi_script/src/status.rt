@@ -8,9 +8,9 @@ use wasi_form::{Refusal, ScriptError};
 /// How the program ended.
 #[derive(Clone, Copy, Debug, PartialEq, Eq)]
 pub enum Status {
-    /// The report was taken whole, or the line of a script that was made.
+    /// The report or the audit was taken whole, or the line of a script that was made.
     Done,
-    /// The words are neither `run` nor `gen N`, and the line that says so was taken.
+    /// The words are none of `run`, `audit` and `gen N`, and the line that says so was taken.
     Usage,
     /// The bytes aren't a script that can be run, and the line that says why was taken.
     Refused(Refusal),

@@ -8,12 +8,13 @@ ghost use Rattle.wasi_form.specs.Within.{is_within_limits};
 ghost use Rattle.wasi_guest.specs.Quotas.{IsQuota};
 ghost use Rattle.wasi_script.specs.Headline.{Reports};
 ghost use Rattle.wasi_script.specs.Words.{task_of};
-ghost use Rattle.wasi_script.specs.Due.{the_usage, the_line, refusal_line, OfDue, IsDue, Writes, WritesOfSome, KeepsTree, LeavesBytes, KeepsSink, EndsReading, EndsGenerated, ReadsSome, ReadsScript, Written};
+ghost use Rattle.wasi_script.specs.Due.{the_usage, the_line, the_outcome, refusal_line, OfDue, IsDue, Writes, WritesOfSome, KeepsTree, LeavesBytes, KeepsSink, EndsReading, EndsGenerated, IsText, ReadsSome, ReadsScript, TakesScript, Written};
 
+use crate::audited::audit_of;
 use crate::ran::run;
 use crate::status::Status;
 use crate::summary::summary_of;
-use crate::words::{Task, task_of};
+use crate::words::{ScriptTask, Task, task_of};
 use bumpalo::Bump;
 use std::alloc::{AllocError, Allocator, Global};
 use wasi_ends::{Sink, Source, read_all, write_all};
@@ -21,7 +22,7 @@ use wasi_form::{Refusal, Script, read_script};
 use wasi_report::{Outcome, report_in};
 use wasi_start::shown;
 
-const USAGE: &str = "usage: wasirun run | wasirun gen N\n";
+const USAGE: &str = "usage: wasirun run | wasirun gen N | wasirun audit\n";
 
 fn refusal_line(refusal: Refusal) -> &'static str
     ensures { result.now ≡ refusal_line refusal }
@@ -95,21 +96,45 @@ fn written<K: Sink>(sink: &mut K, text: &[u8], status: Status) -> Status
     }
 }
 
-// Runs a script that is read of the source, and writes its report, or why there is none. The report is written where the
-// script's bytes stood, and digits that aren't more than they were where the reader had its room, which grows no more.
-fn run_source<S: Source, K: Sink>(alloc: Global, source: &mut S, sink: &mut K) -> Status
+// What is written of a script, in the memory of a buffer.
+fn text_of<A: Allocator + Copy>(
+    alloc: Global,
+    room: A,
+    task: ScriptTask,
+    script: Script,
+    buffer: Vec<u8>,
+) -> Result<Vec<u8>, AllocError>
+    requires within { is_within_limits (plan script) ≡ true }
+    requires rising { IsTrue (numbers_rise script.session.faults.items) }
+    requires quota { IsQuota script.session.quota }
+    ensures { IfOk result (λ text. IsText (the_outcome task (plan script)) text.items) }
+{
+    match task {
+        ScriptTask::Run => report_of(alloc, room, script, buffer),
+        ScriptTask::Audit => audit_of(alloc, script, buffer),
+    }
+}
+
+// Runs a script that is read of the source, and writes its report or its audit, or why there is none. It is written where
+// the script's bytes stood, and digits that aren't more than they were where the reader had its room, which grows no more.
+fn run_source<S: Source, K: Sink>(
+    alloc: Global,
+    task: ScriptTask,
+    source: &mut S,
+    sink: &mut K,
+) -> Status
     ensures source_count { S.faults source.old ≤ S.faults source.new }
     ensures sink_count { K.faults sink.old ≤ K.faults sink.new }
     ensures read_fault { result ≡ Status.ReadFault → Risen (S.faults source.old) (S.faults source.new) }
     ensures write_fault { result ≡ Status.WriteFault → Risen (K.faults sink.old) (K.faults sink.new) }
     ensures usage { result ≢ Status.Usage }
-    ensures exact { IsTrue S.told → OfDue result Task.Run (S.left source.old) (IsDue result) }
+    ensures exact { IsTrue S.told → OfDue result (Task.Script task) (S.left source.old) (IsDue result) }
     ensures left { IsTrue S.told → LeavesBytes result (S.left source.old) (S.left source.new) }
     ensures nothing { IsTrue K.told → KeepsSink result (K.taken sink.old) (K.taken sink.new) }
-    ensures some { IsTrue K.told → WritesOfSome result Task.Run (K.taken sink.old) (K.taken sink.new) }
-    ensures writes { IsTrue S.told → IsTrue K.told → OfDue result Task.Run (S.left source.old)
+    ensures some { IsTrue K.told → WritesOfSome result (Task.Script task) (K.taken sink.old) (K.taken sink.new) }
+    ensures writes { IsTrue S.told → IsTrue K.told → OfDue result (Task.Script task) (S.left source.old)
         (λ due. Writes result due (K.taken sink.old) (K.taken sink.new)) }
-    ensures keeps { IsTrue S.told → IsTrue K.told → OfDue result Task.Run (S.left source.old)
+    ensures keeps { IsTrue S.told → IsTrue K.told → OfDue result (Task.Script task) (S.left source.old)
         (λ due. KeepsTree result due (K.taken sink.old) (K.taken sink.new)) }
 {
     let room = Bump::new(alloc);
@@ -126,7 +151,7 @@ fn run_source<S: Source, K: Sink>(alloc: Global, source: &mut S, sink: &mut K) -
         Err(status) => return status,
     };
     room.set_allocation_limit(Some(0));
-    match report_of(alloc, &room, script, bytes) {
+    match text_of(alloc, &room, task, script, bytes) {
         Ok(text) => written(sink, text.as_slice(), Status::Done),
         Err(AllocError) => Status::NoMemory,
     }
@@ -148,13 +173,15 @@ fn run_generated<K: Sink>(alloc: Global, n: u64, sink: &mut K) -> Status
 }
 
 /// Runs the program. `words` are the words of the command line after the program's name. With the one word `run` the
-/// source is read to its end as a script, which is run, and its report is written to the sink. With `gen N`, N being 1 to
-/// 9999 in decimal without a leading zero, nothing is read: the script that `gen_script` makes of N is run, and one line
-/// is written that says how many calls it has, how many were answered Ok, how many bytes `fd_read` was answered, and how
-/// many nodes the tree has then. With any others the usage line is written. A script has at most 16,777,216 bytes, and at
-/// most one more is read. What is written is due by the words and the bytes that the source has left: the usage line; the
-/// line of `gen N`; the line that names the refusal, as `refused: json`; or the report's text. Of a source that doesn't
-/// tell its bytes it is what is due of some bytes. Faults come from the source and the sink alone.
+/// source is read to its end as a script, which is run, and its report is written to the sink. With the one word `audit`
+/// the script is read and run as well, and it is written which nodes were touched through which of the directories that
+/// the guest was given. With `gen N`, N being 1 to 9999 in decimal without a leading zero, nothing is read: the script
+/// that `gen_script` makes of N is run, and one line is written that says how many calls it has, how many were answered
+/// Ok, how many bytes `fd_read` was answered, and how many nodes the tree has then. With any others the usage line is
+/// written. A script has at most 16,777,216 bytes, and at most one more is read. What is written is due by the words and
+/// the bytes that the source has left: the usage line; the line of `gen N`; the line that names the refusal, as
+/// `refused: json`; the report's text; or the audit's. Of a source that doesn't tell its bytes it is what is due of some
+/// bytes. Faults come from the source and the sink alone.
 pub fn run_script<S: Source, K: Sink>(
     alloc: Global,
     words: &Vec<String>,
@@ -164,7 +191,7 @@ pub fn run_script<S: Source, K: Sink>(
     ensures source_count { S.faults source.old ≤ S.faults source.new }
     ensures sink_count { K.faults sink.old ≤ K.faults sink.new }
     ensures read_fault { result ≡ Status.ReadFault
-        → (task_of (map string_bytes words.now.items) ≡ Task.Run) × Risen (S.faults source.old) (S.faults source.new) }
+        → TakesScript (task_of (map string_bytes words.now.items)) × Risen (S.faults source.old) (S.faults source.new) }
     ensures write_fault { result ≡ Status.WriteFault → Risen (K.faults sink.old) (K.faults sink.new) }
     ensures usage { result ≡ Status.Usage → task_of (map string_bytes words.now.items) ≡ Task.Usage }
     ensures other_words { task_of (map string_bytes words.now.items) ≡ Task.Usage
@@ -173,7 +200,7 @@ pub fn run_script<S: Source, K: Sink>(
         → EndsGenerated result × (source.new ≡ source.old) }
     ensures exact { IsTrue S.told
         → OfDue result (task_of (map string_bytes words.now.items)) (S.left source.old) (IsDue result) }
-    ensures left { IsTrue S.told → task_of (map string_bytes words.now.items) ≡ Task.Run
+    ensures left { IsTrue S.told → TakesScript (task_of (map string_bytes words.now.items))
         → LeavesBytes result (S.left source.old) (S.left source.new) }
     ensures usage_line { IsTrue K.told → task_of (map string_bytes words.now.items) ≡ Task.Usage
         → Writes result the_usage (K.taken sink.old) (K.taken sink.new) }
@@ -190,7 +217,7 @@ pub fn run_script<S: Source, K: Sink>(
         (λ due. KeepsTree result due (K.taken sink.old) (K.taken sink.new)) }
 {
     match task_of(words.as_slice()) {
-        Task::Run => run_source(alloc, source, sink),
+        Task::Script(task) => run_source(alloc, task, source, sink),
         Task::Generate(n) => run_generated(alloc, n, sink),
         Task::Usage => written(sink, USAGE.as_bytes(), Status::Usage),
     }

@@ -24,11 +24,20 @@ pub fn words_after_name(alloc: Global, args: Args) -> Result<Vec<String>, AllocE
     Ok(words)
 }
 
+/// What is written of a script that is read and run.
+#[derive(Clone, Copy, Debug, PartialEq, Eq)]
+pub enum ScriptTask {
+    /// `run`: its report.
+    Run,
+    /// `audit`: which nodes were touched through which of the directories that the guest was given.
+    Audit,
+}
+
 /// What the words of a command line ask for.
 #[derive(Clone, Copy, Debug, PartialEq, Eq)]
 pub enum Task {
-    /// `run`: to read a script, to run it, and to write its report.
-    Run,
+    /// `run` or `audit`: to read a script, to run it, and to write what came of it.
+    Script(ScriptTask),
     /// `gen N`, N being 1 to 9999 in decimal without a leading zero: to run the script of that number, and to write one
     /// line.
     Generate(u64),
@@ -76,7 +85,9 @@ fn one_word(word: &str) -> Task
     ensures within { specs.IsWithin result }
 {
     if word == "run" {
-        Task::Run
+        Task::Script(ScriptTask::Run)
+    } else if word == "audit" {
+        Task::Script(ScriptTask::Audit)
     } else {
         Task::Usage
     }

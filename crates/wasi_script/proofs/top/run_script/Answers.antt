@@ -5,31 +5,31 @@ use Rattle.wasi_script.proofs.KeptTrees.{keeps_tree}
 use Rattle.wasi_script.proofs.Tops.{writes, writes_due, is_due_by, line_due, made_due, made_keeps, other_end}
 use Rattle.wasi_script.proofs.top.run_script.Goals as goal
 
--- ---- `run`
+-- ---- `run` and `audit`
 
-pub returns-in-Run-clause-read_fault : goal.returns-in-Run-clause-read_fault
-returns-in-Run-clause-read_fault g c = λ fault.
-    let is = rw c.as_slice.ensures.value at (sym c.task_of.ensures.task ∙ c.in-Run.is) in
-    (is, c.run_source.ensures.read_fault fault)
+pub returns-in-Script-clause-read_fault : goal.returns-in-Script-clause-read_fault
+returns-in-Script-clause-read_fault g c = λ fault.
+    let is = rw c.as_slice.ensures.value at (sym c.task_of.ensures.task ∙ c.in-Script.is) in
+    (rw is tt, c.run_source.ensures.read_fault fault)
 
-pub returns-in-Run-clause-exact : goal.returns-in-Run-clause-exact
-returns-in-Run-clause-exact g c = λ tells.
-    let is = rw c.as_slice.ensures.value at (sym c.task_of.ensures.task ∙ c.in-Run.is) in
+pub returns-in-Script-clause-exact : goal.returns-in-Script-clause-exact
+returns-in-Script-clause-exact g c = λ tells.
+    let is = rw c.as_slice.ensures.value at (sym c.task_of.ensures.task ∙ c.in-Script.is) in
     rw is (c.run_source.ensures.exact tells)
 
-pub returns-in-Run-clause-writes : goal.returns-in-Run-clause-writes
-returns-in-Run-clause-writes g c = λ tells takes.
-    let is = rw c.as_slice.ensures.value at (sym c.task_of.ensures.task ∙ c.in-Run.is) in
+pub returns-in-Script-clause-writes : goal.returns-in-Script-clause-writes
+returns-in-Script-clause-writes g c = λ tells takes.
+    let is = rw c.as_slice.ensures.value at (sym c.task_of.ensures.task ∙ c.in-Script.is) in
     rw is (c.run_source.ensures.writes tells takes)
 
-pub returns-in-Run-clause-keeps : goal.returns-in-Run-clause-keeps
-returns-in-Run-clause-keeps g c = λ tells takes.
-    let is = rw c.as_slice.ensures.value at (sym c.task_of.ensures.task ∙ c.in-Run.is) in
+pub returns-in-Script-clause-keeps : goal.returns-in-Script-clause-keeps
+returns-in-Script-clause-keeps g c = λ tells takes.
+    let is = rw c.as_slice.ensures.value at (sym c.task_of.ensures.task ∙ c.in-Script.is) in
     rw is (c.run_source.ensures.keeps tells takes)
 
-pub returns-in-Run-clause-some : goal.returns-in-Run-clause-some
-returns-in-Run-clause-some g c = λ takes.
-    let is = rw c.as_slice.ensures.value at (sym c.task_of.ensures.task ∙ c.in-Run.is) in
+pub returns-in-Script-clause-some : goal.returns-in-Script-clause-some
+returns-in-Script-clause-some g c = λ takes.
+    let is = rw c.as_slice.ensures.value at (sym c.task_of.ensures.task ∙ c.in-Script.is) in
     rw is (c.run_source.ensures.some takes)
 
 -- ---- `gen N`

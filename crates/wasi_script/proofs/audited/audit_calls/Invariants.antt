@@ -1,0 +1,16 @@
+use Rattle.std.proofs.Common.{◌≡◌, map, take}
+use Rattle.wasi_faults.specs.Faults.{counted}
+use Rattle.wasi_host.specs.Meaning.{never_fails}
+use Rattle.wasi_start.specs.Start.{world_behind}
+use Rattle.wasi_turns.specs.Front.{with_fuel}
+use Rattle.wasi_turns.specs.Guest.{state_of}
+use Rattle.wasi_script.proofs.Auditing.{NotedCalls}
+use Rattle.wasi_script.proofs.audited.audit_calls.Given as goal
+
+abbrev pub invariant-loop-one : goal.invariant-loop-one
+invariant-loop-one l = record {
+  most : (counted never_fails l.context.host.calls).most ≡ (counted never_fails l.fn.context.host.calls).most;
+  noted : NotedCalls (counted never_fails l.fn.context.host.calls) (counted never_fails l.context.host.calls)
+      (state_of world_behind l.fn.context l.fn.memory) l.fn.audit
+      (take l.one-index (map (with_fuel l.fuel) l.calls.items)) (state_of world_behind l.context l.memory) l.audit;
+}
