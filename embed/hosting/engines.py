@@ -5,7 +5,7 @@ from __future__ import annotations
 import shutil
 import subprocess
 from pathlib import Path
-from typing import Callable, Dict, List
+from typing import Callable, Dict, List, Optional
 
 from wasitools.scripts import Mistake
 
@@ -24,23 +24,27 @@ def build(words: List[str]) -> None:
         raise Mistake(f"{Path(words[0]).relative_to(EMBED.parent)} failed: {said[-1]}")
 
 
-def by_node(guest: str, script: Path, report: Path) -> int:
+def by_node(guest: str, script: Path, report: Path, job: Optional[Path] = None) -> int:
+    """Runs a guest; with a job its calls are written down too."""
     addon, folder = EMBED / "node/out/wasi.node", EMBED / "node"
     if is_older(addon, [LIBRARY, folder / "addon.c", EMBED / "calls.h", EMBED / "wasi.h"]):
         build([str(folder / "build"), str(LIBRARY)])
-    return subprocess.run(["node", "--no-warnings", str(folder / "run.js"), guest, str(script), str(report)]).returncode
+    words = ["node", "--no-warnings", folder / "run.js", guest, script, report, *([job] if job else [])]
+    return subprocess.run([str(word) for word in words]).returncode
 
 
-def by_wasm2c(guest: str, script: Path, report: Path) -> int:
+def by_wasm2c(guest: str, script: Path, report: Path, job: Optional[Path] = None) -> int:
+    if job:
+        raise Mistake("the engine wasm2c writes down no calls")
     program = script.parent / "program"
     build([str(EMBED / "build"), guest, str(program), str(LIBRARY)])
     return subprocess.run([str(program), str(script), str(report)]).returncode
 
 
-ENGINES: Dict[str, Callable[[str, Path, Path], int]] = {"node": by_node, "wasm2c": by_wasm2c}
+ENGINES: Dict[str, Callable[[str, Path, Path, Optional[Path]], int]] = {"node": by_node, "wasm2c": by_wasm2c}
 
 
-def engine_of(asked: str) -> Callable[[str, Path, Path], int]:
+def engine_of(asked: str) -> Callable[[str, Path, Path, Optional[Path]], int]:
     """The engine of a name, or the first of which the program is there."""
     if not LIBRARY.exists():
         raise Mistake(f"there is no {LIBRARY}: `rt lib` in its crate proves and builds it")

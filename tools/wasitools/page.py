@@ -5,7 +5,7 @@ from __future__ import annotations
 from html import escape
 from typing import Iterator, List
 
-from .telling import CallWords, Cause, Dump, Telling, TreeLine, count, dump_text, some_calls
+from .telling import CallWords, Cause, Dump, Telling, Touched, TreeLine, count, dump_text, some_calls
 
 STYLE = """
 :root { color-scheme: light dark; --back: #fbfaf7; --card: #ffffff; --ink: #1f2328; --soft: #5f6872; --line: #dcd9d0;
@@ -111,6 +111,15 @@ def output_box(name: str, data: bytes) -> Iterator[str]:
         yield f'<div class="box"><pre>{escape(shown)}</pre></div>'
 
 
+def touched_box(touched: Touched) -> Iterator[str]:
+    if touched.through:
+        yield f"<h3>Through {escape(touched.through)}{'' if touched.nodes else ': nothing'}</h3>"
+    if touched.nodes or not touched.through:
+        yield '<div class="box"><dl>'
+        yield from (f"<dt>{node}</dt><dd class=\"mono\">{escape(path)}</dd>" for node, path in touched.nodes)
+        yield "</dl></div>"
+
+
 def body_of(telling: Telling) -> Iterator[str]:
     yield f'<h1>{escape(telling.title)}</h1><p class="sum">{escape(telling.summary)}</p>'
     if telling.given:
@@ -133,9 +142,10 @@ def body_of(telling: Telling) -> Iterator[str]:
         yield "<h2>Memory</h2>"
     for dump in telling.dumps:
         yield from dump_box(dump)
-    yield '<h2>Touched</h2><div class="box"><dl>'
-    yield from (f"<dt>{node}</dt><dd class=\"mono\">{escape(path)}</dd>" for node, path in telling.touched)
-    yield "</dl></div><footer>Told of a script and its report by a tool that nothing is proved of.</footer>"
+    yield "<h2>Touched</h2>"
+    for touched in telling.touched:
+        yield from touched_box(touched)
+    yield "<footer>Told of a script and its report by a tool that nothing is proved of.</footer>"
 
 
 def page_of(telling: Telling) -> str:

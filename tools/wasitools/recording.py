@@ -59,8 +59,8 @@ class Recorded:
     after: Folder
 
 
-def job_of(guest: Path, args: List[str], folder: str, name: str, log: str) -> Dict[str, Any]:
-    """What the program of Node is told."""
+def job_of(log: str) -> Dict[str, Any]:
+    """What recorder.cjs is told."""
     calls = {
         row.name: {
             "arguments": [[argument.name, argument.kind, argument.width] for argument in row.arguments],
@@ -68,8 +68,7 @@ def job_of(guest: Path, args: List[str], folder: str, name: str, log: str) -> Di
         }
         for row in CALLS.values()
     }
-    return {"guest": str(guest), "args": args, "preopens": {name: folder}, "log": log, "calls": calls,
-            "subscription": SUBSCRIPTION, "event": EVENT}
+    return {"log": log, "calls": calls, "subscription": SUBSCRIPTION, "event": EVENT}
 
 
 def node() -> str:
@@ -89,7 +88,8 @@ def record(guest: Path, args: List[str], folder: Optional[str], name: str, with_
         copied(folder, copy)
         before = Folder(copy, with_times)
         log, job = os.path.join(scratch, "log"), os.path.join(scratch, "job")
-        Path(job).write_text(json.dumps(job_of(guest, [guest.name] + args, copy, name, log)))
+        told = {"guest": str(guest), "args": [guest.name] + args, "preopens": {name: copy}}
+        Path(job).write_text(json.dumps({**job_of(log), **told}))
         module = Path(__file__).resolve().parent / "record.mjs"
         ran = subprocess.run([program, "--no-warnings", str(module), job])
         lines = Path(log).read_text().splitlines() if os.path.exists(log) else []

@@ -81,7 +81,7 @@ class Told:
     texts: Dict[str, Optional[bytes]] = field(default_factory=dict)  # none: the range leaves the memory
     buffers: Dict[str, Optional[List[Tuple[int, int]]]] = field(default_factory=dict)
     descriptors: Dict[str, str] = field(default_factory=dict)
-    nodes: List[int] = field(default_factory=list)  # what its paths led to
+    nodes: List[int] = field(default_factory=list)  # what its paths led to, and what it read, wrote and listed
     opened: str = ""  # the path and the number of what was opened
     wrote: List[Tuple[int, bytes]] = field(default_factory=list)  # into the guest's memory
     sent: Optional[bytes] = None  # to a file or a stream
@@ -249,6 +249,7 @@ class Replay:
 
     def fd_readdir(self, told: Told) -> None:
         node = self.open_of(told).node
+        told.nodes.append(node)
         found = [(b".", node, 3), (b"..", node, 3)]
         names = sorted((name.encode(), held) for name, held in self.nodes[node].names.items())
         found += [(name, held, FILETYPES[self.nodes[held].kind]) for name, held in names]

@@ -1,4 +1,4 @@
-"""Scripts and reports as they are read from files: their shape is checked, and a fault is a `Mistake` of one line.
+"""Scripts, reports and audits as they are read from files: their shape is checked, and a fault is a `Mistake` of one line.
 
 What is said here of a script is what docs/SCRIPT.md says; whether its nodes are a tree is left to the program.
 """
@@ -87,6 +87,14 @@ class Report:
     stdout: bytes
     touched: List[int]
     tree: List[Node]
+
+
+@dataclass
+class Audit:
+    """The names of the directories that the guest was given, each with the nodes that were touched through it."""
+
+    preopens: List[Tuple[str, List[int]]]
+    touched: List[int]
 
 
 def read_bytes(path: str) -> bytes:
@@ -313,3 +321,15 @@ def report_of(data: bytes) -> Report:
         [number(touched, "a touched node", len(tree) - 1) for touched in listed(found["touched"], "'touched'")],
         tree,
     )
+
+
+def audit_of(data: bytes) -> Audit:
+    """The audit that some bytes are."""
+    found = keyed(json_of(data, "the audit"), "the audit", "preopens touched")
+    preopens = []
+    for place, given in enumerate(listed(found["preopens"], "'preopens' of the audit")):
+        where = f"preopen {place} of the audit"
+        has = keyed(given, where, "name nodes")
+        nodes = [number(node, f"a node of {where}") for node in listed(has["nodes"], f"the nodes of {where}")]
+        preopens.append((text(has["name"], f"the name of {where}"), nodes))
+    return Audit(preopens, [number(node, "a touched node") for node in listed(found["touched"], "'touched' of the audit")])

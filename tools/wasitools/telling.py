@@ -12,8 +12,8 @@ from typing import Dict, Iterator, List, Optional, Tuple
 
 from . import calls as table
 from .calls import CALLS, CHOICES, ERRNO_WORDS, FIELDS, SETS, TRAPS, Argument
-from .replay import NANO, Change, Replay, Told, shown_path, shown_text
-from .scripts import EPOCHS, PERMS, Node, Report, Script
+from .replay import NANO, Change, NotItsReport, Replay, Told, shown_path, shown_text
+from .scripts import EPOCHS, PERMS, Audit, Node, Report, Script
 
 Cause = Tuple[str, List[int]]  # a word, and the numbers of calls
 MOST_SHOWN = 60  # characters of a text
@@ -66,6 +66,14 @@ class Dump:
 
 
 @dataclass
+class Touched:
+    """The nodes that were touched, number and path: all of them, or by an audit those through one directory."""
+
+    through: str  # the directory in words; none: all nodes
+    nodes: List[Tuple[int, str]]
+
+
+@dataclass
 class Telling:
     title: str
     given: List[Tuple[str, str]]
@@ -74,7 +82,7 @@ class Telling:
     after: List[TreeLine]
     dumps: List[Dump]
     outputs: List[Tuple[str, bytes]]
-    touched: List[Tuple[int, str]]
+    touched: List[Touched]
     summary: str
 
 
@@ -471,7 +479,20 @@ def summary_of(calls: List[CallWords]) -> str:
     return "; ".join(words)
 
 
-def telling_of(title: str, replay: Replay, report: Report) -> Telling:
+def touched_of(replay: Replay, report: Report, audit: Optional[Audit]) -> List[Touched]:
+    """What was touched; with an audit, which has to be of this run, what was touched through each directory."""
+    if audit is None:
+        return [Touched("", [(node, replay.paths.of(node)) for node in report.touched])]
+    names = [preopen.name for preopen in replay.script.preopens]
+    if names != [name for name, _ in audit.preopens]:
+        raise NotItsReport("the audit isn't this script's: it has other directories")
+    if audit.touched != report.touched or set(audit.touched) != {node for _, nodes in audit.preopens for node in nodes}:
+        raise NotItsReport("the audit isn't this script's: it has other touched nodes than the report")
+    return [Touched(f"descriptor {number}, preopen {shown_text(name)}", [(node, replay.paths.of(node)) for node in nodes])
+            for number, (name, nodes) in enumerate(audit.preopens, table.FIRST_PREOPEN)]
+
+
+def telling_of(title: str, replay: Replay, report: Report, audit: Optional[Audit] = None) -> Telling:
     changes = [change for told in replay.told for change in told.changes]
     script = replay.script
     calls = [call_words(told, script) for told in replay.told]
@@ -483,6 +504,6 @@ def telling_of(title: str, replay: Replay, report: Report) -> Telling:
         Drawing(report.tree, script.nodes, changes).lines(),
         dumps_of(replay, report),
         [("standard output", report.stdout), ("standard error", report.stderr)],
-        [(node, replay.paths.of(node)) for node in report.touched],
+        touched_of(replay, report, audit),
         summary_of(calls),
     )

@@ -5,7 +5,7 @@ from __future__ import annotations
 import textwrap
 from typing import Iterator, List
 
-from .telling import CallWords, Cause, Telling, TreeLine, count, dump_text, some_calls
+from .telling import CallWords, Cause, Telling, Touched, TreeLine, count, dump_text, some_calls
 
 WIDTH = 110
 
@@ -78,6 +78,13 @@ def output_lines(name: str, data: bytes) -> Iterator[str]:
         yield "    (no newline behind it)"
 
 
+def touched_lines(touched: Touched) -> Iterator[str]:
+    if touched.through:
+        yield f"  through {touched.through}" + (":" if touched.nodes else ": nothing")
+    for node, path in touched.nodes:
+        yield f"{'    ' if touched.through else '  '}{node} {path}"
+
+
 def lines_of(telling: Telling) -> Iterator[str]:
     yield telling.title
     yield telling.summary
@@ -108,8 +115,8 @@ def lines_of(telling: Telling) -> Iterator[str]:
         yield from output_lines(name, data)
     yield ""
     yield "TOUCHED   number and path at the end"
-    for node, path in telling.touched:
-        yield f"  {node} {path}"
+    for touched in telling.touched:
+        yield from touched_lines(touched)
 
 
 def text_of(telling: Telling) -> str:
