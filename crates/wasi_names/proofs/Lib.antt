@@ -9,3 +9,5 @@ pub mod SplitLemmas
 pub mod NamesLemmas
 pub mod RunLemmas
 pub mod ShiftLemmas
+pub mod OverLemmas
+pub mod MergeLemmas

@@ -6,7 +6,8 @@ use Rattle.std.proofs.lemmas.Bool.Decides.{nat_tests}
 use Rattle.std.specs.Ordering.{nat_cmp, ordering_then, is_eq, eq_by_cmp}
 use Rattle.std.specs.Cmp.Lexicographic.{slice_cmp, nat_list_cmp_total}
 use Rattle.std.proofs.lemmas.Cmp.{tied_itself, nat_cmp_total, eq_by_cmp_equiv, alike_right}
-use Rattle.std.specs.Cmp.{Equal-is}
+use Rattle.std.specs.Cmp.{Equal-is, IsTotalOrder}
+use Rattle.std.specs.declared.cmp.Ordering.{Ordering}
 use Rattle.std.specs.declared.cmp.Ordering.TheVariants.{Less, Equal, Greater}
 use Rattle.std.specs.List.{filter}
 use Rattle.std.specs.FinMap.{FinMap, find, put, is_sorted, empty, empty_of_len, len-entries, get, insert, remove, entries, from_sorted, entries_sorted, entries-from_sorted, get-from_sorted, get-entries, get-insert, get-remove, entries-insert, same_entries_map, same_map, nat_cmp-IsAntisymmetric, slice_cmp-IsAntisymmetric}
@@ -119,7 +120,7 @@ either_order true false x y z apart = refl
 either_order false true x y z apart = refl
 either_order false false x y z apart = refl
 
-same_key : (a b : Key) → eq_by_cmp key_cmp a b ≡ true → a ≡ b
+pub same_key : (a b : Key) → eq_by_cmp key_cmp a b ≡ true → a ≡ b
 same_key a b is = key_exact a b ((Equal-is (key_cmp a b)).0 is)
 
 pub insert-remove : (m : AllNames) (a b : Key) (n : ℕ) → (a ≡ b → ⊥) → insert (remove m a) b n ≡ remove (insert m b n) a
@@ -143,15 +144,21 @@ turned : {A : Type 0} (b : Bool) (x y : A) → cond (not b) x y ≡ cond b y x
 turned true x y = refl
 turned false x y = refl
 
+-- what is found once a key is taken
+pub find_without : {K V : Type 0} (R : K → K → Ordering) → IsTotalOrder R → (q key : K) (es : List (K × V))
+    → find R q (where_key R (λ k. not (eq_by_cmp R key k)) es) ≡ cond (eq_by_cmp R q key) None (find R q es)
+find_without R o q key es =
+    find-where_key R (λ k. not (eq_by_cmp R key k)) q (λ x t. ap (λ r. not (is_eq r)) (sym (alike_right o q x key t))) es
+    ∙ turned (eq_by_cmp R key q) _ _
+    ∙ ap (λ b. cond b None (find R q es)) ((eq_by_cmp_equiv o).symm key q)
+
 -- and after a removal
 pub from_sorted-without : (es : List NameEntry) (key : Key) → is_sorted key_cmp es ≡ true
     → from_sorted {R = key_cmp} (where_key key_cmp (λ k. not (eq_by_cmp key_cmp key k)) es) ≡ remove (from_sorted es) key
 from_sorted-without es key h = same_map key_total key_exact _ _ (λ q.
     get-from_sorted key_cmp _ q (is_sorted-where_key key_cmp (λ k. not (eq_by_cmp key_cmp key k)) es (told h))
-    ∙ find-where_key key_cmp (λ k. not (eq_by_cmp key_cmp key k)) q
-    (λ x t. ap (λ r. not (is_eq r)) (sym (alike_right key_total q x key t))) es
-    ∙ turned (eq_by_cmp key_cmp key q) _ _
-    ∙ (λ i. cond ((eq_by_cmp_equiv key_total).symm key q i) None (sym (get-from_sorted key_cmp es q (told h)) i))
+    ∙ find_without key_cmp key_total q key es
+    ∙ ap (cond (eq_by_cmp key_cmp q key) None) (sym (get-from_sorted key_cmp es q (told h)))
     ∙ sym (get-remove key_total (from_sorted es) key q))
 
 -- and after a removal and then a put

@@ -1,15 +1,17 @@
 -- The rows of one directory among all.
-use Rattle.std.proofs.Common.{◌≡◌, ℕ, suc, ◌+◌, ◌<◌, ◌≤◌, Bool, true, false, cond, List, [], ◌∷◌, ◌++◌, map, length, take, drop, refl, sym, ap, ◌∙◌, subst, arith, append_assoc, Option, None, Some, add-one}
-use Rattle.std.specs.Prelude.{nat_eq, is_some, not, MatchOption}
+use Rattle.std.proofs.Common.{◌≡◌, ℕ, zero, suc, ◌+◌, ◌-◌, ◌<◌, ◌≤◌, Bool, true, false, cond, List, [], ◌∷◌, ◌++◌, map, length, take, drop, refl, sym, ap, ◌∙◌, subst, arith, append_assoc, Option, None, Some, Bor, get_or, add-one}
+use Rattle.std.specs.Prelude.{nat_eq, is_some, not, IsSome, IfSome, MatchOption}
 use Rattle.std.proofs.lemmas.Bool.{true≢false}
 use Rattle.std.proofs.lemmas.Bool.Decides.{nat_tests}
 use Rattle.std.proofs.lemmas.Cmp.{ranked, by_ranked}
-use Rattle.std.proofs.lemmas.List.{map-append, take-append-drop}
+use Rattle.std.proofs.lemmas.List.{map-append, take-append-drop, length-map, nil_from_length}
+use Rattle.std.proofs.lemmas.Option.{slice_get-map, slice_get_read}
+use Rattle.std.specs.Option.{option_map}
 use Rattle.std.proofs.lemmas.List.Elements.{filter-append}
 use Rattle.std.specs.Ordering.{nat_cmp, ordering_then, is_gt}
 use Rattle.std.specs.Cmp.Lexicographic.{slice_cmp}
 use Rattle.std.specs.declared.cmp.Ordering.TheVariants.{Less, Equal, Greater}
-use Rattle.std.specs.List.{filter, flat_map, AllByRecursion}
+use Rattle.std.specs.List.{filter, flat_map, slice_get, AllByRecursion}
 use Rattle.std.specs.List.Sorted.{IsStrictlySortedBy}
 use Rattle.std.specs.FinMap.{is_sorted}
 use Rattle.std.specs.declared.vec.Vec.{Vec}
@@ -64,6 +66,10 @@ run_behind d k [] lt h = refl
 run_behind d k (e ∷ es) lt h =
     let le = not_later k e.0 (ap is_gt h.0) in
     run_skip d e es (apart d e.0.0 (omega arith)) ∙ run_behind d k es lt h.1
+
+run_own : (d : ℕ) (e : NameEntry) (es : List NameEntry) → nat_eq e.0.0 d ≡ true
+    → run_of d (e ∷ es) ≡ (e.0.1, e.1) ∷ run_of d es
+run_own d e es f = ap (λ b. map (λ (e : NameEntry). (e.0.1, e.1)) (cond b (e ∷ filter (λ (e : NameEntry). nat_eq e.0.0 d) es) (filter (λ (e : NameEntry). nat_eq e.0.0 d) es))) f
 
 -- past its last name a directory has none
 pub run_past : (d : ℕ) (e : NameEntry) (es : List NameEntry) → Rises key_cmp (e ∷ es) → d ≤ e.0.0 → nat_eq e.0.0 d ≡ false
@@ -159,6 +165,9 @@ none_is g false (Some f) xs ys is h = rw h (sym (apart 0 (length (g f ∷ ys)) (
 differ : (a b : ℕ) → (a ≡ b → ⊥) → nat_eq a b ≡ false
 differ a b n = grind (arith, nat_tests)
 
+equal : (a b : ℕ) → a ≡ b → nat_eq a b ≡ true
+equal a b same = grind (arith, nat_tests)
+
 -- a run whose first row is of another directory is over
 pub run_over : {Y : Type 0} (d : ℕ) (row : NameRow) (more here : List NameRow) (rest : List (Vec NameRow Y))
     → here ≡ row ∷ more → IsRun d here rest → (row.directory ≡ d → ⊥) → run_of d (entries_from here rest) ≡ []
@@ -192,3 +201,109 @@ names_rise (e ∷ es) h = (names_less e.0 es h.0, names_rise es h.1)
 pub run_in_order : (d : ℕ) (es : List NameEntry) → is_sorted key_cmp es ≡ true
     → IsStrictlySortedBy (slice_cmp nat_cmp) (map (λ e. e.0) (run_of d es))
 run_in_order d es sorted = names_rise (run_of d es) (run_rises d es (rises key_cmp es sorted))
+
+-- ---- the name at a place
+
+-- past a list, the elements of the one behind it
+pub get_behind : {X : Type 0} (xs ys : List X) (n : ℕ) → length xs ≤ n
+    → slice_get (xs ++ ys) n ≡ slice_get ys (n - length xs)
+get_behind [] ys n le = let same : n ≡ n - 0 = omega arith in ap (slice_get ys) same
+get_behind (x ∷ xs) ys zero le = absurd (omega arith)
+get_behind (x ∷ xs) ys (suc n) le =
+    let same : n - length xs ≡ suc n - suc (length xs) = omega arith in
+    get_behind xs ys n (omega arith) ∙ ap (slice_get ys) same
+
+-- before its end, its own
+pub get_within : {X : Type 0} (xs ys : List X) (n : ℕ) → n < length xs → slice_get (xs ++ ys) n ≡ slice_get xs n
+get_within [] ys n lt = absurd (omega arith)
+get_within (x ∷ xs) ys zero lt = refl
+get_within (x ∷ xs) ys (suc n) lt = get_within xs ys n (omega arith)
+
+-- what a directory's names show of the row at a place
+abbrev pub shown_of : ℕ → Option NameEntry → Option (List ℕ × ℕ)
+shown_of d None = None
+shown_of d (Some e) = cond (nat_eq e.0.0 d) (Some (e.0.1, e.1)) None
+
+-- none of a later directory's rows is shown
+none_shown : (d : ℕ) (k : Key) (es : List NameEntry) (n : ℕ) → d < k.0 → AllLess key_cmp k es
+    → shown_of d (slice_get es n) ≡ None
+none_shown d k [] n lt h = refl
+none_shown d k (e ∷ es) zero lt h =
+    let le = not_later k e.0 (ap is_gt h.0) in
+    ap (λ b. cond b (Some (e.0.1, e.1)) None) (apart d e.0.0 (omega arith))
+none_shown d k (e ∷ es) (suc n) lt h = none_shown d k es n lt h.1
+
+-- the row at a place of those from a directory on is that directory's name at the place, or a later directory's
+pub shown_at : (d : ℕ) (es : List NameEntry) (n : ℕ) → Rises key_cmp es → AllFrom d es
+    → slice_get (run_of d es) n ≡ shown_of d (slice_get es n)
+shown_at d [] n r from = refl
+shown_at d (e ∷ es) n r from = elim (nat_eq e.0.0 d) as (λ b. nat_eq e.0.0 d ≡ b
+    → slice_get (run_of d (e ∷ es)) n ≡ shown_of d (slice_get (e ∷ es) n)) [
+      | true ↦ λ is. own is (λ m. shown_at d es m r.1 from.1) n
+      | false ↦ λ is. other is n
+    ] refl
+  where
+    own : nat_eq e.0.0 d ≡ true → ((m : ℕ) → slice_get (run_of d es) m ≡ shown_of d (slice_get es m)) → (n : ℕ)
+        → slice_get (run_of d (e ∷ es)) n ≡ shown_of d (slice_get (e ∷ es) n)
+    own is later n = ap (λ xs. slice_get xs n) (run_own d e es is) ∙ by n
+      where
+        by : (n : ℕ) → slice_get ((e.0.1, e.1) ∷ run_of d es) n ≡ shown_of d (slice_get (e ∷ es) n)
+        by zero = sym (ap (λ b. cond b (Some (e.0.1, e.1)) None) is)
+        by (suc n) = later n
+
+    other : nat_eq e.0.0 d ≡ false → (n : ℕ) → slice_get (run_of d (e ∷ es)) n ≡ shown_of d (slice_get (e ∷ es) n)
+    other is n = ap (λ xs. slice_get xs n) (run_past d e es r from.0 is) ∙ sym (by n)
+      where
+        by : (n : ℕ) → shown_of d (slice_get (e ∷ es) n) ≡ None
+        by zero = ap (λ b. cond b (Some (e.0.1, e.1)) None) is
+        by (suc n) = none_shown d e.0 es n (later_of d e.0.0 from.0 is) r.0
+
+module _ {Y : Type 0} (rows : List NameRow) (behind : List (Vec NameRow Y)) (n : ℕ) where
+  -- there is no row past the last one
+  pub none_past : length rows ≤ n → length behind ≡ 0 → slice_get (entries_from rows behind) n ≡ None
+  none_past le none =
+      ap (λ bs. slice_get (entries_from rows bs) n) (nil_from_length behind none)
+      ∙ get_behind (map row_entry rows) [] n (subst (λ k. k ≤ n) (sym (length-map rows row_entry)) le)
+
+  -- past the first rows, it is one of those behind them
+  pub goes_on : (block : Vec NameRow Y) (blocks : List (Vec NameRow Y)) → length rows ≤ n → behind ≡ block ∷ blocks
+      → slice_get (entries_from rows behind) n ≡ slice_get (entries_from block.items blocks) (n - length rows)
+  goes_on block blocks le is =
+      ap (λ bs. slice_get (entries_from rows bs) n) is
+      ∙ get_behind (map row_entry rows) (entries_from block.items blocks) n (subst (λ k. k ≤ n) (sym (length-map rows row_entry)) le)
+      ∙ ap (λ k. slice_get (entries_from block.items blocks) (n - k)) (length-map rows row_entry)
+
+  -- and else one of them
+  pub is_here : n < length rows → slice_get (entries_from rows behind) n ≡ option_map row_entry (slice_get rows n)
+  is_here lt =
+      get_within (map row_entry rows) (all_entries behind) n (subst (λ k. n < k) (sym (length-map rows row_entry)) lt)
+      ∙ slice_get-map row_entry rows n
+
+-- a row that is lent shows its entry
+pub shows_entry : (o : Option (Bor NameRow)) (rows : List NameRow) (n : ℕ) → IsSome o
+    → IfSome o (λ row. row.now ≡ get_or rows n row.now) → n < length rows
+    → option_map (λ (row : Bor NameRow). row_entry row.now) o ≡ option_map row_entry (slice_get rows n)
+shows_entry None rows n some read lt = absurd (cc)
+shows_entry (Some row) rows n some read lt =
+    ap (option_map row_entry) (sym (slice_get_read rows (length rows) n row.now refl lt read))
+
+module _ {Y : Type 0} {d : ℕ} {here : List NameRow} {rest : List (Vec NameRow Y)} (run : IsRun d here rest) (n : ℕ) where
+  shown_run : (o : Option NameEntry) → o ≡ slice_get (entries_from here rest) n
+      → slice_get (run_of d (entries_from here rest)) n ≡ shown_of d o
+  shown_run o is = shown_at d (entries_from here rest) n (rises key_cmp _ run.rises) run.from ∙ ap (shown_of d) (sym is)
+
+  -- there is no name at a place without a row
+  pub no_name_at : None ≡ slice_get (entries_from here rest) n → None ≡ slice_get (run_of d (entries_from here rest)) n
+  no_name_at is = sym (shown_run None is)
+
+  -- nor at that of another directory's row
+  pub other_at : (e : NameEntry) → Some e ≡ slice_get (entries_from here rest) n → (e.0.0 ≡ d → ⊥)
+      → None ≡ slice_get (run_of d (entries_from here rest)) n
+  other_at e is not =
+      ap (λ b. cond b (Some (e.0.1, e.1)) None) (sym (differ e.0.0 d not)) ∙ sym (shown_run (Some e) is)
+
+  -- that of the directory's own is the name
+  pub own_at : (e : NameEntry) → Some e ≡ slice_get (entries_from here rest) n → e.0.0 ≡ d
+      → Some (e.0.1, e.1) ≡ slice_get (run_of d (entries_from here rest)) n
+  own_at e is same =
+      ap (λ b. cond b (Some (e.0.1, e.1)) None) (sym (equal e.0.0 d same)) ∙ sym (shown_run (Some e) is)

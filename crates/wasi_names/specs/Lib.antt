@@ -5,3 +5,4 @@ pub mod NameRows
 pub mod Blocks
 pub mod Rows
 pub mod Runs
+pub mod OverNames

@@ -319,8 +319,24 @@ fn set_at(blocks: &mut Vec<Vec<NameRow>>, k: usize, at: usize, node: u64)
     ensures each { All IsBlock blocks.new.items }
     ensures rows { all_entries blocks.new.items ≡ with_list block_entries blocks.old.items k
         (revalued node (list_at block_entries blocks.old.items k) at) }
+    ensures len { vec_len blocks.new ≡ vec_len blocks.old }
+    ensures capacity { vec_capacity blocks.new ≡ vec_capacity blocks.old }
 {
     set_node(&mut blocks[k], at, node);
+}
+
+/// Gives a name in a directory, which has a node, another one.
+pub fn set(blocks: &mut Vec<Vec<NameRow>>, key: &Sought<'_>, node: u64)
+    requires kept { AreBlocks blocks.old.items }
+    requires held { is_some (find key_cmp key.now (all_entries blocks.old.items)) ≡ true }
+    ensures kept { AreBlocks blocks.new.items }
+    ensures put { all_entries blocks.new.items ≡ put key_cmp key.now node (all_entries blocks.old.items) }
+    ensures len { vec_len blocks.new ≡ vec_len blocks.old }
+    ensures capacity { vec_capacity blocks.new ≡ vec_capacity blocks.old }
+{
+    let k = block_place(blocks, key);
+    let at = place_at(blocks, k, key);
+    set_at(blocks, k, at, node);
 }
 
 /// Puts a node under a name in a directory, in the place of any other, where a block is named that has room for a row,

@@ -4,6 +4,8 @@
 mod blocks;
 mod name_row;
 mod near;
+mod over_rows;
+mod over_run;
 mod rows;
 mod run;
 mod shift;
@@ -11,5 +13,7 @@ mod sought;
 
 pub use name_row::NameRow;
 pub use near::Near;
+pub use over_rows::{OverRows, names_lie_over};
+pub use over_run::OverRun;
 pub use rows::{Rows, directories_are_apart, names_are_apart};
 pub use run::Run;

@@ -1,5 +1,5 @@
 //! The rows of all directories.
-ghost use Rattle.std.specs.Prelude.{◌≡◌, ℕ, List, OnErr, OnOk, Some, is_some, true, false, nat_eq};
+ghost use Rattle.std.specs.Prelude.{◌≡◌, ℕ, List, OnErr, OnOk, IfOk, Some, is_some, true, false, nat_eq};
 ghost use Rattle.std.specs.FinMap as maps;
 ghost use Rattle.std.specs.String.{string_bytes};
 ghost use Rattle.wasi_names.specs.NameRows.{AllNames, Key, names_at, run_of};
@@ -86,6 +86,40 @@ impl Rows {
     {
         let row = NameRow::new(directory, name, node);
         blocks::put(&mut self.blocks, &mut self.spare, None, row);
+    }
+
+    /// Gives a name in a directory, which holds a node, another one. It takes no memory.
+    pub fn set(&mut self, directory: u64, name: &str, node: u64)
+        requires { is_some (maps.get self.old.names (directory, name.now)) ≡ true }
+        ensures names { self.new.names ≡ maps.insert self.old.names (directory, name.now) node }
+        ensures room { self.new.has_room ≡ self.old.has_room }
+    {
+        let key = Sought::new(directory, name);
+        blocks::set(&mut self.blocks, &key, node);
+    }
+
+    /// Puts a node under a name in a directory, in the place of any other. Only where the directory has no such name is
+    /// this copied, and room made for it.
+    pub fn put(&mut self, directory: u64, name: &str, node: u64) -> Result<(), AllocError>
+        ensures put { OnOk result (self.new.names ≡ maps.insert self.old.names (directory, name.now) node) }
+        ensures kept { OnErr result (self.new.names ≡ self.old.names) }
+    {
+        if self.has(directory, name) {
+            self.set(directory, name, node);
+            return Ok(());
+        }
+        let copy = self.copied(name)?;
+        self.reserve()?;
+        self.insert(directory, copy, node);
+        Ok(())
+    }
+
+    /// A name once more, where the rows have theirs.
+    fn copied(&self, name: &str) -> Result<String, AllocError>
+        ensures { IfOk result (λ copy. string_bytes copy ≡ name.now) }
+    {
+        let alloc = *self.blocks.allocator();
+        String::from_str(alloc, name)
     }
 
     /// Takes a name out of a directory, and gives the node that it held.

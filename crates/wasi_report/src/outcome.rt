@@ -120,8 +120,11 @@ fn tell_tree<A: Allocator + Copy>(
     ensures fits { OnOk result (All FitsNode (map given_of tree.now.tree.nodes)) }
 {
     out.begin_array()?;
-    for n in 0..tree.count() {
-        tell_node(digits, &tree.node(n), out)?;
+    for n in 0..tree.next() {
+        let Some(node) = tree.node(n) else {
+            unreachable!();
+        };
+        tell_node(digits, &node, &tree.names(n), out)?;
     }
     out.end_array()
 }

@@ -1,8 +1,8 @@
 //! How the nodes of a tree are reported.
-ghost use Rattle.std.specs.Prelude.{◌≡◌, ◌++◌, OnOk};
+ghost use Rattle.std.specs.Prelude.{◌≡◌, ◌++◌, [], OnOk};
 ghost use Rattle.serde_json.specs.Data.{object, string, no_members};
 ghost use Rattle.wasi_tree.specs.Given.{directory};
-ghost use Rattle.wasi_tree.specs.Lent.{lent, lent_content};
+ghost use Rattle.wasi_tree.specs.Viewed.{viewed, viewed_content};
 ghost use Rattle.wasi_report.specs.ReadBack.{FitsTimes, FitsContent, FitsNode};
 ghost use Rattle.wasi_report.specs.Report.{bits_text, times_value, put_all, node_value};
 ghost use Rattle.wasi_report.specs.Told.{told, content_told};
@@ -12,22 +12,23 @@ use json::Writer;
 use std::alloc::{AllocError, Allocator};
 use wasi_host::Bits;
 use wasi_names::Run;
-use wasi_tree::{LentContent, LentNode};
+use wasi_tree::{ContentView, NodeView};
 
-/// A node, as one object with no space and with keys in byte order.
+/// A node, as one object with no space and with keys in byte order. A directory has these names.
 pub fn tell_node<A: Allocator + Copy>(
     digits: DigitRoom<A>,
-    node: &LentNode<'_>,
+    node: &NodeView<'_>,
+    names: &Run<'_>,
     out: &mut Writer,
 ) -> Result<(), AllocError>
     ensures before { out.new.before ≡ out.old.before }
-    ensures tokens { OnOk result (out.new.tokens ≡ out.old.tokens ++ told (node_value (lent node.now))) }
-    ensures fits { OnOk result (FitsNode (lent node.now)) }
+    ensures tokens { OnOk result (out.new.tokens ≡ out.old.tokens ++ told (node_value (viewed names.now node.now))) }
+    ensures fits { OnOk result (FitsNode (viewed names.now node.now)) }
 {
     out.begin_object()?;
     out.key("bits")?;
     out.string(bits_text(node.bits))?;
-    tell_content(digits, &node.content, out)?;
+    tell_content(digits, &node.content, names, out)?;
     out.key("times")?;
     tell_times(digits, node, out)?;
     out.end_object()
@@ -35,23 +36,24 @@ pub fn tell_node<A: Allocator + Copy>(
 
 fn tell_content<A: Allocator + Copy>(
     digits: DigitRoom<A>,
-    content: &LentContent<'_>,
+    content: &ContentView<'_>,
+    names: &Run<'_>,
     out: &mut Writer,
 ) -> Result<(), AllocError>
     ensures before { out.new.before ≡ out.old.before }
-    ensures tokens { OnOk result (out.new.tokens ≡ out.old.tokens ++ content_told (lent_content content.now)) }
-    ensures fits { OnOk result (FitsContent (lent_content content.now)) }
+    ensures tokens { OnOk result (out.new.tokens ≡ out.old.tokens ++ content_told (viewed_content names.now content.now)) }
+    ensures fits { OnOk result (FitsContent (viewed_content names.now content.now)) }
 {
     match content {
-        LentContent::File(bytes) => {
+        ContentView::File(bytes) => {
             out.key("file")?;
             tell_bytes(digits, bytes, out)
         }
-        LentContent::Dir(names) => {
+        ContentView::Dir => {
             out.key("dir")?;
             tell_numbers(names, out)
         }
-        LentContent::Link(text) => {
+        ContentView::Link(text) => {
             out.key("link")?;
             out.string(text)
         }
@@ -75,12 +77,12 @@ fn bits_text(bits: Bits) -> &'static str
 
 fn tell_times<A: Allocator + Copy>(
     digits: DigitRoom<A>,
-    node: &LentNode<'_>,
+    node: &NodeView<'_>,
     out: &mut Writer,
 ) -> Result<(), AllocError>
     ensures before { out.new.before ≡ out.old.before }
-    ensures tokens { OnOk result (out.new.tokens ≡ out.old.tokens ++ told (times_value (lent node.now))) }
-    ensures fits { OnOk result (FitsTimes (lent node.now)) }
+    ensures tokens { OnOk result (out.new.tokens ≡ out.old.tokens ++ told (times_value (viewed [] node.now))) }
+    ensures fits { OnOk result (FitsTimes (viewed [] node.now)) }
 {
     out.begin_array()?;
     node.atime.tell(digits, out)?;

@@ -91,6 +91,6 @@ pub fn summary_of(alloc: Global, n: u64) -> Result<String, AllocError>
     let calls = ran.calls.as_slice();
     let ok = successes(&ran.answers);
     let bytes = bytes_answered(calls, &ran.answers);
-    let nodes = ran.context.host().inner().count();
+    let nodes = ran.context.host().inner().next();
     line_of(alloc, n, calls.len(), ok, bytes, nodes)
 }

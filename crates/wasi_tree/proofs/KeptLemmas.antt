@@ -1,22 +1,19 @@
 -- What a step keeps of where directories stand.
-use Rattle.std.proofs.Common.{◌≡◌, ◌≢◌, ℕ, ◌+◌, ◌<◌, Bool, true, false, cond, List, [], ◌∷◌, ◌++◌, slice_set, Option, Some, None, Result, Ok, Err, OnOk, OnErr, refl, sym, ap, ◌∙◌, subst, arith}
-use Rattle.std.proofs.lemmas.Bool.{true≢false, eqb-false}
-use Rattle.std.proofs.lemmas.List.{length-set, get_or-set_other}
+use Rattle.std.proofs.Common.{◌≡◌, ℕ, ◌+◌, ◌<◌, false, List, [], ◌∷◌, ◌++◌, slice_set, Option, Some, None, Result, Ok, Err, OnOk, OnErr, refl, sym, ap, ◌∙◌, subst, arith}
+use Rattle.std.proofs.lemmas.Bool.{true≢false, eqb-false, ne_eqb}
 use Rattle.std.specs.FinMap as maps
 use Rattle.wasi_paths.specs.Text.{is_dot_text}
 use Rattle.wasi_host.specs.Tree.{Tree, Node, Nodes, Content, node_at, next_of, names_of, child, is_directory}
 use Rattle.wasi_host.specs.HostCall.{UnlinkAt, RemoveDirAt}
-use Rattle.wasi_host.specs.Refusal.{refusal, refused_with}
-use Rattle.wasi_host.specs.Step.{with_content, with_entry, content_changed, node_made, file_cut, other_bytes, with_piece, with_size, write_step, with_times, times_set, times_set_if, times_step, name_added, name_dropped, dropped_step, one_name_less, made_gone, unlink_step, remove_step, without_name, with_name, one_name_more}
-use Rattle.wasi_host.specs.declared.errors.ErrorCode.{ErrorCode}
+use Rattle.wasi_host.specs.Refusal.{refusal}
+use Rattle.wasi_host.specs.Step.{with_content, with_entry, content_changed, node_made, other_bytes, with_times, times_set, name_added, name_dropped, name_lost, without_name, with_name, one_name_more}
 use Rattle.wasi_host.specs.declared.system_time.SystemTime.{SystemTime}
 use Rattle.wasi_host.proofs.Changes.{changed, changed_apart, directory_within, next_of-changed, next_of-made, node_at-other}
 use Rattle.wasi_host.proofs.ValidSteps.{missing_name, can_unlink, can_remove}
-use Rattle.wasi_tree.specs.Move.{MayName}
-use Rattle.wasi_tree.specs.ParentOf.{parent_of, named_at, AreParents, IsKept}
-use Rattle.wasi_tree.proofs.LinkLemmas.{MayLink, added, links_apart}
-use Rattle.wasi_tree.proofs.ParentLemmas.{SameNames, names_same, names_changed, parents_after, parents_same, stands_leaf, taken_kinds, parents_taken, parents_put_leaf, parents_grown}
-use Rattle.wasi_tree.proofs.SoundLemmas.{Seen, seen, seen-other_bytes, seen-one_name_more, seen-one_name_less, seen-made_gone}
+use Rattle.wasi_tree.specs.Move.{HasName, MayGain, MayName}
+use Rattle.wasi_tree.specs.ParentOf.{named_at, AreParents, IsKept}
+use Rattle.wasi_tree.proofs.ParentLemmas.{SameNames, names_same, names_changed, parents_same, taken_kinds, parents_taken, parents_put_leaf, parents_grown}
+use Rattle.wasi_tree.proofs.SoundLemmas.{Seen, seen, seen-other_bytes, seen-one_name_more, seen-name_lost}
 use Rattle.wasi_tree.proofs.NameLemmas.{get-no_names}
 use Rattle.wasi_tree.proofs.StoreLemmas.{child_is}
 
@@ -41,31 +38,10 @@ names_rewritten t n change within =
     names_seen t n (with_content (node_at t n) (other_bytes change)) (content_changed t n (other_bytes change)).worked
     within (seen-other_bytes change (node_at t n).content)
 
-pub names_cut : (t : Tree) (n : ℕ) (cut : Bool) → n < next_of t → SameNames t (cond cut (file_cut t n) t)
-names_cut t n true within = names_rewritten t n (with_size 0) within
-names_cut t n false within = names_same refl
-
-pub names_written : (t : Tree) (n offset : ℕ) (piece : List ℕ) → n < next_of t
-    → SameNames t (write_step t n offset piece)
-unfolding write_step
-names_written t n offset [] within = names_same refl
-names_written t n offset (byte ∷ bytes) within =
-    names_rewritten t n (λ old. with_piece old offset (byte ∷ bytes)) within
-
 pub names_timed : (t : Tree) (n : ℕ) (atime mtime : Option SystemTime) → n < next_of t
     → SameNames t (times_set t n atime mtime)
 names_timed t n atime mtime within =
     names_seen t n (with_times (node_at t n) atime mtime) (times_set t n atime mtime).worked within refl
-
-pub names_timed_at : (t : Tree) (d : ℕ) (name : List ℕ) (atime mtime : Option SystemTime)
-    → ((n : ℕ) → child t d name ≡ Some n → n < next_of t) → SameNames t (times_step t d name atime mtime)
-unfolding times_step
-names_timed_at t d name atime mtime within = by (child t d name) within
-  where
-    by : (found : Option ℕ) → ((n : ℕ) → found ≡ Some n → n < next_of t)
-        → SameNames t (times_set_if t atime mtime found)
-    by None inside = names_same refl
-    by (Some n) inside = names_timed t n atime mtime (inside n refl)
 
 -- of a call that may be refused
 pub names_either : {A E : Type 0} {t u v : Tree} (result : Result A E) → OnOk result (u ≡ v) → OnErr result (u ≡ t)
@@ -115,39 +91,39 @@ kept_grown {t} {u} {d} {name} {node} {old = old} grown kept counted pushed =
 
 -- ---- a name more
 
-pub kept_linked : {t u : Tree} {old new n : ℕ} {old_name new_name : List ℕ} {marks more : ℕ}
-    {parents : List (Option ℕ)} → MayLink t old old_name new new_name n → n < next_of t
-    → u ≡ name_added t new new_name n → IsKept t marks parents → more ≡ marks → next_of u ≡ next_of t
-    → IsKept u more parents
-kept_linked {t} {u} {new = new} {n} {new_name = new_name} {parents = parents} may within is_added kept counted next =
-    let can = added may in
-    let put : Tree = content_changed t new (with_entry new_name n) in
+pub kept_linked : {t u : Tree} {d n : ℕ} {name : List ℕ} {marks more : ℕ} {parents : List (Option ℕ)}
+    → MayGain t d name n → u ≡ name_added t d name n → IsKept t marks parents → more ≡ marks
+    → next_of u ≡ next_of t → IsKept u more parents
+kept_linked {t} {u} {d} {n} {name} {parents = parents} gains is_added kept counted next =
+    let directory = gains.may.directory in
+    let put : Tree = content_changed t d (with_entry name n) in
     let inside : n < next_of put =
-    omega (arith, within, next_of-changed t new (with_name (node_at t new) new_name n) put.worked) in
+    omega (arith, gains.within, next_of-changed t d (with_name (node_at t d) name n) put.worked) in
     record {
       counted = counted ∙ kept.counted ∙ sym next;
       stand = subst (λ v. AreParents v parents)
-          (changed_apart t new n (with_entry new_name n) one_name_more (directory_within t new can.looks.directory)
-          (eqb-false n new (links_apart may))
+          (changed_apart t d n (with_entry name n) one_name_more (directory_within t d directory)
+          (eqb-false n d gains.apart)
           ∙ sym is_added)
           (parents_same
           (names_seen put n (with_content (node_at put n) one_name_more)
           (content_changed put n one_name_more).worked inside (seen-one_name_more (node_at put n).content))
-          (parents_put_leaf t new n new_name put.worked can.looks.directory (missing_name t new new_name can.missing).1
-          kept.stand within can.leaf));
+          (parents_put_leaf t d n name put.worked directory (missing_name t d name gains.may.missing).1
+          kept.stand gains.within gains.leaf));
     }
+
+-- the same, of what may be refused
+pub linked_either : {A E : Type 0} {t u : Tree} {d n : ℕ} {name : List ℕ} {marks : ℕ} {parents : List (Option ℕ)}
+    → MayGain t d name n → (result : Result A E) → OnOk result (u ≡ name_added t d name n) → OnErr result (u ≡ t)
+    → IsKept t marks parents → next_of u ≡ next_of t → IsKept u marks parents
+linked_either gains (Ok a) added same kept next = kept_linked gains added kept refl next
+linked_either gains (Err error) added same kept next = kept_same kept refl (names_same same)
 
 -- ---- a name less
 
--- a name of a directory holds a node other than the directory
-pub record Has (t : Tree) (d : ℕ) (name : List ℕ) (n : ℕ) : Type 0 where
-  pub directory : is_directory (node_at t d).content ≡ true
-  pub named : named_at t d name ≡ Some n
-  pub apart : n ≢ d
-
 -- the name is gone, and what it held is what it was, but for its count of names, or that it is gone
-module _ {t : Tree} {d n : ℕ} {name : List ℕ} (has : Has t d name n) (change : Content → Content)
-    (same : seen (change (node_at t n).content) ≡ seen (node_at t n).content) (within : n < next_of t) where
+module _ {t : Tree} {d n : ℕ} {name : List ℕ} (has : HasName t d name n) (change : Content → Content)
+    (same : seen (change (node_at t n).content) ≡ seen (node_at t n).content) where
   abbrev less : Node
   less = without_name (node_at t d) name
 
@@ -160,10 +136,10 @@ module _ {t : Tree} {d n : ℕ} {name : List ℕ} (has : Has t d name n) (change
   pub dropped_names : SameNames half dropped
   dropped_names =
       names_seen half n (record (node_at t n) { content = change (node_at t n).content }) dropped.worked
-      (omega (arith, within, next_of-changed t d less t.worked))
+      (omega (arith, has.within, next_of-changed t d less t.worked))
       (same
       ∙ ap (λ (node : Node). seen node.content)
-      (sym (node_at-other t d less t.worked (directory_within t d has.directory) n has.apart)))
+      (sym (node_at-other t d less t.worked (directory_within t d has.directory) n (eqb-false n d has.apart))))
 
   pub dropped_kinds : (k : ℕ) → is_directory (node_at dropped k).content ≡ is_directory (node_at t k).content
   dropped_kinds k = dropped_names.kinds k ∙ taken_kinds t d n name t.worked has.directory has.named k
@@ -173,80 +149,39 @@ module _ {t : Tree} {d n : ℕ} {name : List ℕ} (has : Has t d name n) (change
   parents_dropped are =
       parents_same dropped_names (parents_taken t d n name t.worked has.directory has.named are)
 
--- where what is no directory stands is no matter
-pub parents_leaf : {t : Tree} {n : ℕ} {parents : List (Option ℕ)} (parent : Option ℕ) → n < next_of t
-    → is_directory (node_at t n).content ≡ false → AreParents t (slice_set parents n parent) → AreParents t parents
-parents_leaf {t} {n} {parents} parent within leaf are =
-    parents_after are
-    (record {
-      grows = omega arith;
-      kinds = λ m other. refl;
-      still = λ d m name other is. is;
-      before = λ d m name other is. is;
-    })
-    (stands_leaf (parent_of parents n) within leaf)
-    (record { here = refl; others = λ m other. sym (get_or-set_other parents n m parent None other) })
-    (sym (length-set parents n parent) ∙ are.len)
+-- a name is dropped, and what it held stands nowhere from then on
+pub kept_dropped : {t u : Tree} {marks more d n : ℕ} {name : List ℕ} {old new : List (Option ℕ)} → HasName t d name n
+    → u ≡ name_dropped t d name name_lost n → IsKept t marks old → more ≡ marks → next_of u ≡ next_of t
+    → new ≡ slice_set old n None → IsKept u more new
+kept_dropped {t} {u} {n = n} {old = old} has dropped kept counted next set = record {
+  counted = counted ∙ kept.counted ∙ sym next;
+  stand = subst (AreParents u) (sym set) (subst (λ v. AreParents v (slice_set old n None)) (sym dropped)
+      (parents_dropped has name_lost (seen-name_lost (node_at t n).content) kept.stand));
+}
 
-unlink_has : (t : Tree) (d n : ℕ) (name : List ℕ) → refusal t (UnlinkAt d name) ≡ None → child t d name ≡ Some n
-    → Has t d name n
-unlink_has t d n name free is =
+-- ---- names that no row refuses to drop
+
+pub unlink_has : {t : Tree} {d n : ℕ} {name : List ℕ} → refusal t (UnlinkAt d name) ≡ None → child t d name ≡ Some n
+    → n < next_of t → HasName t d name n
+unlink_has {t} {d} {n} {name} free is within =
     let can = can_unlink t d n name free is in
     record {
       directory = can.0;
       named = named_there t d name can.1 is;
-      apart = λ same. true≢false
-          (sym can.0 ∙ ap (λ k. is_directory (node_at t k).content) (sym same) ∙ can.2);
+      within = within;
+      apart = ne_eqb n d (λ same. true≢false
+          (sym can.0 ∙ ap (λ k. is_directory (node_at t k).content) (sym same) ∙ can.2));
     }
 
-pub parents_unlinked : (t : Tree) (d : ℕ) (name : List ℕ) {parents : List (Option ℕ)}
-    → refusal t (UnlinkAt d name) ≡ None → AreParents t parents → AreParents (unlink_step t d name) parents
-unfolding unlink_step
-parents_unlinked t d name {parents} free are = by (child t d name) refl
-  where
-    by : (found : Option ℕ) → child t d name ≡ found → AreParents (dropped_step t d name one_name_less found) parents
-    by None is = are
-    by (Some n) is =
-        let has = unlink_has t d n name free is in
-        let within = are.within d n name has.named in
-        let same = seen-one_name_less (node_at t n).content in
-        let dropped = parents_dropped has one_name_less same within are in
-        parents_leaf None (omega (arith, within, are.len, dropped.len, length-set parents n None))
-        (dropped_kinds has one_name_less same within n ∙ (can_unlink t d n name free is).2) dropped
-
-pub kept_unlinked : {A : Type 0} {t u : Tree} {marks more : ℕ} {parents : List (Option ℕ)} (d : ℕ) (name : List ℕ)
-    (result : Result A ErrorCode) → refused_with result ≡ refusal t (UnlinkAt d name) → OnOk result (u ≡ unlink_step t d name)
-    → OnErr result (u ≡ t) → IsKept t marks parents → more ≡ marks → next_of u ≡ next_of t → IsKept u more parents
-kept_unlinked {t = t} {parents = parents} d name (Ok a) free step same kept counted next = record {
-  counted = counted ∙ kept.counted ∙ sym next;
-  stand = subst (λ v. AreParents v parents) (sym step) (parents_unlinked t d name (sym free) kept.stand);
-}
-kept_unlinked d name (Err error) free step same kept counted next = kept_same kept counted (names_same same)
-
-remove_has : (t : Tree) (d n : ℕ) (name : List ℕ) → refusal t (RemoveDirAt d name) ≡ None → child t d name ≡ Some n
-    → Has t d name n
-remove_has t d n name free found =
+pub remove_has : {t : Tree} {d n : ℕ} {name : List ℕ} → refusal t (RemoveDirAt d name) ≡ None
+    → child t d name ≡ Some n → n < next_of t → HasName t d name n
+remove_has {t} {d} {n} {name} free found within =
     let can = can_remove t d n name free found in
     let named : named_at t d name ≡ Some n = named_there t d name can.1 found in
     record {
       directory = can.0;
       named = named;
-      apart = λ same. named_bare t d n name named
-          (ap (λ k. maps.len (names_of (node_at t k).content)) (sym same) ∙ can.3);
-    }
-
--- a directory's name is dropped, and it stands nowhere from then on
-pub kept_removed : {t u : Tree} {marks more n : ℕ} {old new : List (Option ℕ)} (d : ℕ) (name : List ℕ)
-    → refusal t (RemoveDirAt d name) ≡ None → child t d name ≡ Some n → u ≡ remove_step t d name
-    → IsKept t marks old → more ≡ marks → next_of u ≡ next_of t → new ≡ slice_set old n None → IsKept u more new
-unfolding remove_step
-kept_removed {t} {u} {n = n} {old = old} d name free found step kept counted next set =
-    let has = remove_has t d n name free found in
-    let dropped =
-    parents_dropped has made_gone (seen-made_gone (node_at t n).content) (kept.stand.within d n name has.named)
-    kept.stand in
-    record {
-      counted = counted ∙ kept.counted ∙ sym next;
-      stand = subst (AreParents u) (sym set) (subst (λ v. AreParents v (slice_set old n None))
-          (sym (step ∙ ap (dropped_step t d name made_gone) found)) dropped);
+      within = within;
+      apart = ne_eqb n d (λ same. named_bare t d n name named
+          (ap (λ k. maps.len (names_of (node_at t k).content)) (sym same) ∙ can.3));
     }

@@ -1,10 +1,12 @@
 -- Lemmas on names that are added to nodes that are there.
-use Rattle.std.proofs.Common.{◌≡◌, ℕ, false, nat_eq, List, [], ◌∷◌, ◌++◌, Option, Some, None, refl, sym, ap, ◌∙◌, arith}
+use Rattle.std.proofs.Common.{◌≡◌, ℕ, ◌-◌, ◌^◌, ◌<◌, false, nat_eq, List, [], ◌∷◌, ◌++◌, Option, Some, None, refl, sym, ap, ◌∙◌, arith}
 use Rattle.std.proofs.lemmas.List.{append-nil}
 use Rattle.std.specs.FinSet.{insert}
 use Rattle.std.proofs.lemmas.Bool.{true≢false, ne_eqb}
 use Rattle.std.specs.Option.{is_some}
-use Rattle.wasi_host.specs.Tree.{Tree, Nodes, node_at, child, is_directory}
+use Rattle.std.specs.Prelude.{IsTrue}
+use Rattle.wasi_paths.specs.Text.{is_name_text}
+use Rattle.wasi_host.specs.Tree.{Tree, Nodes, node_at, next_of, child, is_directory, links_of}
 use Rattle.wasi_host.specs.HostCall.{LinkAt}
 use Rattle.wasi_host.specs.Refusal.{refusal, first_row, both_rows, entry_rows, links_rows, linking_rows}
 use Rattle.wasi_host.specs.Answer.{unless}
@@ -12,7 +14,9 @@ use Rattle.wasi_host.specs.Step.{found_under, with_nodes, name_added, added_step
 use Rattle.wasi_host.specs.declared.errors.ErrorCode.{ErrorCode}
 use Rattle.wasi_host.proofs.Refusals.{refused_before}
 use Rattle.wasi_host.proofs.ValidSteps.{CanAdd, can_add}
+use Rattle.wasi_tree.specs.Move.{MayGain}
 use Rattle.wasi_tree.specs.TouchedTree.{Touched, AnsweredByTable}
+use Rattle.wasi_tree.proofs.GoodNames.{added_good}
 
 -- ---- the rows
 
@@ -55,6 +59,16 @@ module _ {t : Tree} {old new n : ℕ} {old_name new_name : List ℕ} {code : Err
       let missing = are.missing in
       grind (arith)
 
+pub links_free : {t : Tree} {old new n : ℕ} {old_name new_name : List ℕ} → AreNamed t old old_name new new_name n
+    → first_row (entry_rows t new) ≡ None → first_row (links_rows t (Some n)) ≡ None
+    → refusal t (LinkAt old old_name new new_name) ≡ None
+unfolding refusal
+links_free are entered linked =
+    let named = are.named in
+    let found = are.found in
+    let missing = are.missing in
+    grind (arith)
+
 -- ---- a call that no row refuses
 
 pub record MayLink (t : Tree) (old : ℕ) (old_name : List ℕ) (new : ℕ) (new_name : List ℕ) (n : ℕ) : Type 0 where
@@ -69,6 +83,17 @@ module _ {t : Tree} {old new n : ℕ} {old_name new_name : List ℕ} (may : MayL
   pub links_apart : nat_eq n new ≡ false
   links_apart = ne_eqb n new (λ same. true≢false
       (sym added.looks.directory ∙ ap (λ k. is_directory (node_at t k).content) (sym same) ∙ added.leaf))
+
+  -- so the node may get the name
+  pub may_gain : IsTrue (is_name_text new_name) → n < next_of t → links_of (node_at t n).content < 2 ^ 64 - 1
+      → MayGain t new new_name n
+  may_gain text within room = record {
+    may = record { directory = added.looks.directory; missing = added.missing; good = added_good added text };
+    within = within;
+    apart = links_apart;
+    leaf = added.leaf;
+    links = room;
+  }
 
   pub links : name_added t new new_name n ≡ link_step t old old_name new new_name
   unfolding link_step

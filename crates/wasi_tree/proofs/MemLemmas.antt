@@ -17,14 +17,18 @@ use Rattle.wasi_host.specs.declared.held.AccessMode.TheVariants.{PathOnly}
 use Rattle.wasi_host.proofs.Changes.{directory_within}
 use Rattle.wasi_host.proofs.Refusals.{refusal_of, part_refuses}
 use Rattle.wasi_tree.specs.MemState.{HeldMap, MemState, live_of, held_in, world_of}
-use Rattle.wasi_tree.specs.Sound.{HoldsNodes}
-use Rattle.wasi_tree.specs.TouchedTree.{Touched, RefusedByTable, FollowsTable}
+use Rattle.wasi_tree.specs.Sound.{HoldsNodes, NodesStay}
+use Rattle.wasi_tree.specs.TouchedTree.{Touched, Grows, RefusedByTable, FollowsTable}
+use Rattle.wasi_tree.proofs.TouchedLemmas.{held_stays}
 use Rattle.wasi_tree.proofs.SlotLemmas.{holds-released, holds-given}
 
 -- a live handle's node is in the tree; the first part of the conclusion shows the call to match
-pub held_within : (t : Tree) (handles : HeldMap) (h : ℕ) → HoldsNodes t handles → contains (live_of handles) h ≡ true
+pub held_within : (t : Tree) (HasRoom : ℕ → Type 0) (handles : HeldMap) (h : ℕ) → HoldsNodes t HasRoom handles
+    → contains (live_of handles) h ≡ true
     → (contains (live_of handles) h ≡ true) × ((held_in handles h).node < next_of t) × IsHeld t (held_in handles h)
-held_within t handles h holds live = let is : IsHeld t (held_in handles h) = holds.each h live in (live, is.within, is)
+    × HasRoom (held_in handles h).node
+held_within t HasRoom handles h holds live =
+    let is : IsHeld t (held_in handles h) = holds.each h live in (live, is.within, is, holds.room h live)
 
 -- a directory's handle, for its path alone
 pub path_held : (t : Tree) (n : ℕ) → is_directory (node_at t n).content ≡ true
@@ -35,13 +39,24 @@ path_held t n directory = record {
 }
 
 -- what always holds of the state
-pub all_held : (m : MemState) → HoldsNodes m.tree m.handles → AllHeld (live_of m.handles) (world_of m)
-all_held m holds = record { each = holds.each }
+pub all_held : (m : MemState) (HasRoom : ℕ → Type 0) → HoldsNodes m.tree HasRoom m.handles
+    → AllHeld (live_of m.handles) (world_of m)
+all_held m HasRoom holds = record { each = holds.each }
 
 -- with no live handle
-pub holds_none : (t : Tree) (handles : HeldMap) → live_of handles ≡ empty → HoldsNodes t handles
-holds_none t handles none = record {
-  each = λ h live. absurd (true≢false (sym live ∙ ap (λ l. contains l h) none ∙ contains-empty nat_cmp h));
+pub holds_none : (t : Tree) (HasRoom : ℕ → Type 0) (handles : HeldMap) → live_of handles ≡ empty
+    → HoldsNodes t HasRoom handles
+holds_none t HasRoom handles none = record { each = λ h live. absurd (never h live); room = λ h live. absurd (never h live) }
+  where
+    never : (h : ℕ) → contains (live_of handles) h ≡ true → ⊥
+    never h live = true≢false (sym live ∙ ap (λ l. contains l h) none ∙ contains-empty nat_cmp h)
+
+-- the tree goes on, and what has room has it still
+pub holds-on : {t u : Tree} {HasRoom StillHasRoom : ℕ → Type 0} {handles : HeldMap} → HoldsNodes t HasRoom handles
+    → NodesStay t u → Grows HasRoom StillHasRoom → HoldsNodes u StillHasRoom handles
+holds-on holds stays grows = record {
+  each = λ h live. held_stays stays (holds.each h live);
+  room = λ h live. grows (held_in _ h).node (holds.room h live);
 }
 
 -- ---- no row is `Io`
@@ -136,4 +151,4 @@ fated (Err Memory) cause = record { failed = refl; later = λ n. refl }
 fated (Err (Code Io)) cause = absurd (omega (arith, cause.io refl))
 fated (Err (Code code)) cause = record { failed = refl; later = λ n. refl }
 
-pub ruleset mem_rules = (holds_none, held_within, path_held, all_held, holds-released, holds-given)
+pub ruleset mem_rules = (holds_none, held_within, path_held, all_held, holds-on, holds-released, holds-given)

@@ -1,18 +1,31 @@
 -- The names of a directory as a map of texts.
-use Rattle.std.proofs.Common.{◌≡◌, ℕ, true, false, cond, List, [], ◌∷◌, Option, None, Some, refl, sym, ap, ◌∙◌}
+use Rattle.std.proofs.Common.{◌≡◌, ℕ, true, false, cond, List, [], ◌∷◌, Option, None, Some, length, refl, sym, ap, ◌∙◌}
 use Rattle.std.specs.Prelude.{is_some}
 use Rattle.std.specs.Option.{option_or}
 use Rattle.std.specs.Ordering.{nat_cmp, eq_by_cmp}
 use Rattle.std.specs.Cmp.Lexicographic.{slice_cmp, nat_list_cmp_total}
 use Rattle.std.specs.FinMap.Entries.{find}
-use Rattle.std.specs.FinMap.{get, empty, insert, from_entries, get-from_entries, get-empty, get-insert}
-use Rattle.wasi_host.specs.Tree.{Names}
+use Rattle.std.specs.FinMap.{entries, from_sorted, empty_of_len, len-entries, entries-from_sorted, get, empty, insert, from_entries, get-from_entries, get-empty, get-insert}
+use Rattle.wasi_host.specs.Tree.{Names, Content, File, Directory, Link, names_of, is_directory}
 use Rattle.wasi_tree.specs.StoredTree.{with_first}
 use Rattle.wasi_tree.proofs.TextEntries.{same_name}
 use Rattle.wasi_names.proofs.NamesLemmas.{same_names}
 
 pub get-no_names : (name : List ℕ) → get {X = ℕ} (from_entries {R = slice_cmp nat_cmp} []) name ≡ None
 get-no_names name = get-empty (slice_cmp nat_cmp) name
+
+-- no names are no entries
+pub no_entries : entries (empty {K = List ℕ} {X = ℕ} {R = slice_cmp nat_cmp}) ≡ []
+no_entries =
+    ap entries (sym (empty_of_len (from_sorted {X = ℕ} {R = slice_cmp nat_cmp} [])
+    (len-entries _ ∙ ap length (entries-from_sorted (slice_cmp nat_cmp) [] tt))))
+    ∙ entries-from_sorted (slice_cmp nat_cmp) [] tt
+
+-- what is no directory has no names
+pub no_names_of : (c : Content) → is_directory c ≡ false → names_of c ≡ empty
+no_names_of (File bytes links) other = refl
+no_names_of (Directory names gone) other = absurd (cc)
+no_names_of (Link text links) other = refl
 
 -- names with some entries more, one after another, unless one of its name is there
 abbrev pub with_firsts : Names → List (List ℕ × ℕ) → Names

@@ -1,12 +1,13 @@
 -- Where directories stand after a name has moved.
 use Rattle.std.proofs.Common.{◌≡◌, ◌≢◌, ℕ, ◌<◌, true, List, length, slice_set, Option, Some, None, refl, sym, ap, ◌∙◌, subst, arith}
+use Rattle.std.proofs.lemmas.Bool.{ne_eqb}
 use Rattle.std.proofs.lemmas.List.{length-set, get_or-set_same, get_or-set_other}
 use Rattle.wasi_host.specs.Tree.{Tree, node_at, next_of, is_directory}
 use Rattle.wasi_host.specs.Step.{without_name, name_lost, name_moved, name_moved_onto}
 use Rattle.wasi_host.proofs.Changes.{changed, next_of-changed}
 use Rattle.wasi_tree.specs.ParentOf.{named_at, AreParents, IsKept, without_parent}
-use Rattle.wasi_tree.specs.Move.{IsMove}
-use Rattle.wasi_tree.proofs.KeptLemmas.{Has, dropped_names, dropped_kinds, parents_dropped}
+use Rattle.wasi_tree.specs.Move.{HasName, IsMove}
+use Rattle.wasi_tree.proofs.KeptLemmas.{dropped_names, dropped_kinds, parents_dropped}
 use Rattle.wasi_tree.proofs.ParentLemmas.{Places, taken_before, taken_still, taken_none, taken_kinds, taken_nowhere, parents_taken, parents_put}
 use Rattle.wasi_tree.proofs.SoundLemmas.{seen-name_lost}
 use Rattle.wasi_tree.proofs.TouchedLemmas.{none_of}
@@ -66,10 +67,11 @@ module _ {t : Tree} {old new n : ℕ} {old_name new_name : List ℕ} {parents : 
         parents_moved (record { from = is.from; to = is.to; named = is.named; missing = is.onto }) are
     parents_onto (Some m) is =
         let lost = is.lost m refl in
-        let has : Has t new new_name m = record { directory = is.to; named = is.onto; apart = lost.2 } in
+        let has : HasName t new new_name m =
+        record { directory = is.to; named = is.onto; within = lost.0; apart = ne_eqb m new lost.2 } in
         let same = seen-name_lost (node_at t m).content in
-        let kinds = dropped_kinds has name_lost same lost.0 in
-        let names = dropped_names has name_lost same lost.0 in
+        let kinds = dropped_kinds has name_lost same in
+        let names = dropped_names has name_lost same in
         let other : n ≢ m = λ here. is.other (ap Some (sym here)) in
         parents_moved
         (record {
@@ -80,7 +82,7 @@ module _ {t : Tree} {old new n : ℕ} {old_name new_name : List ℕ} {parents : 
               ∙ taken_still t new m new_name t.worked is.to is.onto old n old_name other is.named;
           missing = names.names new new_name ∙ taken_none t new m new_name t.worked is.to is.onto;
         })
-        (parents_dropped has name_lost same lost.0 are)
+        (parents_dropped has name_lost same are)
 
 pub kept_moved : {t u : Tree} {old new n marks more : ℕ} {old_name new_name : List ℕ} {there : Option ℕ}
     {before after : List (Option ℕ)} → IsMove t old old_name new new_name n there

@@ -1,12 +1,12 @@
 -- The rows of a rename, one part after another, and its step.
-use Rattle.std.proofs.Common.{◌≡◌, ◌≢◌, ℕ, Bool, true, false, cond, List, [], ◌++◌, Option, Some, None, sym, ap, ◌∙◌}
+use Rattle.std.proofs.Common.{◌≡◌, ◌<◌, ◌≢◌, ℕ, Bool, true, false, cond, List, [], ◌++◌, Option, Some, None, sym, ap, ◌∙◌}
 use Rattle.std.specs.Prelude.{IsTrue}
 use Rattle.std.proofs.lemmas.Bool.{true≢false, ne_eqb}
 use Rattle.std.proofs.lemmas.List.{append-nil}
 use Rattle.std.specs.FinMap.{len}
 use Rattle.wasi_paths.specs.Text.{is_dot_text, is_name_text}
 use Rattle.wasi_host.specs.Below.{is_below}
-use Rattle.wasi_host.specs.Tree.{Tree, node_at, names_of, child, is_directory, hold_one}
+use Rattle.wasi_host.specs.Tree.{Tree, next_of, node_at, names_of, child, is_directory, hold_one}
 use Rattle.wasi_host.specs.HostCall.{RenameAt}
 use Rattle.wasi_host.specs.Refusal.{refusal, first_row, naming_rows, loop_rows, moving_rows, renaming_rows}
 use Rattle.wasi_host.specs.Answer.{unless}
@@ -16,7 +16,6 @@ use Rattle.wasi_host.specs.declared.errors.HostError.TheVariants.{Code}
 use Rattle.wasi_host.proofs.EntryLemmas.{nat_eq-refl}
 use Rattle.wasi_host.proofs.Refusals.{refused_before, left_behind}
 use Rattle.wasi_host.proofs.ValidSteps.{can_rename, not_below, replaces, is_named}
-use Rattle.wasi_tree.specs.ParentOf.{AreParents}
 use Rattle.wasi_tree.specs.Move.{IsMove}
 use Rattle.wasi_tree.specs.TouchedTree.{Touched, AnsweredByTable, RefusedByTable}
 use Rattle.wasi_tree.proofs.KeptLemmas.{named_there, named_bare}
@@ -104,8 +103,9 @@ pub record Free (t : Tree) (old new n : ℕ) (there : Option ℕ) : Type 0 where
   pub other : hold_one (Some n) there ≡ false
 
 module _ {t : Tree} {old new n : ℕ} {old_name new_name : List ℕ} {requires_dir : Bool} {there : Option ℕ}
-    {parents : List (Option ℕ)} (holds : Holds t old old_name new new_name requires_dir n there)
-    (free : Free t old new n there) (name : IsTrue (is_name_text new_name)) (are : AreParents t parents) where
+    (holds : Holds t old old_name new new_name requires_dir n there) (free : Free t old new n there)
+    (name : IsTrue (is_name_text new_name)) (within : n < next_of t)
+    (inside : (m : ℕ) → there ≡ Some m → m < next_of t) where
   lost_apart : (m d q : ℕ) (text : List ℕ) → there ≡ Some m → is_directory (node_at t d).content ≡ true → child t d text ≡ Some q
       → is_dot_text text ≡ false → m ≢ d
   lost_apart m d q text onto directory holding plain same =
@@ -124,12 +124,12 @@ module _ {t : Tree} {old new n : ℕ} {old_name new_name : List ℕ} {requires_d
         to = can.looks.directory;
         named = named;
         onto = onto;
-        within = are.within old n old_name named;
+        within = within;
         apart = ne_eqb n new (λ same. true≢false
             (sym (below_itself t n) ∙ ap (is_below t n) same ∙ not_below t old new n there free.loops));
         other = not_one n there free.other;
         lost = λ m is. (
-          are.within new m new_name (onto ∙ is),
+          inside m is,
           lost_apart m old n old_name is can.old_directory holds.found can.old_plain,
           lost_apart m new m new_name is can.looks.directory (holds.onto ∙ is) can.plain,
         );

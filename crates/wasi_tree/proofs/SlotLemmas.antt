@@ -97,24 +97,32 @@ free_slot slots h free = contains-live slots h ∙ ap is_some free
 pub ruleset slot_rules = (live-none, live-given, live-released, held-changed, held-other, live_taken, free_slot, members, nat_tests)
 
 -- handles are given back: those that stay hold what they held
-pub holds-released : (tree : Tree) (old new : HeldMap) (h : ℕ) → HoldsNodes tree old
+pub holds-released : (tree : Tree) (HasRoom : ℕ → Type 0) (old new : HeldMap) (h : ℕ) → HoldsNodes tree HasRoom old
     → live_of new ≡ remove (live_of old) h
-    → ((q : ℕ) → contains (live_of new) q ≡ true → held_in new q ≡ held_in old q) → HoldsNodes tree new
-holds-released tree old new h holds live others = record {
-  each = λ q is.
-      let before : contains (live_of old) q ≡ true = grind (arith, members, nat_tests) in
-      subst (IsHeld tree) (sym (others q is)) (holds.each q before);
+    → ((q : ℕ) → contains (live_of new) q ≡ true → held_in new q ≡ held_in old q) → HoldsNodes tree HasRoom new
+holds-released tree HasRoom old new h holds live others = record {
+  each = λ q is. subst (IsHeld tree) (sym (others q is)) (holds.each q (before q is));
+  room = λ q is. subst (λ (held : Held). HasRoom held.node) (sym (others q is)) (holds.room q (before q is));
 }
+  where
+    before : (q : ℕ) → contains (live_of new) q ≡ true → contains (live_of old) q ≡ true
+    before q is = grind (arith, members, nat_tests)
 
--- a handle is given for a node of the tree
-pub holds-given : (tree : Tree) (old new : HeldMap) (h : ℕ) (held : Held) → HoldsNodes tree old
-    → live_of new ≡ insert (live_of old) h → held_in new h ≡ held → IsHeld tree held
-    → ((q : ℕ) → contains (live_of old) q ≡ true → held_in new q ≡ held_in old q) → HoldsNodes tree new
-holds-given tree old new h held holds live is one others = record {
-  each = λ q here. elim (cases_eq q h) [
-    | inl same ↦ subst (λ p. IsHeld tree (held_in new p)) (sym same) (subst (IsHeld tree) (sym is) one)
-    | inr other ↦
-        let before : contains (live_of old) q ≡ true = grind (arith, members, nat_tests) in
-        subst (IsHeld tree) (sym (others q before)) (holds.each q before)
-  ];
+-- a handle is given for a node of the tree that has room
+pub holds-given : (tree : Tree) (HasRoom : ℕ → Type 0) (old new : HeldMap) (h : ℕ) (held : Held)
+    → HoldsNodes tree HasRoom old → live_of new ≡ insert (live_of old) h → held_in new h ≡ held → IsHeld tree held
+    → HasRoom held.node → ((q : ℕ) → contains (live_of old) q ≡ true → held_in new q ≡ held_in old q)
+    → HoldsNodes tree HasRoom new
+holds-given tree HasRoom old new h held holds live is one room others = record {
+  each = λ q here. of q here (IsHeld tree) one (holds.each q);
+  room = λ q here. of q here (λ (held : Held). HasRoom held.node) room (holds.room q);
 }
+  where
+    of : (q : ℕ) → contains (live_of new) q ≡ true → (P : Held → Type 0) → P held
+        → (contains (live_of old) q ≡ true → P (held_in old q)) → P (held_in new q)
+    of q here P given kept = elim (cases_eq q h) [
+      | inl same ↦ subst (λ p. P (held_in new p)) (sym same) (subst P (sym is) given)
+      | inr other ↦
+          let before : contains (live_of old) q ≡ true = grind (arith, members, nat_tests) in
+          subst P (sym (others q before)) (kept before)
+    ]

@@ -1,8 +1,8 @@
 -- A name that a directory may get, one that may move, and what a move does to what the new name held.
-use Rattle.std.specs.Prelude.{◌≡◌, ◌≢◌, ℕ, ◌<◌, true, false, IsTrue, nat_eq, List, Option, Some, None}
+use Rattle.std.specs.Prelude.{◌≡◌, ◌≢◌, ℕ, ◌-◌, ◌^◌, ◌<◌, true, false, IsTrue, nat_eq, List, Option, Some, None}
 use Rattle.wasi_paths.specs.Text.{is_entry_name}
 use Rattle.wasi_host.specs.Step.{content_changed, name_lost, name_moved_onto, rename_step}
-use Rattle.wasi_host.specs.Tree.{Tree, node_at, next_of, child, is_directory}
+use Rattle.wasi_host.specs.Tree.{Tree, node_at, next_of, child, is_directory, links_of}
 use Rattle.wasi_tree.specs.ParentOf.{named_at}
 
 -- a directory lacks a name that it may hold
@@ -44,3 +44,18 @@ Moves t old old_name new new_name there (Some n) = IsMove t old old_name new new
 abbrev pub found_lost : Tree → Option ℕ → Tree
 found_lost t None = t
 found_lost t (Some n) = content_changed t n name_lost
+
+-- a directory lacks a name, which a file or link may get
+pub record MayGain (t : Tree) (d : ℕ) (name : List ℕ) (n : ℕ) : Type 0 where
+  pub may : MayName t d name
+  pub within : n < next_of t
+  pub apart : nat_eq n d ≡ false
+  pub leaf : is_directory (node_at t n).content ≡ false
+  pub links : links_of (node_at t n).content < 2 ^ 64 - 1
+
+-- a name of a directory holds a node other than the directory
+pub record HasName (t : Tree) (d : ℕ) (name : List ℕ) (n : ℕ) : Type 0 where
+  pub directory : is_directory (node_at t d).content ≡ true
+  pub named : named_at t d name ≡ Some n
+  pub within : n < next_of t
+  pub apart : nat_eq n d ≡ false

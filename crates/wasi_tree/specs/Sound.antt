@@ -25,9 +25,10 @@ pub record IsSound (t : Tree) (marks : ℕ) : Type 0 where
   pub nodes : (n : ℕ) → IsSoundNode (next_of t) (node_at t n)
   pub counted : marks ≡ next_of t
 
--- each live handle's node is in the tree, and a file where the handle was opened for writing
-pub record HoldsNodes (t : Tree) (handles : HeldMap) : Type 0 where
+-- each live handle's node is in the tree, and a file where the handle was opened for writing, and it has room
+pub record HoldsNodes (t : Tree) (HasRoom : ℕ → Type 0) (handles : HeldMap) : Type 0 where
   pub each : (h : ℕ) → contains (live_of handles) h ≡ true → IsHeld t (held_in handles h)
+  pub room : (h : ℕ) → contains (live_of handles) h ≡ true → HasRoom (held_in handles h).node
 
 -- nodes stay, and those that are files stay files
 pub record NodesStay (t u : Tree) : Type 0 where

@@ -1,26 +1,37 @@
 //! `MemTree`, the tree of files in memory: a host that tells its tree, its handles and the nodes that were touched.
 #![tactic(auto)]
 
+mod bytes;
+mod calls;
 mod change;
 mod errors;
 mod fit;
 mod fit_nodes;
 mod looked;
 mod marks;
+mod mem_changes;
+mod mem_store;
 mod mem_tree;
+mod moves;
 mod node;
+mod node_store;
 mod parents;
+mod refusals;
 mod row;
 mod slots;
 mod store;
 mod store_names;
-mod touched_changes;
-mod touched_tree;
+mod tree_host;
 
 pub use change::TreeChange;
 pub use errors::{HandleError, TreeError};
 pub use fit::{fit_trees_are_valid, valid_trees_are_fit};
 pub use fit_nodes::FitNodes;
+pub use looked::Looked;
+pub use mem_store::MemStore;
 pub use mem_tree::MemTree;
-pub use node::{LentContent, LentNode, NewContent, NewEntry, NewNode};
+pub use node::{ContentView, EntryView, NewContent, NewEntry, NewNode, NodeView};
+pub use node_store::NodeStore;
+pub use row::{Row, RowContent};
+pub use tree_host::TreeHost;
 pub use wasi_host::{Bits, Limits};

@@ -1,61 +1,33 @@
-//! The tree in memory, as a host.
-ghost use Rattle.std.specs.Prelude.{◌≡◌, ◌↔◌, ◌+◌, ◌<◌, ◌≤◌, ℕ, true, false, List, [], ◌∷◌, ◌++◌, None, Err, IfOk, IfErr, OnOk, OnErr, map};
-ghost use Rattle.std.specs.Ordering.{nat_cmp};
-ghost use Rattle.std.specs.List.Sorted.{IsStrictlySortedBy};
-ghost use Rattle.std.specs.FinSet.{contains, insert, empty, from_list};
-ghost use Rattle.wasi_host.specs.Tree.{next_of, node_at, is_directory};
-ghost use Rattle.wasi_tree.specs.Given.{given, given_of, tree_of};
-ghost use Rattle.wasi_host.specs.declared.fate.Fate.TheVariants.{Passes};
-ghost use Rattle.wasi_host.specs.Meaning.{both_looked, one_looked, never_fails};
+//! The tree in memory.
+ghost use Rattle.std.specs.Prelude.{◌≡◌, ◌↔◌, ◌≤◌, [], None, IfSome, IfOk, IfErr, OnOk, map};
+ghost use Rattle.std.specs.FinSet.{empty};
+ghost use Rattle.std.specs.FinMap as maps;
+ghost use Rattle.std.specs.List.{slice_get};
+ghost use Rattle.std.specs.Option.{option_map};
+ghost use Rattle.wasi_host.specs.Tree.{next_of, node_at, names_of};
 ghost use Rattle.wasi_host.specs.ValidTree.{AreLimits};
+ghost use Rattle.wasi_tree.specs.Given.{given, tree_of};
 ghost use Rattle.wasi_tree.specs.Fit.{AreFit, IsTreeCause};
 ghost use Rattle.wasi_tree.specs.Changed.{changed};
-ghost use Rattle.wasi_tree.specs.Lent.{lent};
-ghost use Rattle.wasi_tree.specs.MemState.{live_of, held_in, world_of};
+ghost use Rattle.wasi_tree.specs.Viewed.{Views};
+ghost use Rattle.wasi_tree.specs.MemState.{live_of};
 
 use crate::change::TreeChange;
-use crate::errors::{HandleError, TreeError};
+use crate::errors::TreeError;
 use crate::fit_nodes::FitNodes;
-use crate::node::{LentNode, NewNode};
-use crate::slots::Slots;
-use crate::touched_tree::TouchedTree;
+use crate::mem_store::MemStore;
+use crate::node::{EntryView, NewNode, NodeView};
+use crate::node_store::NodeStore;
+use crate::tree_host::TreeHost;
 use std::alloc::{AllocError, Global};
-use std::marker::Model;
-use wasi_host::{
-    AccessMode, Advice, DirEntry, ErrorCode, Forget, Handle, Held, Host, HostError, Limits,
-    LookKind, Lookup, LookupLog, Metadata, OpenOptions, SyncFlags, SystemTime,
-};
-use wasi_paths::Name;
+use wasi_host::Limits;
+use wasi_names::Run;
 
-/// A tree of files in memory, with its live handles, the nodes that calls have touched since they were forgotten last,
-/// and the look-ups so far. Those are for contracts alone, and take no memory.
-#[derive(Debug, Drop)]
-pub struct MemTree {
-    tree: TouchedTree,
-    slots: Slots,
-    log: LookupLog,
-}
-
-impl Model for MemTree {
-    ghost use Rattle.wasi_tree.specs.MemState.{MemState, state_code};
-    ghost use Rattle.wasi_tree.specs.Sound.{HoldsNodes};
-
-    ghost Value = { MemState };
-
-    ghost coded = { state_code };
-
-    ghost view = { λ a. record {
-      tree = a.tree.tree;
-      handles = a.slots.handles;
-      touched = a.tree.touched;
-      lookups = a.log.items;
-    } };
-
-    ghost invariant = { λ a. HoldsNodes a.tree.tree a.slots.handles };
-}
+/// A tree of files in memory, as a host.
+pub type MemTree = TreeHost<MemStore>;
 
 #[tactic(auto, using(crate::proofs::MemLemmas::mem_rules))]
-impl MemTree {
+impl TreeHost<MemStore> {
     /// A tree of these nodes, whose numbers are their places in the list, where they keep the rules; else the cause, as
     /// `FitNodes::new` says both. It has no live handle, no node is touched, and there is no look-up.
     pub fn new(alloc: Global, nodes: Vec<NewNode>, limits: Limits) -> Result<MemTree, TreeError>
@@ -80,54 +52,66 @@ impl MemTree {
         ensures touched { IfOk result (λ m. m.touched ≡ empty) }
         ensures lookups { IfOk result (λ m. m.lookups ≡ []) }
     {
-        Ok(MemTree {
-            tree: TouchedTree::of(alloc, fit)?,
-            slots: Slots::new(alloc),
-            log: LookupLog::new(),
-        })
+        Ok(TreeHost::over(alloc, MemStore::of(alloc, fit)?))
     }
 
-    /// The tree as it is, as a list of nodes in memory of its own. The entries of each directory stand in byte order.
-    pub fn nodes(&self, alloc: Global) -> Result<Vec<NewNode>, AllocError>
-        ensures nodes { IfOk result (λ nodes. map given nodes.items ≡ map given_of self.now.tree.nodes) }
+    /// The nodes as they are kept.
+    pub fn store(&self) -> &MemStore
+        ensures { result.now.tree ≡ self.now.tree }
     {
-        self.tree.store().to_new(alloc)
+        &self.store
     }
 
-    /// How many nodes there are, those without a name included. Their numbers are those below.
-    pub fn count(&self) -> u64
-        ensures count { result ≡ next_of self.now.tree }
+    /// The number of the next node that is made. Those that there are, a node without a name among them, have the numbers
+    /// below.
+    pub fn next(&self) -> u64
+        ensures next { result ≡ next_of self.now.tree }
     {
-        self.tree.store().count()
+        self.store.count()
     }
 
-    /// The node of a number as it is, lent without a copy.
-    pub fn node(&self, n: u64) -> LentNode<'_>
-        requires { n < next_of self.now.tree }
-        ensures node { lent result ≡ given_of (node_at self.now.tree n) }
+    /// The limits of the tree.
+    pub fn limits(&self) -> Limits
+        ensures limits { result ≡ self.now.tree.limits }
     {
-        self.tree.store().lend(n)
+        self.store.limits()
     }
 
-    /// A handle of a directory, for its path alone.
-    pub fn handle(&mut self, node: u64) -> Result<Handle, HandleError>
-        ensures not_directory { (result ≡ Err HandleError.NotDirectory) ↔ (is_directory (node_at self.old.tree node).content ≡ false) }
-        ensures fresh { IfOk result (λ h. contains (live_of self.old.handles) h ≡ false) }
-        ensures live { IfOk result (λ h. live_of self.new.handles ≡ insert (live_of self.old.handles) h) }
-        ensures held { IfOk result (λ h. held_in self.new.handles h ≡ record { node = node; mode = AccessMode.PathOnly }) }
-        ensures others { (h : ℕ) → contains (live_of self.old.handles) h ≡ true
-            → held_in self.new.handles h ≡ held_in self.old.handles h }
-        ensures tree { self.new.tree ≡ self.old.tree }
-        ensures touched { self.new.touched ≡ self.old.touched }
-        ensures lookups { self.new.lookups ≡ self.old.lookups }
-        ensures err { OnErr result (self.new ≡ self.old) }
+    /// The node of a number as it is, lent without a copy. A directory's names are asked for by `entry`, `entry_at` and
+    /// `names`. None where there is no such node.
+    pub fn node(&self, number: u64) -> Option<NodeView<'_>>
+        ensures none { (result ≡ None) ↔ (next_of self.now.tree ≤ number) }
+        ensures node { IfSome result (Views (node_at self.now.tree number)) }
     {
-        if !self.tree.store().is_directory(node) {
-            return Err(HandleError::NotDirectory);
+        if number >= self.next() {
+            return None;
         }
-        self.slots.reserve()?;
-        let mode = AccessMode::PathOnly;
-        Ok(self.slots.give(Held { node, mode }))
+        Some(self.store.node(number))
+    }
+
+    /// The node that a directory holds under a text, be the text a plain name or not. None where it holds none, and of what
+    /// is no directory.
+    pub fn entry(&self, dir: u64, name: &str) -> Option<u64>
+        ensures entry { result ≡ maps.get (names_of (node_at self.now.tree dir).content) name.now }
+    {
+        self.store.entry(dir, name)
+    }
+
+    /// The name at a place among those of a directory, which stand in byte order, the first at 0. None past the last one,
+    /// and of what is no directory.
+    pub fn entry_at(&self, dir: u64, place: u64) -> Option<EntryView<'_>>
+        ensures entry { option_map (λ e. (e.name.now, e.node)) result
+            ≡ slice_get (maps.entries (names_of (node_at self.now.tree dir).content)) place }
+    {
+        let (name, node) = self.names(dir).at(place)?;
+        Some(EntryView { name, node })
+    }
+
+    /// All names of a directory in byte order, one after another. What is no directory has none.
+    pub fn names(&self, dir: u64) -> Run<'_>
+        ensures names { result ≡ maps.entries (names_of (node_at self.now.tree dir).content) }
+    {
+        self.store.names(dir)
     }
 
     /// Makes a change that no call makes, as the host's step of that kind; one that a row of the host's table refuses, that
@@ -139,261 +123,6 @@ impl MemTree {
         ensures touched { self.new.touched ≡ self.old.touched }
         ensures lookups { self.new.lookups ≡ self.old.lookups }
     {
-        self.tree.change(change);
+        self.store.change(change);
     }
-
-    /// The numbers of the touched nodes, rising: of each call's handles, of the nodes under its names, and of those made,
-    /// since the last `forget`. It goes over all nodes.
-    pub fn touched(&self, alloc: Global) -> Result<Vec<u64>, AllocError>
-        ensures nodes { IfOk result (λ nodes. from_list nodes.items ≡ self.now.touched) }
-        ensures rising { IfOk result (λ nodes. IsStrictlySortedBy nat_cmp nodes.items) }
-    {
-        self.tree.touched().list(alloc)
-    }
-}
-
-/// Makes a call of the tree, given what a handle stands for, and logs the look-up from that handle.
-macro_rules! logged {
-    ($host:ident, $kind:ident from $start:ident, |$at:ident| $call:ident($($argument:expr),*)) => {{
-        let $at = $host.slots.held($start);
-        let answer = $host.tree.$call($($argument),*);
-        log_look(&mut $host.log, LookKind::$kind, $start);
-        answer
-    }};
-}
-
-#[tactic(auto, using(crate::proofs::MemLemmas::mem_rules))]
-impl Host for MemTree {
-    ghost faults = { λ _. never_fails };
-
-    ghost live = { λ m. live_of m.handles };
-
-    ghost lookups = { λ m. m.lookups };
-
-    ghost told = { true };
-
-    ghost world = { world_of };
-
-    ghost tells_fails = { true };
-
-    ghost fails = { λ _ _. Passes };
-
-    ghost tells_found = { true };
-
-    ghost others = { λ _ _ t. t };
-
-    ghost found = { λ m. m.tree };
-
-    ghost left = { world_of };
-
-    fn open_at(
-        &mut self,
-        start: Handle,
-        name: Name<'_>,
-        options: &OpenOptions,
-    ) -> Result<Handle, HostError> {
-        self.slots.reserve()?;
-        let directory = self.slots.held(start).node;
-        match self.tree.open_at(directory, name, options) {
-            Ok(held) => {
-                let handle = self.slots.give(held);
-                self.log = self.log.and(&Lookup {
-                    kind: LookKind::Open,
-                    from: start,
-                    got: Some(handle),
-                });
-                Ok(handle)
-            }
-            Err(HostError::Code(code)) => {
-                log_look(&mut self.log, LookKind::Open, start);
-                Err(HostError::Code(code))
-            }
-            Err(HostError::Memory) => Err(HostError::Memory),
-        }
-    }
-
-    fn stat_at(&mut self, start: Handle, name: Name<'_>) -> Result<Metadata, HostError> {
-        Ok(logged!(self, Stat from start, |at| stat_at(at.node, name))?)
-    }
-
-    fn read_link_at(
-        &mut self,
-        alloc: Global,
-        start: Handle,
-        name: Name<'_>,
-    ) -> Result<String, HostError> {
-        logged!(self, ReadLink from start, |at| read_link_at(alloc, at.node, name))
-    }
-
-    fn make_dir_at(&mut self, start: Handle, name: Name<'_>) -> Result<(), HostError> {
-        logged!(self, Make from start, |at| make_dir_at(at.node, name))
-    }
-
-    fn symlink_at(&mut self, target: &str, start: Handle, name: Name<'_>) -> Result<(), HostError> {
-        logged!(self, MakeLink from start, |at| symlink_at(target, at.node, name))
-    }
-
-    fn link_at(
-        &mut self,
-        old: Handle,
-        old_name: Name<'_>,
-        new: Handle,
-        new_name: Name<'_>,
-    ) -> Result<(), HostError> {
-        let from = self.slots.held(old).node;
-        let to = self.slots.held(new).node;
-        let answer = self.tree.link_at(from, old_name, to, new_name);
-        log_both(&mut self.log, LookKind::Link, old, new);
-        answer
-    }
-
-    fn rename_at(
-        &mut self,
-        old: Handle,
-        old_name: Name<'_>,
-        new: Handle,
-        new_name: Name<'_>,
-        requires_dir: bool,
-    ) -> Result<(), HostError> {
-        let from = self.slots.held(old).node;
-        let to = self.slots.held(new).node;
-        let answer = self
-            .tree
-            .rename_at(from, old_name, to, new_name, requires_dir);
-        log_both(&mut self.log, LookKind::Rename, old, new);
-        answer
-    }
-
-    fn unlink_at(&mut self, start: Handle, name: Name<'_>) -> Result<(), HostError> {
-        Ok(logged!(self, Unlink from start, |at| unlink_at(at.node, name))?)
-    }
-
-    fn remove_dir_at(&mut self, start: Handle, name: Name<'_>) -> Result<(), HostError> {
-        Ok(logged!(self, RemoveDir from start, |at| remove_dir_at(at.node, name))?)
-    }
-
-    fn times_at(
-        &mut self,
-        start: Handle,
-        name: Name<'_>,
-        atime: Option<SystemTime>,
-        mtime: Option<SystemTime>,
-    ) -> Result<(), HostError> {
-        Ok(logged!(self, Times from start, |at| times_at(at.node, name, atime, mtime))?)
-    }
-
-    fn access(&mut self, directory: Handle) -> Result<(), ErrorCode> {
-        let node = self.slots.held(directory).node;
-        self.tree.access(node)
-    }
-
-    fn list(&mut self, alloc: Global, directory: Handle) -> Result<Vec<DirEntry>, HostError> {
-        logged!(self, List from directory, |at| list(alloc, at))
-    }
-
-    fn dup(&mut self, handle: Handle) -> Result<Handle, HostError> {
-        self.slots.reserve()?;
-        let held = self.slots.held(handle);
-        let copy = self.slots.give(held);
-        self.log = self.log.and(&Lookup {
-            kind: LookKind::Dup,
-            from: handle,
-            got: Some(copy),
-        });
-        Ok(copy)
-    }
-
-    fn stat(&mut self, handle: Handle) -> Result<Metadata, ErrorCode> {
-        let node = self.slots.held(handle).node;
-        Ok(self.tree.metadata(node))
-    }
-
-    fn set_times(
-        &mut self,
-        handle: Handle,
-        atime: Option<SystemTime>,
-        mtime: Option<SystemTime>,
-    ) -> Result<(), ErrorCode> {
-        let node = self.slots.held(handle).node;
-        self.tree.set_times(node, atime, mtime);
-        Ok(())
-    }
-
-    fn pread(&mut self, file: Handle, buf: &mut [u8], offset: u64) -> Result<usize, ErrorCode> {
-        let held = self.slots.held(file);
-        self.tree.read_at(held, buf, offset)
-    }
-
-    fn pwrite(&mut self, file: Handle, piece: &[u8], offset: u64) -> Result<usize, HostError> {
-        let held = self.slots.held(file);
-        self.tree.write_at(held, piece, offset)
-    }
-
-    fn append(&mut self, file: Handle, piece: &[u8]) -> Result<usize, HostError> {
-        let held = self.slots.held(file);
-        self.tree.append(held, piece)
-    }
-
-    fn set_size(&mut self, file: Handle, size: u64) -> Result<(), HostError> {
-        let held = self.slots.held(file);
-        self.tree.set_size(held, size)
-    }
-
-    fn sync(&mut self, handle: Handle) -> Result<(), ErrorCode> {
-        let node = self.slots.held(handle).node;
-        self.tree.sync(node);
-        Ok(())
-    }
-
-    fn advise(
-        &mut self,
-        file: Handle,
-        offset: u64,
-        len: u64,
-        advice: Advice,
-    ) -> Result<(), ErrorCode> {
-        let node = self.slots.held(file).node;
-        self.tree.advise(node, offset, len, advice);
-        Ok(())
-    }
-
-    fn flags(&mut self, handle: Handle) -> Result<SyncFlags, ErrorCode> {
-        let node = self.slots.held(handle).node;
-        Ok(self.tree.flags(node))
-    }
-
-    fn close(&mut self, handle: Handle) {
-        self.slots.release(handle);
-    }
-
-    fn laws(&self) {
-        let _tree = &self.tree;
-    }
-}
-
-#[tactic(auto, using(crate::proofs::MemLemmas::mem_rules))]
-impl Forget for MemTree {
-    /// It takes a constant time, but for once in 2^32 - 1 times, when it goes over all nodes.
-    fn forget(&mut self) {
-        self.tree.forget();
-    }
-}
-
-/// Logs the two look-ups of a call with two names, which made no handle.
-fn log_both(log: &mut LookupLog, kind: LookKind, old: Handle, new: Handle)
-    ensures { log.new.items ≡ log.old.items ++ both_looked kind old new }
-{
-    log_look(log, kind, old);
-    log_look(log, kind, new);
-}
-
-/// Logs a look-up that made no handle.
-fn log_look(log: &mut LookupLog, kind: LookKind, from: Handle)
-    ensures { log.new.items ≡ log.old.items ++ one_looked kind from }
-{
-    *log = log.and(&Lookup {
-        kind,
-        from,
-        got: None,
-    });
 }

@@ -4,7 +4,6 @@ ghost use Rattle.wasi_tree.specs.Given.{given, given_content, new_given, may_sea
 ghost use Rattle.wasi_host.specs.Tree.{default_bits};
 
 use wasi_host::{Bits, SystemTime};
-use wasi_names::Run;
 
 /// A name in a directory, and the number of the node that it holds.
 #[derive(Debug, Drop)]
@@ -73,20 +72,31 @@ impl NewContent {
 }
 
 /// A node as a tree lends it, without a copy.
-#[derive(Drop)]
-pub struct LentNode<'a> {
-    pub content: LentContent<'a>,
+#[derive(Clone, Copy, Debug)]
+pub struct NodeView<'a> {
+    pub content: ContentView<'a>,
     pub bits: Bits,
     pub atime: SystemTime,
     pub mtime: SystemTime,
     pub btime: SystemTime,
+    /// How many names a file or a link has. A directory's are shown as 1.
+    pub links: u64,
+    /// Whether the node is a directory that was removed.
+    pub gone: bool,
 }
 
-/// What a lent node is: a file's bytes, a directory's names in byte order, each with the number of the node that it
-/// holds, or a link's text.
-#[derive(Drop)]
-pub enum LentContent<'a> {
+/// What a lent node is: a file with its bytes, a directory, or a link with its text. The names of a directory are asked of
+/// its tree.
+#[derive(Clone, Copy, Debug)]
+pub enum ContentView<'a> {
     File(&'a [u8]),
-    Dir(Run<'a>),
+    Dir,
     Link(&'a str),
+}
+
+/// A name of a directory, with the number of the node that it holds.
+#[derive(Clone, Copy, Debug)]
+pub struct EntryView<'a> {
+    pub name: &'a str,
+    pub node: u64,
 }

@@ -66,7 +66,7 @@ impl Parents {
     }
 
     /// The directory of a node; none of a number out of range.
-    fn parent(&self, node: u64) -> Option<u64>
+    pub fn parent(&self, node: u64) -> Option<u64>
         ensures { result ≡ parent_of self.now.rows.items node }
     {
         if node >= self.rows.len() as u64 {

@@ -1,17 +1,17 @@
 //! One node, as it is stored.
 ghost use Rattle.std.specs.Prelude.{◌≡◌, ◌+◌, ◌-◌, ◌^◌, ◌<◌, ◌≤◌, List, IfOk, OnOk, OnErr, length, map, not, nat_eq, ◌&&◌};
 ghost use Rattle.std.specs.FinMap as maps;
-ghost use Rattle.wasi_host.specs.Tree.{Names, is_directory, is_file, is_link, is_gone, links_of, bytes_of, text_of};
+ghost use Rattle.wasi_host.specs.Tree.{Names, names_of, is_directory, is_file, is_link, is_gone, links_of, bytes_of, text_of};
 ghost use Rattle.std.specs.String.{string_bytes};
 ghost use Rattle.wasi_host.specs.Step.{new_node, new_file, new_directory, new_link, other_bytes, with_piece, with_size, with_times, one_name_more, name_lost};
 ghost use Rattle.wasi_host.specs.Numbers.{largest_file};
 ghost use Rattle.wasi_tree.specs.Given.{Given, pair_of, given, given_content, given_of, content_given, entry_count, content_from, node_from};
-ghost use Rattle.wasi_tree.specs.Lent.{lent, lent_content};
+ghost use Rattle.wasi_tree.specs.Viewed.{Views, viewed_content};
 ghost use Rattle.wasi_names.specs.NameRows.{names_at};
 ghost use Rattle.wasi_tree.specs.StoredTree.{stored_content, with_names, named_content, OtherNamesStay, with_first};
 ghost use Rattle.wasi_host.specs.Answer.{kind_of, size_of, metadata_from};
 
-use crate::node::{LentContent, LentNode, NewContent, NewEntry, NewNode, new_bits};
+use crate::node::{ContentView, NewContent, NewEntry, NewNode, NodeView, new_bits};
 use std::alloc::{AllocError, Global};
 use wasi_host::{Bits, FileType, Metadata, SystemTime};
 use wasi_names::{Rows, Run};
@@ -78,14 +78,15 @@ impl RowContent {
         }
     }
 
-    /// The content of the node of a number, lent. The names of a directory are looked for among those of all.
-    fn lend<'a>(&'a self, number: u64, names: &'a Rows) -> LentContent<'a>
-        ensures { lent_content result ≡ content_given (named_content (names_at names.now.names number) (stored_content self.now)) }
+    /// The content, lent without a directory's names.
+    fn view(&self) -> ContentView<'_>
+        ensures { (names : Names) → let content = named_content names (stored_content self.now) in
+            viewed_content (maps.entries (names_of content)) result ≡ content_given content }
     {
         match self {
-            RowContent::File { bytes, .. } => LentContent::File(bytes.as_slice()),
-            RowContent::Dir { .. } => LentContent::Dir(names.names(number)),
-            RowContent::Link { text, .. } => LentContent::Link(text.as_str()),
+            RowContent::File { bytes, .. } => ContentView::File(bytes.as_slice()),
+            RowContent::Dir { .. } => ContentView::Dir,
+            RowContent::Link { text, .. } => ContentView::Link(text.as_str()),
         }
     }
 
@@ -317,16 +318,18 @@ impl Row {
         })
     }
 
-    /// The node of a number, lent. The names of a directory are looked for among those of all.
-    pub fn lend<'a>(&'a self, number: u64, names: &'a Rows) -> LentNode<'a>
-        ensures { lent result ≡ given_of (with_names (names_at names.now.names number) (stored_node self.now)) }
+    /// The node, lent without a directory's names.
+    pub fn view(&self) -> NodeView<'_>
+        ensures { (names : Names) → Views (with_names names (stored_node self.now)) result }
     {
-        LentNode {
-            content: self.content.lend(number, names),
+        NodeView {
+            content: self.content.view(),
             bits: self.bits,
             atime: self.atime,
             mtime: self.mtime,
             btime: self.btime,
+            links: self.content.links(),
+            gone: self.content.is_gone(),
         }
     }
 

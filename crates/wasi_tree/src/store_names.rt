@@ -20,91 +20,6 @@ use wasi_paths::Name;
 
 #[tactic(auto, using(crate::proofs::StoreLemmas::store_rules))]
 impl Store {
-    /// The node under a name that is to be dropped, where no row refuses that looks at the name and at what has it; else
-    /// the row's code. That of `.` is given.
-    fn node_to_drop(&self, looked: &Looked<'_>, dot: ErrorCode) -> Result<u64, ErrorCode>
-        requires { IsLooked self.now looked.now }
-        ensures refusal { refused_with result
-            ≡ first_row (dropping_rows self.now looked.now.directory (name_bytes looked.now.name) dot) }
-        ensures node { IfOk result (λ n. child self.now looked.now.directory (name_bytes looked.now.name) ≡ Some n) }
-        ensures below { IfOk result (λ n. n < next_of self.now) }
-    {
-        if !self.is_directory(looked.directory) {
-            return Err(ErrorCode::NotDirectory);
-        }
-        if let Some(code) = self.refuse_name(looked.directory, looked.name) {
-            return Err(code);
-        }
-        if looked.name.is_dot() {
-            return Err(dot);
-        }
-        let Some(node) = looked.found else {
-            return Err(ErrorCode::NoEntry);
-        };
-        if !self.bits(looked.directory).w {
-            return Err(ErrorCode::Access);
-        }
-        Ok(node)
-    }
-
-    /// What is wrong with two names in directories, the old one first.
-    fn refuse_both(&self, old: &Looked<'_>, new: &Looked<'_>) -> Option<ErrorCode>
-        requires old { IsLooked self.now old.now }
-        requires new { IsLooked self.now new.now }
-        ensures { result
-            ≡ first_row (both_rows self.now old.now.directory (name_bytes old.now.name) new.now.directory (name_bytes new.now.name)) }
-    {
-        if !self.is_directory(old.directory) || !self.is_directory(new.directory) {
-            return Some(ErrorCode::NotDirectory);
-        }
-        if let Some(code) = self.refuse_name(old.directory, old.name) {
-            return Some(code);
-        }
-        self.refuse_name(new.directory, new.name)
-    }
-
-    /// The node under the old name, where no row refuses to give it the new one; else the row's code.
-    #[tactic(auto, unfolding(wasi_host::specs::Refusal::refusal))]
-    pub fn node_to_link(&self, old: &Looked<'_>, new: &Looked<'_>) -> Result<u64, ErrorCode>
-        requires old { IsLooked self.now old.now }
-        requires new { IsLooked self.now new.now }
-        ensures refusal { refused_with result
-            ≡ refusal self.now (LinkAt old.now.directory (name_bytes old.now.name) new.now.directory (name_bytes new.now.name)) }
-        ensures node { IfOk result (λ n. child self.now old.now.directory (name_bytes old.now.name) ≡ Some n) }
-        ensures below { IfOk result (λ n. n < next_of self.now) }
-        ensures room { IfOk result (λ n. links_of (node_at self.now n).content < 2 ^ 64 - 1) }
-    {
-        if let Some(code) = self.refuse_both(old, new) {
-            return Err(code);
-        }
-        let Some(node) = old.found else {
-            return Err(ErrorCode::NoEntry);
-        };
-        if new.found.is_some() {
-            return Err(ErrorCode::Exist);
-        }
-        if let Some(code) = self.refuse_entry(new.directory) {
-            return Err(code);
-        }
-        self.check_links(node)?;
-        Ok(node)
-    }
-
-    /// The rows for a node that is to get a name more.
-    fn check_links(&self, node: u64) -> Result<(), ErrorCode>
-        requires { node < next_of self.now }
-        ensures refusal { refused_with result ≡ first_row (links_rows self.now (Some node)) }
-        ensures room { OnOk result (links_of (node_at self.now node).content < 2 ^ 64 - 1) }
-    {
-        if self.is_directory(node) {
-            return Err(ErrorCode::NotPermitted);
-        }
-        if self.limits.links <= self.links(node) {
-            return Err(ErrorCode::TooManyLinks);
-        }
-        Ok(())
-    }
-
     /// Gives a file or link a name in a directory. Where memory is wanted, nothing has changed.
     pub fn add_link(&mut self, directory: u64, name: Name<'_>, node: u64) -> Result<(), AllocError>
         requires directory { is_directory (node_at self.old directory).content ≡ true }
@@ -152,98 +67,6 @@ impl Store {
     {
         self.rows[node as usize].content.gain_name();
         self.worked.mark(node);
-    }
-
-    /// The node under the old name, where no row refuses a rename that looks at the names and at this node alone; else the
-    /// row's code.
-    pub fn node_to_rename(
-        &self,
-        old: &Looked<'_>,
-        new: &Looked<'_>,
-        requires_dir: bool,
-    ) -> Result<u64, ErrorCode>
-        requires old { IsLooked self.now old.now }
-        requires new { IsLooked self.now new.now }
-        ensures refusal { refused_with result ≡ first_row
-            (naming_rows self.now old.now.directory (name_bytes old.now.name) new.now.directory (name_bytes new.now.name) requires_dir) }
-        ensures node { IfOk result (λ n. child self.now old.now.directory (name_bytes old.now.name) ≡ Some n) }
-        ensures below { IfOk result (λ n. n < next_of self.now) }
-    {
-        if let Some(code) = self.refuse_both(old, new) {
-            return Err(code);
-        }
-        if old.name.is_dot() || new.name.is_dot() {
-            return Err(ErrorCode::Busy);
-        }
-        let Some(node) = old.found else {
-            return Err(ErrorCode::NoEntry);
-        };
-        if requires_dir && !self.is_directory(node) {
-            return Err(ErrorCode::NotDirectory);
-        }
-        Ok(node)
-    }
-
-    /// What refuses to move a node from a directory to another, which may be the same, onto this node or none.
-    pub fn refuse_move(
-        &self,
-        old: u64,
-        new: u64,
-        node: u64,
-        there: Option<u64>,
-    ) -> Option<ErrorCode>
-        requires old { old < next_of self.now }
-        requires new { new < next_of self.now }
-        requires node { node < next_of self.now }
-        requires there { ForSome there (λ n. n < next_of self.now) }
-        ensures { result ≡ first_row (moving_rows self.now old new (Some node) there) }
-    {
-        if let Some(code) = self.refuse_access(old, new, node) {
-            return Some(code);
-        }
-        let Some(lost) = there else {
-            return None;
-        };
-        self.refuse_replace(node, lost)
-    }
-
-    /// The rows for the directories that lose and get a name.
-    fn refuse_access(&self, old: u64, new: u64, node: u64) -> Option<ErrorCode>
-        requires old { old < next_of self.now }
-        requires new { new < next_of self.now }
-        requires node { node < next_of self.now }
-        ensures { result ≡ first_row (access_rows self.now old new (Some node)) }
-    {
-        if !self.bits(old).w || !self.bits(new).w {
-            return Some(ErrorCode::Access);
-        }
-        if self.is_directory(node) && !self.bits(node).w && old != new {
-            return Some(ErrorCode::Access);
-        }
-        if self.is_gone(new) {
-            return Some(ErrorCode::NoEntry);
-        }
-        None
-    }
-
-    /// The rows for a node that comes in the place of another.
-    fn refuse_replace(&self, node: u64, lost: u64) -> Option<ErrorCode>
-        requires node { node < next_of self.now }
-        requires lost { lost < next_of self.now }
-        ensures { result ≡ first_row (replacing_rows self.now (Some node) (Some lost)) }
-    {
-        let is_directory = self.is_directory(node);
-        let replaces_directory = self.is_directory(lost);
-        if is_directory && !replaces_directory {
-            return Some(ErrorCode::NotDirectory);
-        }
-        if !is_directory && replaces_directory {
-            return Some(ErrorCode::IsDirectory);
-        }
-        if replaces_directory && !self.is_bare(lost) {
-            return Some(ErrorCode::NotEmpty);
-        }
-        None
     }
 
     /// Moves a name of a directory, which this node has, to a name of another, which may be the same. What the new name
@@ -316,46 +139,8 @@ impl Store {
         }
     }
 
-    /// Drops a name of a file or link.
-    pub fn unlink_at(&mut self, looked: &Looked<'_>) -> Result<(), ErrorCode>
-        requires { IsLooked self.old looked.now }
-        ensures refusal { refused_with result ≡ refusal self.old (UnlinkAt looked.now.directory (name_bytes looked.now.name)) }
-        ensures step { OnOk result (self.new ≡ unlink_step self.old looked.now.directory (name_bytes looked.now.name)) }
-        ensures kept { OnErr result (self.new ≡ self.old) }
-        ensures stays { NodesStay self.old self.new }
-        ensures count { next_of self.new ≡ next_of self.old }
-    {
-        let node = self.node_to_drop(looked, ErrorCode::IsDirectory)?;
-        if self.is_directory(node) {
-            return Err(ErrorCode::IsDirectory);
-        }
-        self.drop_name(looked.directory, looked.name, node);
-        Ok(())
-    }
-
-    /// Drops the name of an empty directory, which is gone from then on, and gives its number.
-    pub fn remove_dir_at(&mut self, looked: &Looked<'_>) -> Result<u64, ErrorCode>
-        requires { IsLooked self.old looked.now }
-        ensures refusal { refused_with result ≡ refusal self.old (RemoveDirAt looked.now.directory (name_bytes looked.now.name)) }
-        ensures step { OnOk result (self.new ≡ remove_step self.old looked.now.directory (name_bytes looked.now.name)) }
-        ensures node { IfOk result (λ n. child self.old looked.now.directory (name_bytes looked.now.name) ≡ Some n) }
-        ensures kept { OnErr result (self.new ≡ self.old) }
-        ensures stays { NodesStay self.old self.new }
-        ensures count { next_of self.new ≡ next_of self.old }
-    {
-        let node = self.node_to_drop(looked, ErrorCode::Invalid)?;
-        if !self.is_directory(node) {
-            return Err(ErrorCode::NotDirectory);
-        }
-        if !self.is_bare(node) {
-            return Err(ErrorCode::NotEmpty);
-        }
-        self.drop_name(looked.directory, looked.name, node);
-        Ok(node)
-    }
-
     /// Drops a name of a directory, which another node has.
-    fn drop_name(&mut self, directory: u64, name: Name<'_>, node: u64)
+    pub fn drop_name(&mut self, directory: u64, name: Name<'_>, node: u64)
         requires directory { is_directory (node_at self.old directory).content ≡ true }
         requires within { node < next_of self.old }
         requires apart { nat_eq node directory ≡ false }
@@ -387,26 +172,5 @@ impl Store {
     {
         self.rows[node as usize].content.lose_name();
         self.worked.mark(node);
-    }
-
-    /// Sets the given times of the node that a name holds, a link's own.
-    #[tactic(auto, unfolding(wasi_host::specs::Refusal::refusal))]
-    pub fn times_at(
-        &mut self,
-        looked: &Looked<'_>,
-        atime: Option<SystemTime>,
-        mtime: Option<SystemTime>,
-    ) -> Result<(), ErrorCode>
-        requires { IsLooked self.old looked.now }
-        ensures refusal { refused_with result
-            ≡ refusal self.old (TimesAt looked.now.directory (name_bytes looked.now.name) atime mtime) }
-        ensures step { OnOk result (self.new ≡ times_step self.old looked.now.directory (name_bytes looked.now.name) atime mtime) }
-        ensures kept { OnErr result (self.new ≡ self.old) }
-        ensures stays { NodesStay self.old self.new }
-        ensures count { next_of self.new ≡ next_of self.old }
-    {
-        let node = self.node_under(looked)?;
-        self.set_times(node, atime, mtime);
-        Ok(())
     }
 }

@@ -5,6 +5,7 @@
 mod calls;
 mod listed;
 mod opened;
+mod readers;
 mod reports;
 mod trees;
 

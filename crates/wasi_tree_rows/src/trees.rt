@@ -4,6 +4,7 @@ ghost use Rattle.wasi_host.specs.ValidTree.{AreLimits};
 use crate::calls::call;
 use crate::listed::{chain, listed, tree_of};
 use crate::opened::with_opened;
+use crate::readers::{told_entry, told_entry_at, told_view};
 use crate::reports::told_report;
 use std::alloc::{AllocError, Global};
 use wasi_host::{Forget, Limits};
@@ -71,7 +72,7 @@ fn most(last: u32) -> Limits
 /// How many nodes a tree of these nodes has within these limits, or why none is made of them.
 fn made_of(alloc: Global, nodes: Vec<NewNode>, last: u32) -> Told {
     match MemTree::new(alloc, nodes, most(last)) {
-        Ok(tree) => told(alloc, &tree.count()),
+        Ok(tree) => told(alloc, &tree.next()),
         Err(error) => told(alloc, &error),
     }
 }
@@ -82,6 +83,10 @@ fn ask(tree: &mut MemTree, asked: &Asked<'_>) -> Told {
     match asked.what {
         "touched" => told(alloc, &tree.touched(alloc)?),
         "nodes" => told(alloc, &tree.nodes(alloc)?),
+        "next" => told(alloc, &tree.next()),
+        "node" => told_view(alloc, tree, asked.rest),
+        "entry" => told_entry(alloc, tree, asked.rest),
+        "entry_at" => told_entry_at(alloc, tree, asked.rest),
         "forget" => forgotten(alloc, tree),
         "report" => told_report(alloc, tree, asked.rest),
         "many" => many(alloc, tree, asked.rest),
@@ -118,5 +123,5 @@ fn many(alloc: Global, tree: &mut MemTree, rest: &str) -> Told {
             return Ok(answer);
         }
     }
-    told(alloc, &tree.count())
+    told(alloc, &tree.next())
 }

@@ -10,19 +10,20 @@ use Rattle.wasi_report.proofs.outcome.tell_tree.Goals as goal
 pub loop-n-preserved : goal.loop-n-preserved
 unfolding node_at
 loop-n-preserved g c =
-    let within = rw c.count-n-end.ensures.count at c.loop-n-test.true in
+    let within = rw c.next-n-end.ensures.next at c.loop-n-test.true in
+    let shown = rw (← c.names.ensures.names) at c.in-Some.ensures.node.given in
     record {
       before = c.in_ok-tell_node.ensures.before ∙ c.loop-n.invariant.before;
       tokens =
-          node_next c.args.tree.now.tree c.loop-n.n _ _ _ _ c.loop-n.invariant.tokens within c.node.ensures.node
+          node_next c.args.tree.now.tree c.loop-n.n _ _ _ _ c.loop-n.invariant.tokens within shown
           c.in_ok-tell_node.ensures.tokens;
       fits =
           All-more (λ node. FitsNode (given_of node)) _ _ stray within c.loop-n.invariant.fits
-          (subst FitsNode c.node.ensures.node c.in_ok-tell_node.ensures.fits);
+          (subst FitsNode shown c.in_ok-tell_node.ensures.fits);
     }
 
 pub returns-clause-fits : goal.returns-clause-fits
 returns-clause-fits g c =
-    let none_left = rw c.count-n-end.ensures.count at c.loop-n-test.false in
+    let none_left = rw c.next-n-end.ensures.next at c.loop-n-test.false in
     let told_all = rw (take_all _ _ none_left) at c.loop-n.invariant.fits in
     on_ok_weaker c.end_array.result (λ _. All-map FitsNode given_of _ told_all) c.end_array.ensures.ok

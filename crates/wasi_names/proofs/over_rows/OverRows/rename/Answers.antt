@@ -1,0 +1,31 @@
+use Rattle.std.proofs.Common.{◌∙◌, sym, ap, subst}
+use Rattle.std.specs.FinMap.{get, insert, remove}
+use Rattle.wasi_names.specs.NameRows.{AllNames}
+use Rattle.wasi_names.specs.OverNames.{overlaid, IsChanged}
+use Rattle.wasi_names.proofs.OverLemmas.{held-unmarked, overlaid-put, changed-put}
+use Rattle.wasi_names.proofs.over_rows.OverRows.rename.Goals as goal
+
+pub hold-requires-clause-unmarked : goal.hold-requires-clause-unmarked
+hold-requires-clause-unmarked c =
+    held-unmarked c.self.inside.base.now.names c.self.inside.changed.names (c.args.directory, c.args.name.now) c.args.node
+    c.self.invariant c.ranges.node.fits
+    (ap (λ (m : AllNames). get m (c.args.directory, c.args.name.now)) c.self.view_is ∙ c.requires.held)
+
+pub strike-requires : goal.strike-requires
+strike-requires c =
+    subst (λ (m : AllNames). IsChanged c.self.inside.base.now.names m (c.args.directory, c.args.name.now))
+    (sym c.in_ok-put.ensures.put)
+    (changed-put c.self.inside.base.now.names c.hold.new.changed.names (c.args.directory, c.args.name.now)
+    (c.args.new_directory, c.args.new_name.now) c.args.node c.in_ok-hold.ensures.row)
+
+pub returns-clause-renamed : goal.returns-clause-renamed
+returns-clause-renamed c =
+    let unmarked = held-unmarked c.self.inside.base.now.names c.self.inside.changed.names
+    (c.args.directory, c.args.name.now) c.args.node c.self.invariant c.ranges.node.fits
+    (ap (λ (m : AllNames). get m (c.args.directory, c.args.name.now)) c.self.view_is ∙ c.requires.held) in
+    c.strike.ensures ∙ ap (λ (m : AllNames). remove m (c.args.directory, c.args.name.now)) (
+    ap (overlaid c.self.inside.base.now.names) c.in_ok-put.ensures.put
+    ∙ overlaid-put c.self.inside.base.now.names c.hold.new.changed.names
+    (c.args.new_directory, c.args.new_name.now) c.args.node unmarked
+    ∙ ap (λ (m : AllNames). insert m (c.args.new_directory, c.args.new_name.now) c.args.node)
+    (c.in_ok-hold.ensures.same ∙ c.self.view_is))

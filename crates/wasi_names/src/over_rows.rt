@@ -1,0 +1,166 @@
+//! Names that were put or taken, over rows that stay.
+ghost use Rattle.std.specs.Prelude.{◌≡◌, ℕ, ◌<◌, ◌-◌, ◌^◌, OnErr, OnOk, Some, nat_eq};
+ghost use Rattle.std.specs.FinMap as maps;
+ghost use Rattle.wasi_names.specs.NameRows.{AllNames, Key, names_at};
+ghost use Rattle.wasi_names.specs.OverNames.{overlaid, found_over, IsChanged};
+
+use crate::near::Near;
+use crate::over_run::OverRun;
+use crate::rows::Rows;
+use std::alloc::{AllocError, Global};
+use std::marker::Model;
+
+/// The node that marks a name as taken. No name holds it.
+pub(crate) const TAKEN: u64 = u64::MAX;
+
+/// The names of all directories of a tree as rows that stay give them, but for the names that were put or taken since.
+/// A name that was taken from those that stay has a row with the mark for its node. Contracts see a finite map from
+/// directories and names.
+#[derive(Debug, Drop)]
+pub struct OverRows<'a> {
+    base: &'a Rows,
+    changed: Rows,
+}
+
+impl<'a> Model for OverRows<'a> {
+    ghost use Rattle.wasi_names.specs.NameRows.{AllNames};
+    ghost use Rattle.wasi_names.specs.OverNames.{all_names_code, overlaid, NoneMarked};
+
+    ghost Value = { AllNames };
+
+    ghost coded = { all_names_code };
+
+    ghost view = { λ a. overlaid a.base.now.names a.changed.names };
+
+    ghost invariant = { λ a. NoneMarked a.base.now.names };
+}
+
+impl<'a> OverRows<'a> {
+    /// The names of some rows, none of which holds the mark. It takes no memory.
+    pub fn new(alloc: Global, base: &'a Rows) -> OverRows<'a>
+        requires { (key : Key) (n : ℕ) → maps.get base.now.names key ≡ Some n → n < 2 ^ 64 - 1 }
+        ensures { result ≡ base.now.names }
+    {
+        OverRows {
+            base,
+            changed: Rows::new(alloc),
+        }
+    }
+
+    /// The node of a name in a directory. In the rows that stay it is looked for behind the place where one was found
+    /// last, before all else.
+    pub fn find(&self, near: &mut Near, directory: u64, name: &str) -> Option<u64>
+        ensures { result ≡ maps.get self.now (directory, name.now) }
+    {
+        let mut first = Near::first();
+        match self.changed.find(&mut first, directory, name) {
+            Some(node) if node == TAKEN => None,
+            Some(node) => Some(node),
+            None => self.base.find(near, directory, name),
+        }
+    }
+
+    /// Puts a node under a name in a directory, in the place of any other.
+    pub fn put(&mut self, directory: u64, name: &str, node: u64) -> Result<(), AllocError>
+        requires { node < 2 ^ 64 - 1 }
+        ensures put { OnOk result (self.new ≡ maps.insert self.old (directory, name.now) node) }
+        ensures kept { OnErr result (self.new ≡ self.old) }
+    {
+        self.changed.put(directory, name, node)?;
+        Ok(())
+    }
+
+    /// Takes a name out of a directory. A mark is kept only of a name that the rows that stay have, so names that are made
+    /// and taken again leave nothing.
+    pub fn take(&mut self, directory: u64, name: &str) -> Result<(), AllocError>
+        ensures taken { OnOk result (self.new ≡ maps.remove self.old (directory, name.now)) }
+        ensures kept { OnErr result (self.new ≡ self.old) }
+    {
+        if !self.base.has(directory, name) {
+            self.changed.remove(directory, name);
+            return Ok(());
+        }
+        self.changed.put(directory, name, TAKEN)?;
+        Ok(())
+    }
+
+    /// Puts the node of a name under another name, in the place of any other, and takes the first name out. What wants
+    /// memory comes before that.
+    pub fn rename(
+        &mut self,
+        directory: u64,
+        name: &str,
+        new_directory: u64,
+        new_name: &str,
+        node: u64,
+    ) -> Result<(), AllocError>
+        requires held { maps.get self.old (directory, name.now) ≡ Some node }
+        requires apart { ◌≡◌ {A = Key} (directory, name.now) (new_directory, new_name.now) → ⊥ }
+        ensures renamed { OnOk result (self.new
+            ≡ maps.remove (maps.insert self.old (new_directory, new_name.now) node) (directory, name.now)) }
+        ensures kept { OnErr result (self.new ≡ self.old) }
+    {
+        hold(self.base, &mut self.changed, directory, name, node)?;
+        self.changed.put(new_directory, new_name, node)?;
+        strike(self.base, &mut self.changed, directory, name);
+        Ok(())
+    }
+
+    /// The names of a directory, in byte order.
+    pub fn names(&self, directory: u64) -> OverRun<'_>
+        ensures { result ≡ maps.entries (names_at self.now directory) }
+    {
+        OverRun {
+            base: self.base.names(directory),
+            changed: self.changed.names(directory),
+        }
+    }
+
+    /// Whether a directory has no names.
+    pub fn is_empty(&self, directory: u64) -> bool
+        ensures { result ≡ nat_eq (maps.len (names_at self.now directory)) 0 }
+    {
+        self.names(directory).next().is_none()
+    }
+}
+
+/// Gives a name that the rows that stay have a row among the changed ones, with the node that it holds. It can then be
+/// marked without memory.
+fn hold(
+    base: &Rows,
+    changed: &mut Rows,
+    directory: u64,
+    name: &str,
+    node: u64,
+) -> Result<(), AllocError>
+    requires held { maps.get (overlaid base.now.names changed.old.names) (directory, name.now) ≡ Some node }
+    requires unmarked { node < 2 ^ 64 - 1 }
+    ensures same { overlaid base.now.names changed.new.names ≡ overlaid base.now.names changed.old.names }
+    ensures row { OnOk result (IsChanged base.now.names changed.new.names (directory, name.now)) }
+{
+    if !base.has(directory, name) {
+        return Ok(());
+    }
+    changed.put(directory, name, node)?;
+    Ok(())
+}
+
+/// Takes out a name, which has a row among the changed ones if the rows that stay have it. That is marked then, and else
+/// it goes.
+fn strike(base: &Rows, changed: &mut Rows, directory: u64, name: &str)
+    requires { IsChanged base.now.names changed.old.names (directory, name.now) }
+    ensures { overlaid base.now.names changed.new.names
+        ≡ maps.remove (overlaid base.now.names changed.old.names) (directory, name.now) }
+{
+    if base.has(directory, name) {
+        changed.set(directory, name, TAKEN);
+        return;
+    }
+    changed.remove(directory, name);
+}
+
+/// What names that lie over others hold: what was put of a name, nothing where it was taken, and else what lies below.
+pub fn names_lie_over()
+    ensures { (base changes : AllNames) (key : Key)
+        → maps.get (overlaid base changes) key ≡ found_over (maps.get changes key) (maps.get base key) }
+{}

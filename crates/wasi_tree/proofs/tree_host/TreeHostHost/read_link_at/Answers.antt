@@ -1,0 +1,8 @@
+use Rattle.wasi_tree.proofs.MemLemmas.{cause_done, fated}
+use Rattle.wasi_tree.proofs.tree_host.TreeHostHost.read_link_at.Goals as goal
+
+pub returns-clause-cause : goal.returns-clause-cause
+returns-clause-cause g c = cause_done _ _ _ _ _ c.read_link_at-answer.ensures.does
+
+pub returns-clause-fails : goal.returns-clause-fails
+returns-clause-fails g c = λ _. fated _ (returns-clause-cause g c)
