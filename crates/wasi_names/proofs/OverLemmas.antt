@@ -12,7 +12,7 @@ use Rattle.std.specs.FinMap.{find, put, is_sorted, empty, get, get-empty, insert
 use Rattle.std.specs.FinMap.Entries.{where_key, is_sorted-put, is_sorted-where_key, find-put, same_entries}
 use lib.Dec.{T}
 use Rattle.wasi_names.specs.NameRows.{Key, AllNames, key_cmp, names_at}
-use Rattle.wasi_names.specs.OverNames.{taken, found_over, with_change, with_changes, overlaid, NoneMarked, IsChanged}
+use Rattle.wasi_names.specs.OverNames.{taken, found_over, with_change, with_changes, overlaid, IsChanged}
 use Rattle.wasi_names.proofs.KeyLemmas.{key_total, key_exact}
 use Rattle.wasi_names.proofs.NamesLemmas.{find_without, same_key, get-names_at}
 
@@ -21,9 +21,6 @@ unmarked n lt = grind (arith, nat_tests)
 
 pub other_than_mark : (n : ℕ) → (n ≡ taken → ⊥) → nat_eq n taken ≡ false
 other_than_mark n apart = grind (arith, nat_tests)
-
-below_mark : (n : ℕ) → n < 2 ^ 64 → nat_eq n taken ≡ false → n < 2 ^ 64 - 1
-below_mark n fits is = grind (arith, nat_tests)
 
 -- a change of one key more
 change_more : (here : Bool) (n : ℕ) (change below : Option ℕ)
@@ -135,20 +132,6 @@ overlaid-left base changes key none = same_map key_total key_exact _ _ (λ q.
     (λ here. ap (λ k. is_some (get base k)) (same_key q key here) ∙ none)
     ∙ ap (cond (eq_by_cmp key_cmp q key) None) (sym (get-overlaid base changes q))
     ∙ sym (get-remove key_total (overlaid base changes) key q))
-
--- the node of a name isn't the mark
-pub held-unmarked : (base changes : AllNames) (key : Key) (n : ℕ) → NoneMarked base → n < 2 ^ 64
-    → get (overlaid base changes) key ≡ Some n → n < 2 ^ 64 - 1
-held-unmarked base changes key n none fits held = by (get changes key) (sym (get-overlaid base changes key) ∙ held)
-  where
-    told_of : (m : ℕ) (b : Bool) → nat_eq m taken ≡ b → cond b None (Some m) ≡ Some n → n < 2 ^ 64 - 1
-    told_of m true marked is = absurd (cc)
-    told_of m false marked is =
-        let same : m ≡ n = cc in below_mark n fits (ap (λ k. nat_eq k taken) (sym same) ∙ marked)
-
-    by : (change : Option ℕ) → found_over change (get base key) ≡ Some n → n < 2 ^ 64 - 1
-    by None is = none key n is
-    by (Some m) is = told_of m (nat_eq m taken) refl is
 
 -- a name that is put with the node that it holds
 insert-held : (names : AllNames) (key : Key) (n : ℕ) → get names key ≡ Some n → insert names key n ≡ names

@@ -1,5 +1,5 @@
 -- Names that lie over others: those that were put or taken since, over those that stay.
-use Rattle.std.specs.Prelude.{◌≡◌, ℕ, ◌<◌, ◌-◌, ◌^◌, nat_eq, Bool, true, false, not, is_some, List, [], ◌∷◌, Option, None, Some, if◌then◌else◌}
+use Rattle.std.specs.Prelude.{◌≡◌, ℕ, nat_eq, Bool, true, false, not, is_some, List, [], ◌∷◌, Option, None, Some, if◌then◌else◌}
 use Rattle.std.specs.Ordering.{eq_by_cmp, is_eq, is_lt}
 use Rattle.std.specs.Coded.{Coded, coded×, coded_ℕ, coded_list}
 use Rattle.std.specs.declared.cmp.Ordering.{Ordering}
@@ -41,10 +41,6 @@ module _ {K : Type 0} (R : K → K → Ordering) where
 -- names that stay, under some changes
 unfoldable pub overlaid : AllNames → AllNames → AllNames
 overlaid base changes = maps.from_sorted (with_changes key_cmp (maps.entries base) (maps.entries changes))
-
--- no name has the mark for its node
-abbrev pub NoneMarked : AllNames → Type 0
-NoneMarked names = (key : Key) (n : ℕ) → maps.get names key ≡ Some n → n < 2 ^ 64 - 1
 
 -- a name that stays below has a change
 abbrev pub IsChanged : AllNames → AllNames → Key → Type 0

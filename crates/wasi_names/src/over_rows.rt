@@ -24,21 +24,18 @@ pub struct OverRows<'a> {
 
 impl<'a> Model for OverRows<'a> {
     ghost use Rattle.wasi_names.specs.NameRows.{AllNames};
-    ghost use Rattle.wasi_names.specs.OverNames.{all_names_code, overlaid, NoneMarked};
+    ghost use Rattle.wasi_names.specs.OverNames.{all_names_code, overlaid};
 
     ghost Value = { AllNames };
 
     ghost coded = { all_names_code };
 
     ghost view = { λ a. overlaid a.base.now.names a.changed.names };
-
-    ghost invariant = { λ a. NoneMarked a.base.now.names };
 }
 
 impl<'a> OverRows<'a> {
-    /// The names of some rows, none of which holds the mark. It takes no memory.
+    /// The names of some rows. It takes no memory.
     pub fn new(alloc: Global, base: &'a Rows) -> OverRows<'a>
-        requires { (key : Key) (n : ℕ) → maps.get base.now.names key ≡ Some n → n < 2 ^ 64 - 1 }
         ensures { result ≡ base.now.names }
     {
         OverRows {
@@ -60,12 +57,15 @@ impl<'a> OverRows<'a> {
         }
     }
 
-    /// Puts a node under a name in a directory, in the place of any other.
+    /// Puts a node under a name in a directory, in the place of any other. The mark is no node, so it is refused as one for
+    /// which there is no room.
     pub fn put(&mut self, directory: u64, name: &str, node: u64) -> Result<(), AllocError>
-        requires { node < 2 ^ 64 - 1 }
         ensures put { OnOk result (self.new ≡ maps.insert self.old (directory, name.now) node) }
         ensures kept { OnErr result (self.new ≡ self.old) }
     {
+        if node == TAKEN {
+            return Err(AllocError);
+        }
         self.changed.put(directory, name, node)?;
         Ok(())
     }
@@ -85,7 +85,7 @@ impl<'a> OverRows<'a> {
     }
 
     /// Puts the node of a name under another name, in the place of any other, and takes the first name out. What wants
-    /// memory comes before that.
+    /// memory comes before that. The mark is refused as by `put`.
     pub fn rename(
         &mut self,
         directory: u64,
@@ -100,6 +100,9 @@ impl<'a> OverRows<'a> {
             ≡ maps.remove (maps.insert self.old (new_directory, new_name.now) node) (directory, name.now)) }
         ensures kept { OnErr result (self.new ≡ self.old) }
     {
+        if node == TAKEN {
+            return Err(AllocError);
+        }
         hold(self.base, &mut self.changed, directory, name, node)?;
         self.changed.put(new_directory, new_name, node)?;
         strike(self.base, &mut self.changed, directory, name);

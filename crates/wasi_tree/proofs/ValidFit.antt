@@ -30,7 +30,7 @@ use Rattle.wasi_tree.proofs.GivenNames.{texts}
 -- ---- names, in order
 
 -- the map of its own entries
-made_again : (names : Names) → maps.from_entries (maps.entries names) ≡ names
+pub made_again : (names : Names) → maps.from_entries (maps.entries names) ≡ names
 made_again names =
     maps.same_map nat_list_cmp_total (maps.slice_cmp-IsAntisymmetric maps.nat_cmp-IsAntisymmetric) _ names (λ q.
     maps.get-from_entries nat_list_cmp_total (maps.entries names) q ∙ sym (maps.get-entries names q))

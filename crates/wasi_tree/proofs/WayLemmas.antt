@@ -116,13 +116,21 @@ pub way_ends : (parents : List (Option ℕ)) (top n : ℕ) → is_on_way parents
 unfolding is_on_way
 way_ends parents top n = refl
 
-pub way_up : (parents : List (Option ℕ)) (k top n : ℕ) → n ≢ top
+way_up : (parents : List (Option ℕ)) (k top n : ℕ) → n ≢ top
     → is_on_way parents (k + 1) top n ≡ goes_up (is_on_way parents k top) (parent_of parents n)
 unfolding is_on_way
 way_up parents k top n other =
     let more : k + 1 ≡ suc k = omega arith in
     ap (λ m. is_on_way parents m top n) more
     ∙ ap (λ b. b || goes_up (is_on_way parents k top) (parent_of parents n)) (ne_eqb n top other)
+
+pub way_on : (parents : List (Option ℕ)) (k top n above : ℕ) → n ≢ top → parent_of parents n ≡ Some above
+    → is_on_way parents (k + 1) top n ≡ is_on_way parents k top above
+way_on parents k top n above other up = way_up parents k top n other ∙ ap (goes_up (is_on_way parents k top)) up
+
+pub way_stops : (parents : List (Option ℕ)) (k top n : ℕ) → n ≢ top → parent_of parents n ≡ None
+    → is_on_way parents (k + 1) top n ≡ false
+way_stops parents k top n other none = way_up parents k top n other ∙ ap (goes_up (is_on_way parents k top)) none
 
 -- ---- both ways
 

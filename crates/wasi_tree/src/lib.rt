@@ -22,6 +22,7 @@ mod slots;
 mod store;
 mod store_names;
 mod tree_host;
+mod way;
 
 pub use change::TreeChange;
 pub use errors::{HandleError, TreeError};
@@ -32,6 +33,7 @@ pub use mem_store::MemStore;
 pub use mem_tree::MemTree;
 pub use node::{ContentView, EntryView, NewContent, NewEntry, NewNode, NodeView};
 pub use node_store::NodeStore;
-pub use row::{Row, RowContent};
+pub use row::{Row, RowContent, add_entries, put_piece, resize_bytes};
 pub use tree_host::TreeHost;
 pub use wasi_host::{Bits, Limits};
+pub use way::{TellsParents, is_below};

@@ -1,5 +1,5 @@
 //! Nodes in memory: a row each, the parents of directories, and marks of the touched ones.
-ghost use Rattle.std.specs.Prelude.{◌≡◌, ◌<◌, ◌≤◌, ℕ, true, IfOk};
+ghost use Rattle.std.specs.Prelude.{◌≡◌, ◌<◌, ◌≤◌, ℕ, true, length, IfOk};
 ghost use Rattle.std.specs.FinMap as maps;
 ghost use Rattle.std.specs.FinSet.{empty};
 ghost use Rattle.wasi_host.specs.Tree.{next_of, node_at, names_of, is_directory};
@@ -7,6 +7,7 @@ ghost use Rattle.wasi_names.specs.NameRows.{names_at};
 ghost use Rattle.wasi_tree.specs.Given.{tree_of};
 ghost use Rattle.wasi_tree.specs.ParentOf.{AreParents, parent_of};
 ghost use Rattle.wasi_tree.specs.Sound.{IsSoundNode};
+ghost use Rattle.wasi_tree.specs.StoredTree.{stored_tree, IsStored};
 ghost use Rattle.wasi_tree.specs.Viewed.{Views};
 
 use crate::fit_nodes::FitNodes;
@@ -17,6 +18,7 @@ use crate::node_store::NodeStore;
 use crate::parents::Parents;
 use crate::row::Row;
 use crate::store::Store;
+use crate::way::TellsParents;
 use std::alloc::{AllocError, Global};
 use std::marker::Model;
 use wasi_host::{Bits, DirEntry, Limits, Metadata, SystemTime};
@@ -56,6 +58,33 @@ impl MemStore {
     {
         let parents = Parents::of(alloc, fit.list())?;
         let store = Store::of(alloc, fit)?;
+        MemStore::begin(alloc, store, parents)
+    }
+
+    /// The tree of these rows, with the names of all directories, and for each node the directory that it stands in. No
+    /// node has been worked on, and none is touched.
+    pub fn of_rows(
+        alloc: Global,
+        rows: Vec<Row>,
+        names: Rows,
+        parents: Vec<Option<u64>>,
+        limits: Limits,
+    ) -> Result<MemStore, AllocError>
+        requires stored { IsStored rows.items names.names limits empty (length rows.items) }
+        requires stand { AreParents (stored_tree rows.items names.names limits empty) parents.items }
+        ensures tree { IfOk result (λ t. t.tree ≡ stored_tree rows.items names.names limits empty) }
+        ensures touched { IfOk result (λ t. t.touched ≡ empty) }
+    {
+        let store = Store::of_rows(alloc, rows, names, limits)?;
+        MemStore::begin(alloc, store, Parents::of_rows(parents))
+    }
+
+    /// A store of which no node is touched.
+    fn begin(alloc: Global, store: Store, parents: Parents) -> Result<MemStore, AllocError>
+        requires { AreParents store parents.rows.items }
+        ensures tree { IfOk result (λ t. t.tree ≡ store) }
+        ensures touched { IfOk result (λ t. t.touched ≡ empty) }
+    {
         let touched = Marks::new(alloc, store.count() as usize)?;
         Ok(MemStore {
             store,

@@ -55,13 +55,6 @@ impl TreeHost<MemStore> {
         Ok(TreeHost::over(alloc, MemStore::of(alloc, fit)?))
     }
 
-    /// The nodes as they are kept.
-    pub fn store(&self) -> &MemStore
-        ensures { result.now.tree ≡ self.now.tree }
-    {
-        &self.store
-    }
-
     /// The number of the next node that is made. Those that there are, a node without a name among them, have the numbers
     /// below.
     pub fn next(&self) -> u64

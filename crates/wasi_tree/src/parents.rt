@@ -3,10 +3,11 @@ ghost use Rattle.std.specs.Prelude.{◌≡◌, ◌<◌, ◌++◌, ◌∷◌, [],
 ghost use Rattle.std.specs.Option.{ForSome};
 ghost use Rattle.wasi_tree.specs.Given.{given};
 ghost use Rattle.wasi_tree.specs.FitTests.{entry_numbers};
-ghost use Rattle.wasi_tree.specs.ParentOf.{parent_of, is_on_way, without_parent, ArePut, TellParents};
+ghost use Rattle.wasi_tree.specs.ParentOf.{is_on_way, without_parent, ArePut, TellParents};
 
 use crate::fit::entries_of;
 use crate::node::{NewEntry, NewNode};
+use crate::way::{TellsParents, is_below};
 use std::alloc::{AllocError, Global};
 
 /// For each node, in which directory it stands; nothing of the root, and of a directory that is removed. What it says of
@@ -27,6 +28,13 @@ impl Parents {
             put_entries(&mut rows, entries_of(&node.content), directory as u64);
         }
         Ok(Parents { rows })
+    }
+
+    /// These directories, by the numbers of their nodes.
+    pub fn of_rows(rows: Vec<Option<u64>>) -> Parents
+        ensures { result.rows.items ≡ rows.items }
+    {
+        Parents { rows }
     }
 
     /// Makes room for one more node.
@@ -65,31 +73,26 @@ impl Parents {
         self.set(node, Some(directory));
     }
 
-    /// The directory of a node; none of a number out of range.
-    pub fn parent(&self, node: u64) -> Option<u64>
-        ensures { result ≡ parent_of self.now.rows.items node }
-    {
-        if node >= self.rows.len() as u64 {
-            return None;
-        }
-        self.rows[node as usize]
-    }
-
     /// Whether the way up from a directory comes to a node, which may be the directory itself.
     pub fn is_below(&self, top: u64, directory: u64) -> bool
         ensures { result ≡ is_on_way self.now.rows.items (length self.now.rows.items) top directory }
     {
-        let mut here = directory;
-        for _step in 0..self.rows.len() {
-            if here == top {
-                return true;
-            }
-            let Some(parent) = self.parent(here) else {
-                return false;
-            };
-            here = parent;
+        is_below(self, top, directory)
+    }
+}
+
+impl TellsParents for Parents {
+    ghost told = { λ p. p.rows.items };
+
+    fn count(&self) -> u64 {
+        self.rows.len() as u64
+    }
+
+    fn parent(&self, node: u64) -> Option<u64> {
+        if node >= self.rows.len() as u64 {
+            return None;
         }
-        here == top
+        self.rows[node as usize]
     }
 }
 

@@ -364,7 +364,11 @@ fn is_removed(number: u64, links: u64) -> bool
 }
 
 /// Puts the entries of a directory that has none among the names. Of two entries of one name the first one stays.
-fn add_entries(names: &mut Rows, directory: u64, entries: Vec<NewEntry>) -> Result<(), AllocError>
+pub fn add_entries(
+    names: &mut Rows,
+    directory: u64,
+    entries: Vec<NewEntry>,
+) -> Result<(), AllocError>
     requires { names_at names.old.names directory ≡ maps.empty }
     ensures added { OnOk result (names_at names.new.names directory ≡ maps.from_entries (map pair_of entries.items)) }
     ensures others { OtherNamesStay directory names.old.names names.new.names }
@@ -405,7 +409,7 @@ fn new_entries(alloc: Global, mut names: Run<'_>) -> Result<Vec<NewEntry>, Alloc
 
 /// Puts a piece into bytes from an offset on, with zeros in a gap before it. A piece that runs past the end is copied
 /// once, into room that grows by doubling. Where memory is wanted, the bytes are as they were.
-fn put_piece(bytes: &mut Vec<u8>, offset: usize, piece: &[u8]) -> Result<(), AllocError>
+pub fn put_piece(bytes: &mut Vec<u8>, offset: usize, piece: &[u8]) -> Result<(), AllocError>
     requires { offset + length piece.now ≤ largest_file }
     ensures put { OnOk result (bytes.new.items ≡ with_piece bytes.old.items offset piece.now) }
     ensures kept { OnErr result (bytes.new.items ≡ bytes.old.items) }
@@ -423,7 +427,7 @@ fn put_piece(bytes: &mut Vec<u8>, offset: usize, piece: &[u8]) -> Result<(), All
 /// Cuts bytes to a size, and keeps their room, or fills them up to it with zeros, in room that grows by doubling. Where
 /// memory is wanted, the bytes are as they were.
 #[tactic(auto, unfolding(wasi_host::specs::Step::with_size))]
-fn resize_bytes(bytes: &mut Vec<u8>, size: usize) -> Result<(), AllocError>
+pub fn resize_bytes(bytes: &mut Vec<u8>, size: usize) -> Result<(), AllocError>
     ensures sized { OnOk result (bytes.new.items ≡ with_size size bytes.old.items) }
     ensures kept { OnErr result (bytes.new.items ≡ bytes.old.items) }
 {

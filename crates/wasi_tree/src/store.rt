@@ -13,7 +13,8 @@ ghost use Rattle.wasi_tree.specs.Fit.{name_counts};
 ghost use Rattle.wasi_tree.specs.Viewed.{Views};
 ghost use Rattle.wasi_tree.specs.Looked.{IsLooked};
 ghost use Rattle.wasi_tree.specs.Sound.{NodesStay, IsSoundText};
-ghost use Rattle.wasi_tree.specs.StoredTree.{stored_node, named_from, AreBelow};
+ghost use Rattle.std.specs.FinSet.{empty};
+ghost use Rattle.wasi_tree.specs.StoredTree.{stored_node, stored_tree, named_from, AreBelow, IsStored};
 ghost use Rattle.std.specs.FinMap as maps;
 ghost use Rattle.wasi_names.specs.NameRows.{names_at};
 ghost use Rattle.wasi_tree.specs.TouchedTree.{MeansCode};
@@ -74,6 +75,19 @@ impl Store {
         } = fit;
         let mut names = Rows::new(alloc);
         let rows = rows_of(alloc, nodes, &counts, &mut names)?;
+        Store::of_rows(alloc, rows, names, limits)
+    }
+
+    /// The tree of these rows, with the names of all directories. No node has been worked on.
+    pub fn of_rows(
+        alloc: Global,
+        rows: Vec<Row>,
+        names: Rows,
+        limits: Limits,
+    ) -> Result<Store, AllocError>
+        requires { IsStored rows.items names.names limits empty (length rows.items) }
+        ensures tree { IfOk result (λ store. store ≡ stored_tree rows.items names.names limits empty) }
+    {
         let worked = Marks::new(alloc, rows.len())?;
         Ok(Store {
             rows,

@@ -65,6 +65,14 @@ impl<S: NodeStore> TreeHost<S> {
         }
     }
 
+    /// The nodes as they are kept.
+    pub fn store(&self) -> &S
+        ensures tree { (S.seen result.now).tree ≡ self.now.tree }
+        ensures touched { (S.seen result.now).touched ≡ self.now.touched }
+    {
+        &self.store
+    }
+
     /// The tree as it is, as a list of nodes in memory of its own. The entries of each directory stand in byte order.
     pub fn nodes(&self, alloc: Global) -> Result<Vec<NewNode>, AllocError>
         ensures nodes { IfOk result (λ nodes. map given nodes.items ≡ map given_of self.now.tree.nodes) }

@@ -65,7 +65,7 @@ fn pair(tree: &mut MemTree, it: Handle, old: Handle, asked: &Asked<'_>) -> Told
 }
 
 /// Gives what the old name holds the new one too, or moves it there; a slash behind the new one asks for a directory.
-fn at_two<H: Host>(
+pub fn at_two<H: Host>(
     host: &mut H,
     what: &str,
     old: Handle,
@@ -92,7 +92,7 @@ fn at_two<H: Host>(
 }
 
 /// A change of what a name of a directory holds.
-fn change<H: Host>(host: &mut H, start: Handle, asked: &Asked<'_>) -> Told
+pub fn change<H: Host>(host: &mut H, start: Handle, asked: &Asked<'_>) -> Told
     requires { contains (H.live host.old) start ≡ true }
     ensures { H.live host.new ≡ H.live host.old }
 {

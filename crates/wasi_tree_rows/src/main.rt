@@ -5,6 +5,7 @@
 mod calls;
 mod listed;
 mod opened;
+mod overlays;
 mod readers;
 mod reports;
 mod trees;

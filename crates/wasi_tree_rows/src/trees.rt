@@ -4,6 +4,7 @@ ghost use Rattle.wasi_host.specs.ValidTree.{AreLimits};
 use crate::calls::call;
 use crate::listed::{chain, listed, tree_of};
 use crate::opened::with_opened;
+use crate::overlays::over;
 use crate::readers::{told_entry, told_entry_at, told_view};
 use crate::reports::told_report;
 use std::alloc::{AllocError, Global};
@@ -88,6 +89,7 @@ fn ask(tree: &mut MemTree, asked: &Asked<'_>) -> Told {
         "entry" => told_entry(alloc, tree, asked.rest),
         "entry_at" => told_entry_at(alloc, tree, asked.rest),
         "forget" => forgotten(alloc, tree),
+        "over" => over(alloc, tree, asked.rest),
         "report" => told_report(alloc, tree, asked.rest),
         "many" => many(alloc, tree, asked.rest),
         _ => ask_root(tree, asked),

@@ -1,4 +1,4 @@
-use Rattle.std.proofs.Common.{◌∙◌, sym, rules}
+use Rattle.std.proofs.Common.{◌∙◌, sym}
 use Rattle.wasi_names.proofs.RunLemmas.{none_past, goes_on, is_here, shows_entry}
 use Rattle.wasi_names.proofs.run.row_at.Goals as goal
 

@@ -1,4 +1,4 @@
-use Rattle.std.proofs.Common.{◌∙◌, ap}
+use Rattle.std.proofs.Common.{◌∙◌, ap, arith}
 use Rattle.std.specs.FinMap.{insert}
 use Rattle.wasi_names.specs.NameRows.{AllNames}
 use Rattle.wasi_names.specs.OverNames.{overlaid}
@@ -8,5 +8,5 @@ use Rattle.wasi_names.proofs.over_rows.OverRows.put.Goals as goal
 pub returns-clause-put : goal.returns-clause-put
 returns-clause-put c = ap (overlaid c.self.inside.base.now.names) c.in_ok-put.ensures.put
     ∙ overlaid-put c.self.inside.base.now.names c.self.inside.changed.names (c.args.directory, c.args.name.now)
-    c.args.node c.requires
+    c.args.node (omega (arith, c.ranges.node.fits, c.if-node-eq-TAKEN.false))
     ∙ ap (λ (m : AllNames). insert m (c.args.directory, c.args.name.now) c.args.node) c.self.view_is

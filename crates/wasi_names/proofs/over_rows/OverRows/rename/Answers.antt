@@ -1,15 +1,12 @@
-use Rattle.std.proofs.Common.{◌∙◌, sym, ap, subst}
-use Rattle.std.specs.FinMap.{get, insert, remove}
+use Rattle.std.proofs.Common.{◌∙◌, ◌-◌, ◌^◌, ◌<◌, sym, ap, subst, arith}
+use Rattle.std.specs.FinMap.{insert, remove}
 use Rattle.wasi_names.specs.NameRows.{AllNames}
 use Rattle.wasi_names.specs.OverNames.{overlaid, IsChanged}
-use Rattle.wasi_names.proofs.OverLemmas.{held-unmarked, overlaid-put, changed-put}
+use Rattle.wasi_names.proofs.OverLemmas.{overlaid-put, changed-put}
 use Rattle.wasi_names.proofs.over_rows.OverRows.rename.Goals as goal
 
 pub hold-requires-clause-unmarked : goal.hold-requires-clause-unmarked
-hold-requires-clause-unmarked c =
-    held-unmarked c.self.inside.base.now.names c.self.inside.changed.names (c.args.directory, c.args.name.now) c.args.node
-    c.self.invariant c.ranges.node.fits
-    (ap (λ (m : AllNames). get m (c.args.directory, c.args.name.now)) c.self.view_is ∙ c.requires.held)
+hold-requires-clause-unmarked c = omega (arith, c.ranges.node.fits, c.if-node-eq-TAKEN.false)
 
 pub strike-requires : goal.strike-requires
 strike-requires c =
@@ -20,9 +17,7 @@ strike-requires c =
 
 pub returns-clause-renamed : goal.returns-clause-renamed
 returns-clause-renamed c =
-    let unmarked = held-unmarked c.self.inside.base.now.names c.self.inside.changed.names
-    (c.args.directory, c.args.name.now) c.args.node c.self.invariant c.ranges.node.fits
-    (ap (λ (m : AllNames). get m (c.args.directory, c.args.name.now)) c.self.view_is ∙ c.requires.held) in
+    let unmarked : c.args.node < 2 ^ 64 - 1 = omega (arith, c.ranges.node.fits, c.if-node-eq-TAKEN.false) in
     c.strike.ensures ∙ ap (λ (m : AllNames). remove m (c.args.directory, c.args.name.now)) (
     ap (overlaid c.self.inside.base.now.names) c.in_ok-put.ensures.put
     ∙ overlaid-put c.self.inside.base.now.names c.hold.new.changed.names

@@ -1,4 +1,3 @@
-use Rattle.std.proofs.Common.{rules, sym}
 use Rattle.wasi_names.specs.NameRows.{row_entry}
 use Rattle.wasi_names.proofs.RunLemmas.{no_name_at, other_at, own_at}
 use Rattle.wasi_names.proofs.run.Run.at.Goals as goal

@@ -1,0 +1,16 @@
+pub mod SeatLemmas
+pub mod MapLemmas
+pub mod GrownLemmas
+pub mod OverLemmas
+pub mod StateLemmas
+pub mod StepLemmas
+pub mod HoldLemmas
+pub mod ListLemmas
+pub mod ForgetLemmas
+pub mod HeldLemmas
+pub mod TreeOver
+pub mod Steps
+pub mod OverSteps
+pub mod Contents
+pub mod Beginning
+pub mod Copies

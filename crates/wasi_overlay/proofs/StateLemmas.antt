@@ -1,0 +1,126 @@
+-- What is read of the nodes of an overlay.
+use Rattle.std.proofs.Common.{◌≡◌, ◌<◌, ◌≤◌, ℕ, zero, suc, true, false, ◌&&◌, List, [], ◌∷◌, length, Some, None, inl, inr, refl, sym, ap, ◌∙◌, subst, arith, slice_index_or}
+use Rattle.std.proofs.lemmas.Bool.{cases_lt}
+use Rattle.std.specs.FinMap as maps
+use Rattle.std.specs.Prelude.{Option}
+use Rattle.wasi_host.specs.Tree.{Node, Content, File, Directory, Link, stray, is_directory, is_file, is_link, is_gone, text_of, bytes_of}
+use Rattle.std.specs.Ordering.{nat_cmp}
+use Rattle.wasi_overlay.specs.Grown.{GrownNodes}
+use Rattle.wasi_overlay.specs.OverNodes.{OverState, over_state, AreRounds}
+use Rattle.wasi_overlay.specs.OverSeats.{SeatMap, seated, over_from, content_over, node_over, bytes_over}
+use Rattle.wasi_overlay.specs.declared.seat.Seat.{Seat}
+use Rattle.wasi_overlay.proofs.OverLemmas.{over_at, length-over}
+
+none_there : (nodes : List Node) (n : ℕ) → length nodes ≤ n → slice_index_or nodes n stray ≡ stray
+none_there [] n past = refl
+none_there (node ∷ nodes) zero past = absurd (omega arith)
+none_there (node ∷ nodes) (suc n) past = none_there nodes n (omega arith)
+
+-- all nodes past the last one are alike
+over_past : (seats : SeatMap) (nodes : List Node) (n : ℕ) → length nodes ≤ n
+    → slice_index_or (over_from seats 0 nodes) n stray ≡ slice_index_or nodes n stray
+over_past seats nodes n past =
+    none_there (over_from seats 0 nodes) n (omega (arith, past, length-over seats 0 nodes)) ∙ sym (none_there nodes n past)
+
+module _ {B : Type 0} (f : Node → B) (same : (seat : Seat) (node : Node) → f (node_over seat node) ≡ f node) where
+  of_seated : (seat : Option Seat) (node : Node) → f (seated seat node) ≡ f node
+  of_seated None node = refl
+  of_seated (Some seat) node = same seat node
+
+  -- what seats leave of nodes
+  pub left_at : (seats : SeatMap) (nodes : List Node) (n : ℕ)
+      → f (slice_index_or nodes n stray) ≡ f (slice_index_or (over_from seats 0 nodes) n stray)
+  left_at seats nodes n = elim (cases_lt n (length nodes)) [
+    | inl within ↦ sym (ap f (over_at seats nodes n within) ∙ of_seated (maps.get seats n) (slice_index_or nodes n stray))
+    | inr past ↦ ap f (sym (over_past seats nodes n past))
+  ]
+
+pub is_directory-over : (seat : Seat) (node : Node) → is_directory (node_over seat node).content ≡ is_directory node.content
+is_directory-over seat node = by node.content
+  where
+    by : (c : Content) → is_directory (content_over seat c) ≡ is_directory c
+    by (File bytes links) = refl
+    by (Directory names gone) = refl
+    by (Link text links) = refl
+
+pub is_file-over : (seat : Seat) (node : Node) → is_file (node_over seat node).content ≡ is_file node.content
+is_file-over seat node = by node.content
+  where
+    by : (c : Content) → is_file (content_over seat c) ≡ is_file c
+    by (File bytes links) = refl
+    by (Directory names gone) = refl
+    by (Link text links) = refl
+
+pub is_link-over : (seat : Seat) (node : Node) → is_link (node_over seat node).content ≡ is_link node.content
+is_link-over seat node = by node.content
+  where
+    by : (c : Content) → is_link (content_over seat c) ≡ is_link c
+    by (File bytes links) = refl
+    by (Directory names gone) = refl
+    by (Link text links) = refl
+
+pub text_of-over : (seat : Seat) (node : Node) → text_of (node_over seat node).content ≡ text_of node.content
+text_of-over seat node = by node.content
+  where
+    by : (c : Content) → text_of (content_over seat c) ≡ text_of c
+    by (File bytes links) = refl
+    by (Directory names gone) = refl
+    by (Link text links) = refl
+
+-- what is there without a seat
+pub unseated_at : (seats : SeatMap) (nodes : List Node) (n : ℕ) → n < length nodes → maps.get seats n ≡ None
+    → slice_index_or nodes n stray ≡ slice_index_or (over_from seats 0 nodes) n stray
+unseated_at seats nodes n within none =
+    sym (over_at seats nodes n within ∙ ap (λ seat. seated seat (slice_index_or nodes n stray)) none)
+
+-- what is there with a seat
+pub seated_at : (seats : SeatMap) (nodes : List Node) (n : ℕ) (seat : Seat) → n < length nodes → maps.get seats n ≡ Some seat
+    → node_over seat (slice_index_or nodes n stray) ≡ slice_index_or (over_from seats 0 nodes) n stray
+seated_at seats nodes n seat within there =
+    sym (over_at seats nodes n within ∙ ap (λ seat. seated seat (slice_index_or nodes n stray)) there)
+
+-- a directory that is gone, of a node that has a seat
+pub gone-over : (seat : Seat) (node : Node) → (is_directory node.content && seat.gone) ≡ is_gone (node_over seat node).content
+gone-over seat node = by node.content
+  where
+    by : (c : Content) → (is_directory c && seat.gone) ≡ is_gone (content_over seat c)
+    by (File bytes links) = refl
+    by (Directory names gone) = refl
+    by (Link text links) = refl
+
+-- the bytes of a file that has a seat
+pub file_bytes-over : (seat : Seat) (node : Node) → is_file node.content ≡ true
+    → bytes_over seat.bytes (bytes_of node.content) ≡ bytes_of (node_over seat node).content
+file_bytes-over seat node = by node.content
+  where
+    by : (c : Content) → is_file c ≡ true → bytes_over seat.bytes (bytes_of c) ≡ bytes_of (content_over seat c)
+    by (File bytes links) is = refl
+    by (Directory names gone) is = absurd (cc)
+    by (Link text links) is = absurd (cc)
+
+-- what is no file has no bytes
+pub other_bytes-over : (seat : Seat) (node : Node) → is_file node.content ≡ false
+    → bytes_of node.content ≡ bytes_of (node_over seat node).content
+other_bytes-over seat node = by node.content
+  where
+    by : (c : Content) → is_file c ≡ false → bytes_of c ≡ bytes_of (content_over seat c)
+    by (File bytes links) is = absurd (cc)
+    by (Directory names gone) is = refl
+    by (Link text links) is = refl
+
+-- a number of a node is one below
+pub within_below : (below : GrownNodes) (seats : SeatMap) (round : ℕ) {t : OverState} {n : ℕ}
+    → over_state below seats round ≡ t → n < length t.nodes → n < length below.nodes
+within_below below seats round {t} {n} is within =
+    let all : length (over_state below seats round).nodes ≡ length t.nodes = ap (λ (u : OverState). length u.nodes) is in
+    omega (arith, within, all, length-over seats 0 below.nodes)
+
+-- no rounds are those of no seats
+pub rounds_none : (seats : SeatMap) → seats ≡ maps.empty → AreRounds 1 seats
+rounds_none seats none = subst (AreRounds 1) (sym none) (record {
+  begun = omega arith;
+  past = λ n seat there.
+      let apart : ◌≡◌ {A = Option Seat} None (Some seat) = sym (maps.get-empty nat_cmp n) ∙ there in absurd (cc);
+})
+
+pub ruleset read_rules = (length-over)

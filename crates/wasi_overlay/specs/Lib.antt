@@ -1,0 +1,5 @@
+pub mod OverSeats
+pub mod Grown
+pub mod OverNodes
+pub mod OverParents
+pub mod OverStore

@@ -1,0 +1,17 @@
+//! `Overlay`, a trial run over a tree that stays: a host over a tree in memory, which keeps what changes and leaves the tree.
+#![tactic(auto)]
+
+mod commit;
+mod grown;
+mod over_nodes;
+mod over_parents;
+mod over_store;
+mod overlay;
+mod seat;
+mod seats;
+
+pub use over_nodes::OverNodes;
+pub use over_parents::OverParents;
+pub use over_store::OverStore;
+pub use overlay::Overlay;
+pub use seat::Seat;

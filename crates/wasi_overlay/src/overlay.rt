@@ -1,0 +1,271 @@
+//! A tree of files over one that stays, as a host.
+ghost use Rattle.std.specs.Prelude.{◌≡◌, ◌↔◌, ℕ, true, false, [], Err, IfOk, OnErr, map};
+ghost use Rattle.std.specs.FinSet.{contains, insert, empty, from_list};
+ghost use Rattle.std.specs.List.Sorted.{IsStrictlySortedBy};
+ghost use Rattle.std.specs.Ordering.{nat_cmp};
+ghost use Rattle.wasi_host.specs.Tree.{node_at, is_directory};
+ghost use Rattle.wasi_host.specs.Meaning.{never_fails};
+ghost use Rattle.wasi_host.specs.declared.fate.Fate.TheVariants.{Passes};
+ghost use Rattle.wasi_tree.specs.Given.{given, given_of};
+ghost use Rattle.wasi_tree.specs.MemState.{live_of, held_in, world_of};
+
+use crate::over_store::OverStore;
+use std::alloc::{AllocError, Global};
+use std::marker::Model;
+use wasi_host::{
+    AccessMode, Advice, DirEntry, ErrorCode, Forget, Handle, Host, HostError, Metadata,
+    OpenOptions, SyncFlags, SystemTime,
+};
+use wasi_paths::Name;
+use wasi_tree::{HandleError, MemTree, NewNode, TreeHost};
+
+/// A tree of files over a tree in memory that stays, as a host. Guests see and change the tree that both together are. The
+/// tree below is never changed, so dropping the overlay drops the changes; `commit` makes a tree of them. Contracts see
+/// what they see of a `MemTree`.
+#[derive(Debug, Drop)]
+pub struct Overlay<'a> {
+    host: TreeHost<OverStore<'a>>,
+}
+
+impl<'a> Model for Overlay<'a> {
+    ghost use Rattle.wasi_tree.specs.MemState.{MemState, state_code};
+
+    ghost Value = { MemState };
+
+    ghost coded = { state_code };
+
+    ghost view = { λ a. a.host };
+}
+
+impl<'a> Overlay<'a> {
+    /// The tree below, of which nothing has changed. There is no live handle, no node is touched, and there is no look-up.
+    /// It takes no memory.
+    pub fn new(alloc: Global, base: &MemTree) -> Overlay<'_>
+        ensures tree { result.tree ≡ record base.now.tree { worked = empty } }
+        ensures live { live_of result.handles ≡ empty }
+        ensures touched { result.touched ≡ empty }
+        ensures lookups { result.lookups ≡ [] }
+    {
+        Overlay {
+            host: TreeHost::over(alloc, OverStore::new(alloc, base.store())),
+        }
+    }
+
+    /// A handle of a directory, for its path alone.
+    pub fn handle(&mut self, node: u64) -> Result<Handle, HandleError>
+        ensures not_directory { (result ≡ Err HandleError.NotDirectory) ↔ (is_directory (node_at self.old.tree node).content ≡ false) }
+        ensures fresh { IfOk result (λ h. contains (live_of self.old.handles) h ≡ false) }
+        ensures live { IfOk result (λ h. live_of self.new.handles ≡ insert (live_of self.old.handles) h) }
+        ensures held { IfOk result (λ h. held_in self.new.handles h ≡ record { node = node; mode = AccessMode.PathOnly }) }
+        ensures others { (h : ℕ) → contains (live_of self.old.handles) h ≡ true
+            → held_in self.new.handles h ≡ held_in self.old.handles h }
+        ensures tree { self.new.tree ≡ self.old.tree }
+        ensures touched { self.new.touched ≡ self.old.touched }
+        ensures lookups { self.new.lookups ≡ self.old.lookups }
+        ensures err { OnErr result (self.new ≡ self.old) }
+    {
+        self.host.handle(node)
+    }
+
+    /// The numbers of the nodes that steps have worked on, rising: those of which the overlay keeps something.
+    pub fn kept(&self, alloc: Global) -> Result<Vec<u64>, AllocError>
+        ensures nodes { IfOk result (λ nodes. from_list nodes.items ≡ self.now.tree.worked) }
+        ensures rising { IfOk result (λ nodes. IsStrictlySortedBy nat_cmp nodes.items) }
+    {
+        self.host.store().list_worked(alloc)
+    }
+
+    /// The tree as it is, in memory of its own, as a tree in memory on which no step has worked. It has no live handle, no
+    /// node is touched, and there is no look-up. The overlay and the tree below stay.
+    pub fn commit(&self, alloc: Global) -> Result<MemTree, AllocError>
+        ensures tree { IfOk result (λ m. m.tree ≡ record self.now.tree { worked = empty }) }
+        ensures live { IfOk result (λ m. live_of m.handles ≡ empty) }
+        ensures touched { IfOk result (λ m. m.touched ≡ empty) }
+        ensures lookups { IfOk result (λ m. m.lookups ≡ []) }
+    {
+        Ok(TreeHost::over(alloc, self.host.store().commit(alloc)?))
+    }
+
+    /// The numbers of the touched nodes, rising, as those of a `MemTree`.
+    pub fn touched(&self, alloc: Global) -> Result<Vec<u64>, AllocError>
+        ensures nodes { IfOk result (λ nodes. from_list nodes.items ≡ self.now.touched) }
+        ensures rising { IfOk result (λ nodes. IsStrictlySortedBy nat_cmp nodes.items) }
+    {
+        self.host.touched(alloc)
+    }
+
+    /// The tree as it is, as a list of nodes in memory of its own. The entries of each directory stand in byte order.
+    pub fn nodes(&self, alloc: Global) -> Result<Vec<NewNode>, AllocError>
+        ensures nodes { IfOk result (λ nodes. map given nodes.items ≡ map given_of self.now.tree.nodes) }
+    {
+        self.host.nodes(alloc)
+    }
+}
+
+impl<'a> Host for Overlay<'a> {
+    ghost faults = { λ _. never_fails };
+
+    ghost live = { λ m. live_of m.handles };
+
+    ghost lookups = { λ m. m.lookups };
+
+    ghost told = { true };
+
+    ghost world = { world_of };
+
+    ghost tells_fails = { true };
+
+    ghost fails = { λ _ _. Passes };
+
+    ghost tells_found = { true };
+
+    ghost others = { λ _ _ t. t };
+
+    ghost found = { λ m. m.tree };
+
+    ghost left = { world_of };
+
+    fn open_at(
+        &mut self,
+        start: Handle,
+        name: Name<'_>,
+        options: &OpenOptions,
+    ) -> Result<Handle, HostError> {
+        self.host.open_at(start, name, options)
+    }
+
+    fn stat_at(&mut self, start: Handle, name: Name<'_>) -> Result<Metadata, HostError> {
+        self.host.stat_at(start, name)
+    }
+
+    fn read_link_at(
+        &mut self,
+        alloc: Global,
+        start: Handle,
+        name: Name<'_>,
+    ) -> Result<String, HostError> {
+        self.host.read_link_at(alloc, start, name)
+    }
+
+    fn make_dir_at(&mut self, start: Handle, name: Name<'_>) -> Result<(), HostError> {
+        self.host.make_dir_at(start, name)
+    }
+
+    fn symlink_at(&mut self, target: &str, start: Handle, name: Name<'_>) -> Result<(), HostError> {
+        self.host.symlink_at(target, start, name)
+    }
+
+    fn link_at(
+        &mut self,
+        old: Handle,
+        old_name: Name<'_>,
+        new: Handle,
+        new_name: Name<'_>,
+    ) -> Result<(), HostError> {
+        self.host.link_at(old, old_name, new, new_name)
+    }
+
+    fn rename_at(
+        &mut self,
+        old: Handle,
+        old_name: Name<'_>,
+        new: Handle,
+        new_name: Name<'_>,
+        requires_dir: bool,
+    ) -> Result<(), HostError> {
+        self.host
+            .rename_at(old, old_name, new, new_name, requires_dir)
+    }
+
+    fn unlink_at(&mut self, start: Handle, name: Name<'_>) -> Result<(), HostError> {
+        self.host.unlink_at(start, name)
+    }
+
+    fn remove_dir_at(&mut self, start: Handle, name: Name<'_>) -> Result<(), HostError> {
+        self.host.remove_dir_at(start, name)
+    }
+
+    fn times_at(
+        &mut self,
+        start: Handle,
+        name: Name<'_>,
+        atime: Option<SystemTime>,
+        mtime: Option<SystemTime>,
+    ) -> Result<(), HostError> {
+        self.host.times_at(start, name, atime, mtime)
+    }
+
+    fn access(&mut self, directory: Handle) -> Result<(), ErrorCode> {
+        self.host.access(directory)
+    }
+
+    fn list(&mut self, alloc: Global, directory: Handle) -> Result<Vec<DirEntry>, HostError> {
+        self.host.list(alloc, directory)
+    }
+
+    fn dup(&mut self, handle: Handle) -> Result<Handle, HostError> {
+        self.host.dup(handle)
+    }
+
+    fn stat(&mut self, handle: Handle) -> Result<Metadata, ErrorCode> {
+        self.host.stat(handle)
+    }
+
+    fn set_times(
+        &mut self,
+        handle: Handle,
+        atime: Option<SystemTime>,
+        mtime: Option<SystemTime>,
+    ) -> Result<(), ErrorCode> {
+        self.host.set_times(handle, atime, mtime)
+    }
+
+    fn pread(&mut self, file: Handle, buf: &mut [u8], offset: u64) -> Result<usize, ErrorCode> {
+        self.host.pread(file, buf, offset)
+    }
+
+    fn pwrite(&mut self, file: Handle, piece: &[u8], offset: u64) -> Result<usize, HostError> {
+        self.host.pwrite(file, piece, offset)
+    }
+
+    fn append(&mut self, file: Handle, piece: &[u8]) -> Result<usize, HostError> {
+        self.host.append(file, piece)
+    }
+
+    fn set_size(&mut self, file: Handle, size: u64) -> Result<(), HostError> {
+        self.host.set_size(file, size)
+    }
+
+    fn sync(&mut self, handle: Handle) -> Result<(), ErrorCode> {
+        self.host.sync(handle)
+    }
+
+    fn advise(
+        &mut self,
+        file: Handle,
+        offset: u64,
+        len: u64,
+        advice: Advice,
+    ) -> Result<(), ErrorCode> {
+        self.host.advise(file, offset, len, advice)
+    }
+
+    fn flags(&mut self, handle: Handle) -> Result<SyncFlags, ErrorCode> {
+        self.host.flags(handle)
+    }
+
+    fn close(&mut self, handle: Handle) {
+        self.host.close(handle)
+    }
+
+    fn laws(&self) {
+        self.host.laws()
+    }
+}
+
+impl<'a> Forget for Overlay<'a> {
+    /// As a `MemTree` forgets.
+    fn forget(&mut self) {
+        self.host.forget();
+    }
+}

@@ -1,0 +1,238 @@
+//! The seats of an overlay.
+ghost use Rattle.std.specs.Prelude.{◌≡◌, ℕ, ◌+◌, ◌-◌, ◌^◌, ◌<◌, ◌≤◌, Bool, true, is_some, List, [], IfOk, OnOk, OnErr, length, Some, None, option_copied, option_map};
+ghost use Rattle.std.specs.BTreeMap.{IsOrdered};
+ghost use Rattle.std.specs.FinMap as maps;
+ghost use Rattle.std.specs.FinSet.{from_list};
+ghost use Rattle.std.specs.List.Sorted.{IsStrictlySortedBy};
+ghost use Rattle.std.specs.Ordering.{nat_cmp};
+ghost use Rattle.wasi_host.specs.Numbers.{largest_file};
+ghost use Rattle.wasi_host.specs.Step.{with_piece, with_size};
+ghost use Rattle.wasi_overlay.specs.OverSeats.{SeatMap, bytes_over, own_at, has_mark, marked_in, numbers_with, seat_added, seat_changed, seat_of, in_round, worked_on, times_put, name_less, links_put, own_put, own_kept};
+ghost use Rattle.wasi_overlay.specs.declared.seat.Seat.{Seat};
+
+use crate::seat::{Mark, Seat};
+use std::alloc::{AllocError, Global};
+use std::collections::BTreeMap;
+use std::marker::Model;
+use wasi_host::{Metadata, SystemTime};
+
+/// The seats of nodes, by their numbers. Contracts see a finite map.
+#[derive(Debug, Drop)]
+pub struct Seats {
+    by_number: BTreeMap<u64, Seat>,
+}
+
+impl Model for Seats {
+    ghost use Rattle.std.specs.FinMap.{from_entries};
+    ghost use Rattle.wasi_overlay.specs.OverSeats.{SeatMap, seats_code};
+
+    ghost Value = { SeatMap };
+
+    ghost coded = { seats_code };
+
+    ghost view = { λ a. from_entries a.by_number.entries };
+}
+
+impl Seats {
+    /// No seats.
+    pub fn new(alloc: Global) -> Seats
+        ensures { result ≡ maps.empty }
+    {
+        Seats {
+            by_number: BTreeMap::new(alloc),
+        }
+    }
+
+    /// The seat of a number.
+    pub fn get(&self, n: u64) -> Option<&Seat>
+        ensures { option_copied result ≡ maps.get self.now n }
+    {
+        self.by_number.get(&n)
+    }
+
+    /// Whether a number has a seat.
+    pub fn has(&self, n: u64) -> bool
+        ensures { result ≡ is_some (maps.get self.now n) }
+    {
+        self.get(n).is_some()
+    }
+
+    /// Puts the seat of a number. Where memory is wanted, all is as it was.
+    pub fn put(&mut self, n: u64, seat: Seat) -> Result<(), AllocError>
+        ensures put { OnOk result (self.new ≡ maps.insert self.old n seat) }
+        ensures kept { OnErr result (self.new ≡ self.old) }
+    {
+        self.by_number.insert(n, seat)?;
+        Ok(())
+    }
+
+    /// Puts the seat of a number, unless it has one. Where memory is wanted, all is as it was.
+    pub fn hold(&mut self, n: u64, seat: Seat) -> Result<(), AllocError>
+        ensures held { OnOk result (self.new ≡ seat_added self.old n seat) }
+        ensures kept { OnErr result (self.new ≡ self.old) }
+    {
+        if self.has(n) {
+            return Ok(());
+        }
+        self.put(n, seat)
+    }
+
+    /// Touches the seat of a number in a round.
+    pub fn touch(&mut self, n: u64, round: u32)
+        ensures { self.new ≡ seat_changed self.old n (in_round round) }
+    {
+        if let Some(seat) = self.by_number.get_mut(&n) {
+            seat.touch(round);
+        }
+    }
+
+    /// Works on the seat of a number.
+    pub fn work(&mut self, n: u64)
+        ensures { self.new ≡ seat_changed self.old n worked_on }
+    {
+        if let Some(seat) = self.by_number.get_mut(&n) {
+            seat.work();
+        }
+    }
+
+    /// Sets the given times in the seat of a number.
+    pub fn set_times(&mut self, n: u64, atime: Option<SystemTime>, mtime: Option<SystemTime>)
+        ensures { self.new ≡ seat_changed self.old n (times_put atime mtime) }
+    {
+        if let Some(seat) = self.by_number.get_mut(&n) {
+            seat.set_times(atime, mtime);
+        }
+    }
+
+    /// Takes a name from the seat of a number.
+    pub fn lose_name(&mut self, n: u64)
+        ensures { self.new ≡ seat_changed self.old n name_less }
+    {
+        if let Some(seat) = self.by_number.get_mut(&n) {
+            seat.lose_name();
+        }
+    }
+
+    /// Says in the seat of a number how many names it has.
+    pub fn set_links(&mut self, n: u64, links: u64)
+        ensures { self.new ≡ seat_changed self.old n (links_put links) }
+    {
+        if let Some(seat) = self.by_number.get_mut(&n) {
+            seat.set_links(links);
+        }
+    }
+
+    /// Begins the seat of a number anew, for a node of this metadata that is made in a round.
+    pub fn begin(&mut self, n: u64, round: u32, made: Metadata, gone: bool)
+        ensures { self.new ≡ seat_changed self.old n (λ _. in_round round (worked_on (seat_of made gone))) }
+    {
+        if let Some(seat) = self.by_number.get_mut(&n) {
+            seat.begin(round, made, gone);
+        }
+    }
+
+    /// Cuts the bytes in the seat of a number.
+    pub fn cut(&mut self, alloc: Global, n: u64)
+        ensures cut { self.new ≡ seat_changed self.old n (own_put (own_at self.new n)) }
+        ensures none { is_some (maps.get self.old n) ≡ true → (below : List ℕ) → bytes_over (own_at self.new n) below ≡ [] }
+    {
+        if let Some(seat) = self.by_number.get_mut(&n) {
+            seat.cut(alloc);
+        }
+    }
+
+    /// Puts a piece into the bytes in the seat of a number, which are those below where it has none of its own.
+    pub fn put_bytes(
+        &mut self,
+        alloc: Global,
+        n: u64,
+        below: &[u8],
+        offset: usize,
+        piece: &[u8],
+    ) -> Result<(), AllocError>
+        requires { offset + length piece.now ≤ largest_file }
+        ensures put { OnOk result (self.new ≡ seat_changed self.old n (own_put (own_at self.new n))) }
+        ensures bytes { OnOk result (is_some (maps.get self.old n) ≡ true
+            → bytes_over (own_at self.new n) below.now ≡ with_piece (bytes_over (own_at self.old n) below.now) offset piece.now) }
+        ensures kept { OnErr result (self.new ≡ seat_changed self.old n (own_kept (own_at self.new n))) }
+        ensures same { OnErr result (bytes_over (own_at self.new n) below.now ≡ bytes_over (own_at self.old n) below.now) }
+    {
+        match self.by_number.get_mut(&n) {
+            Some(seat) => seat.put(alloc, below, offset, piece),
+            None => Ok(()),
+        }
+    }
+
+    /// Gives the bytes in the seat of a number a size. They are those below where it has none of its own.
+    pub fn resize(
+        &mut self,
+        alloc: Global,
+        n: u64,
+        below: &[u8],
+        size: usize,
+    ) -> Result<(), AllocError>
+        ensures put { OnOk result (self.new ≡ seat_changed self.old n (own_put (own_at self.new n))) }
+        ensures bytes { OnOk result (is_some (maps.get self.old n) ≡ true
+            → bytes_over (own_at self.new n) below.now ≡ with_size size (bytes_over (own_at self.old n) below.now)) }
+        ensures kept { OnErr result (self.new ≡ seat_changed self.old n (own_kept (own_at self.new n))) }
+        ensures same { OnErr result (bytes_over (own_at self.new n) below.now ≡ bytes_over (own_at self.old n) below.now) }
+    {
+        match self.by_number.get_mut(&n) {
+            Some(seat) => seat.resize(alloc, below, size),
+            None => Ok(()),
+        }
+    }
+
+    /// The numbers whose seat has a mark, rising.
+    pub fn list(&self, alloc: Global, mark: Mark) -> Result<Vec<u64>, AllocError>
+        ensures numbers { IfOk result (λ numbers. from_list numbers.items ≡ numbers_with (has_mark mark) self.now) }
+        ensures rising { IfOk result (λ numbers. IsStrictlySortedBy nat_cmp numbers.items) }
+    {
+        list_marked(alloc, &self.by_number, mark)
+    }
+
+    /// Begins the round after this one, and says which that is. No seat was touched in it yet. It takes a constant time,
+    /// but for once in 2^32 - 1 times, when it goes over all.
+    pub fn begin_round(&mut self, round: u32) -> u32
+        requires { (n : ℕ) (seat : Seat) → maps.get self.old n ≡ Some seat → seat.round ≤ round }
+        ensures begun { 0 < result }
+        ensures past { (n : ℕ) (seat : Seat) → maps.get self.new n ≡ Some seat → seat.round < result }
+        ensures same { (n : ℕ) → option_map (in_round 0) (maps.get self.new n) ≡ option_map (in_round 0) (maps.get self.old n) }
+    {
+        match round.checked_add(1) {
+            Some(next) => next,
+            None => {
+                self.forget();
+                1
+            }
+        }
+    }
+
+    /// Says of each seat that it was never touched.
+    fn forget(&mut self)
+        ensures { (n : ℕ) → maps.get self.new n ≡ option_map (in_round 0) (maps.get self.old n) }
+    {
+        self.by_number.retain(|_, seat| {
+            seat.touch(0);
+            true
+        });
+    }
+}
+
+/// The numbers of the seats that have a mark, rising.
+fn list_marked(
+    alloc: Global,
+    seats: &BTreeMap<u64, Seat>,
+    mark: Mark,
+) -> Result<Vec<u64>, AllocError>
+    ensures listed { IfOk result (λ numbers. numbers.items ≡ marked_in mark seats.now.entries) }
+    ensures ordered { IsOrdered nat_cmp seats.now }
+{
+    let mut numbers = Vec::new(alloc);
+    for (n, seat) in seats {
+        if seat.has(mark) {
+            numbers.push(*n)?;
+        }
+    }
+    Ok(numbers)
+}

@@ -1,0 +1,9 @@
+use Rattle.std.proofs.Common.{◌≡◌, ◌+◌, ℕ, length}
+use Rattle.wasi_tree.specs.ParentOf.{is_on_way}
+use Rattle.wasi_tree.proofs.way.is_below.Given as goal
+
+abbrev pub invariant-loop-step : goal.invariant-loop-step
+invariant-loop-step g l =
+    (left : ℕ) → left + l._step ≡ length (g.P.TellsParents.told l.parents)
+    → is_on_way (g.P.TellsParents.told l.parents) left l.top l.here
+    ≡ is_on_way (g.P.TellsParents.told l.parents) (length (g.P.TellsParents.told l.parents)) l.top l.directory
