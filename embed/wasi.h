@@ -21,6 +21,12 @@ typedef struct {
     void *at;
 } wasi_sandbox;
 
+/// A tree that sandboxes stand over, and that stays for as long as the program runs: no function changes it, and none lets it
+/// go. All zeros, as `{0}`, is none. It may be copied.
+typedef struct {
+    const void *at;
+} wasi_base;
+
 /// What each function answers: 0; or preview1's error number, from 1 to 76; or one of these.
 ///
 /// After an error number but `io`, and after the numbers from WASI_TRAP_POINTER to WASI_NO_MEMORY, these stand as
@@ -44,8 +50,10 @@ enum {
     WASI_EMPTY = 261,
     /// The report is longer than the room for it.
     WASI_SHORT = 262,
-    /// The sandbox isn't empty.
+    /// The sandbox, or the base, isn't empty.
     WASI_FULL = 263,
+    /// There is no base.
+    WASI_NO_BASE = 264,
     /// The script has more than 16,777,216 bytes.
     WASI_REFUSED_LONG = 270,
     /// The script isn't JSON.
@@ -57,7 +65,11 @@ enum {
     /// The script passes a limit.
     WASI_REFUSED_LIMIT = 274,
     /// The script has calls, a memory, or ranges of it to be shown.
-    WASI_REFUSED_GUEST = 275
+    WASI_REFUSED_GUEST = 275,
+    /// The script of a sandbox over a base has nodes or limits of its own.
+    WASI_REFUSED_OWN_TREE = 276,
+    /// The sandbox stands over no base.
+    WASI_ALONE = 277
 };
 
 /// The empty sandbox, which the library puts in the place of the one that it works on.
@@ -81,6 +93,50 @@ static inline uint32_t wasi_start(wasi_sandbox *sandbox, const uint8_t *script, 
         return WASI_FULL;
     }
     return wasi_c_start(sandbox, script, script_len);
+}
+
+uint32_t wasi_c_start_over(wasi_base base, wasi_sandbox *sandbox, const uint8_t *script, size_t script_len);
+
+/// Begins a sandbox over a base, in place of an empty one, by the text of a script whose `nodes` are `[]` and that has no
+/// `limits`: its preopens are directories of the base's tree. No tree is copied; any number of sandboxes may stand over
+/// one base, each with its own changes, which none of the others sees. 0; WASI_FULL; WASI_NO_BASE; WASI_NO_MEMORY; or why
+/// the script is refused. Where it isn't 0 the sandbox stays.
+static inline uint32_t wasi_start_over(wasi_base base, wasi_sandbox *sandbox, const uint8_t *script,
+        size_t script_len) {
+    if (sandbox->at) {
+        return WASI_FULL;
+    }
+    if (!base.at) {
+        return WASI_NO_BASE;
+    }
+    return wasi_c_start_over(base, sandbox, script, script_len);
+}
+
+uint32_t wasi_c_commit(wasi_sandbox *sandbox, wasi_sandbox empty, wasi_base *base);
+
+/// Makes a base of a sandbox's tree as it stands, in place of none: a copy, which stays for as long as the program runs.
+/// The sandbox stays, and so does the base that it may stand over. 0; WASI_EMPTY; WASI_FULL, where there is a base; or
+/// WASI_NO_MEMORY. Where it isn't 0 there still is none.
+static inline uint32_t wasi_commit(wasi_sandbox *sandbox, wasi_base *base) {
+    if (!sandbox->at) {
+        return WASI_EMPTY;
+    }
+    if (base->at) {
+        return WASI_FULL;
+    }
+    return wasi_c_commit(sandbox, wasi_nothing(), base);
+}
+
+uint32_t wasi_c_kept(wasi_sandbox *sandbox, wasi_sandbox empty, uint64_t *numbers, size_t room, size_t *len);
+
+/// The numbers of the nodes that a sandbox over a base has worked on, rising, as the report numbers them. 0, the
+/// numbers in front of the room, and how many they are; or WASI_SHORT, and only how many; or WASI_ALONE,
+/// WASI_NO_MEMORY or WASI_EMPTY, and neither. `room` is in numbers; the pointer isn't null, also where it is 0.
+static inline uint32_t wasi_kept(wasi_sandbox *sandbox, uint64_t *numbers, size_t room, size_t *len) {
+    if (!sandbox->at) {
+        return WASI_EMPTY;
+    }
+    return wasi_c_kept(sandbox, wasi_nothing(), numbers, room, len);
 }
 
 uint64_t wasi_c_answered(wasi_sandbox *sandbox, wasi_sandbox empty);

@@ -1,10 +1,10 @@
-"""What a guest came to through each folder that it was given.
+"""What a guest came to through each folder that it was given, and which nodes it worked on.
 
 Its calls were written down as it made them. They become the calls of a script that begins as the guest began, and
-`wasirun run` and `wasirun audit` run that script: so the lists are the proved program's, of these calls. A script has one
-memory from its start, so what a call reads of the guest's memory gets an address of its own, and so does what is written
-for it. Where the script's run answers otherwise than the guest was answered, or leaves another tree or other outputs,
-there is no audit.
+`wasirun run`, and then `wasirun audit` or `wasirun trial`, run that script: so the lists are the proved program's, of
+these calls. A script has one memory from its start, so what a call reads of the guest's memory gets an address of its
+own, and so does what is written for it. Where the script's run answers otherwise than the guest was answered, or leaves
+another tree or other outputs, neither is told.
 """
 
 from __future__ import annotations
@@ -16,8 +16,9 @@ from typing import Any, Dict, Iterator, List, Optional, Set, Tuple
 
 from wasitools.calls import CALLS, ERRNO_NAMES, FIRST_PREOPEN
 from wasitools.recording import Call, Recorded, Replayer, calls_of, job_of
-from wasitools.replay import Told, replayed, shown_path
-from wasitools.scripts import MOST_BYTES, Audit, Mistake, audit_of, report_of, script_of
+from wasitools.replay import Paths, Told, replayed, shown_path
+from wasitools.scripts import MOST_BYTES, Audit, Mistake, Trial, audit_of, report_of, report_or_trial_of, script_of
+from wasitools.trials import changed_by
 
 from .trees import Node, Root, places
 
@@ -91,7 +92,7 @@ def recorded_calls(log: Path) -> List[Call]:
 def told_by(word: str, script: bytes) -> bytes:
     ran = subprocess.run([WASIRUN, word], input=script, stdout=subprocess.PIPE)
     if ran.returncode != 0:
-        raise Mistake(f"there is no audit: `wasirun {word}` ended with status {ran.returncode}")
+        raise Mistake(f"the guest's calls aren't told: `wasirun {word}` ended with status {ran.returncode}")
     return ran.stdout
 
 
@@ -172,22 +173,55 @@ def lines_of_audit(audit: Audit, accounts: Accounts, shown: Shown) -> Iterator[s
             yield f"  {path}: {in_words(done.get(node, set()))}"
 
 
-def audited(begun: bytes, log: Path, roots: List[Root], report: Dict[str, Any]) -> List[str]:
-    """The lines of the audit of a guest that was begun by a script, and of which this report tells."""
-    script = json.loads(begun)
-    own = OwnCalls(script, recorded_calls(log))
-    own.make()
-    text = json.dumps(own.script(), ensure_ascii=False, separators=(",", ":")).encode()
-    if len(text) > MOST_BYTES:
-        raise Mistake(f"there is no audit: the guest's calls make a script of more than {MOST_BYTES:,} bytes")
-    told = told_by("run", text)
-    run = json.loads(told)
-    calls, answers = own.recorded.calls, run["answers"]
-    if len(calls) != len(answers) or not all(map(own.is_answered, calls, answers)) or any(
-            run[key] != report[key] for key in ("tree", "stdout", "stderr")):
-        raise Mistake("there is no audit: the calls that were written down don't lead to what the guest came to")
-    accounts = Accounts(len(roots))
-    for call in replayed(script_of(text), report_of(told)).told:
-        accounts.note(call)
-    audit = audit_of(told_by("audit", text))
-    return list(lines_of_audit(audit, accounts, Shown(roots, script["nodes"], run["tree"])))
+class GuestPaths(Paths):
+    """The paths of nodes as the guest knows them, from its folders on."""
+
+    def __init__(self, nodes: List[Any], roots: List[Root]) -> None:
+        super().__init__(nodes)
+        self.tops = {root.node: root.given.guest.rstrip("/") for root in roots}
+        for node in self.tops:
+            self.holders.pop(node, None)
+
+    def is_named(self, node: int) -> bool:
+        return node in self.tops or super().is_named(node)
+
+    def of(self, node: int, name: Optional[str] = None) -> str:
+        top, path = self.way(node)
+        if top not in self.tops:
+            return super().of(node, name)
+        return shown_path(self.tops[top] + path + ("" if name is None else f"/{name}") or "/")
+
+
+def lines_of_trial(trial: Trial, roots: List[Root]) -> Iterator[str]:
+    changed = changed_by(trial, GuestPaths(trial.base, roots), GuestPaths(trial.report.tree, roots))
+    yield f"worked on; {changed.summary}"
+    yield from (f"  {node}: {words}" for node, words in changed.nodes)
+
+
+class Again:
+    """A guest's calls as those of a script, which was run: it leads to what the guest came to."""
+
+    def __init__(self, begun: bytes, log: Path, report: Dict[str, Any]) -> None:
+        own = OwnCalls(json.loads(begun), recorded_calls(log))
+        own.make()
+        self.script = json.dumps(own.script(), ensure_ascii=False, separators=(",", ":")).encode()
+        if len(self.script) > MOST_BYTES:
+            raise Mistake(f"the guest's calls aren't told: they make a script of more than {MOST_BYTES:,} bytes")
+        self.report = told_by("run", self.script)
+        run = json.loads(self.report)
+        calls, answers = own.recorded.calls, run["answers"]
+        if len(calls) != len(answers) or not all(map(own.is_answered, calls, answers)) or any(
+                run[key] != report[key] for key in ("tree", "stdout", "stderr")):
+            raise Mistake("the guest's calls aren't told: those written down don't lead to what it came to")
+
+    def audited(self, roots: List[Root]) -> List[str]:
+        """The lines of the guest's audit."""
+        accounts = Accounts(len(roots))
+        for call in replayed(script_of(self.script), report_of(self.report)).told:
+            accounts.note(call)
+        shown = Shown(roots, json.loads(self.script)["nodes"], json.loads(self.report)["tree"])
+        return list(lines_of_audit(audit_of(told_by("audit", self.script)), accounts, shown))
+
+    def tried(self, roots: List[Root]) -> List[str]:
+        """The lines of the guest's trial."""
+        return list(lines_of_trial(report_or_trial_of(told_by("trial", self.script)), roots))

@@ -150,11 +150,18 @@ static napi_value on_call(napi_env env, napi_callback_info info) {
     return napi_create_uint32(env, code, &answer) == napi_ok ? answer : NULL;
 }
 
-// begin(SCRIPT, STOP): a sandbox, or the code by which the script, which is a Uint8Array, is refused.
+// Begins a sandbox over a base, or over the script's own tree where there is none.
+static uint32_t start(struct held *held, wasi_base base, const uint8_t *script, size_t length) {
+    return base.at ? wasi_start_over(base, &held->sandbox, script, length)
+                   : wasi_start(&held->sandbox, script, length);
+}
+
+// begin(SCRIPT, STOP, BASE): a sandbox, over a base if there is one, or the code by which the script, which is a
+// Uint8Array, is refused.
 static napi_value on_begin(napi_env env, napi_callback_info info) {
-    napi_value given[2], made;
-    size_t count = 2, length;
-    void *script;
+    napi_value given[3], made;
+    size_t count = 3, length;
+    void *script, *base = NULL;
     struct held *held = calloc(1, sizeof *held);
     if (!held) {
         return fail(env, "there isn't enough memory");
@@ -165,7 +172,8 @@ static napi_value on_begin(napi_env env, napi_callback_info info) {
         free(held);
         return fail(env, "a sandbox is begun by the bytes of a script");
     }
-    uint32_t code = wasi_start(&held->sandbox, length > 0 ? script : &no_bytes, length);
+    napi_get_value_external(env, given[2], &base);  // it stays NULL where none is given
+    uint32_t code = start(held, (wasi_base){base}, length > 0 ? script : &no_bytes, length);
     held->holders = 1;
     if (code != 0) {
         release(env, held, NULL);
@@ -247,22 +255,66 @@ static napi_value on_answered(napi_env env, napi_callback_info info) {
     return napi_create_double(env, (double)wasi_answered(&held->sandbox), &answered) == napi_ok ? answered : NULL;
 }
 
-// quotaUsed(SANDBOX): how many makings and how many grown bytes are counted, as a list of two BigInts.
-static napi_value on_quota_used(napi_env env, napi_callback_info info) {
-    struct held *held = take_held(env, info, NULL);
-    uint64_t used[2];
-    napi_value list, count;
-    if (!held || wasi_quota_used(&held->sandbox, &used[0], &used[1]) != 0 ||
-        napi_create_array_with_length(env, 2, &list) != napi_ok) {
-        return NULL;
+// A list of BigInts.
+static napi_value list_of(napi_env env, const uint64_t *numbers, size_t length) {
+    napi_value list, number;
+    if (napi_create_array_with_length(env, length, &list) != napi_ok) {
+        return fail(env, "there isn't enough memory");
     }
-    for (uint32_t place = 0; place < 2; place += 1) {
-        if (napi_create_bigint_uint64(env, used[place], &count) != napi_ok ||
-            napi_set_element(env, list, place, count) != napi_ok) {
+    for (size_t place = 0; place < length; place += 1) {
+        if (napi_create_bigint_uint64(env, numbers[place], &number) != napi_ok ||
+            napi_set_element(env, list, (uint32_t)place, number) != napi_ok) {
             return fail(env, "there isn't enough memory");
         }
     }
     return list;
+}
+
+// quotaUsed(SANDBOX): how many makings and how many grown bytes are counted, as a list of two BigInts.
+static napi_value on_quota_used(napi_env env, napi_callback_info info) {
+    struct held *held = take_held(env, info, NULL);
+    uint64_t used[2];
+    if (!held || wasi_quota_used(&held->sandbox, &used[0], &used[1]) != 0) {
+        return NULL;
+    }
+    return list_of(env, used, 2);
+}
+
+// commit(SANDBOX): a base of its tree, which is never given back, or the code by which there is none.
+static napi_value on_commit(napi_env env, napi_callback_info info) {
+    struct held *held = take_held(env, info, NULL);
+    wasi_base base = {0};
+    napi_value made;
+    if (!held) {
+        return NULL;
+    }
+    uint32_t code = wasi_commit(&held->sandbox, &base);
+    napi_status status = code == 0 ? napi_create_external(env, (void *)base.at, NULL, NULL, &made)
+                                   : napi_create_uint32(env, code, &made);
+    return status == napi_ok ? made : fail(env, "there isn't enough memory");
+}
+
+// kept(SANDBOX): the numbers of the nodes that it has worked on, a list of BigInts, or the code by which there is none.
+static napi_value on_kept(napi_env env, napi_callback_info info) {
+    struct held *held = take_held(env, info, NULL);
+    uint64_t none, *numbers = NULL;
+    size_t length = 0;
+    napi_value told = NULL;
+    if (!held) {
+        return NULL;
+    }
+    uint32_t code = wasi_kept(&held->sandbox, &none, 0, &length);
+    if (code == WASI_SHORT) {
+        numbers = malloc(length * sizeof *numbers);
+        code = numbers ? wasi_kept(&held->sandbox, numbers, length, &length) : WASI_NO_MEMORY;
+    }
+    if (code == 0) {
+        told = list_of(env, numbers, length);
+    } else if (napi_create_uint32(env, code, &told) != napi_ok) {
+        fail(env, "there isn't enough memory");
+    }
+    free(numbers);
+    return told;
 }
 
 // Asks for the report with some room, and with as much as it needs where that was too little.
@@ -319,6 +371,7 @@ NAPI_MODULE_INIT() {
                 export_function(env, exports, "lend", on_lend) &&
                 export_function(env, exports, "answered", on_answered) &&
                 export_function(env, exports, "quotaUsed", on_quota_used) &&
+                export_function(env, exports, "commit", on_commit) && export_function(env, exports, "kept", on_kept) &&
                 export_function(env, exports, "report", on_report) && export_function(env, exports, "end", on_end);
     return made ? exports : fail(env, "there isn't enough memory");
 }

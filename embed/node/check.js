@@ -7,7 +7,7 @@ const fs = require("node:fs");
 const path = require("node:path");
 const test = require("node:test");
 const { Worker } = require("node:worker_threads");
-const { Sandbox, SandboxError, Refused, Trap, Exit, Ended } = require("./sandbox.js");
+const { Sandbox, Base, SandboxError, Refused, Trap, Exit, Ended } = require("./sandbox.js");
 
 const PREVIEW1 = "wasi_snapshot_preview1";
 const BADF = 8;
@@ -19,6 +19,8 @@ const hex = (text) => Buffer.from(text).toString("hex");
 const module_of = (name) => new WebAssembly.Module(fs.readFileSync(path.join(process.env.GUESTS, `${name}.wasm`)));
 const EMPTY = { nodes: [{ dir: {} }], preopens: [{ node: 0, name: "/", perms: "rw" }], calls: [] };
 const begin = (more = {}) => new Sandbox(JSON.stringify({ ...EMPTY, ...more }));
+const SESSION = { ...EMPTY, nodes: [] };
+const begin_over = (base, more = {}) => new Sandbox(JSON.stringify({ ...SESSION, ...more }), base);
 const instance_of = (module, imports) => new WebAssembly.Instance(module, { [PREVIEW1]: imports });
 const outputs = (sandbox) => Buffer.from(JSON.parse(sandbox.report()).stdout, "hex").toString();
 
@@ -129,6 +131,41 @@ test("quotas bound what a guest makes and grows", () => {
   assert.deepStrictEqual(sandbox.quotaUsed, { nodes: 1n, bytes: 8n });
 });
 
+test("sandboxes over a base have their own changes", () => {
+  const first = begin();
+  assert.strictEqual(open(first, "old", 1)[0], 0);
+  assert.strictEqual(first.kept(), null);
+  const base = first.commit();
+  assert.ok(base instanceof Base);
+  first.end();
+  const [one, other] = [begin_over(base), begin_over(base)];
+  assert.deepStrictEqual(one.kept(), []);
+  assert.strictEqual(open(one, "new", 1)[0], 0);
+  assert.deepStrictEqual([open(other, "new")[0], open(other, "old")[0]], [NOENT, 0]);
+  assert.deepStrictEqual([one.kept(), other.kept()], [[0, 2], []]);
+  const next = one.commit();
+  one.end();
+  other.end();
+  assert.strictEqual(open(begin_over(next), "new")[0], 0);
+  assert.strictEqual(open(begin_over(base), "new")[0], NOENT);
+});
+
+test("scripts over a base that are refused say why", () => {
+  const base = begin().commit();
+  const refused = {
+    json: "",
+    ownTree: JSON.stringify(EMPTY),
+    limit: JSON.stringify({ ...SESSION, preopens: [{ node: 9, name: "/", perms: "rw" }] }),
+    guest: JSON.stringify({ ...SESSION, calls: [["sched_yield"]] }),
+  };
+  for (const [reason, script] of Object.entries(refused)) {
+    const is_told = (error) => error instanceof Refused && error.reason === reason;
+    assert.throws(() => new Sandbox(script, base), is_told, reason);
+  }
+  assert.throws(() => begin_over(base, { limits: { nodes: 2, links: 1 } }), (error) => error.code === 276);
+  for (const none of [null, {}, new Base(), begin()]) assert.throws(() => begin_over(none), TypeError);
+});
+
 test("a guest that ended calls nothing more", () => {
   const sandbox = begin();
   lent(sandbox);
@@ -143,8 +180,8 @@ test("what is used after the end is told", () => {
   lent(sandbox);
   sandbox.end();
   sandbox.end();
-  const uses = [() => sandbox.report(), () => sandbox.answered, () => sandbox.quotaUsed, () => lent(sandbox),
-    () => imports.fd_close(3)];
+  const uses = [() => sandbox.report(), () => sandbox.answered, () => sandbox.quotaUsed, () => sandbox.commit(),
+    () => sandbox.kept(), () => lent(sandbox), () => imports.fd_close(3)];
   for (const use of uses) assert.throws(use, (error) => error instanceof Ended && error instanceof SandboxError);
 });
 

@@ -14,6 +14,7 @@ const native = require("./out/wasi.node");
 
 const EXIT = 259;
 const EMPTY = 261;
+const ALONE = 277;
 const STOPS = {
   256: ["pointer", "an address outside the guest's memory, or one that isn't aligned"],
   257: ["table", "more descriptors than the script's table has room for"],
@@ -29,6 +30,7 @@ const REFUSALS = {
   273: ["tree", "its nodes are no tree"],
   274: ["limit", "it passes a limit"],
   275: ["guest", "it has calls, a memory, or ranges of it to be shown"],
+  276: ["ownTree", "it has nodes or limits of its own, where a base has them"],
 };
 
 /** What all exceptions of a sandbox are; `code` is the number of wasi.h, and `reason` its word. */
@@ -72,14 +74,33 @@ const stop = (code, status) => {
   return new Trap(`the guest was stopped: ${words}`, code, reason);
 };
 
+// What the addon told, or the exception where that is a code.
+const told_of = (what, told) => {
+  if (typeof told === "number") throw new SandboxError(`there is no ${what}: code ${told}`, told, "memory");
+  return told;
+};
+
+/**
+ * A tree that sandboxes stand over, as `commit` makes it. Nothing changes it, and it stays for as long as the program
+ * runs: its memory is never given back, also once the base is forgotten.
+ */
+class Base {}
+
+const bases = new WeakMap(); // what the addon made, of each Base
+
 class Sandbox {
   #held;
   #imports;
 
-  /** Begins a sandbox by the text of a script without calls, memory and ranges to be shown. Throws `Refused`. */
-  constructor(script) {
+  /**
+   * Begins a sandbox by the text of a script without calls, memory and ranges to be shown. Over a base, whose tree
+   * isn't copied, the script has `[]` as its `nodes` and no `limits`, and its preopens name directories of the base by
+   * their numbers there; no other sandbox sees what is changed in this one. Throws `Refused`.
+   */
+  constructor(script, base) {
     if (typeof script !== "string") throw new TypeError("a script is a text");
-    const begun = native.begin(new TextEncoder().encode(script), stop);
+    if (base !== undefined && !bases.has(base)) throw new TypeError("a base is what `commit` makes");
+    const begun = native.begin(new TextEncoder().encode(script), stop, bases.get(base));
     if (typeof begun === "number") {
       const [reason, words] = worded(REFUSALS, begun);
       throw new Refused(`the script is refused: ${words}`, begun, reason);
@@ -135,9 +156,25 @@ class Sandbox {
   /** The report of the sandbox as it stands: a JSON text, in which `answers` and `memory` are empty. */
   report() {
     this.#check();
-    const told = native.report(this.#held);
-    if (typeof told === "number") throw new SandboxError(`there is no report: code ${told}`, told, "memory");
-    return told.toString();
+    return told_of("report", native.report(this.#held)).toString();
+  }
+
+  /** Makes a `Base` of the tree as it stands: a copy, which is never given back. The sandbox stays as it is. */
+  commit() {
+    this.#check();
+    const base = new Base();
+    bases.set(base, told_of("base", native.commit(this.#held)));
+    return base;
+  }
+
+  /**
+   * The numbers of the nodes that calls have worked on, rising, as the report numbers them; a read or a look works on
+   * none (docs/SCRIPT.md, "A trial"). `null` of a sandbox over no base.
+   */
+  kept() {
+    this.#check();
+    const kept = native.kept(this.#held);
+    return kept === ALONE ? null : told_of("list", kept).map(Number);
   }
 
   /** Gives back the tree and all else. What is used after it throws `Ended`; a second `end` does nothing. */
@@ -150,4 +187,4 @@ class Sandbox {
   }
 }
 
-module.exports = { Sandbox, SandboxError, Refused, Trap, Exit, Ended };
+module.exports = { Sandbox, Base, SandboxError, Refused, Trap, Exit, Ended };

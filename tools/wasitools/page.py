@@ -5,7 +5,7 @@ from __future__ import annotations
 from html import escape
 from typing import Iterator, List
 
-from .telling import CallWords, Cause, Dump, Telling, Touched, TreeLine, count, dump_text, some_calls
+from .telling import CallWords, Cause, Changed, Dump, Telling, Touched, TreeLine, count, dump_text, some_calls
 
 STYLE = """
 :root { color-scheme: light dark; --back: #fbfaf7; --card: #ffffff; --ink: #1f2328; --soft: #5f6872; --line: #dcd9d0;
@@ -120,6 +120,13 @@ def touched_box(touched: Touched) -> Iterator[str]:
         yield "</dl></div>"
 
 
+def changed_box(changed: Changed) -> Iterator[str]:
+    yield f'<h2>Trial</h2><p class="sum">{escape(changed.summary)}</p><div class="box"><dl>'
+    for node, words in changed.nodes:
+        yield f'<dt class="mono">{escape(node)}</dt><dd class="mono">{escape(words)}</dd>'
+    yield "</dl></div>"
+
+
 def body_of(telling: Telling) -> Iterator[str]:
     yield f'<h1>{escape(telling.title)}</h1><p class="sum">{escape(telling.summary)}</p>'
     if telling.given:
@@ -132,7 +139,10 @@ def body_of(telling: Telling) -> Iterator[str]:
     yield from tree_box(telling.before)
     yield "</div><div><h3>After</h3>"
     yield from tree_box(telling.after)
-    yield '</div></div><h2>Calls</h2><div class="box">'
+    yield "</div></div>"
+    if telling.changed:
+        yield from changed_box(telling.changed)
+    yield '<h2>Calls</h2><div class="box">'
     for call in telling.calls:
         yield from call_rows(call)
     yield "</div><h2>Output</h2>"

@@ -550,6 +550,9 @@ class Paths:
     def drop(self, directory: int, name: str, node: int) -> None:
         del self.holders[node][directory, name]
 
+    def is_named(self, node: int) -> bool:
+        return node == 0 or bool(self.holders.get(node))
+
     def way(self, node: int) -> Tuple[int, str]:
         """Where a path to a node begins, which is node 0 or has no name, and the path."""
         names: List[str] = []

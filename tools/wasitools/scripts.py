@@ -1,4 +1,5 @@
-"""Scripts, reports and audits as they are read from files: their shape is checked, and a fault is a `Mistake` of one line.
+"""Scripts, reports, audits and trials as they are read from files: their shape is checked, and a fault is a `Mistake`
+of one line.
 
 What is said here of a script is what docs/SCRIPT.md says; whether its nodes are a tree is left to the program.
 """
@@ -9,7 +10,7 @@ import json
 import sys
 from dataclasses import dataclass, field
 from pathlib import Path
-from typing import Any, Dict, List, Optional, Tuple
+from typing import Any, Dict, List, Optional, Tuple, Union
 
 from .calls import CALLS, ERRNO_WORDS, FIELDS, TRAPS, U32, U64
 
@@ -95,6 +96,15 @@ class Audit:
 
     preopens: List[Tuple[str, List[int]]]
     touched: List[int]
+
+
+@dataclass
+class Trial:
+    """The nodes as they were before, the numbers of those that were worked on, and the report."""
+
+    base: List[Node]
+    kept: List[int]
+    report: Report
 
 
 def read_bytes(path: str) -> bytes:
@@ -310,9 +320,9 @@ def answer_fits(answer: Any, kind: str) -> bool:
     return is_number(given, 0, U64)
 
 
-def report_of(data: bytes) -> Report:
-    """The report that some bytes are."""
-    found = keyed(json_of(data, "the report"), "the report", "answers memory stderr stdout touched tree")
+def report_in(value: Any) -> Report:
+    """The report that a JSON value is."""
+    found = keyed(value, "the report", "answers memory stderr stdout touched tree")
     tree = nodes_of(found["tree"], "the report's tree")
     return Report(
         listed(found["answers"], "the answers"),
@@ -321,6 +331,25 @@ def report_of(data: bytes) -> Report:
         [number(touched, "a touched node", len(tree) - 1) for touched in listed(found["touched"], "'touched'")],
         tree,
     )
+
+
+def report_of(data: bytes) -> Report:
+    """The report that some bytes are."""
+    return report_in(json_of(data, "the report"))
+
+
+def trial_in(value: Any) -> Trial:
+    """The trial that a JSON value is."""
+    found = keyed(value, "the trial", "base kept report")
+    report = report_in(found["report"])
+    kept = [number(node, "a node of 'kept'", len(report.tree) - 1) for node in listed(found["kept"], "'kept'")]
+    return Trial(nodes_of(found["base"], "the trial's base"), kept, report)
+
+
+def report_or_trial_of(data: bytes) -> Union[Report, Trial]:
+    """The report or the trial that some bytes are."""
+    value = json_of(data, "the report")
+    return trial_in(value) if isinstance(value, dict) and "report" in value else report_in(value)
 
 
 def audit_of(data: bytes) -> Audit:

@@ -74,6 +74,14 @@ class Touched:
 
 
 @dataclass
+class Changed:
+    """What a trial leaves otherwise: how many nodes stay, and what became of each other one, by its path."""
+
+    summary: str
+    nodes: List[Tuple[str, str]]
+
+
+@dataclass
 class Telling:
     title: str
     given: List[Tuple[str, str]]
@@ -84,6 +92,7 @@ class Telling:
     outputs: List[Tuple[str, bytes]]
     touched: List[Touched]
     summary: str
+    changed: Optional[Changed] = None  # where a trial is told
 
 
 def some_calls(calls: List[int]) -> Tuple[List[int], str]:
@@ -263,17 +272,22 @@ def change_words(change: Change) -> str:
 # The tree.
 
 
+def content_words(node: Node) -> str:
+    """The bytes of a file, or the text of a link."""
+    if node.kind == "file":
+        return count(len(node.data), "byte") + (f" {shortened(bytes(node.data))}" if node.data else "")
+    return f"-> {shown_path(node.link)}" if node.kind == "link" else ""
+
+
+def moment_words(moment: Tuple[int, int]) -> str:
+    seconds, nanoseconds = moment
+    return date(seconds * NANO + nanoseconds)
+
+
 def node_words(node: Node) -> str:
     """What a node has, beside its names."""
-    words = []
-    if node.kind == "file":
-        words.append(count(len(node.data), "byte") + (f" {shortened(bytes(node.data))}" if node.data else ""))
-    elif node.kind == "link":
-        words.append(f"-> {shown_path(node.link)}")
-    if node.times != EPOCHS:
-        shown = [date(seconds * NANO + nanoseconds) for seconds, nanoseconds in node.times]
-        words.append("times " + " ".join(shown))
-    return ", ".join(words)
+    times = "times " + " ".join(map(moment_words, node.times)) if node.times != EPOCHS else ""
+    return ", ".join(words for words in (content_words(node), times) if words)
 
 
 def shown_name(name: str, node: Node) -> str:

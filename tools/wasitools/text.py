@@ -102,6 +102,11 @@ def lines_of(telling: Telling) -> Iterator[str]:
     yield ""
     yield "TREE AFTER   + new   * changed   - gone"
     yield from tree_lines(telling.after)
+    if telling.changed:
+        yield ""
+        yield f"TRIAL   {telling.changed.summary}"
+        for node, words in telling.changed.nodes:
+            yield from wrapped(f"{node}: {words}", "  ", "      ")
     for dump in telling.dumps:
         yield ""
         yield f"MEMORY {dump.title}"

@@ -5,12 +5,13 @@ use wasi_guest::{Answers, Call, slice_at};
 use wasi_p1::{RunError, run_calls};
 use wasi_report::{Outcome, report};
 use wasi_start::{Beginning, begin};
+use wasi_tree::MemTree;
 
 /// A script that has begun, and the calls that are left to be made.
 #[derive(Drop)]
 pub struct Begun {
     alloc: Global,
-    begun: Beginning,
+    begun: Beginning<MemTree>,
 }
 
 /// What became of a script: its answers; its report, with no answers, nothing shown of the memory and no nodes touched; and

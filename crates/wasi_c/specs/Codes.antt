@@ -31,4 +31,5 @@ refusal_code Limit = 274
 abbrev pub start_code : StartError → ℕ
 start_code (starts.Refused refusal) = refusal_code refusal
 start_code starts.Guest = 275
+start_code starts.OwnTree = 276
 start_code starts.Memory = 260

@@ -43,6 +43,12 @@ const REFUSED_LIMIT: u32 = 274;
 /// The script has calls, a memory, or ranges of it to be shown.
 const REFUSED_GUEST: u32 = 275;
 
+/// The script of a sandbox over a tree that stays has nodes or limits of its own.
+const REFUSED_OWN_TREE: u32 = 276;
+
+/// The sandbox stands alone, over no tree that stays.
+pub const ALONE: u32 = 277;
+
 /// The number of a call's answer.
 pub fn code_of(outcome: Result<Value, P1Error>) -> u32
     ensures { result ≡ code_of outcome }
@@ -78,6 +84,7 @@ pub fn start_code(error: StartError) -> u32
     match error {
         StartError::Refused(refusal) => refusal_code(refusal),
         StartError::Guest => REFUSED_GUEST,
+        StartError::OwnTree => REFUSED_OWN_TREE,
         StartError::Memory => NO_MEMORY,
     }
 }

@@ -6,7 +6,7 @@ use crate::parts::Parts;
 use std::alloc::Global;
 use std::marker::Model;
 use std::mem;
-use wasi_embed::Sandbox;
+use wasi_embed::AnySandbox;
 
 /// A sandbox on the heap; or nothing, and then the pointer is null (`owned_by`), which C writes as all zeros. It isn't
 /// `Drop`, so none is let go or written over but by `let_go`, which takes an empty one.
@@ -22,7 +22,7 @@ impl Model for SandboxHandle {
 }
 
 impl SandboxHandle {
-    fn of_parts(parts: Parts<Sandbox, Global>) -> SandboxHandle
+    fn of_parts(parts: Parts<AnySandbox, Global>) -> SandboxHandle
         ensures { result.value ≡ Some parts.value }
     {
         let Parts { ptr, alloc } = parts;
@@ -32,19 +32,19 @@ impl SandboxHandle {
         }
     }
 
-    fn into_parts(self) -> Parts<Sandbox, Global>
+    fn into_parts(self) -> Parts<AnySandbox, Global>
         requires { IsSome self.value }
         ensures { self.value ≡ Some result.value }
     {
         let SandboxHandle { at, alloc } = self;
         Parts {
-            ptr: at as *mut Sandbox,
+            ptr: at as *mut AnySandbox,
             alloc,
         }
     }
 
     /// The sandbox of a handle that isn't empty.
-    fn into_box(self) -> Box<Sandbox, Global>
+    fn into_box(self) -> Box<AnySandbox, Global>
         requires { IsSome self.value }
         ensures { self.value ≡ Some result.value }
     {
@@ -59,7 +59,7 @@ impl SandboxHandle {
     }
 
     /// Takes the sandbox, which `put` gives back, and leaves the empty handle that was handed in.
-    pub(crate) fn take(&mut self, empty: SandboxHandle) -> Box<Sandbox, Global>
+    pub(crate) fn take(&mut self, empty: SandboxHandle) -> Box<AnySandbox, Global>
         requires held { IsSome self.old.value }
         requires empty { empty.value ≡ None }
         ensures taken { self.old.value ≡ Some result.value }
@@ -70,7 +70,7 @@ impl SandboxHandle {
     }
 
     /// Puts a sandbox into an empty handle.
-    pub(crate) fn put(&mut self, sandbox: Box<Sandbox, Global>)
+    pub(crate) fn put(&mut self, sandbox: Box<AnySandbox, Global>)
         requires { self.old.value ≡ None }
         ensures { self.new.value ≡ Some sandbox.value }
     {

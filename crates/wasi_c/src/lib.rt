@@ -2,10 +2,11 @@
 //! `docs/EMBEDDING.md` says what a caller owes.
 //!
 //! Each of these functions takes a `Global`, by which an export of the kit says that C's `malloc` and `free` may be
-//! called: it has no bytes, and C hands in nothing for it. `wasi_c_start` and `wasi_c_report` use theirs; in the others
-//! what the sandbox holds has its own.
+//! called: it has no bytes, and C hands in nothing for it. The functions that begin, tell and commit use theirs; in the
+//! others what the sandbox holds has its own.
 #![tactic(auto)]
 
+mod base;
 mod calls;
 mod codes;
 mod handle;
@@ -13,4 +14,5 @@ mod life;
 mod parts;
 mod told;
 
+pub use base::BaseHandle;
 pub use handle::SandboxHandle;

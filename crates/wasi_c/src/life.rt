@@ -1,11 +1,12 @@
-//! How a sandbox is begun, told of and ended.
+//! How a sandbox is begun, told of, committed and ended.
 ghost use Rattle.std.specs.Prelude.{◌≡◌, ◌≢◌, None, IsSome};
-ghost use Rattle.wasi_c.specs.Told.{TellsAnswered, TellsReport, TellsStart, TellsUsed};
+ghost use Rattle.wasi_c.specs.Told.{TellsAnswered, TellsCommit, TellsKept, TellsReport, TellsStart, TellsStartOver, TellsUsed};
 
-use crate::codes::{NO_MEMORY, SHORT, start_code};
+use crate::base::BaseHandle;
+use crate::codes::{ALONE, NO_MEMORY, SHORT, start_code};
 use crate::handle::SandboxHandle;
 use std::alloc::Global;
-use wasi_embed::start;
+use wasi_embed::{AnySandbox, Base, Overlay, Sandbox, start, start_over};
 
 /// Begins a sandbox by the text of a script, in place of an empty one. 0; or NO_MEMORY (260); or why the script is
 /// refused, one of the REFUSED_ numbers (270 to 275). Where it isn't 0 the handle stays as it was.
@@ -19,11 +20,100 @@ pub extern "C" fn wasi_c_start(alloc: Global, sandbox: &mut SandboxHandle, scrip
         Ok(begun) => begun,
         Err(error) => return start_code(error),
     };
-    let Ok(held) = Box::new(alloc, begun) else {
+    let Ok(held) = Box::new(alloc, AnySandbox::Alone(begun)) else {
         return NO_MEMORY;
     };
     sandbox.put(held);
     0
+}
+
+/// Begins a sandbox over a base by the text of a script that has no nodes and no limits of its own, in place of an empty one.
+/// The base's tree stays as it is: any number of sandboxes may stand over it, and none sees what another changes. (No clause
+/// says that it isn't copied: the code doesn't.) 0; or NO_MEMORY (260); or why the script is refused, one of the REFUSED_ numbers (270 to 276, never 273). Where
+/// it isn't 0 the handle stays as it was.
+#[unsafe(no_mangle)]
+pub extern "C" fn wasi_c_start_over(
+    alloc: Global,
+    base: BaseHandle,
+    sandbox: &mut SandboxHandle,
+    script: &[u8],
+) -> u32
+    requires base { IsSome base.value }
+    requires sandbox { sandbox.old.value ≡ None }
+    ensures told { TellsStartOver script.now base.value sandbox.new.value result }
+    ensures left { result ≢ 0 → sandbox.new ≡ sandbox.old }
+{
+    let begun = match start_over(alloc, &base.base().tree, script) {
+        Ok(begun) => begun,
+        Err(error) => return start_code(error),
+    };
+    let Ok(held) = Box::new(alloc, AnySandbox::Over(begun)) else {
+        return NO_MEMORY;
+    };
+    sandbox.put(held);
+    0
+}
+
+/// Makes a base of a sandbox's tree as it stands, in memory of its own, in place of an empty one. The sandbox stays, and so
+/// does the base that it may stand over. The new base stays for as long as the program runs. 0; or NO_MEMORY (260), and then
+/// the base stays empty.
+#[unsafe(no_mangle)]
+pub extern "C" fn wasi_c_commit(
+    alloc: Global,
+    sandbox: &mut SandboxHandle,
+    empty: SandboxHandle,
+    base: &mut BaseHandle,
+) -> u32
+    requires held { IsSome sandbox.old.value }
+    requires empty { empty.value ≡ None }
+    requires base { base.old.value ≡ None }
+    ensures same { sandbox.new.value ≡ sandbox.old.value }
+    ensures told { TellsCommit sandbox.old.value base.new.value result }
+{
+    let held = sandbox.take(empty);
+    let committed = held.commit(alloc);
+    sandbox.put(held);
+    let Ok(tree) = committed else {
+        return NO_MEMORY;
+    };
+    let Ok(kept) = Box::new(alloc, Base { tree }) else {
+        return NO_MEMORY;
+    };
+    *base = BaseHandle::of(Box::leak(kept));
+    0
+}
+
+/// Writes the numbers of the nodes that calls have worked on, rising, of a sandbox over a base: to the front of the numbers
+/// that are lent, and to `len` how many they are. 0; or SHORT (262), and then only `len` is written; or NO_MEMORY (260), or
+/// ALONE (277), where the sandbox stands over no base, and then nothing is.
+#[unsafe(no_mangle)]
+pub extern "C" fn wasi_c_kept(
+    alloc: Global,
+    sandbox: &mut SandboxHandle,
+    empty: SandboxHandle,
+    numbers: &mut [u64],
+    len: &mut usize,
+) -> u32
+    requires held { IsSome sandbox.old.value }
+    requires empty { empty.value ≡ None }
+    ensures same { sandbox.new.value ≡ sandbox.old.value }
+    ensures told { TellsKept sandbox.old.value numbers.old numbers.new len.old len.new result }
+{
+    let held = sandbox.take(empty);
+    let kept = held.kept(alloc);
+    sandbox.put(held);
+    match kept {
+        Ok(Some(kept)) => {
+            *len = kept.len();
+            if kept.len() > numbers.len() {
+                return SHORT;
+            }
+            numbers[..kept.len()].copy_from_slice(kept.as_slice());
+            0
+        }
+        Ok(None) => ALONE,
+        Err(_) => NO_MEMORY,
+    }
 }
 
 /// How many calls were answered, refusals, traps and the guest's end among them; 2^64 - 1 where they are more. A call
@@ -40,7 +130,7 @@ pub extern "C" fn wasi_c_answered(
     ensures count { TellsAnswered sandbox.old.value result }
 {
     let held = sandbox.take(empty);
-    let answered = held.answered;
+    let answered = held.answered();
     sandbox.put(held);
     answered
 }

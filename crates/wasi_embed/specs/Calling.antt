@@ -4,7 +4,7 @@ use Rattle.wasi_faults.specs.Faults.{Failing, counted}
 use Rattle.wasi_guest.specs.declared.answer.TrapKind.TheVariants.{Pointer}
 use Rattle.wasi_guest.specs.declared.answer.Value.{Value}
 use Rattle.wasi_guest.specs.declared.call.Call.{Call}
-use Rattle.wasi_host.specs.Meaning.{FaultCount, Handles, Rose, never_fails}
+use Rattle.wasi_host.specs.Meaning.{FaultCount, Handles, Rose, World, never_fails}
 use Rattle.wasi_host.specs.declared.lookup.Lookup.{Lookup}
 use Rattle.wasi_turns.specs.CallTurn.{Causes, FollowsRow, IsAnswered, IsValidCall, Looks, LooksByNames, OthersStay}
 use Rattle.wasi_turns.specs.Rows.{looks_up}
@@ -19,34 +19,36 @@ use Rattle.wasi_turns.specs.declared.error.P1Error.{P1Error}
 use Rattle.wasi_turns.specs.declared.error.P1Error.TheVariants.{Memory, Trap}
 use Rattle.wasi_results.specs.Shapes.{has_room, shape_of, with_answer}
 use Rattle.wasi_results.specs.declared.shape.Places.{Places}
-use Rattle.wasi_start.specs.Start.{world_behind}
-use Rattle.wasi_tree.specs.MemState.{MemState, live_of}
+use Rattle.wasi_tree.specs.MemState.{MemState, live_of, world_of}
 use Rattle.wasi_embed.specs.declared.sandbox.Sandbox.{Sandbox}
 
--- a sandbox's host: a tree in memory, behind calls that fail
-abbrev pub SandboxHost : Type 0
-SandboxHost = Failing MemState
+-- ---- a sandbox's host: a tree of any kind, which is seen as one in memory is, behind calls that fail
 
-abbrev pub faults : SandboxHost → FaultCount
-faults host = counted never_fails host.calls
+abbrev pub world_in : {T : Type 0} → (T → MemState) → Failing T → World
+world_in seen host = world_of (seen host.inner)
 
-abbrev pub live : SandboxHost → Handles
-live host = live_of host.inner.handles
+abbrev pub faults_in : {T : Type 0} → Failing T → FaultCount
+faults_in host = counted never_fails host.calls
 
-abbrev pub lookups : SandboxHost → List Lookup
-lookups host = host.inner.lookups
+abbrev pub live_in : {T : Type 0} → (T → MemState) → Failing T → Handles
+live_in seen host = live_of (seen host.inner).handles
+
+abbrev pub lookups_in : {T : Type 0} → (T → MemState) → Failing T → List Lookup
+lookups_in seen host = (seen host.inner).lookups
+
+-- ---- a sandbox
 
 -- with the fuel of a call
-abbrev pub fueled : Sandbox → View SandboxHost
+abbrev pub fueled : {T : Type 0} → Sandbox T → View (Failing T)
 fueled s = record s.context { fuel = s.fuel }
 
 -- the state of a sandbox whose guest has this memory
-abbrev pub state_with : Sandbox → List ℕ → State
-state_with s memory = state_of world_behind s.context memory
+abbrev pub state_with : {T : Type 0} → (T → MemState) → Sandbox T → List ℕ → State
+state_with seen s memory = state_of (world_in seen) s.context memory
 
 -- the host failed in between
-abbrev pub Failed : Sandbox → Sandbox → Type 0
-Failed old new = Rose (faults old.context.host) (faults new.context.host)
+abbrev pub Failed : {T : Type 0} → Sandbox T → Sandbox T → Type 0
+Failed old new = Rose (faults_in old.context.host) (faults_in new.context.host)
 
 -- one answer more, but where memory was wanted; no more than 64 bits hold
 abbrev pub answered_after : ℕ → Result Value P1Error → ℕ
@@ -54,34 +56,35 @@ answered_after answered (Err Memory) = answered
 answered_after answered result = min (answered + 1) (2 ^ 64 - 1)
 
 -- The sandbox's guest was in reach of a start, and is after it; with what it has of its memory that reach has nothing to do
-abbrev pub StaysConfined : Sandbox → Sandbox → List ℕ → List ℕ → Type 0
-StaysConfined old new before after = (start : State)
-    → Confined start (state_with old before) (world_behind old.context.host).touched
-    → Confined start (state_with new after) (world_behind new.context.host).touched
+abbrev pub StaysConfined : {T : Type 0} → (T → MemState) → Sandbox T → Sandbox T → List ℕ → List ℕ → Type 0
+StaysConfined seen old new before after = (start : State)
+    → Confined start (state_with seen old before) (seen old.context.host.inner).touched
+    → Confined start (state_with seen new after) (seen new.context.host.inner).touched
 
--- What a call does, from a sandbox and the memory that is lent to those after it: all that is said of the method of its
--- name, with the fuel of a call. A valid call is answered, unless the host failed or memory was wanted; no error number
--- comes but those that may; what is come to stays in reach
-pub record Called (old new : Sandbox) (before after : List ℕ) (call : Call) (result : Result Value P1Error) : Type 0 where
-  pub cause : Causes (faults old.context.host) (faults new.context.host) result
-  pub handles : OthersStay live old.context new.context
-  pub lineage : Looks lookups old.context new.context before call
-  pub logged : LooksByNames (looks_up call) (lookups old.context.host) (lookups new.context.host)
-  pub unchanged : LeavesAll true world_behind old.context new.context before after result
-  pub turn : FollowsRow true world_behind faults lookups (fueled old) new.context before after call result
-  pub complete : (Failed old new → ⊥) → IsValidCall (state_with old before) (with_fuel old.fuel call)
+-- What a call does, from a sandbox over a tree that is seen so, and the memory that is lent, to those after it: what is
+-- said of the method of its name, with the fuel of a call, but for what the laws of turns say of its turn. A valid call is answered, unless the host failed or memory was
+-- wanted; no error number comes but those that may; what is come to stays in reach
+pub record Called {T : Type 0} (seen : T → MemState) (old new : Sandbox T) (before after : List ℕ) (call : Call)
+    (result : Result Value P1Error) : Type 0 where
+  pub cause : Causes (faults_in old.context.host) (faults_in new.context.host) result
+  pub handles : OthersStay (live_in seen) old.context new.context
+  pub lineage : Looks (lookups_in seen) old.context new.context before call
+  pub logged : LooksByNames (looks_up call) (lookups_in seen old.context.host) (lookups_in seen new.context.host)
+  pub unchanged : LeavesAll true (world_in seen) old.context new.context before after result
+  pub turn : FollowsRow true (world_in seen) faults_in (lookups_in seen) (fueled old) new.context before after call result
+  pub complete : (Failed old new → ⊥) → IsValidCall (state_with seen old before) (with_fuel old.fuel call)
       → IsAnswered call result
   pub errnos : IfSome (answer_of result) MayCome
-  pub confined : StaysConfined old new before after
+  pub confined : StaysConfined seen old new before after
   pub fuel : new.fuel ≡ old.fuel
   pub answered : new.answered ≡ answered_after old.answered result
 
 -- A call whose results go to addresses. Where one isn't aligned or a result would leave the memory, it traps and isn't
 -- made; else it is made, and what it is answered stands there over the memory that it left
-pub data CalledInto (old new : Sandbox) (before after : List ℕ) (call : Call) (to : Places)
-    : Result Value P1Error → Type 0 where
+pub data CalledInto {T : Type 0} (seen : T → MemState) (old new : Sandbox T) (before after : List ℕ) (call : Call)
+    (to : Places) : Result Value P1Error → Type 0 where
   no_room : has_room (length before) (shape_of call) to ≡ false → new ≡ old → after ≡ before
-      → CalledInto old new before after call to (Err (Trap Pointer))
+      → CalledInto seen old new before after call to (Err (Trap Pointer))
   made : {result : Result Value P1Error} → has_room (length before) (shape_of call) to ≡ true → (memory : List ℕ)
-      → Called old new before memory call result → after ≡ with_answer memory (shape_of call) to result
-      → CalledInto old new before after call to result
+      → Called seen old new before memory call result → after ≡ with_answer memory (shape_of call) to result
+      → CalledInto seen old new before after call to result

@@ -1,3 +1,4 @@
 pub mod Starting
 pub mod Calling
 pub mod Telling
+pub mod Any

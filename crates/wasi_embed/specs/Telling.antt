@@ -6,19 +6,19 @@ use Rattle.std.specs.Ordering.{nat_cmp}
 use Rattle.wasi_report.specs.ReadBack.{IsOrdered}
 use Rattle.wasi_report.specs.Report.{Report, report_text}
 use Rattle.wasi_start.specs.ReportAfter.{report_after}
-use Rattle.wasi_start.specs.Start.{world_behind}
+use Rattle.wasi_tree.specs.MemState.{MemState}
 use Rattle.wasi_embed.specs.Calling.{state_with}
 use Rattle.wasi_embed.specs.declared.sandbox.Sandbox.{Sandbox}
 
 -- no answers and no memory, and of the sandbox as it stands what was written out, the touched nodes and the tree
-abbrev pub report_now : Sandbox → List ℕ → Report
-report_now s touched = report_after [] [] (state_with s []) touched
+abbrev pub report_now : {T : Type 0} → (T → MemState) → Sandbox T → List ℕ → Report
+report_now seen s touched = report_after [] [] (state_with seen s []) touched
 
 -- the text is that of the report, in which the touched nodes are listed rising. It is in range and order, so that its
 -- text tells it
-pub record Tells (s : Sandbox) (text : List ℕ) : Type 0 where
+pub record Tells {T : Type 0} (seen : T → MemState) (s : Sandbox T) (text : List ℕ) : Type 0 where
   pub touched : List ℕ
-  pub touched_are : from_list touched ≡ (world_behind s.context.host).touched
+  pub touched_are : from_list touched ≡ (seen s.context.host.inner).touched
   pub rising : IsStrictlySortedBy nat_cmp touched
-  pub ordered : IsOrdered (report_now s touched)
-  pub text_is : text ≡ report_text (report_now s touched)
+  pub ordered : IsOrdered (report_now seen s touched)
+  pub text_is : text ≡ report_text (report_now seen s touched)

@@ -59,7 +59,7 @@ within_read : (fits : Bool) (d : Option Data) (p : Plan) → (refused_unless Lon
 within_read false d p e = absurd (cc)
 within_read true d p e = value_read d p e
 
-plan_is_read : (bytes : List ℕ) (p : Plan) → read_plan bytes ≡ Ok p → IsInRange p
+pub plan_is_read : (bytes : List ℕ) (p : Plan) → read_plan bytes ≡ Ok p → IsInRange p
 unfolding read_plan
 plan_is_read bytes p e = within_read (nat_le (length bytes) most_script) (value_of bytes) p e
 

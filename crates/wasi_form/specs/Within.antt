@@ -32,9 +32,13 @@ is_shown_within size shown = nat_le (shown.ptr + shown.len) size
 abbrev pub is_table_fit : ℕ → ℕ → Bool
 is_table_fit table preopens = nat_le (3 + preopens) table && nat_le table 65536
 
--- preopens that are directories; a table, a memory and ranges that fit
-unfoldable pub is_within_limits : Plan → Bool
-is_within_limits p =
-    are_preopens_directories p.nodes p.preopens && is_table_fit p.table (length p.preopens)
+-- by whether the preopens are directories: a table, a memory and ranges that fit
+abbrev pub is_session_within : Bool → Plan → Bool
+is_session_within directories p =
+    directories && is_table_fit p.table (length p.preopens)
     && nat_le p.size most_memory && list_all (is_piece_within p.size) p.pieces && list_all (is_shown_within p.size) p.show
     && nat_le (sum_by (λ shown. shown.len) p.show) most_memory
+
+-- preopens that are directories of the plan's nodes, and all the rest within the limits
+unfoldable pub is_within_limits : Plan → Bool
+is_within_limits p = is_session_within (are_preopens_directories p.nodes p.preopens) p

@@ -23,5 +23,6 @@ mod within;
 
 pub use limits::DEFAULT_LIMITS;
 pub use parts::{DEFAULT_FUEL, DEFAULT_TABLE};
-pub use script::{Piece, PieceBytes, Script, ScriptPreopen, Session, Shown};
-pub use verdict::{Refusal, ScriptError, read_script, verdicts_are_one};
+pub use script::{Draft, Piece, PieceBytes, Script, ScriptPreopen, Session, Shown};
+pub use verdict::{Refusal, ScriptError, read_draft, read_script, verdicts_are_one};
+pub use within::is_session_within;

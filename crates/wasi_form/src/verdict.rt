@@ -115,8 +115,10 @@ fn tested(alloc: Global, draft: Draft) -> Result<Script, ScriptError>
     }
 }
 
+/// The script that bytes are, as `read_script` reads it, but for the tests of its nodes and of the limits: it may be meant
+/// for another tree than that of its nodes. It is refused as `Long`, `Json` or `Shape`, or memory was wanted.
 #[tactic(auto, using(crate::proofs::Accepted::too_many, crate::proofs::Accepted::reads_within))]
-fn read_draft<A: Allocator + Copy>(
+pub fn read_draft<A: Allocator + Copy>(
     alloc: Global,
     room: A,
     bytes: &[u8],

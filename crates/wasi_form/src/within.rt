@@ -1,12 +1,13 @@
 //! Which scripts are within the limits.
-ghost use Rattle.std.specs.Prelude.{◌≡◌, length, map, slice_get, sum_by, nat_le};
+ghost use Rattle.std.specs.Prelude.{◌≡◌, [], length, map, slice_get, sum_by, nat_le};
 ghost use Rattle.std.specs.List.{list_all};
 ghost use Rattle.wasi_tree.specs.Given.{given};
-ghost use Rattle.wasi_form.specs.Plan.{plan, planned_preopen, planned_piece};
+ghost use Rattle.wasi_form.specs.LimitsForm.{default_limits};
+ghost use Rattle.wasi_form.specs.Plan.{plan, planned, planned_preopen, planned_piece};
 ghost use Rattle.wasi_form.specs.Within as specs;
 ghost use Rattle.wasi_form.specs.Within.{most_memory};
 
-use crate::script::{Piece, Script, ScriptPreopen, Shown};
+use crate::script::{Piece, Script, ScriptPreopen, Session, Shown};
 use wasi_tree::{NewContent, NewNode};
 
 // How many descriptors a script lets be live at most: 65,536.
@@ -91,16 +92,26 @@ fn is_shown_little(show: &[Shown]) -> bool
     true
 }
 
+/// Whether what is run on a tree is within the limits, by whether its preopens are directories of that tree: its table is at
+/// most 65,536, and has room for the three streams and the preopens; its memory has at most 16,777,216 bytes; each piece and
+/// each shown range lies in the memory, and as many bytes are shown at most.
+pub fn is_session_within(directories: bool, session: &Session) -> bool
+    ensures { result ≡ specs.is_session_within directories (planned [] default_limits session.now) }
+{
+    directories
+        && is_table_fit(session.table, session.preopens.as_slice())
+        && session.size <= MOST_MEMORY
+        && are_pieces_within(session.size, session.pieces.as_slice())
+        && are_shown_within(session.size, session.show.as_slice())
+        && is_shown_little(session.show.as_slice())
+}
+
 /// Whether a script is within the limits.
 #[tactic(auto, unfolding(crate::specs::Within::is_within_limits))]
 pub fn is_within_limits(script: &Script) -> bool
     ensures { result ≡ specs.is_within_limits (plan script.now) }
 {
     let session = &script.session;
-    are_preopens_directories(script.nodes.list(), session.preopens.as_slice())
-        && is_table_fit(session.table, session.preopens.as_slice())
-        && session.size <= MOST_MEMORY
-        && are_pieces_within(session.size, session.pieces.as_slice())
-        && are_shown_within(session.size, session.show.as_slice())
-        && is_shown_little(session.show.as_slice())
+    let directories = are_preopens_directories(script.nodes.list(), session.preopens.as_slice());
+    is_session_within(directories, session)
 }

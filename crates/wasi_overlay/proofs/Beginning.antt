@@ -1,12 +1,12 @@
 -- A store over a tree in which nothing has changed.
-use Rattle.std.proofs.Common.{◌≡◌, ◌≤◌, ◌<◌, ◌+◌, ℕ, suc, Bool, true, false, List, [], ◌∷◌, Option, length, slice_index_or, refl, sym, ap, ◌∙◌, subst, arith}
+use Rattle.std.proofs.Common.{◌≡◌, ◌≤◌, ◌<◌, ◌+◌, ℕ, suc, true, List, [], ◌∷◌, Option, length, slice_index_or, refl, sym, ap, ◌∙◌, subst, arith}
 use Rattle.std.specs.FinMap as maps
 use Rattle.std.specs.FinSet.{empty}
 use Rattle.wasi_host.specs.Tree.{Tree, Node, Content, File, Directory, Link, node_at, next_of, stray, names_of, is_directory}
 use Rattle.wasi_names.specs.NameRows.{AllNames, names_at}
 use Rattle.wasi_tree.specs.ParentOf.{AreParents, IsKept}
 use Rattle.wasi_tree.specs.Sound.{IsSound, IsSoundNode}
-use Rattle.wasi_tree.specs.StoredTree.{named_content, named_from, with_names}
+use Rattle.wasi_tree.specs.StoredTree.{named_content, named_from}
 use Rattle.wasi_overlay.specs.OverStore.{IsOver, Parts, tree_over}
 
 -- these parts are those of a tree, with its names and its parents, and nothing has been worked on

@@ -14,3 +14,4 @@ pub mod OverSteps
 pub mod Contents
 pub mod Beginning
 pub mod Copies
+pub mod WorkedLemmas

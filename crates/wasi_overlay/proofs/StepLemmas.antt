@@ -1,9 +1,10 @@
 -- The nodes of an overlay once a seat has changed.
-use Rattle.std.proofs.Common.{◌≡◌, ◌<◌, ◌≤◌, ◌+◌, ◌-◌, ◌^◌, ◌==◌, ℕ, true, ◌&&◌, List, [], length, Some, None, is_some, inl, inr, refl, sym, ap, ◌∙◌, subst, arith, slice_index_or, slice_set}
+use Rattle.std.proofs.Common.{◌≡◌, ◌<◌, ◌≤◌, ◌+◌, ◌-◌, ◌^◌, ◌==◌, ℕ, true, ◌&&◌, List, [], length, Some, None, is_some, Result, Ok, Err, OnOk, OnErr, inl, inr, refl, sym, ap, ◌∙◌, subst, arith, slice_index_or, slice_set}
 use Rattle.std.proofs.lemmas.Bool.{cases_eq}
 use Rattle.std.proofs.lemmas.Bool.Decides.{nat_tests}
 use Rattle.std.specs.FinMap as maps
 use Rattle.std.specs.FinSet.{contains, insert}
+use Rattle.std.specs.Global.{Vec}
 use Rattle.std.specs.Prelude.{Option, option_map, nat_lt, replicate}
 use Rattle.wasi_host.specs.Step.{with_content, name_lost, one_name_more, other_bytes, with_size}
 use Rattle.wasi_host.specs.Tree.{Node, Content, File, Directory, Link, stray, links_of, bytes_of}
@@ -220,6 +221,67 @@ module _ (below : GrownNodes) (seats : SeatMap) (round : ℕ) {t : OverState} (n
         has_room = room_after i;
       } in u)
 
+-- ---- other bytes of a file, or want of memory
+
+-- a file has other bytes, and was worked on; where memory was wanted, all is as it was
+pub record HasBytesPut {A E : Type 0} (r : Result A E) (t u : OverState) (n : ℕ) (change : List ℕ → List ℕ) : Type 0 where
+  pub nodes : OnOk r (u.nodes ≡ slice_set t.nodes n (with_content (slice_index_or t.nodes n stray) (other_bytes change)))
+  pub worked : OnOk r (u.worked ≡ insert t.worked n)
+  pub kept : OnErr r (u ≡ t)
+  pub touched : u.touched ≡ t.touched
+  pub held : u.held ≡ t.held
+  pub room : u.has_room ≡ t.has_room
+
+module _ (below : GrownNodes) (seats : SeatMap) (round : ℕ) {t : OverState} (n : ℕ) (is : over_state below seats round ≡ t)
+    (within : n < length t.nodes) (held : contains t.held n ≡ true) (bytes : List ℕ)
+    (here : bytes ≡ bytes_of (slice_index_or below.nodes n stray).content) (change : List ℕ → List ℕ) (next : SeatMap) where
+  abbrev own : Option (Vec ℕ)
+  own = own_at next n
+
+  put_ok : next ≡ seat_changed seats n (own_put own)
+      → (is_some (maps.get seats n) ≡ true → bytes_over own bytes ≡ change (bytes_over (own_at seats n) bytes))
+      → over_state below next round ≡ with_node t n (λ node. with_content node (other_bytes change))
+  put_ok put made =
+      state_stepped below seats round n is within held (own_put own) (λ node. with_content node (other_bytes change))
+      (λ seat there. over-own_put seat (slice_index_or below.nodes n stray) change own
+      (own_says seats n seat (slice_index_or below.nodes n stray) bytes own change there here
+      (made (some_held below seats round n is held))))
+      (λ _. refl) (λ _. refl) next put
+
+  put_err : next ≡ seat_changed seats n (own_kept own) → bytes_over own bytes ≡ bytes_over (own_at seats n) bytes
+      → over_state below next round ≡ t
+  put_err kept same =
+      state_kept below seats round n is within held (own_kept own)
+      (λ seat there. over-own_kept seat (slice_index_or below.nodes n stray) own
+      (own_says seats n seat (slice_index_or below.nodes n stray) bytes own (λ bytes. bytes) there here same))
+      (λ _. refl) (λ _. refl) next kept
+
+  -- what the seats say of it
+  pub bytes_put : {A E : Type 0} (r : Result A E) → OnOk r (next ≡ seat_changed seats n (own_put own))
+      → OnOk r (is_some (maps.get seats n) ≡ true → bytes_over own bytes ≡ change (bytes_over (own_at seats n) bytes))
+      → OnErr r (next ≡ seat_changed seats n (own_kept own)) → OnErr r (bytes_over own bytes ≡ bytes_over (own_at seats n) bytes)
+      → HasBytesPut r t (over_state below next round) n change
+  bytes_put (Ok done) put made kept same =
+      let now = put_ok put made in
+      record {
+        nodes = ap (λ (u : OverState). u.nodes) now;
+        worked = ap (λ (u : OverState). u.worked) now;
+        kept = tt;
+        touched = ap (λ (u : OverState). u.touched) now;
+        held = ap (λ (u : OverState). u.held) now;
+        room = ap (λ (u : OverState). u.has_room) now;
+      }
+  bytes_put (Err e) put made kept same =
+      let now = put_err kept same in
+      record {
+        nodes = tt;
+        worked = tt;
+        kept = now;
+        touched = ap (λ (u : OverState). u.touched) now;
+        held = ap (λ (u : OverState). u.held) now;
+        room = ap (λ (u : OverState). u.has_room) now;
+      }
+
 -- ---- rounds
 
 rounds_put : (round n q : ℕ) (seats : SeatMap) (change : Seat → Seat) (seat : Option Seat) (now : Seat) → maps.get seats n ≡ seat
@@ -245,3 +307,12 @@ rounds_changed round n seats next change are stay made = subst (AreRounds round)
     | inr other ↦ are.past q seat (sym (seat_other seats n change q other) ∙ there)
   ];
 })
+
+-- rounds stay those of seats, of which one has other bytes or is the same
+pub rounds_either : {A E : Type 0} (round n : ℕ) (seats next : SeatMap) (r : Result A E) → AreRounds round seats
+    → OnOk r (next ≡ seat_changed seats n (own_put (own_at next n)))
+    → OnErr r (next ≡ seat_changed seats n (own_kept (own_at next n))) → AreRounds round next
+rounds_either round n seats next (Ok done) are put kept =
+    rounds_changed round n seats next (own_put (own_at next n)) are (λ _ below. below) put
+rounds_either round n seats next (Err e) are put kept =
+    rounds_changed round n seats next (own_kept (own_at next n)) are (λ _ below. below) kept

@@ -1,13 +1,11 @@
 -- What a step keeps of a tree and of its noted parents.
-use Rattle.std.proofs.Common.{◌≡◌, ◌<◌, ◌≤◌, ◌+◌, ℕ, true, false, List, [], ◌∷◌, ◌++◌, slice_set, Option, Some, None, refl, sym, ap, ◌∙◌, subst, arith}
-use Rattle.std.specs.Prelude.{IsTrue, nat_eq}
+use Rattle.std.proofs.Common.{◌≡◌, ◌<◌, ◌+◌, ℕ, true, false, List, [], ◌∷◌, ◌++◌, slice_set, Option, Some, None, refl, sym, ap, ◌∙◌, subst, arith}
 use Rattle.std.proofs.lemmas.Bool.{eqb-false}
-use Rattle.std.specs.FinMap as maps
 use Rattle.std.specs.FinSet.{insert}
 use Rattle.wasi_paths.specs.Text.{is_entry_name}
-use Rattle.wasi_host.specs.Tree.{Tree, Node, Nodes, Content, File, Directory, Link, node_at, next_of, names_of, is_directory, is_file}
+use Rattle.wasi_host.specs.Tree.{Tree, Node, Nodes, Content, File, Directory, Link, node_at, next_of, is_directory, is_file}
 use Rattle.wasi_host.specs.Step.{with_content, with_entry, without_entry, content_changed, node_made, name_added, name_dropped, name_lost, name_moved_onto, one_name_more}
-use Rattle.wasi_host.proofs.Changes.{changed, changed_apart, directory_within, next_of-changed, next_of-made, node_at-other}
+use Rattle.wasi_host.proofs.Changes.{changed, changed_apart, directory_within, next_of-changed, next_of-made}
 use Rattle.wasi_tree.specs.Move.{HasName, IsMove, MayGain, MayName, found_lost}
 use Rattle.wasi_tree.specs.ParentOf.{IsKept, without_parent}
 use Rattle.wasi_tree.specs.Sound.{IsSound, IsSoundNode, NodesStay}

@@ -1,5 +1,5 @@
 -- A tree whose directories have their names elsewhere: what its nodes are, and the tree once a node or a name is another one.
-use Rattle.std.proofs.Common.{◌≡◌, ◌<◌, ◌≤◌, ℕ, Bool, true, List, [], ◌∷◌, ◌++◌, inl, inr, length, slice_index_or, slice_set, Option, refl, sym, ap, ◌∙◌, arith}
+use Rattle.std.proofs.Common.{◌≡◌, ◌<◌, ℕ, Bool, true, List, [], ◌∷◌, ◌++◌, inl, inr, length, slice_index_or, slice_set, Option, refl, sym, ap, ◌∙◌, arith}
 use Rattle.std.proofs.lemmas.List.{get_or_past}
 use Rattle.std.proofs.lemmas.Bool.{cases_lt}
 use Rattle.std.specs.FinMap as maps
@@ -7,7 +7,6 @@ use Rattle.std.specs.FinSet.{insert}
 use Rattle.wasi_host.specs.Tree.{Tree, Node, Nodes, Names, Content, File, Directory, Link, node_at, next_of, stray, names_of, is_directory}
 use Rattle.wasi_host.specs.Answer.{metadata_of, metadata_from}
 use Rattle.wasi_host.specs.Step.{with_content, with_entry, without_entry, content_changed, node_made, with_times, times_set}
-use Rattle.wasi_host.specs.declared.limits.Limits.{Limits}
 use Rattle.wasi_host.specs.declared.system_time.SystemTime.{SystemTime}
 use Rattle.wasi_host.proofs.Changes.{changed, directory_within}
 use Rattle.wasi_names.specs.NameRows.{AllNames, names_at}

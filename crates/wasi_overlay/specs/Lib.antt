@@ -3,3 +3,4 @@ pub mod Grown
 pub mod OverNodes
 pub mod OverParents
 pub mod OverStore
+pub mod Overlay

@@ -1,5 +1,5 @@
 //! The tree that an overlay makes, in memory of its own.
-ghost use Rattle.std.specs.Prelude.{◌≡◌, ◌+◌, ◌<◌, IfOk, OnOk, length, map};
+ghost use Rattle.std.specs.Prelude.{◌≡◌, ◌+◌, ◌<◌, IfOk, OnOk, map};
 ghost use Rattle.std.specs.FinMap as maps;
 ghost use Rattle.std.specs.FinSet.{empty};
 ghost use Rattle.wasi_host.specs.Tree.{next_of, node_at};

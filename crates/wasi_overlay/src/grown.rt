@@ -1,8 +1,7 @@
 //! The nodes of a tree that stays, and those made after them.
-ghost use Rattle.std.specs.Prelude.{◌≡◌, ℕ, ◌+◌, ◌-◌, ◌^◌, ◌<◌, ◌≤◌, true, List, [], ◌∷◌, ◌++◌, OnOk, IfSome, IfNone, length, slice_index_or};
+ghost use Rattle.std.specs.Prelude.{◌≡◌, ◌+◌, ◌-◌, ◌^◌, ◌<◌, [], ◌∷◌, ◌++◌, OnOk, IfSome, IfNone, length, slice_index_or};
 ghost use Rattle.wasi_host.specs.Answer.{kind_of, metadata_from};
-ghost use Rattle.wasi_host.specs.Time.{HasTimes};
-ghost use Rattle.wasi_host.specs.Tree.{stray, node_at, is_directory, is_file, is_link, is_gone, links_of, bytes_of, text_of};
+ghost use Rattle.wasi_host.specs.Tree.{stray, node_at, is_directory, is_file, is_link, is_gone, bytes_of, text_of};
 ghost use Rattle.wasi_tree.specs.StoredTree.{stored_node};
 ghost use Rattle.wasi_overlay.specs.Grown.{grown};
 

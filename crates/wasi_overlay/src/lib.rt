@@ -10,8 +10,4 @@ mod overlay;
 mod seat;
 mod seats;
 
-pub use over_nodes::OverNodes;
-pub use over_parents::OverParents;
-pub use over_store::OverStore;
 pub use overlay::Overlay;
-pub use seat::Seat;

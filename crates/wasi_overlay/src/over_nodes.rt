@@ -1,5 +1,5 @@
 //! The nodes of an overlay over a tree that stays.
-ghost use Rattle.std.specs.Prelude.{◌≡◌, ℕ, ◌+◌, ◌-◌, ◌^◌, ◌<◌, ◌≤◌, Bool, true, List, [], ◌∷◌, ◌++◌, IfOk, OnOk, OnErr, length, slice_index_or, slice_set};
+ghost use Rattle.std.specs.Prelude.{◌≡◌, ℕ, ◌+◌, ◌-◌, ◌^◌, ◌<◌, ◌≤◌, true, [], ◌∷◌, ◌++◌, IfOk, OnOk, OnErr, length, slice_index_or, slice_set};
 ghost use Rattle.std.specs.FinSet.{contains, empty, insert, from_list};
 ghost use Rattle.std.specs.List.Sorted.{IsStrictlySortedBy};
 ghost use Rattle.std.specs.Ordering.{nat_cmp};
@@ -296,8 +296,7 @@ impl<'a> OverNodes<'a> {
     {
         let alloc = self.below.allocator();
         self.seats
-            .put_bytes(alloc, n, self.below.bytes(n), offset, piece)?;
-        Ok(())
+            .put_bytes(alloc, n, self.below.bytes(n), offset, piece)
     }
 
     /// Cuts a file to so many bytes, or fills it up to them with zeros. What is no file stays. Where memory is wanted,
@@ -314,8 +313,7 @@ impl<'a> OverNodes<'a> {
         ensures room { self.new.has_room ≡ self.old.has_room }
     {
         let alloc = self.below.allocator();
-        self.seats.resize(alloc, n, self.below.bytes(n), size)?;
-        Ok(())
+        self.seats.resize(alloc, n, self.below.bytes(n), size)
     }
 
     /// No node is touched from here on.

@@ -4,7 +4,7 @@ ghost use Rattle.std.specs.BTreeMap.{Updates, get, keys};
 ghost use Rattle.std.specs.FinSet.{contains, empty};
 ghost use Rattle.std.specs.Option.{ForSome, IsSome};
 ghost use Rattle.std.specs.Ordering.{nat_cmp};
-ghost use Rattle.wasi_tree.specs.ParentOf.{parent_of, is_on_way, without_parent};
+ghost use Rattle.wasi_tree.specs.ParentOf.{is_on_way, without_parent};
 
 use std::alloc::{AllocError, Global};
 use std::collections::BTreeMap;

@@ -1,11 +1,12 @@
 //! A tree of files over one that stays, as a host.
-ghost use Rattle.std.specs.Prelude.{◌≡◌, ◌↔◌, ℕ, true, false, [], Err, IfOk, OnErr, map};
-ghost use Rattle.std.specs.FinSet.{contains, insert, empty, from_list};
+ghost use Rattle.std.specs.Prelude.{◌≡◌, ◌↔◌, ℕ, true, false, Err, IfOk, OnErr, All, map};
+ghost use Rattle.std.specs.FinSet.{contains, insert, from_list};
 ghost use Rattle.std.specs.List.Sorted.{IsStrictlySortedBy};
 ghost use Rattle.std.specs.Ordering.{nat_cmp};
 ghost use Rattle.wasi_host.specs.Tree.{node_at, is_directory};
 ghost use Rattle.wasi_host.specs.Meaning.{never_fails};
 ghost use Rattle.wasi_host.specs.declared.fate.Fate.TheVariants.{Passes};
+ghost use Rattle.wasi_overlay.specs.Overlay.{IsFreshOn};
 ghost use Rattle.wasi_tree.specs.Given.{given, given_of};
 ghost use Rattle.wasi_tree.specs.MemState.{live_of, held_in, world_of};
 
@@ -13,21 +14,22 @@ use crate::over_store::OverStore;
 use std::alloc::{AllocError, Global};
 use std::marker::Model;
 use wasi_host::{
-    AccessMode, Advice, DirEntry, ErrorCode, Forget, Handle, Host, HostError, Metadata,
-    OpenOptions, SyncFlags, SystemTime,
+    AccessMode, Advice, DirEntry, ErrorCode, Handle, Host, HostError, Metadata, OpenOptions,
+    SyncFlags, SystemTime,
 };
 use wasi_paths::Name;
 use wasi_tree::{HandleError, MemTree, NewNode, TreeHost};
 
 /// A tree of files over a tree in memory that stays, as a host. Guests see and change the tree that both together are. The
-/// tree below is never changed, so dropping the overlay drops the changes; `commit` makes a tree of them. Contracts see
-/// what they see of a `MemTree`.
+/// tree below is never changed, so dropping the overlay drops the changes; `commit` makes a tree of them. It never forgets
+/// what was touched, so what is kept always lies in it. Contracts see what they see of a `MemTree`.
 #[derive(Debug, Drop)]
 pub struct Overlay<'a> {
     host: TreeHost<OverStore<'a>>,
 }
 
 impl<'a> Model for Overlay<'a> {
+    ghost use Rattle.wasi_overlay.specs.Overlay.{WorksOnTouched};
     ghost use Rattle.wasi_tree.specs.MemState.{MemState, state_code};
 
     ghost Value = { MemState };
@@ -35,23 +37,22 @@ impl<'a> Model for Overlay<'a> {
     ghost coded = { state_code };
 
     ghost view = { λ a. a.host };
+
+    ghost invariant = { λ a. WorksOnTouched a.host };
 }
 
 impl<'a> Overlay<'a> {
     /// The tree below, of which nothing has changed. There is no live handle, no node is touched, and there is no look-up.
     /// It takes no memory.
     pub fn new(alloc: Global, base: &MemTree) -> Overlay<'_>
-        ensures tree { result.tree ≡ record base.now.tree { worked = empty } }
-        ensures live { live_of result.handles ≡ empty }
-        ensures touched { result.touched ≡ empty }
-        ensures lookups { result.lookups ≡ [] }
+        ensures { IsFreshOn base.now.tree result }
     {
         Overlay {
             host: TreeHost::over(alloc, OverStore::new(alloc, base.store())),
         }
     }
 
-    /// A handle of a directory, for its path alone.
+    /// A handle of a directory, for its path alone. `NotDirectory` where the node isn't one; `Memory` where memory was wanted.
     pub fn handle(&mut self, node: u64) -> Result<Handle, HandleError>
         ensures not_directory { (result ≡ Err HandleError.NotDirectory) ↔ (is_directory (node_at self.old.tree node).content ≡ false) }
         ensures fresh { IfOk result (λ h. contains (live_of self.old.handles) h ≡ false) }
@@ -67,9 +68,11 @@ impl<'a> Overlay<'a> {
         self.host.handle(node)
     }
 
-    /// The numbers of the nodes that steps have worked on, rising: those of which the overlay keeps something.
+    /// The numbers of the nodes that steps have worked on, rising. Something stands apart of a node that was only read, too,
+    /// but that changes nothing of the node. The only `Err` is want of memory, as of all that follows here.
     pub fn kept(&self, alloc: Global) -> Result<Vec<u64>, AllocError>
         ensures nodes { IfOk result (λ nodes. from_list nodes.items ≡ self.now.tree.worked) }
+        ensures touched { IfOk result (λ nodes. All (λ n. contains self.now.touched n ≡ true) nodes.items) }
         ensures rising { IfOk result (λ nodes. IsStrictlySortedBy nat_cmp nodes.items) }
     {
         self.host.store().list_worked(alloc)
@@ -78,10 +81,7 @@ impl<'a> Overlay<'a> {
     /// The tree as it is, in memory of its own, as a tree in memory on which no step has worked. It has no live handle, no
     /// node is touched, and there is no look-up. The overlay and the tree below stay.
     pub fn commit(&self, alloc: Global) -> Result<MemTree, AllocError>
-        ensures tree { IfOk result (λ m. m.tree ≡ record self.now.tree { worked = empty }) }
-        ensures live { IfOk result (λ m. live_of m.handles ≡ empty) }
-        ensures touched { IfOk result (λ m. m.touched ≡ empty) }
-        ensures lookups { IfOk result (λ m. m.lookups ≡ []) }
+        ensures { IfOk result (IsFreshOn self.now.tree) }
     {
         Ok(TreeHost::over(alloc, self.host.store().commit(alloc)?))
     }
@@ -260,12 +260,5 @@ impl<'a> Host for Overlay<'a> {
 
     fn laws(&self) {
         self.host.laws()
-    }
-}
-
-impl<'a> Forget for Overlay<'a> {
-    /// As a `MemTree` forgets.
-    fn forget(&mut self) {
-        self.host.forget();
     }
 }

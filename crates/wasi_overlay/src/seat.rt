@@ -1,9 +1,9 @@
 //! What an overlay keeps of one node.
-ghost use Rattle.std.specs.Prelude.{◌≡◌, ℕ, ◌+◌, ◌-◌, ◌^◌, ◌<◌, ◌≤◌, false, List, [], IfOk, OnOk, OnErr, length, take};
+ghost use Rattle.std.specs.Prelude.{◌≡◌, ℕ, ◌+◌, ◌-◌, ◌<◌, ◌≤◌, false, List, [], IfOk, OnOk, OnErr, length, take};
 ghost use Rattle.wasi_host.specs.Answer.{metadata_from, size_of};
 ghost use Rattle.wasi_host.specs.Numbers.{largest_file};
 ghost use Rattle.wasi_host.specs.Step.{with_piece, with_size};
-ghost use Rattle.wasi_host.specs.Tree.{Node, is_gone, links_of};
+ghost use Rattle.wasi_host.specs.Tree.{Node, links_of};
 ghost use Rattle.wasi_overlay.specs.OverSeats.{bytes_over, content_over, node_over, seat_of, has_mark, in_round, worked_on, times_put, name_less, links_put, own_put, own_kept};
 
 use std::alloc::{AllocError, Global};

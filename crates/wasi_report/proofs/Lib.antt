@@ -1,3 +1,4 @@
 pub mod Telling
 pub mod ReadBack
 pub mod AuditReadBack
+pub mod TrialReadBack

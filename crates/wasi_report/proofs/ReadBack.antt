@@ -115,6 +115,10 @@ abbrev pub items_first : json.Members → json.Items
 items_first json.no_members = json.no_items
 items_first (json.member k j ms) = items_in j
 
+abbrev pub value_first : json.Members → json.Json
+value_first json.no_members = json.null
+value_first (json.member k j ms) = j
+
 abbrev pub text_first : json.Members → List ℕ
 text_first json.no_members = []
 text_first (json.member k j ms) = text_in j
@@ -408,7 +412,7 @@ same_content (link xs) (link ys) ms ns p q e =
     let rest : members_outline ms ≡ members_outline ns = cc in
     (ap link text, rest)
 
-shallow_node : (g : Given) → FitsNode g → IsShallow 3 (outline (node_value g))
+pub shallow_node : (g : Given) → FitsNode g → IsShallow 3 (outline (node_value g))
 shallow_node g fits =
     let accessed = shallow_time g.atime fits.times.atime in
     let modified = shallow_time g.mtime fits.times.mtime in
@@ -418,7 +422,7 @@ shallow_node g fits =
     let content = shallow_content g.content _ fits.content times in
     record { numbers = (tt, content.numbers); depth = omega arith }
 
-same_node : (a b : Given) → FitsNode a → FitsNode b → outline (node_value a) ≡ outline (node_value b) → a ≡ b
+pub same_node : (a b : Given) → FitsNode a → FitsNode b → outline (node_value a) ≡ outline (node_value b) → a ≡ b
 same_node a b p q e =
     let letters : bits_text a.bits ≡ bits_text b.bits = cc in
     let times_of : Given → Members = λ g. member (codes "times") (times_value g) no_members in
@@ -437,7 +441,7 @@ same_node a b p q e =
 
 -- ---- reports
 
-shallow_report : (r : Report) → IsOrdered r → IsShallow 128 (outline (report_value r))
+pub shallow_report : (r : Report) → IsOrdered r → IsShallow 127 (outline (report_value r))
 unfolding IsOrdered
 shallow_report r h =
     let answers = shallow_list 2 FitsAnswer answer_value shallow_answer r.answers h.0 in
@@ -450,7 +454,7 @@ shallow_report r h =
 abbrev pub list_json : {A : Type 0} → (A → Data) → List A → json.Items
 list_json value_of items = items_outline (items_of (map value_of items))
 
-same_report : (a b : Report) → IsOrdered a → IsOrdered b → outline (report_value a) ≡ outline (report_value b) → a ≡ b
+pub same_report : (a b : Report) → IsOrdered a → IsOrdered b → outline (report_value a) ≡ outline (report_value b) → a ≡ b
 unfolding IsOrdered
 same_report a b p q e =
     let from_answers = ap members_in e in
@@ -477,4 +481,7 @@ same_report a b p q e =
 pub told : ReportsAreTold
 unfolding report_text
 told a b p q e =
-    same_report a b p q (same_outline (report_value a) (report_value b) (shallow_report a p) (shallow_report b q) e)
+    same_report a b p q (same_outline (report_value a) (report_value b) (deeper (shallow_report a p)) (deeper (shallow_report b q)) e)
+  where
+    deeper : {j : json.Json} → IsShallow 127 j → IsShallow 128 j
+    deeper shallow = record { numbers = shallow.numbers; depth = omega (arith, shallow.depth) }

@@ -95,6 +95,11 @@ pub four : (s t u v all a b c d : List Token) → t ≡ s ++ a → u ≡ t ++ b 
     → all ≡ s ++ (a ++ (b ++ (c ++ d)))
 four s t u v all a b c d p q r i = rw (i, r, q, p) (simp append_assoc)
 
+-- five parts one after another
+pub five : (s t u v w all a b c d e : List Token) → t ≡ s ++ a → u ≡ t ++ b → v ≡ u ++ c → w ≡ v ++ d → all ≡ w ++ e
+    → all ≡ s ++ (a ++ (b ++ (c ++ (d ++ e))))
+five s t u v w all a b c d e p q r i j = rw (j, i, r, q, p) (simp append_assoc)
+
 -- eight parts one after another
 pub eight : (s t u v w x y z all a b c d e f g h : List Token) → t ≡ s ++ a → u ≡ t ++ b → v ≡ u ++ c → w ≡ v ++ d → x ≡ w ++ e → y ≡ x ++ f → z ≡ y ++ g → all ≡ z ++ h
     → all ≡ s ++ (a ++ (b ++ (c ++ (d ++ (e ++ (f ++ (g ++ h)))))))

@@ -1,6 +1,7 @@
 //! Laws of what is defined.
 ghost use Rattle.wasi_report.specs.AuditReadBack.{AuditsAreTold};
 ghost use Rattle.wasi_report.specs.ReadBack.{ReportsAreTold};
+ghost use Rattle.wasi_report.specs.TrialReadBack.{TrialsAreTold};
 
 /// Two reports with the same text are the same, where numbers fit 64 bits, bytes are bytes, and the names in each
 /// directory stand in strictly rising byte order, as in each report that `report` writes.
@@ -11,4 +12,10 @@ pub fn reports_are_told()
 /// Two audits with the same text are the same, where numbers fit 64 bits, as in each audit that `audit_in` writes.
 pub fn audits_are_told()
     ensures told { AuditsAreTold }
+{}
+
+/// Two trials with the same text are the same, where numbers fit 64 bits, bytes are bytes, and the names in each directory
+/// stand in strictly rising byte order, as in each trial that `trial_in` writes.
+pub fn trials_are_told()
+    ensures told { TrialsAreTold }
 {}

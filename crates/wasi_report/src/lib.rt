@@ -1,4 +1,4 @@
-//! What a run came to, its report's text, and an audit's text.
+//! What a run came to, and the texts of a report, an audit and a trial.
 #![tactic(auto)]
 
 mod audit;
@@ -7,7 +7,9 @@ mod outcome;
 mod told;
 mod told_answers;
 mod told_nodes;
+mod trial;
 
 pub use audit::{PreopenNodes, audit_in};
-pub use laws::{audits_are_told, reports_are_told};
+pub use laws::{audits_are_told, reports_are_told, trials_are_told};
 pub use outcome::{Outcome, report, report_in};
+pub use trial::trial_in;

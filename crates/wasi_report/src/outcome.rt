@@ -57,8 +57,9 @@ pub fn report_in<A: Allocator + Copy>(
     Ok(text)
 }
 
+/// A report, as one object.
 #[tactic(auto, unfolding(crate::specs::ReadBack::IsOrdered))]
-fn tell_outcome<A: Allocator + Copy>(
+pub fn tell_outcome<A: Allocator + Copy>(
     digits: DigitRoom<A>,
     outcome: &Outcome,
     tree: &MemTree,
@@ -108,8 +109,8 @@ fn tell_texts_at<A: Allocator + Copy>(
     tell_list_at(digits, name, texts, out)
 }
 
-// The nodes by their numbers, each as the tree lends it.
-fn tell_tree<A: Allocator + Copy>(
+/// The nodes by their numbers, each as the tree lends it.
+pub fn tell_tree<A: Allocator + Copy>(
     digits: DigitRoom<A>,
     tree: &MemTree,
     out: &mut Writer,

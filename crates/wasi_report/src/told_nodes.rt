@@ -1,6 +1,6 @@
 //! How the nodes of a tree are reported.
 ghost use Rattle.std.specs.Prelude.{◌≡◌, ◌++◌, [], OnOk};
-ghost use Rattle.serde_json.specs.Data.{object, string, no_members};
+ghost use Rattle.serde_json.specs.Data.{object, no_members};
 ghost use Rattle.wasi_tree.specs.Given.{directory};
 ghost use Rattle.wasi_tree.specs.Viewed.{viewed, viewed_content};
 ghost use Rattle.wasi_report.specs.ReadBack.{FitsTimes, FitsContent, FitsNode};

@@ -1,5 +1,5 @@
 -- Calls that are made and noted one by one.
-use Rattle.std.proofs.Common.{ℕ, ◌<◌, ◌^◌, zero, suc, ◌≡◌, ◌⊎◌, inl, inr, true, false, List, [], ◌∷◌, ◌++◌, length, ap, sym, ◌∙◌, subst, arith, slice_get, Some}
+use Rattle.std.proofs.Common.{ℕ, ◌<◌, ◌^◌, zero, suc, ◌≡◌, ◌⊎◌, inl, inr, true, false, List, [], ◌∷◌, ◌++◌, length, refl, ap, sym, ◌∙◌, subst, arith, slice_get, Some}
 use Rattle.std.specs.Prelude.{All, Contains}
 use Rattle.std.specs.FinSet.{contains, empty, contains-empty}
 use Rattle.std.specs.List.Sorted.{IsStrictlyIncreasing}
@@ -8,7 +8,6 @@ use Rattle.std.proofs.lemmas.List.Elements.{All-weaker, Contains-append_cases, C
 use Rattle.wasi_host.specs.Agree.{Touches}
 use Rattle.wasi_host.specs.Meaning.{World, FaultCount, Rose}
 use Rattle.wasi_host.specs.Tree.{Tree, Nodes}
-use Rattle.wasi_host.specs.ValidTree.{root, held}
 use Rattle.wasi_audit.specs.Audits.{Stems, Audited, first_stems, noted_lists, started}
 use Rattle.wasi_audit.proofs.Membership.{Contains-noted, length-noted_lists, noted-rising, started-count}
 use Rattle.wasi_guest.specs.declared.answer.Answer.{Answer}
@@ -22,8 +21,9 @@ use Rattle.wasi_turns.specs.Run.{Turned, Played, Faulted, Allows, DidRun, ends, 
 use Rattle.wasi_turns.proofs.Confining.{turn_confines}
 use Rattle.wasi_turns.proofs.Runs.{SoFar, all_done, all_done_turns, ended, ended_turns, io_counted, nothing_yet, nothing_yet_turns, turn_ends, turn_of, turned, turned_on, turned_on_turns}
 use Rattle.wasi_turns.proofs.Stemming.{numbers_fit}
+use Rattle.wasi_start.proofs.Starts.{confined_at_start}
 use Rattle.wasi_script.specs.Through.{Stemmed, stems_behind, stemmed, GoesThrough, IsNearTurn, ListsThrough, IsListed}
-use Rattle.wasi_script.specs.AuditedRun.{AuditedTurn, AuditedRun, Covers, NumbersAreShort, StartsAudit}
+use Rattle.wasi_script.specs.AuditedRun.{AuditedTurn, AuditedRun, Covers, StartsAudit}
 use Rattle.wasi_script.proofs.StemLemmas.{stems_over, over_more, stemmed_more, covers_on, near_through}
 use Rattle.wasi_script.proofs.ListLemmas.{in_listed, in_list, listed_set, none_at, set_has, starts_empty, list_at, still_listed, newly_listed, listed_from}
 
@@ -238,14 +238,6 @@ noted_all {stems = stems} {audit = audit} so = audited so.errors (all_done so.ru
 
 -- ---- no call yet
 
-starts_confined : (s : State) → Confined s s empty
-starts_confined s = record {
-  later = omega arith;
-  descriptors = λ n has. inl (root n has);
-  names = λ d n name near is. elim near [ inl reached ↦ inl (held d n name reached is) | inr made ↦ let low = made.fresh in let high = made.there in absurd (omega arith) ];
-  touched_in = λ n has. let none = contains-empty nat_cmp n in absurd (cc);
-}
-
 pub none_noted : (before : FaultCount) (first : State) (given most : ℕ) → Covers (first_stems given) given first.guest
     → FitsTable most first.guest → NotedSoFar before before first (first_stems given) given most [] first (started given)
 none_noted before first given most covers fits = record {
@@ -280,7 +272,7 @@ none_noted before first given most covers fits = record {
     turns = nothing_yet_turns before first (listed_set (started given).lists)
 
     confined : Confined first first empty
-    confined = starts_confined first
+    confined = confined_at_start first refl
 
 -- ---- the calls of a guest whose audit began so
 
@@ -304,10 +296,6 @@ none_called {before} {first} {audit} starts =
       so = subst (NotedSoFar before before first (first_stems starts.given) starts.given most [] first) (sym starts.begins)
           (none_noted before first starts.given most starts.covers fits);
     }
-
-pub still_short : {before now : FaultCount} {first last : State} {begun audit : Audited} {calls : List FueledCall}
-    → NotedCalls before now first begun calls last audit → NumbersAreShort last.guest
-still_short noted = (noted.most, noted.so.fits, noted.below)
 
 pub still_counted : {before now : FaultCount} {first last : State} {begun audit : Audited} {calls : List FueledCall}
     → NotedCalls before now first begun calls last audit → length audit.lists ≡ length begun.lists

@@ -1,5 +1,5 @@
 -- The report of a run over a tree in memory.
-use Rattle.std.proofs.Common.{ℕ, ◌-◌, ◌^◌, ◌<◌, ◌≤◌, ◌≡◌, inl, inr, Bool, true, false, List, [], ◌∷◌, length, replicate, refl, ap, ◌∙◌, subst, arith, Result, Ok, Err}
+use Rattle.std.proofs.Common.{ℕ, ◌-◌, ◌^◌, ◌<◌, ◌≤◌, ◌≡◌, inl, inr, Bool, true, false, List, [], ◌∷◌, length, replicate, refl, sym, ap, ◌∙◌, subst, arith, Result, Ok, Err}
 use Rattle.std.specs.Prelude.{Contains, IfOk, MatchBool, OnOk, Vec}
 use Rattle.std.specs.Global.{Global}
 use Rattle.std.specs.declared.alloc.AllocError.{AllocError}
@@ -10,10 +10,10 @@ use Rattle.std.proofs.lemmas.List.Elements.{All-weaker}
 use Rattle.wasi_host.specs.Tree.{Nodes}
 use Rattle.wasi_tree.specs.Given.{tree_of}
 use Rattle.wasi_faults.specs.Faults.{Calls, Failing, counted}
-use Rattle.wasi_host.specs.Meaning.{FaultCount, never_fails}
+use Rattle.wasi_host.specs.Meaning.{FaultCount, World, never_fails}
 use Rattle.wasi_faults.specs.declared.fault.Fault.{Fault}
 use Rattle.wasi_faults.proofs.Rising.{counts_few}
-use Rattle.wasi_tree.specs.MemState.{MemState}
+use Rattle.wasi_tree.specs.MemState.{MemState, world_of}
 use Rattle.wasi_script.specs.HasRun.{HasRun}
 use Rattle.wasi_start.specs.ReportAfter.{report_after}
 use Rattle.wasi_script.specs.Headline.{Reports, fueled_calls}
@@ -24,8 +24,8 @@ use Rattle.wasi_turns.specs.Front.{FueledCall}
 use Rattle.wasi_turns.specs.Run.{Turned, Spends, Run, Allows, DidRun, ends, ios, named}
 use Rattle.wasi_form.specs.Plan.{Plan}
 use Rattle.wasi_turns.specs.Slots.{View}
-use Rattle.wasi_start.specs.Start.{start, with_pieces, world_behind, IsBegun}
-use Rattle.wasi_turns.specs.Guest.{State, state_of}
+use Rattle.wasi_start.specs.Start.{seen_by, start, with_pieces, world_behind, IsBegun}
+use Rattle.wasi_turns.specs.Guest.{State, guest_by, state_of}
 use Rattle.wasi_guest.specs.declared.answer.Answer.{Answer}
 use Rattle.wasi_turns.proofs.QuotaRuns.{run_counts, run_within}
 use Rattle.wasi_script.proofs.KeptTrees.{starts_opened}
@@ -68,10 +68,33 @@ few_listed {faults} before now begins most fits k allows =
     allows_few (counted never_fails before) (counted never_fails now) (length faults) k
     (let few = (counts_few now).few in omega (arith, same)) fits allows
 
+-- so over a host that fails by those alone
+pub few_behind : {faults : List Fault} (first last : FaultCount) (before now : Calls) → first ≡ never_fails → last ≡ never_fails
+    → before ≡ record { faults = faults; calls = 0 } → (counted last now).most ≡ (counted first before).most
+    → length faults < 2 ^ 63 → (k : ℕ) → Allows (counted first before) (counted last now) k → k ≤ length faults
+few_behind first last before now none still = rw (none, still) (few_listed before now)
+
 pub begun_at : {context : View (Failing MemState)} {memory : List ℕ} (plan : Plan)
     → IsBegun context (tree_of plan.nodes plan.limits) plan.preopens plan.services plan.quota plan.table
     → memory ≡ with_pieces (replicate plan.size 0) plan.pieces → state_of world_behind context memory ≡ start plan
 begun_at {memory} plan is memory-is = is.state memory ∙ (rw memory-is refl)
+
+-- the state of a context over a world
+abbrev state_on : {T : Type 0} → View (Failing T) → List ℕ → World → State
+state_on context memory w = record { tree = w.tree; guest = guest_by w.held context memory }
+
+-- that over a tree of any kind, and a run to it, as over a tree in memory
+module _ {T : Type 0} {world : T → World} (seen : T → MemState) (same : (t : T) → world t ≡ world_of (seen t))
+    (context : View (Failing T)) (memory : List ℕ) where
+  pub state_seen : state_of (λ (s : Failing T). world s.inner) context memory
+      ≡ state_of world_behind (seen_by seen context) memory
+  state_seen = ap (state_on context memory) (same context.host.inner)
+
+  pub run_seen : {plan : Plan} {answers : List Answer}
+      → HasRun plan (state_of (λ (s : Failing T). world s.inner) context memory) answers (world context.host.inner).touched
+      → HasRun plan (state_of world_behind (seen_by seen context) memory) answers (seen context.host.inner).touched
+  run_seen {plan} {answers} run =
+      subst (λ w. HasRun plan (state_on context memory w) answers w.touched) (same context.host.inner) run
 
 -- a run of a plan's calls from its start, over a host that fails at most as often as the plan lists faults
 pub has_run : {plan : Plan} {first last : State} {answers : List Answer} {touched : Nodes} (before now : FaultCount)
@@ -92,14 +115,11 @@ has_run {plan} {first} {last} {answers} {touched} before now few begins ran allo
     }
 
 -- the report of what a run came to, with its nodes listed rising
-pub reports : {plan : Plan} {last : State} {answers : List Answer} {touched : Nodes} (listed : List ℕ)
-    (result : Result (Vec ℕ Global) AllocError) → HasRun plan last answers touched → from_list listed ≡ touched
-    → IsStrictlySortedBy nat_cmp listed
-    → OnOk result (IsOrdered (record (report_after plan.show [] last listed) { answers = answers }))
-    → IfOk result (λ text. text.items ≡ report_text (record (report_after plan.show [] last listed) { answers = answers }))
-    → IfOk result (λ text. Reports plan text.items)
-reports {plan} {last} {answers} {touched} listed (Err error) run nodes-are rising ordered text-is = tt
-reports {plan} {last} {answers} {touched} listed (Ok text) run nodes-are rising ordered text-is =
+unfoldable pub reported : {plan : Plan} {last : State} {answers : List Answer} {touched : Nodes} (listed : List ℕ)
+    → HasRun plan last answers touched → from_list listed ≡ touched → IsStrictlySortedBy nat_cmp listed
+    → IsOrdered (record (report_after plan.show [] last listed) { answers = answers })
+    → Reports plan (report_text (record (report_after plan.show [] last listed) { answers = answers }))
+reported {plan} {last} {answers} {touched} listed run nodes-are rising ordered =
     let told_is = ap (λ all. record (report_after plan.show [] last listed) { answers = all }) run.answers_are in
     record {
       turns = run.turns;
@@ -114,5 +134,16 @@ reports {plan} {last} {answers} {touched} listed (Ok text) run nodes-are rising 
       counts = run_counts (length plan.faults) (start plan) last (fueled_calls plan) run.turns run.run;
       in_reach = λ n has. run.confined.touched_in n (subst (λ t. contains t n ≡ true) nodes-are (in_list listed n has));
       ordered = subst IsOrdered told_is ordered;
-      text_is = text-is ∙ ap report_text told_is;
+      text_is = ap report_text told_is;
     }
+
+-- and its text
+pub reports : {plan : Plan} {last : State} {answers : List Answer} {touched : Nodes} (listed : List ℕ)
+    (result : Result (Vec ℕ Global) AllocError) → HasRun plan last answers touched → from_list listed ≡ touched
+    → IsStrictlySortedBy nat_cmp listed
+    → OnOk result (IsOrdered (record (report_after plan.show [] last listed) { answers = answers }))
+    → IfOk result (λ text. text.items ≡ report_text (record (report_after plan.show [] last listed) { answers = answers }))
+    → IfOk result (λ text. Reports plan text.items)
+reports listed (Err error) run nodes-are rising ordered text-is = tt
+reports {plan} listed (Ok text) run nodes-are rising ordered text-is =
+    subst (Reports plan) (sym text-is) (reported listed run nodes-are rising ordered)

@@ -36,7 +36,7 @@ use Rattle.wasi_script.specs.declared.status.Status.{Status}
 use Rattle.wasi_script.specs.declared.status.Status.TheVariants as statuses
 use Rattle.wasi_script.specs.declared.words.Task.{Task}
 use Rattle.wasi_script.specs.declared.words.Task.TheVariants as tasks
-use Rattle.wasi_script.specs.declared.words.ScriptTask.TheVariants.{Run, Audit}
+use Rattle.wasi_script.specs.declared.words.ScriptTask.TheVariants.{Run, Audit, Trial}
 
 -- ---- the guest at the start
 
@@ -168,7 +168,7 @@ still_told plan t n was at within kept =
       },
     )
 
-tree_again : (plan : Plan) → map given_of (tree_of plan.nodes plan.limits).nodes ≡ own_nodes plan
+pub tree_again : (plan : Plan) → map given_of (tree_of plan.nodes plan.limits).nodes ≡ own_nodes plan
 unfolding tree_of
 tree_again plan = told_again plan.nodes 0 plan.nodes
   where
@@ -232,6 +232,7 @@ took_kept statuses.Done task left the_usage taken now owed wrote = tt
 took_kept statuses.Done task left (the_refusal refusal) taken now owed wrote = tt
 took_kept statuses.Done task left (the_line n) taken now owed wrote = tt
 took_kept statuses.Done task left (the_outcome Audit plan) taken now owed wrote = tt
+took_kept statuses.Done task left (the_outcome Trial plan) taken now owed wrote = tt
 took_kept statuses.Done (tasks.Script task) left (the_outcome Run plan) taken now owed wrote =
     (wrote.text, wrote.took, tells_kept plan owed.1 wrote.is_text, tells_own plan wrote.is_text)
 took_kept statuses.Done tasks.Usage left (the_outcome Run plan) taken now owed wrote = absurd owed
@@ -240,6 +241,7 @@ took_kept statuses.WriteFault task left the_usage taken now owed wrote = tt
 took_kept statuses.WriteFault task left (the_refusal refusal) taken now owed wrote = tt
 took_kept statuses.WriteFault task left (the_line n) taken now owed wrote = tt
 took_kept statuses.WriteFault task left (the_outcome Audit plan) taken now owed wrote = tt
+took_kept statuses.WriteFault task left (the_outcome Trial plan) taken now owed wrote = tt
 took_kept statuses.WriteFault (tasks.Script task) left (the_outcome Run plan) taken now owed wrote =
     (wrote.text, wrote.front, tells_kept plan owed.1 wrote.is_text, tells_own plan wrote.is_text)
 took_kept statuses.WriteFault tasks.Usage left (the_outcome Run plan) taken now owed wrote = absurd owed

@@ -1,10 +1,12 @@
 mod KeptTrees
 mod StemLemmas
 mod ListLemmas
+mod Merging
 mod Auditing
 mod AuditedCalls
 mod AuditTexts
 mod Headlines
+mod Trials
 mod Tops
 mod Numerals
 mod Summaries

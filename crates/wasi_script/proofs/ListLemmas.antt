@@ -56,9 +56,6 @@ in_all (x ∷ lists) zero n {list} at has = let same : x ≡ list = (cc) in
     Contains-append_left x (all_listed lists) n (subst (λ l. Contains l n) (sym same) has)
 in_all (x ∷ lists) (suc i) n at has = Contains-append_right x (all_listed lists) n (in_all lists i n at has)
 
-pub among_listed : (lists : List (List ℕ)) (n : ℕ) → (Contains (all_listed lists) n) ↔ IsListed lists n
-among_listed lists n = (in_one lists n, λ is. in_all lists is.place n is.at is.has)
-
 pub set_has : (lists : List (List ℕ)) (n : ℕ) → (contains (listed_set lists) n ≡ true) ↔ IsListed lists n
 set_has lists n = (
   (λ has. in_one lists n (in_listed (all_listed lists) n has)),

@@ -10,6 +10,7 @@ use Rattle.std.proofs.lemmas.Option.{get_or_from_slice_get}
 use Rattle.std.proofs.lemmas.Slice.Zip.{length-zip, get_or-zip}
 use Rattle.wasi_guest.specs.declared.answer.Answer.{Answer}
 use Rattle.wasi_guest.specs.declared.call.Call.{Call}
+use Rattle.wasi_tree.specs.MemState.{MemState}
 use Rattle.wasi_turns.specs.Guest.{state_of}
 use Rattle.wasi_turns.specs.Run.{is_success}
 use Rattle.wasi_form.specs.Plan.{Plan}
@@ -41,15 +42,15 @@ all_read calls answers i is =
     rw (take_all i (zip calls answers) long) refl
 
 -- what a line says of the run of the script of a number
-pub summarizes : {plan : Plan} {ran : Ran} (n calls ok bytes nodes : ℕ) (result : Result (String Global) AllocError)
-    → plan ≡ gen_script n → IsRanOf plan ran → calls ≡ length ran.calls.items
+pub summarizes : {plan : Plan} {ran : Ran MemState} (n calls ok bytes nodes : ℕ) (result : Result (String Global) AllocError)
+    → plan ≡ gen_script n → IsRanOf plan (λ m. m) ran → calls ≡ length ran.calls.items
     → ok ≡ count_by is_success ran.answers.answers → bytes ≡ bytes_answered ran.calls.items ran.answers.answers
     → nodes ≡ length (world_behind ran.context.host).tree.nodes
     → IfOk result (λ line. string_bytes line ≡ summary_line n calls ok bytes nodes)
     → IfOk result (λ line. Summarizes n (string_bytes line))
 summarizes n calls ok bytes nodes (Err error) plan-is run calls-is ok-is bytes-is nodes-is line-is = tt
 summarizes {plan} {ran} n calls ok bytes nodes (Ok line) plan-is run calls-is ok-is bytes-is nodes-is line-is =
-    let made : IsRanOf (gen_script n) ran = subst (λ p. IsRanOf p ran) plan-is run in
+    let made : IsRanOf (gen_script n) (λ m. m) ran = subst (λ p. IsRanOf p (λ m. m) ran) plan-is run in
     record {
       turns = made.run.turns;
       last = state_of world_behind ran.context ran.memory;

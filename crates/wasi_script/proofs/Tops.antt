@@ -18,7 +18,6 @@ use Rattle.wasi_script.specs.declared.status.Status.{Status}
 use Rattle.wasi_script.specs.declared.status.Status.TheVariants as statuses
 use Rattle.wasi_script.specs.declared.words.Task.{Task}
 use Rattle.wasi_script.specs.declared.words.Task.TheVariants as tasks
-use Rattle.wasi_script.specs.declared.words.ScriptTask.TheVariants.{Run, Audit}
 
 -- ---- reading
 
@@ -115,10 +114,8 @@ writes {text} the_usage tells is (whole took) = record { text = text; is_text = 
 writes {text} the_usage tells is (in_part failed took) = record { text = text; is_text = is; front = took tells }
 writes {text} (the_refusal refusal) tells is (whole took) = record { text = text; is_text = is; took = took tells }
 writes {text} (the_refusal refusal) tells is (in_part failed took) = record { text = text; is_text = is; front = took tells }
-writes {text} (the_outcome Run plan) tells is (whole took) = record { text = text; is_text = is; took = took tells }
-writes {text} (the_outcome Audit plan) tells is (whole took) = record { text = text; is_text = is; took = took tells }
-writes {text} (the_outcome Run plan) tells is (in_part failed took) = record { text = text; is_text = is; front = took tells }
-writes {text} (the_outcome Audit plan) tells is (in_part failed took) = record { text = text; is_text = is; front = took tells }
+writes {text} (the_outcome task plan) tells is (whole took) = record { text = text; is_text = is; took = took tells }
+writes {text} (the_outcome task plan) tells is (in_part failed took) = record { text = text; is_text = is; front = took tells }
 writes {text} (the_line n) tells is (whole took) = record { text = text; is_text = is; took = took tells }
 writes {text} (the_line n) tells is (in_part failed took) = record { text = text; is_text = is; front = took tells }
 

@@ -23,10 +23,9 @@ abbrev pub listed_preopens : List (List ℕ) → List (List ℕ) → List Audite
 listed_preopens names lists = map (λ (p : List ℕ × List ℕ). record { name = p.0; nodes = p.1 }) (zip names lists)
 
 -- The text is the audit of a run of the plan's calls from its start, in which at most as many turns are faulted, and at
--- most as many answers are `io`, as the plan lists faults. The touched nodes are those of its report: listed rising, each
--- at which a path of a call answered Ok ended among them, and each reached from a directory that the guest was given, or
--- made by the run. There is a list for each such directory, in the plan's order, and the lists together are the touched
--- nodes.
+-- most as many answers are `io`, as the plan lists faults. The touched nodes are listed rising: each at which a path of a
+-- call answered Ok ended is among them, and each is reached from a directory that the guest was given, or was made by the
+-- run. There is a list for each such directory, in the plan's order, and the lists together are the touched nodes.
 pub record Audits (plan : Plan) (text : List ℕ) : Type 0 where
   pub turns : List Turned
   pub last : State

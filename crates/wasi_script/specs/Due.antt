@@ -4,10 +4,11 @@ use Rattle.wasi_ends.specs.Ends.{ReadFront, TookFront}
 use Rattle.wasi_script.specs.Audited.{Audits}
 use Rattle.wasi_script.specs.Headline.{Reports, GivesReadOnly, TellsKeptNodes, TellsOwnTree}
 use Rattle.wasi_script.specs.Summary.{Summarizes}
+use Rattle.wasi_script.specs.Tried.{Tries}
 use Rattle.wasi_script.specs.declared.words.Task.{Task}
 use Rattle.wasi_script.specs.declared.words.Task.TheVariants as tasks
 use Rattle.wasi_script.specs.declared.words.ScriptTask.{ScriptTask}
-use Rattle.wasi_script.specs.declared.words.ScriptTask.TheVariants.{Run, Audit}
+use Rattle.wasi_script.specs.declared.words.ScriptTask.TheVariants.{Run, Audit, Trial}
 use Rattle.wasi_form.specs.Plan.{Plan, plan}
 use Rattle.wasi_form.specs.Verdict.{most_script, IsVerdict}
 use Rattle.wasi_form.specs.declared.verdict.Refusal.{Refusal}
@@ -21,7 +22,7 @@ unfoldable pub left_unread : List ℕ → List ℕ
 left_unread left = drop (most_script + 1) left
 
 abbrev pub usage_line : List ℕ
-usage_line = codes "usage: wasirun run | wasirun gen N | wasirun audit" ++ 10 ∷ []
+usage_line = codes "usage: wasirun run | wasirun gen N | wasirun audit | wasirun trial" ++ 10 ∷ []
 
 abbrev pub refusal_line : Refusal → List ℕ
 refusal_line Long = codes "refused: long" ++ 10 ∷ []
@@ -34,7 +35,7 @@ refusal_line Limit = codes "refused: limit" ++ 10 ∷ []
 pub data Due : Type 0 where
   the_usage : Due
   the_refusal : Refusal → Due
-  -- what came of a script that was run: its report, or its audit
+  -- what came of a script that was run: its report, its audit, or its trial
   the_outcome : ScriptTask → Plan → Due
   the_line : ℕ → Due
 
@@ -66,6 +67,7 @@ IsText the_usage text = text ≡ usage_line
 IsText (the_refusal refusal) text = text ≡ refusal_line refusal
 IsText (the_outcome Run plan) text = Reports plan text
 IsText (the_outcome Audit plan) text = Audits plan text
+IsText (the_outcome Trial plan) text = Tries plan text
 IsText (the_line n) text = Summarizes n text
 
 -- the status of what was written whole
@@ -126,6 +128,7 @@ TookKept the_usage Took = ⊤
 TookKept (the_refusal refusal) Took = ⊤
 TookKept (the_line n) Took = ⊤
 TookKept (the_outcome Audit plan) Took = ⊤
+TookKept (the_outcome Trial plan) Took = ⊤
 TookKept (the_outcome Run plan) Took =
     (text : List ℕ) × Took text × TellsKeptNodes plan text × (GivesReadOnly plan → TellsOwnTree plan text)
 

@@ -1,9 +1,11 @@
 pub mod Exit
 pub mod Words
 pub mod Headline
+pub mod Merged
 pub mod HasRun
 pub mod Through
 pub mod AuditedRun
 pub mod Audited
 pub mod Summary
+pub mod Tried
 pub mod Due

@@ -5,7 +5,7 @@ use Rattle.std.specs.List.{list_all}
 use Rattle.std.specs.Str.{bytes_eq}
 use Rattle.wasi_script.specs.declared.words.Task.{Task}
 use Rattle.wasi_script.specs.declared.words.Task.TheVariants.{Script, Generate, Usage}
-use Rattle.wasi_script.specs.declared.words.ScriptTask.TheVariants.{Run, Audit}
+use Rattle.wasi_script.specs.declared.words.ScriptTask.TheVariants.{Run, Audit, Trial}
 
 -- it begins with a digit that isn't 0
 abbrev pub begins_a_number : List ℕ → Bool
@@ -25,12 +25,15 @@ number_after n (c ∷ cs) = number_after (10 * n + (c - 48)) cs
 unfoldable pub number_written : List ℕ → Option ℕ
 number_written word = if is_number word then Some (number_after 0 word) else None
 
--- the word `run` or `audit` alone
+-- the word `run`, `audit` or `trial` alone
 abbrev pub one_word : List ℕ → Task
 one_word word =
     if bytes_eq word (codes "run")
     then Script Run
-    else (if bytes_eq word (codes "audit") then Script Audit else Usage)
+    else (
+    if bytes_eq word (codes "audit")
+    then Script Audit
+    else (if bytes_eq word (codes "trial") then Script Trial else Usage))
 
 abbrev pub generate : Option ℕ → Task
 generate None = Usage
@@ -40,7 +43,7 @@ generate (Some n) = Generate n
 abbrev pub two_words : List ℕ → List ℕ → Task
 two_words word number = if bytes_eq word (codes "gen") then generate (number_written number) else Usage
 
--- what these words ask for; all but those three forms ask for the usage line
+-- what these words ask for; all but those forms ask for the usage line
 abbrev pub task_of : List (List ℕ) → Task
 task_of [] = Usage
 task_of (word ∷ []) = one_word word

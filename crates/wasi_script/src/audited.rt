@@ -1,19 +1,16 @@
 //! A script whose calls were made one by one, and whose touched nodes were noted by the directories that they were come
 //! to through.
-ghost use Rattle.std.specs.Prelude.{◌≡◌, ◌<◌, ◌^◌, ◌↔◌, ℕ, true, length, map, Contains, IfOk, IsTrue};
+ghost use Rattle.std.specs.Prelude.{◌≡◌, ◌<◌, ◌^◌, ◌↔◌, ℕ, length, map, Contains, IfOk};
 ghost use Rattle.std.specs.List.Sorted.{IsStrictlyIncreasing};
 ghost use Rattle.std.specs.String.{string_bytes};
-ghost use Rattle.wasi_audit.specs.Audits.{first_stems};
-ghost use Rattle.wasi_faults.specs.Faults.{numbers_rise, counted};
+ghost use Rattle.wasi_faults.specs.Faults.{counted};
 ghost use Rattle.wasi_form.specs.Plan.{plan, planned_preopen};
-ghost use Rattle.wasi_form.specs.Within.{is_within_limits};
-ghost use Rattle.wasi_guest.specs.Quotas.{IsQuota};
 ghost use Rattle.wasi_host.specs.Meaning.{never_fails};
 ghost use Rattle.wasi_report.specs.Audit.{audited_preopen};
 ghost use Rattle.wasi_script.specs.Audited.{Audits, IsAuditOf, listed_preopens};
 ghost use Rattle.wasi_script.specs.AuditedRun.{AuditedTurn, AuditedRun, NumbersAreShort, StartsAudit};
 ghost use Rattle.wasi_script.specs.Through.{IsListed, IsShort, effect_of};
-ghost use Rattle.wasi_start.specs.Start.{world_behind};
+ghost use Rattle.wasi_start.specs.Start.{world_behind, CanRun};
 ghost use Rattle.wasi_turns.specs.Front.{with_fuel};
 ghost use Rattle.wasi_turns.specs.Guest.{guest_of, state_of};
 
@@ -117,9 +114,7 @@ fn audit_calls(
 /// Makes the calls of a script one by one, over a tree in memory whose calls fail as the script says, and notes of each
 /// what it touched.
 fn audit(alloc: Global, script: Script) -> Result<ScriptAudit, AllocError>
-    requires within { is_within_limits (plan script) ≡ true }
-    requires rising { IsTrue (numbers_rise script.session.faults.items) }
-    requires quota { IsQuota script.session.quota }
+    requires { CanRun script }
     ensures { IfOk result (IsAuditOf (plan script)) }
 {
     let names = names_of(alloc, script.session.preopens.as_slice())?;
@@ -177,9 +172,7 @@ fn named_lists<'a>(
 
 /// The audit of a script, in the memory of a buffer.
 pub fn audit_of(alloc: Global, script: Script, buffer: Vec<u8>) -> Result<Vec<u8>, AllocError>
-    requires within { is_within_limits (plan script) ≡ true }
-    requires rising { IsTrue (numbers_rise script.session.faults.items) }
-    requires quota { IsQuota script.session.quota }
+    requires { CanRun script }
     ensures { IfOk result (λ text. Audits (plan script) text.items) }
 {
     let audited = audit(alloc, script)?;

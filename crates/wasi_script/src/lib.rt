@@ -1,5 +1,5 @@
-//! A run from bytes to bytes: a script of calls over a tree of files is read, its calls are made, and a report or an audit
-//! is written. The program `wasirun` stands on it.
+//! A run from bytes to bytes: a script of calls over a tree of files is read, its calls are made, and a report, an audit
+//! or a trial is written. The program `wasirun` stands on it.
 #![tactic(auto)]
 
 mod audited;
@@ -7,9 +7,9 @@ mod ran;
 mod status;
 mod summary;
 mod top;
+mod trial;
 mod words;
 
 pub use status::Status;
 pub use top::run_script;
-pub use wasi_start::{Beginning, begin, shown};
 pub use words::{ScriptTask, Task, task_of, words_after_name};

@@ -8,9 +8,9 @@ use wasi_form::{Refusal, ScriptError};
 /// How the program ended.
 #[derive(Clone, Copy, Debug, PartialEq, Eq)]
 pub enum Status {
-    /// The report or the audit was taken whole, or the line of a script that was made.
+    /// The report, the audit or the trial was taken whole, or the line of a script that was made.
     Done,
-    /// The words are none of `run`, `audit` and `gen N`, and the line that says so was taken.
+    /// The words are none of `run`, `audit`, `trial` and `gen N`, and the line that says so was taken.
     Usage,
     /// The bytes aren't a script that can be run, and the line that says why was taken.
     Refused(Refusal),
@@ -23,7 +23,7 @@ pub enum Status {
 }
 
 impl Status {
-    /// The exit status of the process: 0 for a report or a line, and a number of its own for each other end. They are the
+    /// The exit status of the process: 0 for a report, an audit, a trial or a line, and a number of its own for each other end. They are the
     /// program's own; 1 is left to a process that is stopped.
     pub fn exit_code(self) -> u8
         ensures code { result ≡ exit_code self }
@@ -39,7 +39,7 @@ impl Status {
     }
 
     /// One line for a person, without its end: what happened, and of a script that can't be run where to read more. `None`
-    /// where a report, a line or the usage line was written.
+    /// where a report, an audit, a trial, a line or the usage line was written.
     pub fn message(self) -> Option<&'static str>
         ensures text { option_map (λ text. text.now) result ≡ message_of self }
         ensures silent { IsNone result ↔ ((self ≡ Status.Done) ⊎ (self ≡ Status.Usage)) }

@@ -9,20 +9,21 @@ ghost use Rattle.wasi_guest.specs.Quotas.{IsQuota};
 ghost use Rattle.wasi_script.specs.Headline.{Reports};
 ghost use Rattle.wasi_script.specs.Words.{task_of};
 ghost use Rattle.wasi_script.specs.Due.{the_usage, the_line, the_outcome, refusal_line, OfDue, IsDue, Writes, WritesOfSome, KeepsTree, LeavesBytes, KeepsSink, EndsReading, EndsGenerated, IsText, ReadsSome, ReadsScript, TakesScript, Written};
+ghost use Rattle.wasi_start.specs.Start.{CanRun};
 
 use crate::audited::audit_of;
-use crate::ran::run;
+use crate::ran::{end_of, run};
 use crate::status::Status;
 use crate::summary::summary_of;
+use crate::trial::trial_of;
 use crate::words::{ScriptTask, Task, task_of};
 use bumpalo::Bump;
 use std::alloc::{AllocError, Allocator, Global};
 use wasi_ends::{Sink, Source, read_all, write_all};
 use wasi_form::{Refusal, Script, read_script};
-use wasi_report::{Outcome, report_in};
-use wasi_start::shown;
+use wasi_report::report_in;
 
-const USAGE: &str = "usage: wasirun run | wasirun gen N | wasirun audit\n";
+const USAGE: &str = "usage: wasirun run | wasirun gen N | wasirun audit | wasirun trial\n";
 
 fn refusal_line(refusal: Refusal) -> &'static str
     ensures { result.now ≡ refusal_line refusal }
@@ -64,24 +65,12 @@ fn report_of<A: Allocator + Copy>(
     script: Script,
     buffer: Vec<u8>,
 ) -> Result<Vec<u8>, AllocError>
-    requires within { is_within_limits (plan script) ≡ true }
-    requires rising { IsTrue (numbers_rise script.session.faults.items) }
-    requires quota { IsQuota script.session.quota }
+    requires { CanRun script }
     ensures { IfOk result (λ text. Reports (plan script) text.items) }
 {
     let ran = run(alloc, script)?;
-    let shown = shown(alloc, ran.memory.bytes(), ran.show.as_slice())?;
-    let touched = ran.context.host().inner().touched(alloc)?;
-    let ended = ran.context.into_parts();
-    let outputs = ended.holdings.into_outputs();
-    let outcome = Outcome {
-        answers: ran.answers,
-        shown,
-        stdout: outputs.stdout,
-        stderr: outputs.stderr,
-        touched,
-    };
-    report_in(alloc, room, buffer, &outcome, ended.host.inner())
+    let end = end_of(alloc, ran)?;
+    report_in(alloc, room, buffer, &end.outcome, end.host.inner())
 }
 
 fn written<K: Sink>(sink: &mut K, text: &[u8], status: Status) -> Status
@@ -104,19 +93,19 @@ fn text_of<A: Allocator + Copy>(
     script: Script,
     buffer: Vec<u8>,
 ) -> Result<Vec<u8>, AllocError>
-    requires within { is_within_limits (plan script) ≡ true }
-    requires rising { IsTrue (numbers_rise script.session.faults.items) }
-    requires quota { IsQuota script.session.quota }
+    requires { CanRun script }
     ensures { IfOk result (λ text. IsText (the_outcome task (plan script)) text.items) }
 {
     match task {
         ScriptTask::Run => report_of(alloc, room, script, buffer),
         ScriptTask::Audit => audit_of(alloc, script, buffer),
+        ScriptTask::Trial => trial_of(alloc, room, script, buffer),
     }
 }
 
-// Runs a script that is read of the source, and writes its report or its audit, or why there is none. It is written where
-// the script's bytes stood, and digits that aren't more than they were where the reader had its room, which grows no more.
+// Runs a script that is read of the source, and writes its report, its audit or its trial, or why there is none. It is
+// written where the script's bytes stood, and digits that aren't more than they were where the reader had its room, which
+// grows no more.
 fn run_source<S: Source, K: Sink>(
     alloc: Global,
     task: ScriptTask,
@@ -175,13 +164,14 @@ fn run_generated<K: Sink>(alloc: Global, n: u64, sink: &mut K) -> Status
 /// Runs the program. `words` are the words of the command line after the program's name. With the one word `run` the
 /// source is read to its end as a script, which is run, and its report is written to the sink. With the one word `audit`
 /// the script is read and run as well, and it is written which nodes were touched through which of the directories that
-/// the guest was given. With `gen N`, N being 1 to 9999 in decimal without a leading zero, nothing is read: the script
-/// that `gen_script` makes of N is run, and one line is written that says how many calls it has, how many were answered
-/// Ok, how many bytes `fd_read` was answered, and how many nodes the tree has then. With any others the usage line is
-/// written. A script has at most 16,777,216 bytes, and at most one more is read. What is written is due by the words and
-/// the bytes that the source has left: the usage line; the line of `gen N`; the line that names the refusal, as
-/// `refused: json`; the report's text; or the audit's. Of a source that doesn't tell its bytes it is what is due of some
-/// bytes. Faults come from the source and the sink alone.
+/// the guest was given. With the one word `trial` it is run over its tree, which stays, and it is written what that tree
+/// is, which nodes were worked on, and the report. With `gen N`, N being 1 to 9999 in decimal without a leading zero,
+/// nothing is read: the script that `gen_script` makes of N is run, and one line is written that says how many calls it
+/// has, how many were answered Ok, how many bytes `fd_read` was answered, and how many nodes the tree has then. With any
+/// others the usage line is written. A script has at most 16,777,216 bytes, and at most one more is read. What is written
+/// is due by the words and the bytes that the source has left: the usage line; the line of `gen N`; the line that names
+/// the refusal, as `refused: json`; the report's text; the audit's; or the trial's. Of a source that doesn't tell its bytes
+/// it is what is due of some bytes. Faults come from the source and the sink alone.
 pub fn run_script<S: Source, K: Sink>(
     alloc: Global,
     words: &Vec<String>,

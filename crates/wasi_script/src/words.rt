@@ -31,12 +31,14 @@ pub enum ScriptTask {
     Run,
     /// `audit`: which nodes were touched through which of the directories that the guest was given.
     Audit,
+    /// `trial`: the tree as it was before, the nodes that were worked on, and the report.
+    Trial,
 }
 
 /// What the words of a command line ask for.
 #[derive(Clone, Copy, Debug, PartialEq, Eq)]
 pub enum Task {
-    /// `run` or `audit`: to read a script, to run it, and to write what came of it.
+    /// `run`, `audit` or `trial`: to read a script, to run it, and to write what came of it.
     Script(ScriptTask),
     /// `gen N`, N being 1 to 9999 in decimal without a leading zero: to run the script of that number, and to write one
     /// line.
@@ -88,6 +90,8 @@ fn one_word(word: &str) -> Task
         Task::Script(ScriptTask::Run)
     } else if word == "audit" {
         Task::Script(ScriptTask::Audit)
+    } else if word == "trial" {
+        Task::Script(ScriptTask::Trial)
     } else {
         Task::Usage
     }

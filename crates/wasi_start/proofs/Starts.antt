@@ -25,14 +25,16 @@ use Rattle.wasi_guest.specs.Range.{with_bytes}
 use Rattle.wasi_guest.specs.Services.{Handed}
 use Rattle.wasi_guest.specs.declared.quota.Quota.{Quota}
 use Rattle.wasi_turns.specs.Reach.{Confined}
-use Rattle.wasi_form.specs.Plan.{PlannedPreopen, PlannedPiece, planned_preopen, planned_piece}
-use Rattle.wasi_form.specs.Within.{are_preopens_directories, is_directory_given, is_piece_within}
+use Rattle.wasi_form.specs.Plan.{PlannedPreopen, PlannedPiece, planned, planned_preopen, planned_piece}
+use Rattle.wasi_form.specs.Within.{are_preopens_directories, is_directory_given, is_piece_within, is_within_limits}
+use Rattle.wasi_form.specs.declared.script.Session.{Session}
+use Rattle.wasi_form.proofs.Accepted.{limits_kept}
 use Rattle.wasi_turns.specs.Slots.{first_slots, given_mode, given_directory, given_name, given_slot, given_slots}
 use Rattle.wasi_turns.specs.Quotas.{with_quota}
 use Rattle.wasi_turns.specs.Stock.{first_stock}
 use Rattle.wasi_turns.specs.Owners.{handles, one_if, uses, uses_in, IsHandle}
 use Rattle.wasi_turns.specs.declared.slots.P1Preopen.{P1Preopen}
-use Rattle.wasi_start.specs.Start.{given_guest_slot, given_guest_slots, AreGiven, IsBegun, with_pieces}
+use Rattle.wasi_start.specs.Start.{given_guest_slot, given_guest_slots, AreGiven, IsBegun, IsWithinOn, with_pieces}
 use Rattle.wasi_turns.specs.Guest.{State, directory as directory_slot, directory_by, guest_slot}
 use Rattle.wasi_form.specs.declared.script.Piece.{Piece}
 use Rattle.wasi_form.specs.declared.script.ScriptPreopen.{ScriptPreopen}
@@ -72,6 +74,17 @@ directories_given nodes limits preopens are k d within =
     directory_given nodes limits (get_or preopens k d).node
     (passes_at (λ preopen. is_directory_given (slice_get nodes (planned_preopen preopen).node)) preopens k d within
     (sym (list_all-map (λ (preopen : PlannedPreopen). is_directory_given (slice_get nodes preopen.node)) planned_preopen preopens) ∙ are))
+
+-- a script within the limits can begin on the tree of its nodes
+pub within_on : {tree : Tree} (nodes : List Given) (limits : Limits) (session : Session) → tree ≡ tree_of nodes limits
+    → is_within_limits (planned nodes limits session) ≡ true → IsWithinOn tree session
+within_on nodes limits session tree-is within =
+    let kept = limits_kept (planned nodes limits session) within in
+    record {
+      directories = rw tree-is (directories_given nodes limits session.preopens.items kept.preopens);
+      table = omega (arith, kept.table, length-map session.preopens.items planned_preopen);
+      pieces = kept.pieces;
+    }
 
 -- ---- handles that are given one after another
 

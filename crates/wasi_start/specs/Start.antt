@@ -1,16 +1,21 @@
 -- The state in which the calls of a script begin.
-use Rattle.std.specs.Prelude.{◌≡◌, ◌≢◌, ℕ, suc, List, [], ◌∷◌, length, map, replicate, true, All, AllPairs, Some}
+use Rattle.std.specs.Prelude.{◌≡◌, ◌≢◌, ◌≤◌, ◌+◌, ℕ, suc, List, [], ◌∷◌, length, map, replicate, true, All, AllPairs, Some, IsTrue}
 use Rattle.std.specs.FinSet.{empty, contains}
+use Rattle.std.specs.List.{list_all}
 use Rattle.std.specs.String.{string_bytes}
-use Rattle.wasi_host.specs.Tree.{Tree}
+use Rattle.wasi_host.specs.Tree.{Tree, node_at, is_directory}
 use Rattle.wasi_host.specs.Meaning.{World}
 use Rattle.wasi_tree.specs.Given.{tree_of}
-use Rattle.wasi_faults.specs.Faults.{Failing}
+use Rattle.wasi_faults.specs.Faults.{Failing, numbers_rise}
+use Rattle.wasi_guest.specs.Quotas.{IsQuota}
 use Rattle.wasi_tree.specs.MemState.{MemState, HeldMap, live_of, held_in, world_of}
 use Rattle.wasi_guest.specs.Range.{with_bytes}
-use Rattle.wasi_guest.specs.Services.{Handed}
+use Rattle.wasi_guest.specs.Services.{Handed, handed}
 use Rattle.wasi_guest.specs.declared.quota.Quota.{Quota}
-use Rattle.wasi_form.specs.Plan.{Plan, PlannedPiece, PlannedPreopen}
+use Rattle.wasi_form.specs.Plan.{Plan, PlannedPiece, PlannedPreopen, plan, planned_piece, planned_preopen}
+use Rattle.wasi_form.specs.Within.{is_piece_within, is_within_limits}
+use Rattle.wasi_form.specs.declared.script.Script.{Script}
+use Rattle.wasi_form.specs.declared.script.Session.{Session}
 use Rattle.wasi_turns.specs.Slots.{View, given_mode, given_slots}
 use Rattle.wasi_turns.specs.Guest.{State, GuestSlot, stream, directory, guest_slot, state_of}
 use Rattle.wasi_turns.specs.Owners.{handles, IsHandle}
@@ -67,6 +72,16 @@ start plan = begun (tree_of plan.nodes plan.limits) plan.preopens plan.services 
 abbrev pub world_behind : Failing MemState → World
 world_behind host = world_of host.inner
 
+-- a tree of any kind, as a tree in memory
+abbrev pub seen_by : {T : Type 0} → (T → MemState) → View (Failing T) → View (Failing MemState)
+seen_by seen context = record {
+  host = record { inner = seen context.host.inner; calls = context.host.calls };
+  slots = context.slots;
+  table_max = context.table_max;
+  holdings = context.holdings;
+  fuel = context.fuel;
+}
+
 -- each live handle of such a host is a descriptor's
 abbrev pub OwnAll : List Slot → HeldMap → Type 0
 OwnAll slots held = (h : ℕ) → contains (live_of held) h ≡ true → IsHandle (handles slots) h
@@ -81,15 +96,29 @@ pub record IsBegun (context : View (Failing MemState)) (tree : Tree) (preopens :
   pub unasked : context.host.inner.lookups ≡ []
   pub alone : OwnAll context.slots context.host.inner.handles
 
--- a plan's beginning: nothing was called yet
-pub record Begins (plan : Plan) (b : Beginning) : Type 0 where
-  pub begun : IsBegun b.context (tree_of plan.nodes plan.limits) plan.preopens plan.services plan.quota plan.table
-  pub faults : b.context.host.calls ≡ record { faults = plan.faults; calls = 0 }
-  pub written : b.memory ≡ with_pieces (replicate plan.size 0) plan.pieces
-  pub size : length b.memory ≡ plan.size
-  pub fuel : b.fuel ≡ plan.fuel
-  pub calls : b.calls.items ≡ plan.calls
-  pub show : b.show.items ≡ plan.show
+-- a session's beginning on a tree, over a host that is seen so: nothing was called yet
+pub record Begins {T : Type 0} (tree : Tree) (session : Session) (seen : T → MemState) (b : Beginning T) : Type 0 where
+  pub begun : IsBegun (seen_by seen b.context) tree (map planned_preopen session.preopens.items) (handed session.services)
+      session.quota session.table
+  pub faults : b.context.host.calls ≡ record { faults = session.faults.items; calls = 0 }
+  pub written : b.memory ≡ with_pieces (replicate session.size 0) (map planned_piece session.pieces.items)
+  pub size : length b.memory ≡ session.size
+  pub fuel : b.fuel ≡ session.fuel
+  pub calls : b.calls.items ≡ session.calls.items
+  pub show : b.show.items ≡ session.show.items
+
+-- what is run on a tree can begin there: it is given directories of the tree, all first descriptors have room, and each
+-- piece lies in the memory
+pub record IsWithinOn (tree : Tree) (session : Session) : Type 0 where
+  pub directories : All (λ preopen. is_directory (node_at tree preopen.node).content ≡ true) session.preopens.items
+  pub table : 3 + length session.preopens.items ≤ session.table
+  pub pieces : list_all (is_piece_within session.size) (map planned_piece session.pieces.items) ≡ true
+
+-- a script that can be run: it is within the limits, the numbers of its faults rise, and its quota is in its range
+pub record CanRun (script : Script) : Type 0 where
+  pub within : is_within_limits (plan script) ≡ true
+  pub rising : IsTrue (numbers_rise script.session.faults.items)
+  pub quota : IsQuota script.session.quota
 
 -- handles of these directories in their order, each live and another, with their permissions and names; no other handle
 -- is live

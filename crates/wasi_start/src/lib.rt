@@ -2,6 +2,8 @@
 //! them.
 #![tactic(auto)]
 
+mod script_tree;
 mod start;
 
-pub use start::{Beginning, begin, shown};
+pub use script_tree::ScriptTree;
+pub use start::{Beginning, begin, begin_over, shown};

@@ -1,5 +1,5 @@
 //! The context and the memory in which the calls of a script begin, and the memory that is shown after them.
-ghost use Rattle.std.specs.Prelude.{◌≡◌, ◌≤◌, ◌+◌, true, length, map, replicate, All, IfOk, IsTrue};
+ghost use Rattle.std.specs.Prelude.{◌≡◌, ◌≤◌, ◌+◌, true, [], length, map, replicate, All, IfOk, IsTrue};
 ghost use Rattle.std.specs.List.{list_all};
 ghost use Rattle.wasi_host.specs.Tree.{node_at, is_directory};
 ghost use Rattle.std.specs.FinSet.{empty};
@@ -8,46 +8,49 @@ ghost use Rattle.wasi_tree.specs.MemState.{live_of};
 ghost use Rattle.wasi_faults.specs.Faults.{numbers_rise};
 ghost use Rattle.wasi_guest.specs.Quotas.{IsQuota};
 ghost use Rattle.wasi_guest.specs.Services.{handed};
-ghost use Rattle.wasi_form.specs.Plan.{plan, planned_piece, planned_preopen};
-ghost use Rattle.wasi_form.specs.Within.{are_preopens_directories, is_piece_within, is_shown_within, is_within_limits};
-ghost use Rattle.wasi_start.specs.Start.{with_pieces, AreGiven, Begins, IsBegun};
+ghost use Rattle.wasi_form.specs.Plan.{planned_piece, planned_preopen};
+ghost use Rattle.wasi_form.specs.Within.{is_piece_within, is_shown_within};
+ghost use Rattle.wasi_start.specs.Start.{seen_by, with_pieces, AreGiven, Begins, CanRun, IsBegun, IsWithinOn};
 ghost use Rattle.wasi_start.specs.ReportAfter.{bytes_shown};
 
+use crate::script_tree::ScriptTree;
 use std::alloc::{AllocError, Global};
 use wasi_faults::{FailAt, Fault};
-use wasi_form::{Piece, Script, ScriptPreopen, Shown};
+use wasi_form::{Piece, Script, ScriptPreopen, Session, Shown};
 use wasi_guest::{Call, GuestMemory, Quota, Services, slice_at};
+use wasi_host::Host;
 use wasi_p1_context::WasiP1Ctx;
-use wasi_tree::{FitNodes, HandleError, MemTree};
+use wasi_tree::{HandleError, MemTree};
 use wasi_turns::{CtxError, P1Preopen};
 
 /// Where the calls of a script begin: the memory and the context, and what of the script is left to be done.
 #[derive(Drop)]
-pub struct Beginning {
+pub struct Beginning<T: Host> {
     pub memory: GuestMemory,
-    pub context: WasiP1Ctx<FailAt<MemTree>>,
+    pub context: WasiP1Ctx<FailAt<T>>,
     pub fuel: u64,
     pub calls: Vec<Call>,
     pub show: Vec<Shown>,
 }
 
 /// A handle of each directory that the guest is given, in order.
-fn given_handles(
+fn given_handles<T: ScriptTree>(
     alloc: Global,
-    tree: &mut MemTree,
+    tree: &mut T,
     preopens: &[ScriptPreopen],
 ) -> Result<Vec<P1Preopen>, AllocError>
-    requires directories { All (λ preopen. is_directory (node_at tree.old.tree preopen.node).content ≡ true)
+    requires directories { All (λ preopen. is_directory (node_at (T.seen tree.old).tree preopen.node).content ≡ true)
         preopens.now }
-    requires none { live_of tree.old.handles ≡ empty }
-    ensures tree { tree.new.tree ≡ tree.old.tree }
-    ensures touched { tree.new.touched ≡ tree.old.touched }
-    ensures lookups { tree.new.lookups ≡ tree.old.lookups }
-    ensures given { IfOk result (λ given. AreGiven tree.new.handles (map planned_preopen preopens.now) given.items) }
+    requires none { live_of (T.seen tree.old).handles ≡ empty }
+    ensures tree { (T.seen tree.new).tree ≡ (T.seen tree.old).tree }
+    ensures touched { (T.seen tree.new).touched ≡ (T.seen tree.old).touched }
+    ensures lookups { (T.seen tree.new).lookups ≡ (T.seen tree.old).lookups }
+    ensures given { IfOk result (λ given. AreGiven (T.seen tree.new).handles (map planned_preopen preopens.now)
+        given.items) }
 {
     let mut given = Vec::new(alloc);
     for preopen in preopens {
-        let handle = match tree.handle(preopen.node) {
+        let handle = match tree.directory_handle(preopen.node) {
             Ok(handle) => handle,
             Err(HandleError::Memory) => return Err(AllocError),
             Err(HandleError::NotDirectory) => unreachable!(),
@@ -62,26 +65,29 @@ fn given_handles(
     Ok(given)
 }
 
-// A context over the tree of these nodes, in which the guest is handed in these services and given these directories and
-// this quota, as many descriptors may be live as its table has room for, and these calls of the host fail.
-fn first_context(
+// A context over a tree that has no live handle, in which the guest is handed in these services and given these directories
+// and this quota, as many descriptors may be live as its table has room for, and these calls of the host fail.
+fn first_context<T: ScriptTree>(
     alloc: Global,
-    nodes: FitNodes,
+    mut tree: T,
     services: Services,
     faults: Vec<Fault>,
     quota: Quota,
     preopens: &[ScriptPreopen],
     table: u32,
-) -> Result<WasiP1Ctx<FailAt<MemTree>>, AllocError>
-    requires directories { are_preopens_directories nodes.nodes (map planned_preopen preopens.now) ≡ true }
+) -> Result<WasiP1Ctx<FailAt<T>>, AllocError>
+    requires directories { All (λ preopen. is_directory (node_at (T.seen tree).tree preopen.node).content ≡ true)
+        preopens.now }
+    requires none { live_of (T.seen tree).handles ≡ empty }
+    requires untouched { (T.seen tree).touched ≡ empty }
+    requires unasked { (T.seen tree).lookups ≡ [] }
     requires table { 3 + length preopens.now ≤ table }
     requires rising { IsTrue (numbers_rise faults.items) }
     requires quota { IsQuota quota }
-    ensures begun { IfOk result (λ c. IsBegun c (tree_of nodes.nodes nodes.limits)
+    ensures begun { IfOk result (λ c. IsBegun (seen_by T.seen c) (T.seen tree).tree
         (map planned_preopen preopens.now) (handed services) quota table) }
     ensures faults { IfOk result (λ c. c.host.calls ≡ record { faults = faults.items; calls = 0 }) }
 {
-    let mut tree = MemTree::of(alloc, nodes)?;
     let given = given_handles(alloc, &mut tree, preopens)?;
     let host = FailAt::new(tree, faults);
     match WasiP1Ctx::new(alloc, host, given, services, table) {
@@ -109,19 +115,25 @@ fn first_memory(alloc: Global, size: u32, pieces: &[Piece]) -> Result<GuestMemor
     Ok(memory)
 }
 
-/// Begins a script: the pieces of its memory are written, and its directories have handles, the only ones that are live.
-/// The only refusal is want of memory.
-pub fn begin(alloc: Global, script: Script) -> Result<Beginning, AllocError>
-    requires within { is_within_limits (plan script) ≡ true }
-    requires rising { IsTrue (numbers_rise script.session.faults.items) }
-    requires quota { IsQuota script.session.quota }
-    ensures begins { IfOk result (Begins (plan script)) }
+/// Begins what is run on a tree that has no live handle, nothing touched and no look-up: the pieces of the memory are
+/// written, and the directories that the guest is given have handles. The only refusal is want of memory.
+pub fn begin_over<T: ScriptTree>(
+    alloc: Global,
+    tree: T,
+    session: Session,
+) -> Result<Beginning<T>, AllocError>
+    requires within { IsWithinOn (T.seen tree).tree session }
+    requires none { live_of (T.seen tree).handles ≡ empty }
+    requires untouched { (T.seen tree).touched ≡ empty }
+    requires unasked { (T.seen tree).lookups ≡ [] }
+    requires rising { IsTrue (numbers_rise session.faults.items) }
+    requires quota { IsQuota session.quota }
+    ensures begins { IfOk result (Begins (T.seen tree).tree session T.seen) }
 {
-    let Script { nodes, session } = script;
     let memory = first_memory(alloc, session.size, session.pieces.as_slice())?;
     let context = first_context(
         alloc,
-        nodes,
+        tree,
         session.services,
         session.faults,
         session.quota,
@@ -135,6 +147,16 @@ pub fn begin(alloc: Global, script: Script) -> Result<Beginning, AllocError>
         calls: session.calls,
         show: session.show,
     })
+}
+
+/// Begins a script over a tree in memory of its nodes. The only refusal is want of memory.
+pub fn begin(alloc: Global, script: Script) -> Result<Beginning<MemTree>, AllocError>
+    requires { CanRun script }
+    ensures begins { IfOk result (Begins (tree_of script.nodes.nodes script.nodes.limits) script.session (λ m. m)) }
+{
+    let Script { nodes, session } = script;
+    let tree = MemTree::of(alloc, nodes)?;
+    begin_over(alloc, tree, session)
 }
 
 /// The bytes of each range.

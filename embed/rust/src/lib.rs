@@ -19,6 +19,25 @@ fn nothing() -> Raw {
 }
 
 const SHORT: u32 = 262;
+const ALONE: u32 = 277;
+
+/// Asks for what a function writes in front of some room, and with as much room as it needs where that was too little.
+fn with_room<T: Clone + Default>(
+    room: usize,
+    mut ask: impl FnMut(*mut T, usize, &mut usize) -> u32,
+) -> Result<Vec<T>, u32> {
+    let (mut told, mut len) = (vec![T::default(); room], 0);
+    loop {
+        match ask(told.as_mut_ptr(), told.len(), &mut len) {
+            0 => {
+                told.truncate(len);
+                return Ok(told);
+            }
+            SHORT => told.resize(len, T::default()),
+            code => return Err(code),
+        }
+    }
+}
 
 /// Why a guest was stopped, or that it ended.
 #[derive(Clone, Copy, Debug, PartialEq, Eq)]
@@ -80,6 +99,8 @@ pub enum Refused {
     Limit,
     /// It has calls, a memory, or ranges of it to be shown.
     Guest,
+    /// It has nodes or limits of its own, where a base has them.
+    OwnTree,
     /// Memory was wanted.
     Memory,
     /// The library answered a number that this crate doesn't know.
@@ -95,6 +116,7 @@ impl Refused {
             273 => Refused::Tree,
             274 => Refused::Limit,
             275 => Refused::Guest,
+            276 => Refused::OwnTree,
             260 => Refused::Memory,
             code => Refused::Unknown(code),
         }
@@ -129,12 +151,49 @@ pub struct Sandbox {
     stop: Option<Stop>,
 }
 
+/// A tree that sandboxes stand over, as [`Sandbox::commit`] makes it. Nothing changes it, and it stays for as long as
+/// the program runs: its memory is never given back, also once no copy of this value is left. It stays on its thread.
+///
+/// ```
+/// use wasi_embed::Sandbox;
+///
+/// let tree = r#"{"nodes": [{"dir": {"shared": 1}}, {"dir": {}}], "preopens": [], "calls": []}"#;
+/// let session = r#"{"nodes": [], "preopens": [{"node": 1, "name": "/", "perms": "rw"}], "calls": []}"#;
+/// let base = Sandbox::start(tree)?.commit()?;
+/// let (mut one, mut other) = (base.start(session)?, base.start(session)?);
+/// let mut memory = *b"new";
+/// assert_eq!(one.path_create_directory(&mut memory, 3, 0, 3)?, 0);
+/// assert_eq!(one.kept()?, Some(vec![1, 2]));
+/// assert_eq!(other.kept()?, Some(vec![]));
+/// # Ok::<(), Box<dyn std::error::Error>>(())
+/// ```
+#[derive(Clone, Copy, Debug)]
+#[repr(C)]
+pub struct Base {
+    at: *const u8,
+}
+
 extern "C" {
     fn wasi_c_start(sandbox: *mut Raw, script: *const u8, script_len: usize) -> u32;
+    fn wasi_c_start_over(base: Base, sandbox: *mut Raw, script: *const u8, script_len: usize) -> u32;
+    fn wasi_c_commit(sandbox: *mut Raw, empty: Raw, base: *mut Base) -> u32;
+    fn wasi_c_kept(sandbox: *mut Raw, empty: Raw, numbers: *mut u64, room: usize, len: *mut usize) -> u32;
     fn wasi_c_answered(sandbox: *mut Raw, empty: Raw) -> u64;
     fn wasi_c_quota_used(sandbox: *mut Raw, empty: Raw, nodes: *mut u64, bytes: *mut u64);
     fn wasi_c_report(sandbox: *mut Raw, empty: Raw, text: *mut u8, room: usize, len: *mut usize) -> u32;
     fn wasi_c_end(sandbox: *mut Raw, empty: Raw);
+}
+
+impl Base {
+    /// Begins a sandbox over the base, by the text of a script whose `nodes` are `[]` and that has no `limits`: its
+    /// preopens name directories of the base by their numbers there. No tree is copied. Any number of sandboxes may
+    /// stand over one base, each with its own changes, which none of the others sees.
+    pub fn start(&self, script: &str) -> Result<Sandbox, Refused> {
+        let mut raw = nothing();
+        // SAFETY: the base was committed, and stays; the sandbox is the empty one, and the text is there for the call.
+        let code = unsafe { wasi_c_start_over(*self, &mut raw, script.as_ptr(), script.len()) };
+        Sandbox::begun(raw, code)
+    }
 }
 
 impl Sandbox {
@@ -142,9 +201,40 @@ impl Sandbox {
     pub fn start(script: &str) -> Result<Sandbox, Refused> {
         let mut raw = nothing();
         // SAFETY: the sandbox is the empty one, and the text is there for the call.
-        match unsafe { wasi_c_start(&mut raw, script.as_ptr(), script.len()) } {
+        let code = unsafe { wasi_c_start(&mut raw, script.as_ptr(), script.len()) };
+        Sandbox::begun(raw, code)
+    }
+
+    /// What a start left in the place of the empty sandbox, or why the script is refused.
+    fn begun(raw: Raw, code: u32) -> Result<Sandbox, Refused> {
+        match code {
             0 => Ok(Sandbox { raw, stop: None }),
             code => Err(Refused::of(code)),
+        }
+    }
+
+    /// Makes a base of the tree as it stands: a copy, which is never given back. The sandbox stays, and so does the
+    /// base that it may stand over. `Stop::Memory` where memory was wanted; then there is no base.
+    pub fn commit(&mut self) -> Result<Base, Stop> {
+        let mut base = Base { at: ptr::null() };
+        // SAFETY: the sandbox isn't empty, and the base is none.
+        match unsafe { wasi_c_commit(&mut self.raw, nothing(), &mut base) } {
+            0 => Ok(base),
+            code => Err(Stop::of(code)),
+        }
+    }
+
+    /// The numbers of the nodes that calls have worked on, rising, as the report numbers them; a read or a look works
+    /// on none (docs/SCRIPT.md, "A trial"). `None` of a sandbox over no base. `Stop::Memory` where memory was wanted.
+    pub fn kept(&mut self) -> Result<Option<Vec<u64>>, Stop> {
+        // SAFETY: the sandbox isn't empty; the room and the length are borrowed for the call, and don't overlap.
+        let kept = with_room(64, |numbers, room, len| unsafe {
+            wasi_c_kept(&mut self.raw, nothing(), numbers, room, len)
+        });
+        match kept {
+            Ok(numbers) => Ok(Some(numbers)),
+            Err(ALONE) => Ok(None),
+            Err(code) => Err(Stop::of(code)),
         }
     }
 
@@ -169,17 +259,12 @@ impl Sandbox {
 
     /// The report of the sandbox as it stands: a JSON text, in which `answers` and `memory` are empty.
     pub fn report(&mut self) -> Result<String, Stop> {
-        let mut text = vec![0; 1 << 16];
-        loop {
-            let mut len = 0;
-            // SAFETY: the sandbox isn't empty; the room and the length are borrowed for the call, and don't overlap.
-            let code = unsafe { wasi_c_report(&mut self.raw, nothing(), text.as_mut_ptr(), text.len(), &mut len) };
-            match code {
-                0 => return Ok(String::from_utf8_lossy(&text[..len]).into_owned()),
-                SHORT => text.resize(len, 0),
-                code => return Err(Stop::of(code)),
-            }
-        }
+        // SAFETY: the sandbox isn't empty; the room and the length are borrowed for the call, and don't overlap.
+        let text = with_room(1 << 16, |text, room, len| unsafe {
+            wasi_c_report(&mut self.raw, nothing(), text, room, len)
+        });
+        text.map(|text| String::from_utf8_lossy(&text).into_owned())
+            .map_err(Stop::of)
     }
 
     /// An error number of preview1, 0 where there is none; or how the guest is stopped, which is kept.

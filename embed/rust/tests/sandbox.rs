@@ -1,9 +1,10 @@
 //! `cargo test --offline`
 
-use wasi_embed::{QuotaUsed, Refused, Sandbox, Stop};
+use wasi_embed::{Base, QuotaUsed, Refused, Sandbox, Stop};
 
 const SCRIPT: &str = r#"{"nodes": [{"dir": {"f": 1}}, {"file": "746f70"}],
     "preopens": [{"node": 0, "name": "/", "perms": "rw"}], "calls": [], "table": 5, "random": "5a"}"#;
+const SESSION: &str = r#"{"nodes": [], "preopens": [{"node": 0, "name": "/", "perms": "rw"}], "calls": []}"#;
 const BADF: u32 = 8;
 const DQUOT: u32 = 19;
 const NOENT: u32 = 44;
@@ -11,6 +12,11 @@ const NOENT: u32 = 44;
 fn open(sandbox: &mut Sandbox, memory: &mut [u8], path: &[u8], flags: u32) -> Result<u32, Stop> {
     memory[64..64 + path.len()].copy_from_slice(path);
     sandbox.path_open(memory, 3, 0, 64, path.len() as u32, flags, 2, 0, 0, 16)
+}
+
+// Opens a path in a sandbox of its own over a base.
+fn find(base: Base, path: &[u8]) -> Result<u32, Stop> {
+    open(&mut base.start(SESSION).unwrap(), &mut [0; 128], path, 0)
 }
 
 #[test]
@@ -78,6 +84,60 @@ fn two_sandboxes() {
     drop(first);
     assert_eq!(open(&mut second, &mut memory, b"f", 0), Ok(0));
     assert!(second.report().unwrap().contains("\"touched\":[0,1]"));
+}
+
+#[test]
+fn sandboxes_over_a_base() {
+    let mut first = Sandbox::start(SCRIPT).unwrap();
+    assert_eq!(first.kept(), Ok(None));
+    let base = first.commit().unwrap();
+    drop(first);
+    let (mut one, mut other) = (base.start(SESSION).unwrap(), base.start(SESSION).unwrap());
+    let mut memory = vec![0; 65536];
+    assert_eq!(open(&mut one, &mut memory, b"new", 1), Ok(0));
+    assert_eq!(open(&mut other, &mut memory, b"new", 0), Ok(NOENT));
+    assert_eq!(one.kept(), Ok(Some(vec![0, 2])));
+    assert_eq!(other.kept(), Ok(Some(vec![])));
+    let next = one.commit().unwrap();
+    drop(one);
+    drop(other);
+    assert_eq!((find(next, b"new"), find(next, b"f")), (Ok(0), Ok(0)));
+    assert_eq!((find(base, b"new"), find(base, b"f")), (Ok(NOENT), Ok(0)));
+}
+
+#[test]
+fn scripts_over_a_base_are_refused() {
+    let base = Sandbox::start(SCRIPT).unwrap().commit().unwrap();
+    for (script, refused) in [
+        ("", Refused::Json),
+        (SCRIPT, Refused::OwnTree),
+        (
+            r#"{"nodes": [], "preopens": [], "calls": [], "limits": {"nodes": 2, "links": 1}}"#,
+            Refused::OwnTree,
+        ),
+        (
+            r#"{"nodes": [], "preopens": [{"node": 1, "name": "/", "perms": "rw"}], "calls": []}"#,
+            Refused::Limit,
+        ),
+        (
+            r#"{"nodes": [], "preopens": [], "calls": [["sched_yield"]]}"#,
+            Refused::Guest,
+        ),
+    ] {
+        assert_eq!(base.start(script).err(), Some(refused));
+    }
+}
+
+#[test]
+fn more_nodes_than_the_first_room() {
+    let base = Sandbox::start(SCRIPT).unwrap().commit().unwrap();
+    let mut sandbox = base.start(SESSION).unwrap();
+    for n in 10..99 {
+        let mut memory = n.to_string().into_bytes();
+        assert_eq!(sandbox.path_create_directory(&mut memory, 3, 0, 2), Ok(0));
+    }
+    let wanted = [0].into_iter().chain(2..91).collect();
+    assert_eq!(sandbox.kept(), Ok(Some(wanted)));
 }
 
 #[test]

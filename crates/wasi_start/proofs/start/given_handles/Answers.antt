@@ -5,7 +5,7 @@ use Rattle.wasi_start.proofs.Starts.{given_more, none_given, IsGivenTo}
 use Rattle.wasi_start.proofs.start.given_handles.Goals as goal
 
 pub loop-preopen-init : goal.loop-preopen-init
-loop-preopen-init c = record {
+loop-preopen-init g c = record {
   tree = refl;
   touched = refl;
   lookups = refl;
@@ -13,14 +13,14 @@ loop-preopen-init c = record {
 }
 
 pub loop-preopen-preserved : goal.loop-preopen-preserved
-loop-preopen-preserved c =
+loop-preopen-preserved g c =
     let handle = c.in-Ok.ensures in
     record {
       tree = handle.tree ∙ c.loop-preopen.invariant.tree;
       touched = handle.touched ∙ c.loop-preopen.invariant.touched;
       lookups = handle.lookups ∙ c.loop-preopen.invariant.lookups;
       given =
-          let is : IsGivenTo c.loop-preopen.tree.handles c.handle.new.self.handles (planned_preopen c.preopen-item.result) _ = record {
+          let is : IsGivenTo (g.T.ScriptTree.seen c.loop-preopen.tree).handles (g.T.ScriptTree.seen c.directory_handle.new.self).handles (planned_preopen c.preopen-item.result) _ = record {
             fresh = handle.fresh;
             live = handle.live;
             held = handle.held;

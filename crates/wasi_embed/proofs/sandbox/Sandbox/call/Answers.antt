@@ -1,26 +1,28 @@
-use Rattle.std.proofs.Common.{refl}
-use Rattle.wasi_embed.specs.Calling.{faults, fueled}
-use Rattle.wasi_embed.proofs.Calls.{completes, leaves_all}
+use Rattle.wasi_embed.proofs.Calls.{called, Did, IsSeen}
 use Rattle.wasi_embed.proofs.sandbox.Sandbox.call.Goals as goal
 
 pub returns : goal.returns
-returns c =
-    let set = c.set_hostcall_fuel.ensures.set in
+returns g c =
+    let tree = g.met.T.ScriptTree in
+    let seen : IsSeen g.T.ScriptTree.seen g.T.Host.told g.T.Host.world g.T.Host.live g.T.Host.lookups g.T.Host.faults = record {
+      tells = tree.is_told;
+      worlds = tree.same_world;
+      lives = tree.same_live;
+      looks = tree.same_lookups;
+      quiet = tree.no_faults;
+    } in
     let bounds = c.call-outcome.ensures.bounds in
-    let turn = rw set at c.call-outcome.ensures.turn in
+    let did : Did _ c.call-outcome.new.context _ _ _ _ g.T.Host.told g.T.Host.world g.T.Host.live g.T.Host.lookups g.T.Host.faults = record {
+      cause = bounds.cause;
+      handles = bounds.handles;
+      lineage = bounds.lineage;
+      logged = bounds.logged;
+      unchanged = c.call-outcome.ensures.unchanged;
+      turn = c.call-outcome.ensures.turn;
+      complete = c.call-outcome.ensures.complete tree.is_told;
+      errnos = c.call-outcome.ensures.errnos tree.is_told;
+    } in
     record {
-      called = record {
-        cause = rw set at bounds.cause;
-        handles = rw set at bounds.handles;
-        lineage = rw set at bounds.lineage;
-        logged = rw set at bounds.logged;
-        unchanged = leaves_all c.args.self.now _ _ _ _ _ set c.call-outcome.ensures.unchanged;
-        turn = turn;
-        complete = completes c.args.self.now _ c.call-outcome.new.context _ _ _ set (c.call-outcome.ensures.complete refl);
-        errnos = c.call-outcome.ensures.errnos refl;
-        confined = λ start is. c.turns_are_confined.ensures.confined start (fueled c.args.self.now) c.call-outcome.new.context _ _ _ _
-            (faults c.args.self.now.context.host) (faults c.call-outcome.new.context.host) (turn.turn refl) is;
-        fuel = refl;
-        answered = c.count_answer-self.ensures;
-      };
+      called = rw (c.count_answer-self.ensures) (called c.args.self.now c.call-outcome.new.context _ _ _ _ seen
+          (rw c.set_hostcall_fuel.ensures.set at did));
     }

@@ -1,7 +1,6 @@
-use Rattle.std.proofs.Common.{◌≡◌, ◌∙◌, ◌<◌, IfSome, true, false, refl, sym, ap, subst}
+use Rattle.std.proofs.Common.{◌≡◌, ◌∙◌, ◌<◌, IfSome, refl, sym, subst}
 use Rattle.std.specs.FinMap.{get}
 use Rattle.wasi_paths.specs.Name.{name_bytes}
-use Rattle.wasi_paths.specs.Text.{is_dot_text}
 use Rattle.wasi_host.specs.Tree.{node_at, names_of, next_of, is_directory}
 use Rattle.wasi_names.proofs.NamesLemmas.{get-names_at}
 use Rattle.wasi_tree.proofs.StoreLemmas.{child_is, child_below, no_child}

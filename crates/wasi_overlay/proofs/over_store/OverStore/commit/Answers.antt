@@ -1,6 +1,6 @@
-use Rattle.std.proofs.Common.{◌≡◌, ◌∙◌, IfOk, sym, ap, subst}
+use Rattle.std.proofs.Common.{◌∙◌, ap, subst}
 use Rattle.std.proofs.lemmas.Result.{IfOk-weaker}
-use Rattle.wasi_host.specs.Tree.{Tree, next_of}
+use Rattle.wasi_host.specs.Tree.{next_of}
 use Rattle.wasi_tree.specs.ParentOf.{AreParents}
 use Rattle.wasi_tree.specs.Sound.{IsSound}
 use Rattle.wasi_overlay.specs.OverStore.{Overlaid}

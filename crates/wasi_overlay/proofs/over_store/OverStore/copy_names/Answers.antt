@@ -1,7 +1,5 @@
-use Rattle.std.proofs.Common.{◌≡◌, arith, subst}
-use Rattle.wasi_host.specs.Tree.{next_of}
+use Rattle.std.proofs.Common.{arith}
 use Rattle.wasi_tree.proofs.NamedLemmas.{none_below}
-use Rattle.wasi_overlay.specs.OverStore.{HoldsNames}
 use Rattle.wasi_overlay.proofs.over_store.OverStore.copy_names.Goals as goal
 
 pub loop-n-init : goal.loop-n-init

@@ -1,7 +1,6 @@
-use Rattle.std.proofs.Common.{◌∙◌, arith, sym, ap}
+use Rattle.std.proofs.Common.{◌∙◌, arith, ap}
 use Rattle.std.proofs.lemmas.Result.{on_ok_weaker}
 use Rattle.std.specs.FinMap as maps
-use Rattle.wasi_host.specs.Tree.{node_at}
 use Rattle.wasi_tree.proofs.ValidFit.{made_again}
 use Rattle.wasi_overlay.proofs.Copies.{one_named}
 use Rattle.wasi_overlay.proofs.over_store.OverStore.copy_names_of.Goals as goal

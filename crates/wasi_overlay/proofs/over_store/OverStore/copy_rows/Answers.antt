@@ -1,4 +1,4 @@
-use Rattle.std.proofs.Common.{◌≤◌, ◌<◌, ◌∙◌, map, take_all, ap, arith}
+use Rattle.std.proofs.Common.{◌≤◌, ◌∙◌, map, take_all, ap, arith}
 use Rattle.std.specs.FinMap as maps
 use Rattle.wasi_host.specs.Tree.{next_of}
 use Rattle.wasi_tree.specs.StoredTree.{stored_node, with_names}

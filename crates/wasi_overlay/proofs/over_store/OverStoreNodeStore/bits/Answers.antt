@@ -1,4 +1,4 @@
-use Rattle.std.proofs.Common.{◌∙◌, refl}
+use Rattle.std.proofs.Common.{◌∙◌}
 use Rattle.wasi_overlay.specs.OverStore.{parts_of}
 use Rattle.wasi_overlay.proofs.TreeOver.{over_bits, within_over}
 use Rattle.wasi_overlay.proofs.over_store.OverStoreNodeStore.bits.Goals as goal

@@ -1,14 +1,14 @@
-use Rattle.std.proofs.Common.{◌≡◌, ◌∙◌, ◌++◌, true, List, map, refl, sym, ap, subst, rules, append_assoc}
+use Rattle.std.proofs.Common.{◌≡◌, ◌∙◌, ◌++◌, true, List, map, sym, ap, subst}
 use Rattle.std.proofs.lemmas.List.{append-nil}
 use Rattle.std.specs.List.{All}
 use Rattle.std.specs.FinMap as maps
 use Rattle.wasi_paths.specs.Text.{is_entry_name}
-use Rattle.wasi_host.specs.Answer.{Listed, entry_of, kind_of, listed}
+use Rattle.wasi_host.specs.Answer.{Listed, entry_of, listed}
 use Rattle.wasi_host.specs.Tree.{Tree, node_at, names_of, next_of, is_directory}
 use Rattle.wasi_tree.specs.Sound.{IsSoundNode}
 use Rattle.wasi_tree.proofs.ListLemmas.{listed_good}
 use Rattle.wasi_overlay.specs.OverStore.{Overlaid, parts_of, tree_over}
-use Rattle.wasi_overlay.proofs.TreeOver.{names_over, over_says}
+use Rattle.wasi_overlay.proofs.TreeOver.{names_over}
 use Rattle.wasi_overlay.proofs.over_store.OverStoreNodeStore.list_names.Goals as goal
 
 pub loop-name-init : goal.loop-name-init

@@ -1,14 +1,14 @@
-use Rattle.std.proofs.Common.{◌≡◌, ◌∙◌, ◌++◌, ◌∷◌, ◌<◌, ℕ, [], None, Some, Option, List, length, slice_set, slice_index_or, refl, sym, ap, subst, arith}
+use Rattle.std.proofs.Common.{◌≡◌, ◌∙◌, ◌++◌, ◌∷◌, [], Some, length, sym, ap, subst, arith}
 use Rattle.std.specs.FinMap as maps
 use Rattle.std.specs.FinSet.{insert}
 use Rattle.wasi_paths.specs.Name.{name_bytes}
-use Rattle.wasi_host.specs.Tree.{Node, Nodes, next_of, stray}
-use Rattle.wasi_host.specs.Step.{with_content, node_made}
+use Rattle.wasi_host.specs.Tree.{Nodes}
+use Rattle.wasi_host.specs.Step.{node_made}
 use Rattle.wasi_host.proofs.Changes.{directory_within}
 use Rattle.wasi_tree.specs.Move.{MayName}
 use Rattle.wasi_overlay.specs.OverStore.{Overlaid, Parts, parts_of, tree_over}
 use Rattle.wasi_overlay.proofs.OverSteps.{IsStep, makes, over_after, shown_as, stays_after}
-use Rattle.wasi_overlay.proofs.TreeOver.{over_next, within_over}
+use Rattle.wasi_overlay.proofs.TreeOver.{over_next}
 use Rattle.wasi_overlay.proofs.over_store.OverStoreNodeStore.make_node.Goals as goal
 use Rattle.wasi_tree.specs.StoredTree.{stored_node}
 use Rattle.wasi_tree.proofs.NamedLemmas.{named_row}

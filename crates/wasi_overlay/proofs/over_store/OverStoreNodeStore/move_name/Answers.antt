@@ -1,9 +1,9 @@
-use Rattle.std.proofs.Common.{◌≡◌, ◌∙◌, ◌++◌, ◌∷◌, ◌<◌, ℕ, [], None, Some, Option, List, length, slice_set, slice_index_or, refl, sym, ap, subst, arith}
+use Rattle.std.proofs.Common.{◌∙◌, Some, slice_set, sym, ap, subst, arith}
 use Rattle.std.specs.FinMap as maps
 use Rattle.std.specs.FinSet.{insert}
 use Rattle.wasi_paths.specs.Name.{name_bytes}
-use Rattle.wasi_host.specs.Tree.{Names, Node, Nodes, next_of, stray}
-use Rattle.wasi_host.specs.Step.{with_content, name_lost, name_moved_onto}
+use Rattle.wasi_host.specs.Tree.{Names, Nodes}
+use Rattle.wasi_host.specs.Step.{name_moved_onto}
 use Rattle.wasi_host.proofs.Changes.{directory_within}
 use Rattle.wasi_names.proofs.NamesLemmas.{get-names_at}
 use Rattle.wasi_names.specs.NameRows.{Key}
@@ -11,9 +11,9 @@ use Rattle.wasi_tree.proofs.MoveLemmas.{names_apart}
 use Rattle.wasi_tree.specs.Move.{IsMove}
 use Rattle.wasi_overlay.specs.OverStore.{Overlaid, Parts, nodes_lost, parts_of, tree_over, worked_lost}
 use Rattle.wasi_overlay.proofs.OverSteps.{IsStep, length-lost, moves, over_after, shown_as, stays_after}
-use Rattle.wasi_overlay.proofs.TreeOver.{names_over, over_next, within_over}
+use Rattle.wasi_overlay.proofs.TreeOver.{names_over, over_next}
 use Rattle.wasi_overlay.proofs.over_store.OverStoreNodeStore.move_name.Goals as goal
-use Rattle.wasi_tree.specs.ParentOf.{named_at, without_parent}
+use Rattle.wasi_tree.specs.ParentOf.{without_parent}
 use Rattle.wasi_overlay.proofs.over_store.OverStoreNodeStore.move_name.Goals.{After-hold_both, After-work-2}
 
 may : (c : After-hold_both)

@@ -1,4 +1,3 @@
-use Rattle.std.proofs.Common.{◌≡◌}
 use Rattle.wasi_host.specs.Step.{times_set}
 use Rattle.wasi_overlay.specs.OverStore.{Parts, parts_of, tree_over}
 use Rattle.wasi_overlay.proofs.OverSteps.{IsStep, over_after, shown_as, stays_after, times}

@@ -1,8 +1,7 @@
-use Rattle.std.proofs.Common.{◌≡◌, ◌∙◌, ◌<◌, ◌≤◌, ◌++◌, ◌∷◌, [], map, take, take_all, slice_index_or, sym, ap, arith}
-use Rattle.std.proofs.lemmas.List.{map_push, take_more}
-use Rattle.wasi_host.specs.Tree.{next_of, node_at, stray}
+use Rattle.std.proofs.Common.{◌∙◌, ◌<◌, ◌≤◌, map, take_all, ap, arith}
+use Rattle.wasi_host.specs.Tree.{next_of}
 use Rattle.wasi_tree.specs.Given.{given, given_of}
-use Rattle.wasi_overlay.specs.OverStore.{Overlaid, parts_of}
+use Rattle.wasi_overlay.specs.OverStore.{parts_of}
 use Rattle.wasi_overlay.proofs.TreeOver.{over_next}
 use Rattle.wasi_overlay.proofs.Contents.{one_told}
 use Rattle.wasi_overlay.proofs.over_store.OverStoreNodeStore.to_new.Goals as goal

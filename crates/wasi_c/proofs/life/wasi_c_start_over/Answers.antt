@@ -1,0 +1,14 @@
+use Rattle.wasi_c.specs.Told.{started_over, not_started_over}
+use Rattle.wasi_embed.specs.declared.error.StartError.TheVariants as starts
+use Rattle.wasi_c.proofs.life.wasi_c_start_over.Goals as goal
+
+pub returns-in-Err-clause-told : goal.returns-in-Err-clause-told
+returns-in-Err-clause-told c =
+    rw (c.base.ensures, c.requires.sandbox, c.start_code.ensures) (not_started_over _ _ c.in-Err.ensures.starts)
+
+pub returns-in_default-clause-told : goal.returns-in_default-clause-told
+returns-in_default-clause-told c = rw (c.base.ensures, c.requires.sandbox) (not_started_over _ starts.Memory tt)
+
+pub returns-clause-told : goal.returns-clause-told
+returns-clause-told c =
+    rw (c.base.ensures, c.put.ensures, c.in-Ok-new.ensures.ok) (started_over _ _ c.in-Ok.ensures.starts)
