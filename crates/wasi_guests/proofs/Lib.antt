@@ -1,0 +1,3 @@
+pub mod HoldersLemmas
+pub mod FindLemmas
+pub mod WalkLemmas
