@@ -8,13 +8,13 @@ use Rattle.std.specs.Cmp.{IsTotalOrder}
 use Rattle.std.specs.Cmp.Lexicographic.{slice_cmp, nat_list_cmp_total}
 use Rattle.std.specs.Ordering.{nat_cmp, eq_by_cmp, is_eq}
 use Rattle.std.specs.declared.cmp.Ordering.{Ordering}
-use Rattle.std.specs.FinMap.{find, put, is_sorted, empty, get, get-empty, insert, remove, entries, entries_sorted, get-from_sorted, get-entries, get-insert, get-remove, same_map, nat_cmp-IsAntisymmetric, slice_cmp-IsAntisymmetric}
+use Rattle.std.specs.FinMap.{find, put, is_sorted, empty, empty_of_len, len, get, get-empty, insert, remove, entries, entries_sorted, get-from_sorted, get-entries, get-insert, get-remove, same_map, nat_cmp-IsAntisymmetric, slice_cmp-IsAntisymmetric}
 use Rattle.std.specs.FinMap.Entries.{where_key, is_sorted-put, is_sorted-where_key, find-put, same_entries}
 use lib.Dec.{T}
 use Rattle.wasi_names.specs.NameRows.{Key, AllNames, key_cmp, names_at}
 use Rattle.wasi_names.specs.OverNames.{taken, found_over, with_change, with_changes, overlaid, IsChanged}
 use Rattle.wasi_names.proofs.KeyLemmas.{key_total, key_exact}
-use Rattle.wasi_names.proofs.NamesLemmas.{find_without, same_key, get-names_at}
+use Rattle.wasi_names.proofs.NamesLemmas.{find_without, same_key, same_number, get-names_at}
 
 unmarked : (n : ℕ) → n < 2 ^ 64 - 1 → nat_eq n taken ≡ false
 unmarked n lt = grind (arith, nat_tests)
@@ -100,6 +100,11 @@ pub overlaid-none : (base : AllNames) → overlaid base empty ≡ base
 overlaid-none base = same_map key_total key_exact _ _ (λ q.
     get-overlaid base empty q ∙ ap (λ c. found_over c (get base q)) (get-empty key_cmp q))
 
+-- what lies below is all, where nothing has changed
+pub overlaid-bare : (base changes : AllNames) → nat_eq (len changes) 0 ≡ true → overlaid base changes ≡ base
+overlaid-bare base changes bare =
+    ap (overlaid base) (empty_of_len changes (same_number (len changes) 0 bare)) ∙ overlaid-none base
+
 overlaid-change : (base changes : AllNames) (key : Key) (n : ℕ) (q : Key) → get (overlaid base (insert changes key n)) q
     ≡ cond (eq_by_cmp key_cmp q key) (cond (nat_eq n taken) None (Some n)) (get (overlaid base changes) q)
 overlaid-change base changes key n q =
@@ -152,10 +157,16 @@ either_some : (here : Bool) (n : ℕ) (o : Option ℕ) → is_some o ≡ true �
 either_some true n o some = refl
 either_some false n o some = some
 
-pub changed-put : (base changes : AllNames) (key other : Key) (n : ℕ) → IsChanged base changes key
+changed-put : (base changes : AllNames) (key other : Key) (n : ℕ) → IsChanged base changes key
     → IsChanged base (insert changes other n) key
 changed-put base changes key other n is = λ below. ap is_some (get-insert key_total changes other n key)
     ∙ either_some (eq_by_cmp key_cmp key other) n (get changes key) (is below)
+
+-- a name that stays below, which a flag tells, has a change still once another one is put
+pub changed-below : (base changes : AllNames) (key other : Key) (n : ℕ) (is_below : Bool) → IsChanged base changes key
+    → is_below ≡ is_some (get base key) → is_below ≡ true → is_some (get (insert changes other n) key) ≡ true
+changed-below base changes key other n is_below is flag below =
+    changed-put base changes key other n is (sym flag ∙ below)
 
 pub changed-here : (base changes : AllNames) (key : Key) (n : ℕ) → IsChanged base (insert changes key n) key
 changed-here base changes key n = λ below. ap is_some (get-insert key_total changes key n key

@@ -1,6 +1,7 @@
 -- Rows and blocks against their entries.
-use Rattle.std.proofs.Common.{◌≡◌, ℕ, zero, suc, pred, ◌+◌, ◌<◌, ◌≤◌, Bool, true, cond, List, [], ◌∷◌, map, length, drop, get_or, set, refl, sym, ap, ◌∙◌, subst, arith, None}
-use Rattle.std.specs.Prelude.{All, IsTrue}
+use Rattle.std.proofs.Common.{◌≡◌, ℕ, zero, suc, pred, ◌+◌, ◌<◌, ◌≤◌, Bool, true, false, cond, List, [], ◌∷◌, ◌++◌, map, length, drop, get_or, set, refl, sym, ap, ◌∙◌, subst, arith, None}
+use Rattle.std.specs.Prelude.{All, IsTrue, nat_eq, ◌==◌}
+use Rattle.std.proofs.lemmas.Bool.Decides.{nat_tests}
 use Rattle.std.proofs.lemmas.List.Elements.{All-head, All-tail}
 use Rattle.std.specs.declared.vec.Vec.{Vec}
 use Rattle.std.specs.FinMap.{find}
@@ -53,7 +54,23 @@ started_rows : (rows : List NameRow) → 0 < length rows → Started (map row_en
 started_rows [] some = absurd (omega arith)
 started_rows (r ∷ rs) some = tt
 
+-- nothing isn't one more than another number, whichever test is asked
+not_none : (n : ℕ) → (suc n == 0) ≡ false
+not_none n = grind (arith, nat_tests)
+
+some_left : (n : ℕ) → false ≡ nat_eq (suc n) 0
+some_left n = grind (arith, nat_tests)
+
+some_rows : (rows : List NameRow) (es : List NameEntry) → 0 < length rows → false ≡ nat_eq (length (map row_entry rows ++ es)) 0
+some_rows [] es some = absurd (omega arith)
+some_rows (r ∷ rs) es some = some_left (length (map row_entry rs ++ es))
+
 module _ {Y : Type 0} where
+  -- there are rows wherever there are blocks
+  pub no_rows : (bs : List (Vec NameRow Y)) → All IsBlock bs → (length bs == 0) ≡ nat_eq (length (all_entries bs)) 0
+  no_rows [] h = refl
+  no_rows (b ∷ bs) h = not_none (length bs) ∙ some_rows b.items (all_entries bs) (All-head IsBlock b bs h).some
+
   pub started : (bs : List (Vec NameRow Y)) → All IsBlock bs → AllStarted block_entries bs
   started [] h = tt
   started (b ∷ bs) h = (started_rows b.items (All-head IsBlock b bs h).some, started bs (All-tail IsBlock b bs h))

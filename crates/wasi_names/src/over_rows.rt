@@ -1,5 +1,5 @@
 //! Names that were put or taken, over rows that stay.
-ghost use Rattle.std.specs.Prelude.{◌≡◌, ℕ, ◌<◌, ◌-◌, ◌^◌, OnErr, OnOk, Some, nat_eq};
+ghost use Rattle.std.specs.Prelude.{◌≡◌, ℕ, ◌<◌, ◌-◌, ◌^◌, OnErr, OnOk, IfOk, Some, is_some, true, nat_eq};
 ghost use Rattle.std.specs.FinMap as maps;
 ghost use Rattle.wasi_names.specs.NameRows.{AllNames, Key, names_at};
 ghost use Rattle.wasi_names.specs.OverNames.{overlaid, found_over, IsChanged};
@@ -49,6 +49,9 @@ impl<'a> OverRows<'a> {
     pub fn find(&self, near: &mut Near, directory: u64, name: &str) -> Option<u64>
         ensures { result ≡ maps.get self.now (directory, name.now) }
     {
+        if self.changed.is_bare() {
+            return self.base.find(near, directory, name);
+        }
         let mut first = Near::first();
         match self.changed.find(&mut first, directory, name) {
             Some(node) if node == TAKEN => None,
@@ -103,9 +106,9 @@ impl<'a> OverRows<'a> {
         if node == TAKEN {
             return Err(AllocError);
         }
-        hold(self.base, &mut self.changed, directory, name, node)?;
+        let is_below = hold(self.base, &mut self.changed, directory, name, node)?;
         self.changed.put(new_directory, new_name, node)?;
-        strike(self.base, &mut self.changed, directory, name);
+        strike(&mut self.changed, directory, name, is_below);
         Ok(())
     }
 
@@ -127,35 +130,36 @@ impl<'a> OverRows<'a> {
     }
 }
 
-/// Gives a name that the rows that stay have a row among the changed ones, with the node that it holds. It can then be
-/// marked without memory.
+/// Gives a name that the rows that stay have a row among the changed ones, with the node that it holds, and answers
+/// whether they have it. It can then be marked without memory.
 fn hold(
     base: &Rows,
     changed: &mut Rows,
     directory: u64,
     name: &str,
     node: u64,
-) -> Result<(), AllocError>
+) -> Result<bool, AllocError>
     requires held { maps.get (overlaid base.now.names changed.old.names) (directory, name.now) ≡ Some node }
     requires unmarked { node < 2 ^ 64 - 1 }
     ensures same { overlaid base.now.names changed.new.names ≡ overlaid base.now.names changed.old.names }
     ensures row { OnOk result (IsChanged base.now.names changed.new.names (directory, name.now)) }
+    ensures below { IfOk result (λ is_below. is_below ≡ is_some (maps.get base.now.names (directory, name.now))) }
 {
     if !base.has(directory, name) {
-        return Ok(());
+        return Ok(false);
     }
     changed.put(directory, name, node)?;
-    Ok(())
+    Ok(true)
 }
 
-/// Takes out a name, which has a row among the changed ones if the rows that stay have it. That is marked then, and else
-/// it goes.
-fn strike(base: &Rows, changed: &mut Rows, directory: u64, name: &str)
-    requires { IsChanged base.now.names changed.old.names (directory, name.now) }
-    ensures { overlaid base.now.names changed.new.names
-        ≡ maps.remove (overlaid base.now.names changed.old.names) (directory, name.now) }
+/// Takes out a name, given whether the rows that stay have it. If they do, it has a row among the changed ones, which is
+/// marked then, and else it goes.
+fn strike(changed: &mut Rows, directory: u64, name: &str, is_below: bool)
+    requires { is_below ≡ true → is_some (maps.get changed.old.names (directory, name.now)) ≡ true }
+    ensures { (base : AllNames) → is_below ≡ is_some (maps.get base (directory, name.now))
+        → overlaid base changed.new.names ≡ maps.remove (overlaid base changed.old.names) (directory, name.now) }
 {
-    if base.has(directory, name) {
+    if is_below {
         changed.set(directory, name, TAKEN);
         return;
     }

@@ -63,6 +63,13 @@ impl Rows {
         blocks::find(&self.blocks, &mut near, &key).is_some()
     }
 
+    /// Whether no directory has a name.
+    pub fn is_bare(&self) -> bool
+        ensures { result ≡ nat_eq (maps.len self.now.names) 0 }
+    {
+        self.blocks.is_empty()
+    }
+
     /// Makes room for one more name. Where there is room already it takes no memory; where memory is wanted all stays as
     /// it was.
     pub fn reserve(&mut self) -> Result<(), AllocError>

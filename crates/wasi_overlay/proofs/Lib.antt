@@ -7,6 +7,7 @@ pub mod StepLemmas
 pub mod HoldLemmas
 pub mod ListLemmas
 pub mod ForgetLemmas
+pub mod ForgotLemmas
 pub mod HeldLemmas
 pub mod TreeOver
 pub mod Steps

@@ -1,7 +1,8 @@
 -- What is read of the nodes of an overlay.
-use Rattle.std.proofs.Common.{◌≡◌, ◌<◌, ◌≤◌, ℕ, zero, suc, true, false, ◌&&◌, List, [], ◌∷◌, length, Some, None, inl, inr, refl, sym, ap, ◌∙◌, subst, arith, slice_index_or}
+use Rattle.std.proofs.Common.{◌≡◌, ◌<◌, ◌≤◌, ℕ, zero, suc, true, false, ◌&&◌, List, [], ◌∷◌, length, Some, None, is_some, inl, inr, refl, sym, ap, ◌∙◌, subst, arith, slice_index_or}
 use Rattle.std.proofs.lemmas.Bool.{cases_lt}
 use Rattle.std.specs.FinMap as maps
+use Rattle.std.specs.Global.{Vec}
 use Rattle.std.specs.Prelude.{Option}
 use Rattle.wasi_host.specs.Tree.{Node, Content, File, Directory, Link, stray, is_directory, is_file, is_link, is_gone, text_of, bytes_of}
 use Rattle.std.specs.Ordering.{nat_cmp}
@@ -107,6 +108,20 @@ other_bytes-over seat node = by node.content
     by (File bytes links) is = absurd (cc)
     by (Directory names gone) is = refl
     by (Link text links) is = refl
+
+-- a seat with no bytes of its own leaves those below
+pub no_bytes-over : (seat : Seat) (node : Node) → is_some seat.bytes ≡ false
+    → bytes_of node.content ≡ bytes_of (node_over seat node).content
+no_bytes-over seat node none = by node.content
+  where
+    own : (bytes : Option (Vec ℕ)) (below : List ℕ) → is_some bytes ≡ false → below ≡ bytes_over bytes below
+    own None below none = refl
+    own (Some bytes) below none = absurd (cc)
+
+    by : (c : Content) → bytes_of c ≡ bytes_of (content_over seat c)
+    by (File bytes links) = own seat.bytes bytes none
+    by (Directory names gone) = refl
+    by (Link text links) = refl
 
 -- a number of a node is one below
 pub within_below : (below : GrownNodes) (seats : SeatMap) (round : ℕ) {t : OverState} {n : ℕ}

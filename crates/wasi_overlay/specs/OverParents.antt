@@ -1,7 +1,7 @@
 -- In which directory each node of an overlay stands, where what changed is kept apart.
 use Rattle.std.specs.Prelude.{◌≡◌, ℕ, ◌-◌, ◌^◌, ◌≤◌, Bool, List, length, map, Option, None, unwrap_or, refl}
-use Rattle.std.specs.BTreeMap.{BTreeMap, get, keys}
 use Rattle.std.specs.Coded.{Coded, code_by, coded×, coded_ℕ, coded_list, coded_option, coded_bool}
+use Rattle.std.specs.FinMap as maps
 use Rattle.std.specs.FinSet.{from_list}
 use Rattle.std.specs.List.{range_with_len}
 use Rattle.std.specs.Ordering.{nat_cmp}
@@ -25,11 +25,11 @@ parents_code =
 
 -- what changed, by number
 abbrev pub ChangedParents : Type 0
-ChangedParents = BTreeMap ℕ (Option ℕ)
+ChangedParents = maps.FinMap nat_cmp (Option ℕ)
 
 -- the directory of a number: the changed one, or else that of the base
 abbrev pub parent_over : List (Option ℕ) → ChangedParents → ℕ → Option ℕ
-parent_over base changed n = unwrap_or (get nat_cmp changed n) (parent_of base n)
+parent_over base changed n = unwrap_or (maps.get changed n) (parent_of base n)
 
 -- that of each number below the count
 unfoldable pub parents_over : List (Option ℕ) → ChangedParents → ℕ → List (Option ℕ)
@@ -37,9 +37,9 @@ parents_over base changed count = map (parent_over base changed) (range_with_len
 
 -- the numbers of what changed
 unfoldable pub numbers_held : ChangedParents → Nodes
-numbers_held changed = from_list (keys changed)
+numbers_held changed = from_list (maps.keys changed)
 
 -- No node of the base is missing, and the last of all numbers is never given.
 pub record AreNumbered (base : List (Option ℕ)) (changed : ChangedParents) (count : ℕ) : Type 0 where
   pub starts : length base ≤ count
-  pub ends : get nat_cmp changed (2 ^ 64 - 1) ≡ None
+  pub ends : maps.get changed (2 ^ 64 - 1) ≡ None

@@ -1,5 +1,5 @@
 -- What the seats of an overlay make of the nodes below.
-use Rattle.std.specs.Prelude.{ℕ, ◌+◌, ◌-◌, Bool, true, false, List, [], ◌∷◌, ◌==◌, map, filter, Option, Some, None, unwrap_or}
+use Rattle.std.specs.Prelude.{ℕ, ◌+◌, ◌-◌, Bool, true, false, List, [], ◌∷◌, ◌==◌, Option, Some, None, unwrap_or}
 use Rattle.std.specs.Coded.{Coded, coded_ℕ}
 use Rattle.std.specs.FinMap as maps
 use Rattle.std.specs.FinSet.{from_list, retain}
@@ -96,10 +96,6 @@ own_at seats n = own_of (maps.get seats n)
 abbrev pub has_mark : Mark → Seat → Bool
 has_mark Worked seat = seat.worked
 has_mark (Touched round) seat = seat.round == round
-
--- the numbers of the entries whose seat has a mark, in their order
-abbrev pub marked_in : Mark → List (ℕ × Seat) → List ℕ
-marked_in mark entries = map (λ e. e.0) (filter (λ e. has_mark mark e.1) entries)
 
 -- ---- how a seat changes
 

@@ -134,10 +134,9 @@ impl<'a> OverNodes<'a> {
         ensures metadata { result ≡ metadata_from n (slice_index_or self.now.nodes n stray) }
         ensures times { HasTimes result }
     {
-        let below = self.below.metadata(n);
         match self.seats.get(n) {
-            Some(seat) => seat.metadata(below),
-            None => below,
+            Some(seat) => seat.metadata(self.below.metadata(n)),
+            None => self.below.metadata(n),
         }
     }
 
@@ -148,7 +147,7 @@ impl<'a> OverNodes<'a> {
     {
         let below = self.below.bytes(n);
         match self.seats.get(n) {
-            Some(seat) if self.below.is_file(n) => seat.bytes_over(below),
+            Some(seat) if seat.bytes.is_some() && self.below.is_file(n) => seat.bytes_over(below),
             _ => below,
         }
     }
@@ -243,6 +242,9 @@ impl<'a> OverNodes<'a> {
         ensures touched { self.new.touched ≡ self.old.touched }
         ensures room { self.new.has_room ≡ self.old.has_room }
     {
+        if self.seats.has(n) {
+            return Ok(());
+        }
         let gone = self.below.is_gone(n);
         self.seats.hold(n, Seat::new(self.below.metadata(n), gone))?;
         Ok(())

@@ -1,14 +1,13 @@
 //! In which directory each node of an overlay stands.
 ghost use Rattle.std.specs.Prelude.{◌≡◌, ◌<◌, ◌++◌, ◌∷◌, [], ℕ, true, Some, IfOk, OnOk, length, slice_set};
-ghost use Rattle.std.specs.BTreeMap.{Updates, get, keys};
+ghost use Rattle.std.specs.FinMap as maps;
 ghost use Rattle.std.specs.FinSet.{contains, empty};
 ghost use Rattle.std.specs.Option.{ForSome, IsSome};
-ghost use Rattle.std.specs.Ordering.{nat_cmp};
 ghost use Rattle.wasi_tree.specs.ParentOf.{is_on_way, without_parent};
 
 use std::alloc::{AllocError, Global};
-use std::collections::BTreeMap;
 use std::marker::Model;
+use wasi_pages::Pages;
 use wasi_tree::{MemStore, NodeStore, TellsParents, is_below};
 
 /// In which directory each node of an overlay stands. The tree below stays as it is and tells it of its own nodes; what
@@ -17,15 +16,14 @@ use wasi_tree::{MemStore, NodeStore, TellsParents, is_below};
 pub struct OverParents<'a> {
     base: &'a MemStore,
     /// What changed, by number.
-    changed: BTreeMap<u64, Option<u64>>,
+    changed: Pages<Option<u64>>,
     /// How many nodes there are.
     count: u64,
 }
 
 impl<'a> Model for OverParents<'a> {
     ghost use Rattle.std.specs.Prelude.{is_some};
-    ghost use Rattle.std.specs.BTreeMap.{get};
-    ghost use Rattle.std.specs.Ordering.{nat_cmp};
+    ghost use Rattle.std.specs.FinMap as maps;
     ghost use Rattle.wasi_overlay.specs.OverParents.{HeldParents, parents_code, parents_over, numbers_held, AreNumbered};
 
     ghost Value = { HeldParents };
@@ -35,7 +33,7 @@ impl<'a> Model for OverParents<'a> {
     ghost view = { λ a. record {
       parents = parents_over a.base.now.parents a.changed a.count;
       held = numbers_held a.changed;
-      has_room = is_some (get nat_cmp a.changed a.count);
+      has_room = is_some (maps.get a.changed a.count);
     } };
 
     ghost invariant = { λ a. AreNumbered a.base.now.parents a.changed a.count };
@@ -51,7 +49,7 @@ impl<'a> OverParents<'a> {
         base.laws();
         OverParents {
             base,
-            changed: BTreeMap::new(alloc),
+            changed: Pages::new(alloc),
             count: base.count(),
         }
     }
@@ -64,7 +62,7 @@ impl<'a> OverParents<'a> {
         ensures held { OnOk result (contains self.new.held n ≡ true) }
         ensures grows { (m : ℕ) → contains self.old.held m ≡ true → contains self.new.held m ≡ true }
     {
-        if self.changed.contains_key(&n) {
+        if self.changed.has(n) {
             return Ok(());
         }
         self.changed.insert(n, self.base.parent(n))?;
@@ -106,6 +104,9 @@ impl<'a> OverParents<'a> {
     {
         if self.count == u64::MAX {
             return Err(AllocError);
+        }
+        if self.changed.has(self.count) {
+            return Ok(());
         }
         self.changed.insert(self.count, None)?;
         Ok(())
@@ -152,7 +153,7 @@ impl<'a> TellsParents for OverParents<'a> {
         if n >= self.count {
             return None;
         }
-        match self.changed.get(&n) {
+        match self.changed.get(n) {
             Some(parent) => *parent,
             None => self.base.parent(n),
         }
@@ -160,12 +161,11 @@ impl<'a> TellsParents for OverParents<'a> {
 }
 
 /// A number that has an entry has this one from now on.
-fn put(changed: &mut BTreeMap<u64, Option<u64>>, n: u64, directory: Option<u64>)
-    requires { IsSome (get nat_cmp changed.old n) }
-    ensures updates { Updates nat_cmp changed.old changed.new n (Some directory) }
-    ensures keys { keys changed.new ≡ keys changed.old }
+fn put(changed: &mut Pages<Option<u64>>, n: u64, directory: Option<u64>)
+    requires { IsSome (maps.get changed.old n) }
+    ensures { changed.new ≡ maps.insert changed.old n directory }
 {
-    if let Some(parent) = changed.get_mut(&n) {
+    if let Some(parent) = changed.get_mut(n) {
         *parent = directory;
     }
 }

@@ -1,36 +1,34 @@
 //! The seats of an overlay.
 ghost use Rattle.std.specs.Prelude.{◌≡◌, ℕ, ◌+◌, ◌-◌, ◌^◌, ◌<◌, ◌≤◌, true, is_some, List, [], IfOk, OnOk, OnErr, length, Some, None, option_copied, option_map};
-ghost use Rattle.std.specs.BTreeMap.{IsOrdered};
 ghost use Rattle.std.specs.FinMap as maps;
 ghost use Rattle.std.specs.FinSet.{from_list};
 ghost use Rattle.std.specs.List.Sorted.{IsStrictlySortedBy};
 ghost use Rattle.std.specs.Ordering.{nat_cmp};
 ghost use Rattle.wasi_host.specs.Numbers.{largest_file};
 ghost use Rattle.wasi_host.specs.Step.{with_piece, with_size};
-ghost use Rattle.wasi_overlay.specs.OverSeats.{SeatMap, bytes_over, own_at, has_mark, marked_in, numbers_with, seat_added, seat_changed, seat_of, in_round, worked_on, times_put, name_less, links_put, own_put, own_kept};
+ghost use Rattle.wasi_overlay.specs.OverSeats.{SeatMap, bytes_over, own_at, has_mark, passes, numbers_with, seat_added, seat_changed, seat_of, in_round, worked_on, times_put, name_less, links_put, own_put, own_kept};
 ghost use Rattle.wasi_overlay.specs.declared.seat.Seat.{Seat};
 
 use crate::seat::{Mark, Seat};
 use std::alloc::{AllocError, Global};
-use std::collections::BTreeMap;
 use std::marker::Model;
 use wasi_host::{Metadata, SystemTime};
+use wasi_pages::Pages;
 
 /// The seats of nodes, by their numbers. Contracts see a finite map.
 #[derive(Debug, Drop)]
 pub struct Seats {
-    by_number: BTreeMap<u64, Seat>,
+    by_number: Pages<Seat>,
 }
 
 impl Model for Seats {
-    ghost use Rattle.std.specs.FinMap.{from_entries};
     ghost use Rattle.wasi_overlay.specs.OverSeats.{SeatMap, seats_code};
 
     ghost Value = { SeatMap };
 
     ghost coded = { seats_code };
 
-    ghost view = { λ a. from_entries a.by_number.entries };
+    ghost view = { λ a. a.by_number };
 }
 
 impl Seats {
@@ -39,7 +37,7 @@ impl Seats {
         ensures { result ≡ maps.empty }
     {
         Seats {
-            by_number: BTreeMap::new(alloc),
+            by_number: Pages::new(alloc),
         }
     }
 
@@ -47,7 +45,7 @@ impl Seats {
     pub fn get(&self, n: u64) -> Option<&Seat>
         ensures { option_copied result ≡ maps.get self.now n }
     {
-        self.by_number.get(&n)
+        self.by_number.get(n)
     }
 
     /// Whether a number has a seat.
@@ -55,15 +53,6 @@ impl Seats {
         ensures { result ≡ is_some (maps.get self.now n) }
     {
         self.get(n).is_some()
-    }
-
-    /// Puts the seat of a number. Where memory is wanted, all is as it was.
-    pub fn put(&mut self, n: u64, seat: Seat) -> Result<(), AllocError>
-        ensures put { OnOk result (self.new ≡ maps.insert self.old n seat) }
-        ensures kept { OnErr result (self.new ≡ self.old) }
-    {
-        self.by_number.insert(n, seat)?;
-        Ok(())
     }
 
     /// Puts the seat of a number, unless it has one. Where memory is wanted, all is as it was.
@@ -74,14 +63,15 @@ impl Seats {
         if self.has(n) {
             return Ok(());
         }
-        self.put(n, seat)
+        self.by_number.insert(n, seat)?;
+        Ok(())
     }
 
     /// Touches the seat of a number in a round.
     pub fn touch(&mut self, n: u64, round: u32)
         ensures { self.new ≡ seat_changed self.old n (in_round round) }
     {
-        if let Some(seat) = self.by_number.get_mut(&n) {
+        if let Some(seat) = self.by_number.get_mut(n) {
             seat.touch(round);
         }
     }
@@ -90,7 +80,7 @@ impl Seats {
     pub fn work(&mut self, n: u64)
         ensures { self.new ≡ seat_changed self.old n worked_on }
     {
-        if let Some(seat) = self.by_number.get_mut(&n) {
+        if let Some(seat) = self.by_number.get_mut(n) {
             seat.work();
         }
     }
@@ -99,7 +89,7 @@ impl Seats {
     pub fn set_times(&mut self, n: u64, atime: Option<SystemTime>, mtime: Option<SystemTime>)
         ensures { self.new ≡ seat_changed self.old n (times_put atime mtime) }
     {
-        if let Some(seat) = self.by_number.get_mut(&n) {
+        if let Some(seat) = self.by_number.get_mut(n) {
             seat.set_times(atime, mtime);
         }
     }
@@ -108,7 +98,7 @@ impl Seats {
     pub fn lose_name(&mut self, n: u64)
         ensures { self.new ≡ seat_changed self.old n name_less }
     {
-        if let Some(seat) = self.by_number.get_mut(&n) {
+        if let Some(seat) = self.by_number.get_mut(n) {
             seat.lose_name();
         }
     }
@@ -117,7 +107,7 @@ impl Seats {
     pub fn set_links(&mut self, n: u64, links: u64)
         ensures { self.new ≡ seat_changed self.old n (links_put links) }
     {
-        if let Some(seat) = self.by_number.get_mut(&n) {
+        if let Some(seat) = self.by_number.get_mut(n) {
             seat.set_links(links);
         }
     }
@@ -126,7 +116,7 @@ impl Seats {
     pub fn begin(&mut self, n: u64, round: u32, made: Metadata, gone: bool)
         ensures { self.new ≡ seat_changed self.old n (λ _. in_round round (worked_on (seat_of made gone))) }
     {
-        if let Some(seat) = self.by_number.get_mut(&n) {
+        if let Some(seat) = self.by_number.get_mut(n) {
             seat.begin(round, made, gone);
         }
     }
@@ -136,7 +126,7 @@ impl Seats {
         ensures cut { self.new ≡ seat_changed self.old n (own_put (own_at self.new n)) }
         ensures none { is_some (maps.get self.old n) ≡ true → (below : List ℕ) → bytes_over (own_at self.new n) below ≡ [] }
     {
-        if let Some(seat) = self.by_number.get_mut(&n) {
+        if let Some(seat) = self.by_number.get_mut(n) {
             seat.cut(alloc);
         }
     }
@@ -157,7 +147,7 @@ impl Seats {
         ensures kept { OnErr result (self.new ≡ seat_changed self.old n (own_kept (own_at self.new n))) }
         ensures same { OnErr result (bytes_over (own_at self.new n) below.now ≡ bytes_over (own_at self.old n) below.now) }
     {
-        match self.by_number.get_mut(&n) {
+        match self.by_number.get_mut(n) {
             Some(seat) => seat.put(alloc, below, offset, piece),
             None => Ok(()),
         }
@@ -177,7 +167,7 @@ impl Seats {
         ensures kept { OnErr result (self.new ≡ seat_changed self.old n (own_kept (own_at self.new n))) }
         ensures same { OnErr result (bytes_over (own_at self.new n) below.now ≡ bytes_over (own_at self.old n) below.now) }
     {
-        match self.by_number.get_mut(&n) {
+        match self.by_number.get_mut(n) {
             Some(seat) => seat.resize(alloc, below, size),
             None => Ok(()),
         }
@@ -209,30 +199,41 @@ impl Seats {
     }
 
     /// Says of each seat that it was never touched.
+    #[tactic(auto, using(crate::proofs::ForgotLemmas::forgot_rules))]
     fn forget(&mut self)
         ensures { (n : ℕ) → maps.get self.new n ≡ option_map (in_round 0) (maps.get self.old n) }
     {
-        self.by_number.retain(|_, seat| {
-            seat.touch(0);
-            true
-        });
+        let mut from = 0;
+        while let Some(n) = self.by_number.first_from(from) {
+            self.touch(n, 0);
+            from = n + 1;
+        }
     }
 }
 
 /// The numbers of the seats that have a mark, rising.
-fn list_marked(
-    alloc: Global,
-    seats: &BTreeMap<u64, Seat>,
-    mark: Mark,
-) -> Result<Vec<u64>, AllocError>
-    ensures listed { IfOk result (λ numbers. numbers.items ≡ marked_in mark seats.now.entries) }
-    ensures ordered { IsOrdered nat_cmp seats.now }
+#[tactic(auto, using(crate::proofs::ListLemmas::listed_rules))]
+fn list_marked(alloc: Global, seats: &Pages<Seat>, mark: Mark) -> Result<Vec<u64>, AllocError>
+    ensures numbers { IfOk result (λ numbers. from_list numbers.items ≡ numbers_with (has_mark mark) seats.now) }
+    ensures rising { IfOk result (λ numbers. IsStrictlySortedBy nat_cmp numbers.items) }
 {
     let mut numbers = Vec::new(alloc);
-    for (n, seat) in seats {
-        if seat.has(mark) {
-            numbers.push(*n)?;
+    let mut from = 0;
+    while let Some(n) = seats.first_from(from) {
+        if is_marked(seats, n, mark) {
+            numbers.push(n)?;
         }
+        from = n + 1;
     }
     Ok(numbers)
+}
+
+/// Whether the seat of a number has a mark.
+fn is_marked(seats: &Pages<Seat>, n: u64, mark: Mark) -> bool
+    ensures { result ≡ passes (has_mark mark) (maps.get seats.now n) }
+{
+    match seats.get(n) {
+        Some(seat) => seat.has(mark),
+        None => false,
+    }
 }

@@ -23,8 +23,8 @@ pub enum Status {
 }
 
 impl Status {
-    /// The exit status of the process: 0 for a report, an audit, a trial or a line, and a number of its own for each other end. They are the
-    /// program's own; 1 is left to a process that is stopped.
+    /// The exit status of the process: 0 for a report, an audit, a trial or a line, and a number of its own for each
+    /// other end. They are the program's own; 1 is left to a process that is stopped.
     pub fn exit_code(self) -> u8
         ensures code { result ≡ exit_code self }
     {

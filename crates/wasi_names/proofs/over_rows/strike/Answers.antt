@@ -3,11 +3,10 @@ use Rattle.wasi_names.specs.OverNames.{overlaid}
 use Rattle.wasi_names.proofs.OverLemmas.{overlaid-marked, overlaid-left}
 use Rattle.wasi_names.proofs.over_rows.strike.Goals as goal
 
-pub returns-then-has : goal.returns-then-has
-returns-then-has c = ap (overlaid c.args.base.now.names) c.set.ensures.names
-    ∙ overlaid-marked c.args.base.now.names c.args.changed.now.names (c.args.directory, c.args.name.now)
+pub returns-then-is_below : goal.returns-then-is_below
+returns-then-is_below c = λ base flag. ap (overlaid base) c.set.ensures.names
+    ∙ overlaid-marked base c.args.changed.now.names (c.args.directory, c.args.name.now)
 
 pub returns : goal.returns
-returns c = ap (overlaid c.args.base.now.names) c.remove.ensures.names
-    ∙ overlaid-left c.args.base.now.names c.args.changed.now.names (c.args.directory, c.args.name.now)
-    (sym c.has.ensures ∙ c.if-has.false)
+returns c = λ base flag. ap (overlaid base) c.remove.ensures.names
+    ∙ overlaid-left base c.args.changed.now.names (c.args.directory, c.args.name.now) (sym flag ∙ c.if-is_below.false)

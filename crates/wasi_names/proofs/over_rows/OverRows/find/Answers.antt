@@ -1,8 +1,14 @@
-use Rattle.std.proofs.Common.{◌∙◌, ap}
+use Rattle.std.proofs.Common.{◌∙◌, sym, ap}
 use Rattle.std.specs.FinMap.{get}
 use Rattle.wasi_names.specs.NameRows.{AllNames}
-use Rattle.wasi_names.proofs.OverLemmas.{found-marked, found-changed, found-below}
+use Rattle.wasi_names.proofs.OverLemmas.{overlaid-bare, found-marked, found-changed, found-below}
 use Rattle.wasi_names.proofs.over_rows.OverRows.find.Goals as goal
+
+pub returns-then-is_bare : goal.returns-then-is_bare
+returns-then-is_bare c = c.find.ensures
+    ∙ ap (λ (m : AllNames). get m (c.args.directory, c.args.name.now))
+    (sym (overlaid-bare c.self.inside.base.now.names c.self.inside.changed.names (sym c.is_bare.ensures ∙ c.if-is_bare.true))
+    ∙ c.self.view_is)
 
 pub returns-in-Some : goal.returns-in-Some
 returns-in-Some c = found-marked c.self.inside.base.now.names c.self.inside.changed.names (c.args.directory, c.args.name.now)

@@ -1,12 +1,16 @@
-use Rattle.std.proofs.Common.{◌≡◌, ◌∙◌, ap, slice_index_or, arith}
+use Rattle.std.proofs.Common.{◌≡◌, ◌∙◌, ap, sym, slice_index_or, arith}
 use Rattle.std.specs.FinSet.{contains}
 use Rattle.wasi_host.specs.Tree.{stray}
 use Rattle.wasi_overlay.specs.OverNodes.{OverState, is_worked, is_touched, has_room}
 use Rattle.wasi_overlay.specs.OverSeats.{SeatMap, over_from, held_in, numbers_with}
 use Rattle.wasi_overlay.specs.declared.seat.Seat.{Seat}
 use Rattle.wasi_overlay.proofs.HoldLemmas.{same_seat, added_nodes, added_numbers, added_held, added_grows, added_rounds, untouched, room_added}
+use Rattle.wasi_overlay.proofs.OverLemmas.{contains-held_in}
 use Rattle.wasi_overlay.proofs.StateLemmas.{within_below}
 use Rattle.wasi_overlay.proofs.over_nodes.OverNodes.hold.Goals as goal
+
+pub returns-then-has-clause-held : goal.returns-then-has-clause-held
+returns-then-has-clause-held c = rw (← c.self.view_is) (contains-held_in c.self.inside.seats c.args.n ∙ sym c.has.ensures ∙ c.if-has.true)
 
 pub invariant_of-self-2 : goal.invariant_of-self-2
 invariant_of-self-2 c =

@@ -7,12 +7,12 @@ use Rattle.wasi_overlay.proofs.over_nodes.OverNodes.metadata.Goals as goal
 
 pub returns-in-Some-clause-metadata : goal.returns-in-Some-clause-metadata
 returns-in-Some-clause-metadata c = rw (← c.self.view_is)
-    (c.metadata.ensures c.args.n (slice_index_or c.self.inside.below.nodes c.args.n stray) c.metadata-below.ensures
+    (c.metadata-in-Some.ensures c.args.n (slice_index_or c.self.inside.below.nodes c.args.n stray) c.metadata.ensures
     ∙ ap (metadata_from c.args.n) (seated_at c.self.inside.seats c.self.inside.below.nodes c.args.n c.in-Some.seat.now
     (within_below c.self.inside.below c.self.inside.seats c.self.inside.round c.self.view_is c.requires) (sym c.get.ensures ∙ ap option_copied c.in-Some.is)))
 
 pub returns-in-None-clause-metadata : goal.returns-in-None-clause-metadata
 returns-in-None-clause-metadata c = rw (← c.self.view_is)
-    (c.metadata-below.ensures
+    (c.metadata-in-None.ensures
     ∙ ap (metadata_from c.args.n) (unseated_at c.self.inside.seats c.self.inside.below.nodes c.args.n
     (within_below c.self.inside.below c.self.inside.seats c.self.inside.round c.self.view_is c.requires) (sym c.get.ensures ∙ ap option_copied c.in-None.is)))

@@ -8,9 +8,9 @@ use Rattle.wasi_overlay.proofs.seats.Seats.begin.Goals.{in-Some, in_default}
 pub returns : goal.returns
 returns c = rw (← c.self.view_is) (elim c.match-get_mut.branch [
   | in-Some w ↦ rw w.self-inside-is
-      (entry_changed c.self.inside.by_number (c.get_mut.follows.lender w.begin.new.self) c.args.n w.in-Some.seat.now w.begin.new.self (λ _. in_round c.args.round (worked_on (seat_of c.args.made c.args.gone)))
-      (sym c.get_mut.ensures.value ∙ ap option_copied_mut w.in-Some.is) w.begin.ensures (c.get_mut.follows.holds w.begin.new.self))
+      (entry_changed c.self.inside.by_number c.args.n w.in-Some.seat.now w.begin.new.self (λ _. in_round c.args.round (worked_on (seat_of c.args.made c.args.gone)))
+      (sym c.get_mut.ensures.value ∙ ap option_copied_mut w.in-Some.is) w.begin.ensures)
   | in_default w ↦ rw w.self-inside-is
-      (entry_missing c.self.inside.by_number c.get_mut.follows.lender-at-none c.args.n (λ _. in_round c.args.round (worked_on (seat_of c.args.made c.args.gone)))
-      (sym c.get_mut.ensures.value ∙ ap option_copied_mut w.in_default.is) c.get_mut.follows.holds-at-none)
+      (entry_missing c.self.inside.by_number c.args.n (λ _. in_round c.args.round (worked_on (seat_of c.args.made c.args.gone)))
+      (sym c.get_mut.ensures.value ∙ ap option_copied_mut w.in_default.is))
 ])

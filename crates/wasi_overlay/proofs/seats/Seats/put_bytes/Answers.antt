@@ -1,6 +1,5 @@
 use Rattle.std.proofs.Common.{◌∙◌, sym, ap}
 use Rattle.std.proofs.lemmas.Result.{on_ok_weaker, on_err_weaker}
-use Rattle.std.specs.FinMap.{from_entries}
 use Rattle.std.specs.Option.{option_copied_mut}
 use Rattle.wasi_host.specs.Step.{with_piece}
 use Rattle.wasi_overlay.specs.OverSeats.{bytes_over, own_put, own_kept, own_at}
@@ -11,13 +10,13 @@ use Rattle.wasi_overlay.proofs.seats.Seats.put_bytes.Goals.{in-Some, in-None}
 pub returns-clause-put : goal.returns-clause-put
 returns-clause-put c = rw (← c.self.view_is) (elim c.match-get_mut.branch [
   | in-Some w ↦ rw (w.result-is, w.self-inside-is) (on_ok_weaker w.put.result (λ is.
-      own_changed c.self.inside.by_number (c.get_mut.follows.lender w.put.new.self) c.args.n w.in-Some.seat.now w.put.new.self own_put
-      (sym c.get_mut.ensures.value ∙ ap option_copied_mut w.in-Some.is) is (c.get_mut.follows.holds w.put.new.self))
+      own_changed c.self.inside.by_number c.args.n w.in-Some.seat.now w.put.new.self own_put
+      (sym c.get_mut.ensures.value ∙ ap option_copied_mut w.in-Some.is) is)
       w.put.ensures.put)
   | in-None w ↦ rw (w.result-is, w.self-inside-is)
-      (entry_missing c.self.inside.by_number c.get_mut.follows.lender-at-none c.args.n
-      (own_put (own_at (from_entries c.get_mut.follows.lender-at-none.entries) c.args.n))
-      (sym c.get_mut.ensures.value ∙ ap option_copied_mut w.in-None.is) c.get_mut.follows.holds-at-none)
+      (entry_missing c.self.inside.by_number c.args.n
+      (own_put (own_at c.self.inside.by_number c.args.n))
+      (sym c.get_mut.ensures.value ∙ ap option_copied_mut w.in-None.is))
 ])
 
 pub returns-clause-bytes : goal.returns-clause-bytes
@@ -25,8 +24,7 @@ returns-clause-bytes c = rw (← c.self.view_is) (elim c.match-get_mut.branch [
   | in-Some w ↦
       let there = sym c.get_mut.ensures.value ∙ ap option_copied_mut w.in-Some.is in
       rw (w.result-is, w.self-inside-is) (on_ok_weaker w.put.result (λ is held.
-      ap (λ own. bytes_over own c.args.below.now) (own_written c.self.inside.by_number (c.get_mut.follows.lender w.put.new.self)
-      c.args.n w.in-Some.seat.now w.put.new.self there (c.get_mut.follows.holds w.put.new.self))
+      ap (λ own. bytes_over own c.args.below.now) (own_written c.self.inside.by_number c.args.n w.put.new.self)
       ∙ is ∙ ap (λ own. with_piece (bytes_over own c.args.below.now) c.args.offset c.args.piece.now) (sym (own_before c.self.inside.by_number c.args.n w.in-Some.seat.now there)))
       w.put.ensures.bytes)
   | in-None w ↦ rw (w.result-is, w.self-inside-is) (λ held.
@@ -36,8 +34,8 @@ returns-clause-bytes c = rw (← c.self.view_is) (elim c.match-get_mut.branch [
 pub returns-clause-kept : goal.returns-clause-kept
 returns-clause-kept c = rw (← c.self.view_is) (elim c.match-get_mut.branch [
   | in-Some w ↦ rw (w.result-is, w.self-inside-is) (on_err_weaker w.put.result (λ is.
-      own_changed c.self.inside.by_number (c.get_mut.follows.lender w.put.new.self) c.args.n w.in-Some.seat.now w.put.new.self own_kept
-      (sym c.get_mut.ensures.value ∙ ap option_copied_mut w.in-Some.is) is (c.get_mut.follows.holds w.put.new.self))
+      own_changed c.self.inside.by_number c.args.n w.in-Some.seat.now w.put.new.self own_kept
+      (sym c.get_mut.ensures.value ∙ ap option_copied_mut w.in-Some.is) is)
       w.put.ensures.kept)
   | in-None w ↦ rw w.result-is tt
 ])
@@ -47,8 +45,7 @@ returns-clause-same c = rw (← c.self.view_is) (elim c.match-get_mut.branch [
   | in-Some w ↦
       let there = sym c.get_mut.ensures.value ∙ ap option_copied_mut w.in-Some.is in
       rw (w.result-is, w.self-inside-is) (on_err_weaker w.put.result (λ is.
-      ap (λ own. bytes_over own c.args.below.now) (own_written c.self.inside.by_number (c.get_mut.follows.lender w.put.new.self)
-      c.args.n w.in-Some.seat.now w.put.new.self there (c.get_mut.follows.holds w.put.new.self))
+      ap (λ own. bytes_over own c.args.below.now) (own_written c.self.inside.by_number c.args.n w.put.new.self)
       ∙ is ∙ ap (λ own. bytes_over own c.args.below.now) (sym (own_before c.self.inside.by_number c.args.n w.in-Some.seat.now there)))
       w.put.ensures.same)
   | in-None w ↦ rw w.result-is tt

@@ -8,9 +8,9 @@ use Rattle.wasi_overlay.proofs.seats.Seats.set_links.Goals.{in-Some, in_default}
 pub returns : goal.returns
 returns c = rw (← c.self.view_is) (elim c.match-get_mut.branch [
   | in-Some w ↦ rw w.self-inside-is
-      (entry_changed c.self.inside.by_number (c.get_mut.follows.lender w.set_links.new.self) c.args.n w.in-Some.seat.now w.set_links.new.self (links_put c.args.links)
-      (sym c.get_mut.ensures.value ∙ ap option_copied_mut w.in-Some.is) w.set_links.ensures (c.get_mut.follows.holds w.set_links.new.self))
+      (entry_changed c.self.inside.by_number c.args.n w.in-Some.seat.now w.set_links.new.self (links_put c.args.links)
+      (sym c.get_mut.ensures.value ∙ ap option_copied_mut w.in-Some.is) w.set_links.ensures)
   | in_default w ↦ rw w.self-inside-is
-      (entry_missing c.self.inside.by_number c.get_mut.follows.lender-at-none c.args.n (links_put c.args.links)
-      (sym c.get_mut.ensures.value ∙ ap option_copied_mut w.in_default.is) c.get_mut.follows.holds-at-none)
+      (entry_missing c.self.inside.by_number c.args.n (links_put c.args.links)
+      (sym c.get_mut.ensures.value ∙ ap option_copied_mut w.in_default.is))
 ])

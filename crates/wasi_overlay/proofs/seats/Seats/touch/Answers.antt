@@ -8,9 +8,9 @@ use Rattle.wasi_overlay.proofs.seats.Seats.touch.Goals.{in-Some, in_default}
 pub returns : goal.returns
 returns c = rw (← c.self.view_is) (elim c.match-get_mut.branch [
   | in-Some w ↦ rw w.self-inside-is
-      (entry_changed c.self.inside.by_number (c.get_mut.follows.lender w.touch.new.self) c.args.n w.in-Some.seat.now w.touch.new.self (in_round c.args.round)
-      (sym c.get_mut.ensures.value ∙ ap option_copied_mut w.in-Some.is) w.touch.ensures (c.get_mut.follows.holds w.touch.new.self))
+      (entry_changed c.self.inside.by_number c.args.n w.in-Some.seat.now w.touch.new.self (in_round c.args.round)
+      (sym c.get_mut.ensures.value ∙ ap option_copied_mut w.in-Some.is) w.touch.ensures)
   | in_default w ↦ rw w.self-inside-is
-      (entry_missing c.self.inside.by_number c.get_mut.follows.lender-at-none c.args.n (in_round c.args.round)
-      (sym c.get_mut.ensures.value ∙ ap option_copied_mut w.in_default.is) c.get_mut.follows.holds-at-none)
+      (entry_missing c.self.inside.by_number c.args.n (in_round c.args.round)
+      (sym c.get_mut.ensures.value ∙ ap option_copied_mut w.in_default.is))
 ])

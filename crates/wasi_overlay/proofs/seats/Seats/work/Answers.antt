@@ -8,9 +8,9 @@ use Rattle.wasi_overlay.proofs.seats.Seats.work.Goals.{in-Some, in_default}
 pub returns : goal.returns
 returns c = rw (← c.self.view_is) (elim c.match-get_mut.branch [
   | in-Some w ↦ rw w.self-inside-is
-      (entry_changed c.self.inside.by_number (c.get_mut.follows.lender w.work.new.self) c.args.n w.in-Some.seat.now w.work.new.self (worked_on)
-      (sym c.get_mut.ensures.value ∙ ap option_copied_mut w.in-Some.is) w.work.ensures (c.get_mut.follows.holds w.work.new.self))
+      (entry_changed c.self.inside.by_number c.args.n w.in-Some.seat.now w.work.new.self (worked_on)
+      (sym c.get_mut.ensures.value ∙ ap option_copied_mut w.in-Some.is) w.work.ensures)
   | in_default w ↦ rw w.self-inside-is
-      (entry_missing c.self.inside.by_number c.get_mut.follows.lender-at-none c.args.n (worked_on)
-      (sym c.get_mut.ensures.value ∙ ap option_copied_mut w.in_default.is) c.get_mut.follows.holds-at-none)
+      (entry_missing c.self.inside.by_number c.args.n (worked_on)
+      (sym c.get_mut.ensures.value ∙ ap option_copied_mut w.in_default.is))
 ])

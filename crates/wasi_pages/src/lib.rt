@@ -1,0 +1,7 @@
+//! Things by number.
+#![tactic(auto)]
+
+mod pages;
+mod places;
+
+pub use pages::Pages;
