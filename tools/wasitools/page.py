@@ -71,7 +71,9 @@ def caused(causes: List[Cause]) -> str:
 
 
 def call_rows(call: CallWords) -> Iterator[str]:
-    yield f'<div class="call" id="call-{call.number}"><div class="num">{call.number}</div><div><code>{call.name}</code>'
+    anchor = f' id="call-{call.number}"' if call.number else ""
+    guest = "" if call.guest is None else f"guest {call.guest} "
+    yield f'<div class="call"{anchor}><div class="num">{call.number or ""}</div><div>{guest}<code>{call.name}</code>'
     arguments = "".join(f"<span>{escape(name)} <b>{broken(words)}</b></span>" for name, words in call.arguments)
     yield f'<div class="args mono">{arguments}</div></div>' if arguments else "</div>"
     yield f'<div class="answer"><span class="{call.state}">{STATES[call.state]} {broken(call.answer)}</span>'
@@ -152,7 +154,8 @@ def body_of(telling: Telling) -> Iterator[str]:
         yield "<h2>Memory</h2>"
     for dump in telling.dumps:
         yield from dump_box(dump)
-    yield "<h2>Touched</h2>"
+    if telling.touched:
+        yield "<h2>Touched</h2>"
     for touched in telling.touched:
         yield from touched_box(touched)
     yield "<footer>Told of a script and its report by a tool that nothing is proved of.</footer>"

@@ -15,7 +15,7 @@ from dataclasses import dataclass, field, replace
 from typing import Dict, FrozenSet, Iterator, List, Optional, Tuple
 
 from .calls import CALLS, ENTRY, EVENT, FIRST_PREOPEN, RECORD, STREAMS, SUBSCRIPTION, U64, bit
-from .scripts import Mistake, Node, Report, Script, answer_fits
+from .scripts import Mistake, Node, Outcome, Report, Script, answer_fits
 
 NANO = 1_000_000_000
 LINKS_OF_A_WALK = 40
@@ -93,13 +93,21 @@ class Told:
     use: Optional[Use] = None  # of a quota that the guest has
 
 
+class Tree:
+    """The nodes of a run, which its calls change, and their paths."""
+
+    def __init__(self, nodes: List[Node]) -> None:
+        self.nodes: List[Node] = [node.copy() for node in nodes]
+        self.paths = Paths(self.nodes)
+
+
 class Replay:
     """The state of a run, and each call as it is told again."""
 
-    def __init__(self, script: Script, hidden: FrozenSet[int] = frozenset()) -> None:
+    def __init__(self, script: Script, tree: Tree, hidden: FrozenSet[int] = frozenset()) -> None:
         self.script = script
         self.hidden = hidden  # calls that changed the tree though the host failed in them
-        self.nodes: List[Node] = [node.copy() for node in script.nodes]
+        self.nodes, self.paths = tree.nodes, tree.paths
         self.memory = bytearray(script.memory)
         self.outputs = {1: bytearray(), 2: bytearray()}
         self.stdin_place = self.random_place = self.grown = 0
@@ -111,7 +119,6 @@ class Replay:
         self.told: List[Told] = []
         self.used = {"nodes": 0, "bytes": 0}  # of the quotas, without what calls used in which the host failed
         self.unsure = {"nodes": False, "bytes": False}  # whether there are such calls
-        self.paths = Paths(self.nodes)
 
     # What stands where.
 
@@ -141,6 +148,10 @@ class Replay:
         if open_.preopen is not None:
             return f"preopen {shown_text(open_.preopen)}"
         return self.paths.of(open_.node)
+
+    def seen_as(self, node: int) -> int:
+        """The number that the guest sees of a node."""
+        return node
 
     # What a call does.
 
@@ -254,7 +265,7 @@ class Replay:
         names = sorted((name.encode(), held) for name, held in self.nodes[node].names.items())
         found += [(name, held, FILETYPES[self.nodes[held].kind]) for name, held in names]
         data = b"".join(
-            struct.pack("<QQIB3x", place, held, len(name), kind) + name
+            struct.pack("<QQIB3x", place, self.seen_as(held), len(name), kind) + name
             for place, (name, held, kind) in enumerate(found, 1)
         )
         skipped = sum(ENTRY + len(name) for name, _, _ in found[:told.numbers["cookie"][0]])
@@ -597,8 +608,8 @@ def makes(told: Told) -> bool:
     return told.name in MAKING or (told.name == "path_open" and bool(told.numbers["oflags"][0] & bit("oflags", "creat")))
 
 
-def differences(replay: Replay, report: Report) -> List[str]:
-    """Where what was told again differs from the report."""
+def outcome_differences(replay: Replay, report: Outcome) -> List[str]:
+    """Where the memory and the outputs that were told again differ from those of the report."""
     script, found = replay.script, []
     shown = [bytes(replay.memory[address:address + length]) for address, length in script.show]
     if len(shown) != len(report.memory) or list(map(len, shown)) != list(map(len, report.memory)):
@@ -609,12 +620,15 @@ def differences(replay: Replay, report: Report) -> List[str]:
     for number, name in ((1, "output"), (2, "error")):
         if bytes(replay.outputs[number]) != getattr(report, f"std{name[:3]}"):
             found.append(f"its standard {name} isn't what its answers lead to")
-    if len(replay.nodes) != len(report.tree):
-        found.append(f"its tree has {len(report.tree)} nodes, and its answers lead to {len(replay.nodes)}")
-    else:
-        found += [f"its node {place} isn't what its answers lead to"
-                  for place, (made, given) in enumerate(zip(replay.nodes, report.tree)) if made != given][:1]
     return found
+
+
+def tree_differences(nodes: List[Node], tree: List[Node]) -> List[str]:
+    """Where the nodes that were told again differ from the report's."""
+    if len(nodes) != len(tree):
+        return [f"its tree has {len(tree)} nodes, and its answers lead to {len(nodes)}"]
+    return [f"its node {place} isn't what its answers lead to"
+            for place, (made, given) in enumerate(zip(nodes, tree)) if made != given][:1]
 
 
 def replayed(script: Script, report: Report) -> Replay:
@@ -674,7 +688,7 @@ def told_with(script: Script, report: Report, hidden: FrozenSet[int]) -> Replay:
     """The run in which these calls changed the tree though the host failed in them; a mistake where it doesn't lead to
     the report."""
     answers = report.answers
-    replay = Replay(script, hidden)
+    replay = Replay(script, Tree(script.nodes), hidden)
     for number, (name, numbers) in enumerate(script.calls, 1):
         answer = answers[number - 1] if number <= len(answers) else None
         ended = number > 1 and number <= len(answers) and ends(answers[number - 2])
@@ -682,7 +696,7 @@ def told_with(script: Script, report: Report, hidden: FrozenSet[int]) -> Replay:
             raise NotItsReport(f"call {number} has {'an' if ended else 'no'} answer, and the run "
                                f"{'had ended before it' if ended else 'did not end before it'}")
         replay.tell(number, name, numbers, answer)
-    found = differences(replay, report)
+    found = outcome_differences(replay, report) + tree_differences(replay.nodes, report.tree)
     if found:
         raise NotItsReport(found[0])
     return replay

@@ -81,12 +81,34 @@ class Script:
 
 
 @dataclass
-class Report:
+class GuestsScript:
+    """A script of several guests: each as a script over the one tree, and whose turn it is, by their places."""
+
+    nodes: List[Node]
+    guests: List[Script]
+    schedule: List[int]
+    limits: Dict[str, Any]
+
+
+@dataclass
+class Outcome:
+    """What came of a guest, but for the tree."""
+
     answers: List[Dict[str, Any]]
     memory: List[bytes]
     stderr: bytes
     stdout: bytes
+
+
+@dataclass
+class Report(Outcome):
     touched: List[int]
+    tree: List[Node]
+
+
+@dataclass
+class GuestsReport:
+    guests: List[Outcome]
     tree: List[Node]
 
 
@@ -279,12 +301,11 @@ def quota_of(value: Any) -> Dict[str, int]:
     return {key: number(found[key], f"{key!r} of 'quota'", MOST_QUOTA) for key in ("nodes", "bytes")}
 
 
-def script_of(data: bytes) -> Script:
-    """The script that some bytes are."""
-    need(len(data) <= MOST_BYTES, f"the script has more than {MOST_BYTES:,} bytes")
-    found = keyed(json_of(data, "the script"), "the script", "nodes preopens calls",
-                  "memory show limits fuel table faults quota args env stdin random wall wall_res mono mono_res")
-    nodes = nodes_of(found["nodes"], "the script")
+GUEST = "memory show fuel table quota args env stdin random wall wall_res mono mono_res"  # what a guest may have
+
+
+def guest_in(found: Dict[str, Any], nodes: List[Node]) -> Script:
+    """The script of what a guest is given over some nodes."""
     memory = memory_of(found["memory"]) if "memory" in found else bytearray()
     calls = [call_of(call, f"call {place}") for place, call in enumerate(listed(found["calls"], "'calls'"), 1)]
     env = [listed(pair, "a variable of 'env'", 2) for pair in listed(found.get("env", []), "'env'")]
@@ -298,6 +319,43 @@ def script_of(data: bytes) -> Script:
         faults_of(found.get("faults", [])),
         quota_of(found["quota"]) if "quota" in found else None,
     )
+
+
+def script_in(value: Any) -> Script:
+    """The script that a JSON value is."""
+    found = keyed(value, "the script", "nodes preopens calls", f"limits faults {GUEST}")
+    return guest_in(found, nodes_of(found["nodes"], "the script"))
+
+
+def guests_script_in(value: Any) -> GuestsScript:
+    """The script of several guests that a JSON value is."""
+    found = keyed(value, "the script", "nodes guests schedule", "limits")
+    nodes, guests = nodes_of(found["nodes"], "the script"), []
+    for place, given in enumerate(listed(found["guests"], "'guests'")):
+        try:
+            guests.append(guest_in(keyed(given, "it", "preopens calls", GUEST), nodes))
+        except Mistake as mistake:
+            raise Mistake(f"guest {place}: {mistake}") from None
+    schedule = [number(guest, "a number of 'schedule'", len(guests) - 1)
+                for guest in listed(found["schedule"], "'schedule'")]
+    return GuestsScript(nodes, guests, schedule, {key: found[key] for key in ("limits",) if key in found})
+
+
+def script_value(data: bytes) -> Any:
+    """The JSON value of a script's bytes."""
+    need(len(data) <= MOST_BYTES, f"the script has more than {MOST_BYTES:,} bytes")
+    return json_of(data, "the script")
+
+
+def script_of(data: bytes) -> Script:
+    """The script that some bytes are."""
+    return script_in(script_value(data))
+
+
+def script_or_guests_of(data: bytes) -> Union[Script, GuestsScript]:
+    """The script that some bytes are, be it of one guest or of several."""
+    value = script_value(data)
+    return guests_script_in(value) if isinstance(value, dict) and "guests" in value else script_in(value)
 
 
 def answer_fits(answer: Any, kind: str) -> bool:
@@ -320,17 +378,32 @@ def answer_fits(answer: Any, kind: str) -> bool:
     return is_number(given, 0, U64)
 
 
-def report_in(value: Any) -> Report:
-    """The report that a JSON value is."""
-    found = keyed(value, "the report", "answers memory stderr stdout touched tree")
-    tree = nodes_of(found["tree"], "the report's tree")
-    return Report(
+OUTCOME = "answers memory stderr stdout"
+
+
+def outcome_in(found: Dict[str, Any]) -> Tuple[List[Any], List[bytes], bytes, bytes]:
+    """The answers, shown ranges, standard error and standard output of a report or of a guest."""
+    return (
         listed(found["answers"], "the answers"),
         [hexed(shown, "a shown range") for shown in listed(found["memory"], "the memory of the report")],
         hexed(found["stderr"], "the standard error"), hexed(found["stdout"], "the standard output"),
-        [number(touched, "a touched node", len(tree) - 1) for touched in listed(found["touched"], "'touched'")],
-        tree,
     )
+
+
+def report_in(value: Any) -> Report:
+    """The report that a JSON value is."""
+    found = keyed(value, "the report", f"{OUTCOME} touched tree")
+    tree = nodes_of(found["tree"], "the report's tree")
+    touched = [number(touched, "a touched node", len(tree) - 1) for touched in listed(found["touched"], "'touched'")]
+    return Report(*outcome_in(found), touched, tree)
+
+
+def guests_report_of(data: bytes) -> GuestsReport:
+    """What came of several guests, as some bytes say."""
+    found = keyed(json_of(data, "the report"), "the report", "guests tree")
+    guests = [Outcome(*outcome_in(keyed(guest, f"guest {place} of the report", OUTCOME)))
+              for place, guest in enumerate(listed(found["guests"], "the guests of the report"))]
+    return GuestsReport(guests, nodes_of(found["tree"], "the report's tree"))
 
 
 def report_of(data: bytes) -> Report:

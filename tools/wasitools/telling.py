@@ -8,12 +8,12 @@ from __future__ import annotations
 import datetime
 import struct
 from dataclasses import dataclass, field
-from typing import Dict, Iterator, List, Optional, Tuple
+from typing import Any, Dict, Iterator, List, Optional, Tuple
 
 from . import calls as table
 from .calls import CALLS, CHOICES, ERRNO_WORDS, FIELDS, SETS, TRAPS, Argument
 from .replay import NANO, Change, NotItsReport, Replay, Told, shown_path, shown_text
-from .scripts import EPOCHS, PERMS, Audit, Node, Report, Script
+from .scripts import EPOCHS, PERMS, Audit, Node, Outcome, Report, Script
 
 Cause = Tuple[str, List[int]]  # a word, and the numbers of calls
 MOST_SHOWN = 60  # characters of a text
@@ -28,13 +28,14 @@ WHAT = {"made": "made", "bytes": "bytes", "size": "size", "times": "times", "nam
 
 @dataclass
 class CallWords:
-    number: int
-    name: str
+    number: int  # among several guests that of its turn; 0: it had none
+    name: str  # empty: a turn without a call
     arguments: List[Tuple[str, str]]  # names and words
     answer: str
     state: str  # ok, refused, end or none
     details: List[str] = field(default_factory=list)  # what was read, listed and told
     changes: List[str] = field(default_factory=list)  # of the tree
+    guest: Optional[int] = None  # among several
 
 
 @dataclass
@@ -429,7 +430,7 @@ def dump(title: str, data: bytes, address: int, told: List[Told]) -> Dump:
     return Dump(title, lines, left_out)
 
 
-def dumps_of(replay: Replay, report: Report) -> List[Dump]:
+def dumps_of(replay: Replay, report: Outcome) -> List[Dump]:
     memory = replay.script.memory
     found = []
     if memory:
@@ -475,19 +476,21 @@ def given_of(script: Script) -> List[Tuple[str, str]]:
         found.append(("quota", ", ".join(count(most, MEASURES[key]) for key, most in script.quota.items())))
     if script.faults:
         found.append(("faults", "; ".join(f"host call {number}, {WHEN[when]}" for number, when in script.faults)))
-    for key in sorted(script.limits):
-        given = script.limits[key]
-        words = ", ".join(f"{name} {most}" for name, most in given.items()) if isinstance(given, dict) else str(given)
-        found.append((key, words))
-    return found
+    return found + limit_words(script.limits)
+
+
+def limit_words(limits: Dict[str, Any]) -> List[Tuple[str, str]]:
+    """Limits that a script sets."""
+    return [(key, ", ".join(f"{name} {most}" for name, most in limits[key].items())
+             if isinstance(limits[key], dict) else str(limits[key])) for key in sorted(limits)]
 
 
 def summary_of(calls: List[CallWords]) -> str:
     states = [call.state for call in calls]
     words = [f"{count(len(calls), 'call')}: {states.count('ok')} ok, {states.count('refused')} refused"]
-    if "end" in states:
-        last = calls[states.index("end")]
-        words.append(f"{last.answer} (call {last.number}, {last.name})")
+    for last in (call for call in calls if call.state == "end"):
+        guest = "" if last.guest is None else f"guest {last.guest}: "
+        words.append(f"{guest}{last.answer} (call {last.number}, {last.name})")
     if states.count("none"):
         words.append(f"{states.count('none')} not called")
     return "; ".join(words)

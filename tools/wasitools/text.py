@@ -25,7 +25,11 @@ def wrapped(words: str, first: str, rest: str) -> List[str]:
 
 def head_lines(call: CallWords) -> Iterator[str]:
     """A call and its arguments, broken before an argument where one line has no room for them."""
-    line = f"{call.number:5}  {call.name}("
+    number = call.number or ""
+    if not call.name:
+        yield f"{number:>5}  guest {call.guest}"
+        return
+    line = f"{number:>5}  {'' if call.guest is None else f'guest {call.guest}: '}{call.name}("
     for place, (name, words) in enumerate(call.arguments, 1):
         item = f"{name}: {words}" + ("," if place < len(call.arguments) else "")
         if len(line) + 1 + len(item) > WIDTH and place > 1:
@@ -93,7 +97,8 @@ def lines_of(telling: Telling) -> Iterator[str]:
     for name, words in telling.given:
         yield from wrapped(f"{name}: {words}", "  ", "    ")
     yield ""
-    yield "CALLS   = answered   ! refused   # ended the guest   . not called   ~ changed the tree"
+    by = "" if all(call.guest is None for call in telling.calls) else " by their turns"
+    yield f"CALLS{by}   = answered   ! refused   # ended the guest   . not called   ~ changed the tree"
     for call in telling.calls:
         yield from call_lines(call)
     yield ""
@@ -118,8 +123,9 @@ def lines_of(telling: Telling) -> Iterator[str]:
     yield "OUTPUT"
     for name, data in telling.outputs:
         yield from output_lines(name, data)
-    yield ""
-    yield "TOUCHED   number and path at the end"
+    if telling.touched:
+        yield ""
+        yield "TOUCHED   number and path at the end"
     for touched in telling.touched:
         yield from touched_lines(touched)
 

@@ -25,6 +25,7 @@ use Rattle.wasi_form.specs.declared.verdict.Refusal.TheVariants.{Limit}
 use Rattle.wasi_form.specs.declared.verdict.ScriptError.{ScriptError}
 use Rattle.wasi_form.specs.declared.verdict.ScriptError.TheVariants as scripts
 use Rattle.wasi_form.proofs.Accepted.{limits_kept}
+use Rattle.wasi_start.proofs.ToldNodes.{none_told, told_at}
 use Rattle.wasi_start.specs.Start.{IsWithinOn}
 use Rattle.wasi_start.proofs.Starts.{passes_at}
 use Rattle.wasi_embed.specs.Starting.{has_no_guest, has_no_tree, start_error, verdict_over, JudgesOver, StartsBy}
@@ -112,24 +113,13 @@ begins_over tree session within =
       pieces = kept.pieces;
     }
 
-told_at : (nodes : List Node) (n : ℕ) → n < length nodes
-    → slice_get (map given_of nodes) n ≡ Some (given_of (slice_index_or nodes n stray))
-told_at [] n within = absurd (omega arith)
-told_at (node ∷ nodes) zero within = refl
-told_at (node ∷ nodes) (suc n) within = told_at nodes n (omega arith)
-
-untold : (nodes : List Node) (n : ℕ) → length nodes ≤ n → slice_get (map given_of nodes) n ≡ None
-untold [] n past = refl
-untold (node ∷ nodes) zero past = absurd (omega arith)
-untold (node ∷ nodes) (suc n) past = untold nodes n (omega arith)
-
 -- whether a number is a directory's is told by the node that the tree lends
 pub lent_directory : (tree : Tree) (n : ℕ) (view : NodeView) → n < next_of tree → Views (node_at tree n) view
     → is_dir_content (viewed_content (maps.entries (names_of (node_at tree n).content)) view.content)
     ≡ is_directory_given (slice_get (map given_of tree.nodes) n)
 unfolding node_at
 lent_directory tree n view within shows =
-    ap (λ (g : Given). is_dir_content g.content) shows.given ∙ ap is_directory_given (sym (told_at tree.nodes n within))
+    ap (λ (g : Given). is_dir_content g.content) shows.given ∙ ap is_directory_given (sym (told_at tree n within))
 
 pub another_kind : (names : List (List ℕ × ℕ)) (content : ContentView) → (content ≡ views.Dir → ⊥)
     → false ≡ is_dir_content (viewed_content names content)
@@ -139,4 +129,4 @@ another_kind names (views.Link text) other = refl
 
 pub no_directory : (tree : Tree) (n : ℕ) → next_of tree ≤ n
     → false ≡ is_directory_given (slice_get (map given_of tree.nodes) n)
-no_directory tree n past = ap is_directory_given (sym (untold tree.nodes n past))
+no_directory tree n past = ap is_directory_given (sym (none_told tree n past))

@@ -20,7 +20,7 @@ use Rattle.wasi_form.proofs.Members.{all_keys-put, puts, stays, by_rows}
 use Rattle.wasi_form.proofs.ServiceMembers.{name_of, at_service, in_no_row}
 
 -- a key that is in none of two lists
-in_none : (keys more : List (List ℕ)) (k : List ℕ) → has_key keys k ≡ false → has_key more k ≡ false
+pub in_none : (keys more : List (List ℕ)) (k : List ℕ) → has_key keys k ≡ false → has_key more k ≡ false
     → has_key (keys ++ more) k ≡ false
 in_none [] more k none nor = nor
 in_none (key ∷ keys) more k none nor =

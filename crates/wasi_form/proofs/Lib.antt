@@ -4,6 +4,7 @@ pub mod Unreads
 pub mod Members
 pub mod ServiceMembers
 pub mod FoundMembers
+pub mod FoundGuests
 pub mod Items
 pub mod AtomLists
 pub mod Digits
@@ -15,3 +16,4 @@ pub mod ScriptRanges
 pub mod Names
 pub mod Values
 pub mod Accepted
+pub mod GuestsWithin

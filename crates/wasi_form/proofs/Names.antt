@@ -1,8 +1,9 @@
 -- The names of a table.
-use Rattle.std.proofs.Common.{◌≡◌, ℕ, List, ◌∷◌, [], false, None, refl, inl, inr}
+use Rattle.std.proofs.Common.{◌≡◌, ℕ, List, ◌∷◌, [], ◌++◌, false, None, refl, inl, inr}
 use Rattle.std.specs.Str.{bytes_eq}
-use Rattle.std.proofs.lemmas.Bool.{cases_Bool}
-use Rattle.wasi_form.specs.Lists.{at_name}
+use Rattle.std.proofs.lemmas.Bool.{cases_Bool, or_parts}
+use Rattle.wasi_form.specs.Lists.{at_name, names}
+use Rattle.wasi_form.specs.Shapes.{has_key}
 use Rattle.wasi_form.proofs.Members.{same_texts}
 
 other_name : (a b : List ℕ) → (a ≡ b → ⊥) → bytes_eq a b ≡ false
@@ -21,3 +22,18 @@ IsNone name (row ∷ rows) = (name ≡ row.0 → ⊥) × IsNone name rows
 pub no_name : {A : Type 0} (name : List ℕ) (rows : List (List ℕ × A)) → IsNone name rows → at_name rows name ≡ None
 no_name name [] none = refl
 no_name name (row ∷ rows) none = rw (other_name name row.0 none.0) (no_name name rows none.1)
+
+-- nothing stands at a key that is none of the names
+pub no_row : {A : Type 0} (rows : List (List ℕ × A)) (key : List ℕ) → has_key (names rows) key ≡ false
+    → at_name rows key ≡ None
+no_row [] key none = refl
+no_row (row ∷ rows) key none =
+    let parts = or_parts (bytes_eq key row.0) (has_key (names rows) key) none in rw parts.0 (no_row rows key parts.1)
+
+-- what stands at it in two tables stands in the second one
+pub in_later_rows : {A : Type 0} (rows more : List (List ℕ × A)) (key : List ℕ) → has_key (names rows) key ≡ false
+    → at_name (rows ++ more) key ≡ at_name more key
+in_later_rows [] more key none = refl
+in_later_rows (row ∷ rows) more key none =
+    let parts = or_parts (bytes_eq key row.0) (has_key (names rows) key) none in
+    rw parts.0 (in_later_rows rows more key parts.1)

@@ -13,8 +13,10 @@ pub mod FaultsForm
 pub mod QuotaForm
 pub mod ListedLaws
 pub mod ScriptForm
+pub mod GuestsForm
 pub mod Within
 pub mod Verdict
 pub mod Tokens
 pub mod FoundParts
 pub mod FoundNodes
+pub mod FoundGuests

@@ -10,6 +10,8 @@ use Rattle.wasi_guest.specs.declared.call.Call.{Call}
 use Rattle.wasi_guest.specs.declared.quota.Quota.{Quota}
 use Rattle.wasi_form.specs.declared.script.Script.{Script}
 use Rattle.wasi_form.specs.declared.script.Draft.{Draft}
+use Rattle.wasi_form.specs.declared.script.GuestScript.{GuestScript}
+use Rattle.wasi_form.specs.declared.guests.GuestDraft.{GuestDraft}
 use Rattle.wasi_form.specs.declared.script.Session.{Session}
 use Rattle.wasi_form.specs.declared.script.ScriptPreopen.{ScriptPreopen}
 use Rattle.wasi_form.specs.declared.script.Piece.{Piece}
@@ -80,3 +82,30 @@ plan s = planned s.nodes.nodes s.nodes.limits s.session
 -- the same, before its nodes were tested
 abbrev pub drafted : Draft → Plan
 drafted s = planned (map given s.nodes.items) s.limits s.session
+
+-- ---- several guests
+
+-- several guests that run in turns over one tree: each of them as a plan of a script with the nodes and the limits of this
+-- tree, and of each turn the place of its guest among them
+pub record GuestsPlan : Type 0 where
+  pub nodes : List Given
+  pub limits : Limits
+  pub guests : List Plan
+  pub schedule : List ℕ
+
+-- a plan on another tree
+abbrev pub on_tree : List Given → Limits → Plan → Plan
+on_tree nodes limits p = record p { nodes = nodes; limits = limits }
+
+-- guests that are run in such turns on a tree of these nodes, as plain data
+abbrev pub planned_guests : List Given → Limits → List Session → List ℕ → GuestsPlan
+planned_guests nodes limits guests schedule =
+    record { nodes = nodes; limits = limits; guests = map (planned nodes limits) guests; schedule = schedule }
+
+-- what a script of several guests in Rust stands for
+abbrev pub guests_plan : GuestScript → GuestsPlan
+guests_plan s = planned_guests s.nodes.nodes s.nodes.limits s.guests.items s.schedule.items
+
+-- the same, before its nodes were tested
+abbrev pub guests_drafted : GuestDraft → GuestsPlan
+guests_drafted s = planned_guests (map given s.nodes.items) s.limits s.guests.items s.schedule.items

@@ -46,20 +46,30 @@ pub record ScriptFound : Type 0 where
   pub quota : Option Quota
   pub services : ServicesFound
 
--- the keys of its own parts, each with what a member adds there
-abbrev pub part_rows : List (List ℕ × (Data → ScriptFound → ScriptFound))
-part_rows =
+-- The keys of the tree and of its faults, which a script has and a guest of several hasn't, each with what a member adds
+-- there.
+abbrev pub whole_rows : List (List ℕ × (Data → ScriptFound → ScriptFound))
+whole_rows =
     (codes "nodes", λ d found. record found { nodes = list_of script_node d })
-    ∷ (codes "preopens", λ d found. record found { preopens = list_of preopen_of d })
+    ∷ (codes "limits", λ d found. record found { limits = limits_of d })
+    ∷ (codes "faults", λ d found. record found { faults = faults_of d })
+    ∷ []
+
+-- the keys of a guest's own parts, each with what a member adds there
+abbrev pub guest_rows : List (List ℕ × (Data → ScriptFound → ScriptFound))
+guest_rows =
+    (codes "preopens", λ d found. record found { preopens = list_of preopen_of d })
     ∷ (codes "calls", λ d found. record found { calls = list_of call_of d })
     ∷ (codes "memory", λ d found. record found { memory = memory_of d })
     ∷ (codes "show", λ d found. record found { show = list_of shown_of d })
-    ∷ (codes "limits", λ d found. record found { limits = limits_of d })
     ∷ (codes "fuel", λ d found. record found { fuel = u64_of d })
     ∷ (codes "table", λ d found. record found { table = u32_of d })
-    ∷ (codes "faults", λ d found. record found { faults = faults_of d })
     ∷ (codes "quota", λ d found. record found { quota = quota_of d })
     ∷ []
+
+-- the keys of a script's own parts, each with what a member adds there
+abbrev pub part_rows : List (List ℕ × (Data → ScriptFound → ScriptFound))
+part_rows = whole_rows ++ guest_rows
 
 unfoldable pub script_keys : List (List ℕ)
 script_keys = names part_rows ++ names service_keys
@@ -81,16 +91,13 @@ found_in ms = record {
   services = services_in ms;
 }
 
--- the plan of what was found, where it is of the shape of a script
-unfoldable pub script_found : ScriptFound → Option Plan
-script_found found = do
-  _ ← only_if found.known
-  nodes ← found.nodes
+-- what is run on a tree of these nodes, of what was found
+unfoldable pub session_found : List Given → Limits → ScriptFound → Option Plan
+session_found nodes limits found = do
   preopens ← found.preopens
   calls ← found.calls
   memory ← found.memory
   show ← found.show
-  limits ← found.limits
   fuel ← found.fuel
   table ← found.table
   faults ← found.faults
@@ -110,6 +117,14 @@ script_found found = do
     quota = quota;
     services = services;
   })
+
+-- the plan of what was found, where it is of the shape of a script
+unfoldable pub script_found : ScriptFound → Option Plan
+script_found found = do
+  _ ← only_if found.known
+  nodes ← found.nodes
+  limits ← found.limits
+  session_found nodes limits found
 
 abbrev pub script_of : Data → Option Plan
 script_of d = find.as_object d >>= (λ ms. script_found (found_in ms))

@@ -5,6 +5,7 @@ mod arguments;
 mod atoms;
 mod calls;
 mod faults;
+mod guests;
 mod limits;
 mod lists;
 mod memory;
@@ -23,6 +24,9 @@ mod within;
 
 pub use limits::DEFAULT_LIMITS;
 pub use parts::{DEFAULT_FUEL, DEFAULT_TABLE};
-pub use script::{Draft, Piece, PieceBytes, Script, ScriptPreopen, Session, Shown};
-pub use verdict::{Refusal, ScriptError, read_draft, read_script, verdicts_are_one};
+pub use script::{Draft, GuestScript, Piece, PieceBytes, Script, ScriptPreopen, Session, Shown};
+pub use verdict::{
+    Refusal, ScriptError, guest_verdicts_are_one, read_draft, read_guest_script, read_script,
+    verdicts_are_one,
+};
 pub use within::is_session_within;

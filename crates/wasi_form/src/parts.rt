@@ -1,17 +1,21 @@
 //! The parts of a script, read one after another.
-ghost use Rattle.std.specs.Prelude.{◌≡◌, option_map};
+ghost use Rattle.std.specs.Prelude.{◌≡◌, List, [], None, option_map};
 ghost use Rattle.json.specs.Json.{parse_map};
 ghost use Rattle.wasi_form.specs.IsRead.{IsRead};
 ghost use Rattle.wasi_form.specs.FoundParts.{found_of, with_beside};
-ghost use Rattle.wasi_form.specs.Plan.{drafted};
-ghost use Rattle.wasi_form.specs.ScriptForm.{script_found, script_of};
+ghost use Rattle.wasi_form.specs.GuestsForm.{guest_found};
+ghost use Rattle.wasi_form.specs.LimitsForm.{default_limits};
+ghost use Rattle.wasi_form.specs.Plan.{planned, drafted};
+ghost use Rattle.wasi_form.specs.ScriptForm.{session_found, script_found};
 ghost use Rattle.wasi_form.specs.ServicesForm.{service_key};
-ghost use Rattle.wasi_form.specs.Tokens.{most_nesting, next_value};
+ghost use Rattle.wasi_form.specs.Tokens.{next_value};
+ghost use Rattle.wasi_host.specs.declared.limits.Limits.{Limits as TreeLimits};
+ghost use Rattle.wasi_tree.specs.Given.{Given};
 
 use crate::atoms::{next_u32, next_u64};
 use crate::faults::faults;
 use crate::limits::{DEFAULT_LIMITS, limits};
-use crate::lists::list;
+use crate::lists::{Item, list};
 use crate::memory::{ScriptMemory, memory, no_memory};
 use crate::objects::{Fields, object};
 use crate::quota::quota;
@@ -26,18 +30,15 @@ use wasi_guest::{Call, Quota};
 use wasi_host::Limits;
 use wasi_tree::NewNode;
 
-// How deep lists and objects nest in a script.
-const DEPTH: usize = 127;
-
 /// How much fuel each call has in a script that doesn't say it.
 pub const DEFAULT_FUEL: u64 = 134_217_728;
 
 /// How many descriptors may be live in a script that doesn't say it.
 pub const DEFAULT_TABLE: u32 = 1_024;
 
-// Whether all keys are those of a script, and what stands at them, or counts where nothing does.
+/// Whether all keys are those of a script, and what stands at them, or counts where nothing does.
 #[derive(Drop)]
-struct Parts {
+pub struct Parts {
     alloc: Global,
     known: bool,
     nodes: Option<Vec<NewNode>>,
@@ -144,75 +145,84 @@ impl Parts {
                     .with_member(self.alloc, service, reader, depth)?;
                 Ok(self)
             }
-            None => {
-                pass(reader, depth)?;
-                self.known = false;
-                Ok(self)
-            }
+            None => self.with_unknown(reader, depth),
         }
     }
 
+    /// With a member at no key of these parts.
+    pub fn with_unknown(mut self, reader: &mut Reader<'_>, depth: usize) -> Reading<Parts>
+        ensures { IsRead (λ parts. (found_of parts, reader.new)) result
+            (parse_map (λ d. with_beside None d (found_of self)) (next_value depth reader.old)) }
+    {
+        pass(reader, depth)?;
+        self.known = false;
+        Ok(self)
+    }
+
+    // What is run, of these parts. `None` where one of them is of another shape.
+    #[tactic(auto, using(crate::proofs::Items::map_same), unfolding(crate::specs::ScriptForm::session_found))]
+    fn session(self) -> Option<Session>
+        ensures { (nodes : List Given) (limits : TreeLimits)
+            → option_map (planned nodes limits) result ≡ session_found nodes limits (found_of self) }
+    {
+        let ScriptMemory { size, pieces } = self.memory?;
+        Some(Session {
+            preopens: self.preopens?,
+            size,
+            pieces,
+            show: self.show?,
+            calls: self.calls?,
+            fuel: self.fuel?,
+            table: self.table?,
+            faults: self.faults?,
+            quota: self.quota?,
+            services: self.services.services()?,
+        })
+    }
+
+    /// The guest of these parts, where their keys are known. `None` where one of them is of another shape.
+    #[tactic(auto, unfolding(crate::specs::GuestsForm::guest_found))]
+    pub fn guest(self) -> Option<Session>
+        ensures { option_map (planned [] default_limits) result ≡ guest_found (found_of self) }
+    {
+        if self.known { self.session() } else { None }
+    }
+
     // The script of these parts. `None` where one of them is of another shape.
-    #[tactic(auto, using(crate::proofs::Items::map_same), unfolding(crate::specs::ScriptForm::script_found))]
-    fn draft(self) -> Option<Draft>
+    #[tactic(auto, unfolding(crate::specs::ScriptForm::script_found))]
+    fn draft(mut self) -> Option<Draft>
         ensures { option_map drafted result ≡ script_found (found_of self) }
     {
-        let Parts {
-            alloc: _,
-            known,
-            nodes,
-            preopens,
-            calls,
-            memory,
-            show,
-            limits,
-            fuel,
-            table,
-            faults,
-            quota,
-            services,
-        } = self;
-        if !known {
+        if !self.known {
             return None;
         }
-        let nodes = nodes?;
-        let preopens = preopens?;
-        let calls = calls?;
-        let ScriptMemory { size, pieces } = memory?;
-        let show = show?;
-        let limits = limits?;
-        let fuel = fuel?;
-        let table = table?;
-        let faults = faults?;
-        let quota = quota?;
-        let services = services.services()?;
+        let nodes = self.nodes.take()?;
+        let limits = self.limits?;
+        let session = self.session()?;
         Some(Draft {
             nodes,
             limits,
-            session: Session {
-                preopens,
-                size,
-                pieces,
-                show,
-                calls,
-                fuel,
-                table,
-                faults,
-                quota,
-                services,
-            },
+            session,
         })
     }
 }
 
-/// The next value of a text, read as a script. `None` where it is of another shape.
-pub fn draft(alloc: Global, reader: &mut Reader<'_>) -> Reading<Option<Draft>>
-    ensures { IsRead (λ found. (option_map drafted found, reader.new)) result
-        (parse_map script_of (next_value most_nesting reader.old)) }
-{
-    let parts: Option<Parts> = object(alloc, reader, DEPTH)?;
-    match parts {
-        Some(parts) => Ok(parts.draft()),
-        None => Ok(None),
+/// A script.
+impl Item for Draft {
+    ghost use Rattle.wasi_form.specs.Plan.{Plan, drafted};
+    ghost use Rattle.wasi_form.specs.ScriptForm.{script_of};
+
+    ghost Seen = { Plan };
+
+    ghost see = { drafted };
+
+    ghost of = { script_of };
+
+    fn next(alloc: Global, reader: &mut Reader<'_>, depth: usize) -> Reading<Option<Draft>> {
+        let parts: Option<Parts> = object(alloc, reader, depth)?;
+        match parts {
+            Some(parts) => Ok(parts.draft()),
+            None => Ok(None),
+        }
     }
 }

@@ -68,3 +68,12 @@ pub struct Draft {
     pub limits: Limits,
     pub session: Session,
 }
+
+/// Several guests that run in turns over one tree of files: its nodes and how large it may grow, what each guest runs, and
+/// of each turn the guest that has it, by its place among them. None of the calls that their host makes is let fail.
+#[derive(Drop)]
+pub struct GuestScript {
+    pub nodes: FitNodes,
+    pub guests: Vec<Session>,
+    pub schedule: Vec<u32>,
+}

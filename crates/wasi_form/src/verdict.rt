@@ -1,25 +1,31 @@
 //! Which bytes are scripts.
-ghost use Rattle.std.specs.Prelude.{◌≡◌, ℕ, List, Result, option_map, IfOk, IsTrue};
+ghost use Rattle.std.specs.Prelude.{◌≡◌, ◌<◌, ℕ, List, [], All, Result, map, length, option_map, IfOk, IsTrue};
 ghost use Rattle.serde_json.specs.Read.{read as read_text};
 ghost use Rattle.wasi_faults.specs.Faults.{numbers_rise};
 ghost use Rattle.wasi_guest.specs.Quotas.{IsQuota};
 ghost use Rattle.wasi_guest.specs.Services.{handed, AreWithin};
+ghost use Rattle.wasi_tree.specs.Given.{given};
 ghost use Rattle.wasi_form.specs.IsRead.{IsRead};
-ghost use Rattle.wasi_form.specs.Plan.{Plan, drafted};
-ghost use Rattle.wasi_form.specs.ScriptForm.{script_of};
+ghost use Rattle.wasi_form.specs.Plan.{Plan, GuestsPlan};
 ghost use Rattle.wasi_form.specs.declared.verdict.Refusal.{Refusal};
-ghost use Rattle.wasi_form.specs.Verdict.{Reads, ReadsDraft, IsTestOf, IsVerdict, value_of, plan_in, read_plan};
+ghost use Rattle.wasi_form.specs.Verdict as specs;
+ghost use Rattle.wasi_form.specs.Verdict.{Reads, ReadsDraft, ReadsBy, ReadsGuests, IsTestOf, IsVerdict, IsGuestsVerdict, value_of, formed, read_plan};
 
-use crate::parts::draft;
-use crate::script::{Draft, Script};
+use crate::guests::GuestDraft;
+use crate::lists::Item;
+use crate::script::{Draft, GuestScript, Script};
 use crate::shapes::{Reading, Unread};
-use crate::within::is_within_limits;
+use crate::within::{are_guests_within, is_within_limits};
 use json::{Reader, Scratch};
 use simdutf8::compat::from_utf8;
 use std::alloc::{AllocError, Allocator, Global};
 use thiserror::Error;
 use wasi_ends::MOST_BYTES;
-use wasi_tree::{FitNodes, TreeError};
+use wasi_host::Limits;
+use wasi_tree::{FitNodes, NewNode, TreeError};
+
+// How deep lists and objects nest in a script.
+const DEPTH: usize = 127;
 
 /// Why bytes aren't taken as a script. The first that holds is the refusal.
 #[derive(Clone, Copy, Debug, PartialEq, Eq)]
@@ -34,6 +40,7 @@ pub enum Refusal {
     Tree,
     /// Its memory, or what is shown of it, has more than 16,777,216 bytes, a piece or a shown range leaves the memory, a
     /// preopen isn't a directory, or its table is larger than 65,536 or smaller than the three streams and the preopens.
+    /// Several guests have together no more memory than one may have, and no more of it is shown.
     Limit,
 }
 
@@ -92,24 +99,64 @@ pub fn read_script<A: Allocator + Copy>(
     ensures quota { IfOk result (λ script. IsQuota script.session.quota) }
 {
     let draft = read_draft(alloc, room, bytes)?;
-    let script = tested(alloc, draft)?;
+    let Draft {
+        nodes,
+        limits,
+        session,
+    } = draft;
+    let nodes = fit_nodes(alloc, nodes, limits)?;
+    let script = Script { nodes, session };
     if !is_within_limits(&script) {
         return Err(ScriptError::Refused(Refusal::Limit));
     }
     Ok(script)
 }
 
-// The script, where a tree can be made of its nodes.
-fn tested(alloc: Global, draft: Draft) -> Result<Script, ScriptError>
-    ensures { IsTestOf (drafted draft) result }
+/// The guests that bytes are, which run in turns over one tree: the text of a JSON object with the keys `nodes`, `guests` and
+/// `schedule`, and with `limits` where they are wanted. The nodes and the limits are those of a script, as `read_script` has
+/// them. The guests are a list of objects, each with the keys `preopens` and `calls`, and with any of `memory`, `show`,
+/// `fuel`, `table`, `quota`, `args`, `env`, `stdin`, `wall`, `wall_res`, `mono`, `mono_res` and `random`, which mean of a
+/// guest what they mean in a script. The schedule is a list of the guests' turns: of each its guest, as a number of 32 bits,
+/// from 0 on in the order of the list. A number that names no guest is of another shape.
+///
+/// The bytes are refused as those of a script are. It is `Limit` where one of the guests is past the limits of a script, or
+/// where the memories of all together have more than 16,777,216 bytes, or more than these are shown of all together.
+pub fn read_guest_script<A: Allocator + Copy>(
+    alloc: Global,
+    room: A,
+    bytes: &[u8],
+) -> Result<GuestScript, ScriptError>
+    ensures verdict { ReadsGuests result (IsGuestsVerdict bytes.now) }
+    ensures services { IfOk result (λ script. All (λ guest. AreWithin (handed guest.services)) script.guests.items) }
+    ensures quota { IfOk result (λ script. All (λ guest. IsQuota guest.quota) script.guests.items) }
+    ensures no_faults { IfOk result (λ script. All (λ guest. guest.faults.items ≡ []) script.guests.items) }
+    ensures schedule { IfOk result (λ script. All (λ turn. turn < length script.guests.items) script.schedule.items) }
 {
-    let Draft {
+    let draft: GuestDraft = read_form(alloc, room, bytes)?;
+    let GuestDraft {
         nodes,
         limits,
-        session,
+        guests,
+        schedule,
     } = draft;
+    let nodes = fit_nodes(alloc, nodes, limits)?;
+    let script = GuestScript {
+        nodes,
+        guests,
+        schedule,
+    };
+    if !are_guests_within(&script) {
+        return Err(ScriptError::Refused(Refusal::Limit));
+    }
+    Ok(script)
+}
+
+// The nodes, where a tree can be made of them.
+fn fit_nodes(alloc: Global, nodes: Vec<NewNode>, limits: Limits) -> Result<FitNodes, ScriptError>
+    ensures { IsTestOf (record { nodes = map given nodes.items; limits = limits }) result }
+{
     match FitNodes::new(alloc, nodes, limits) {
-        Ok(nodes) => Ok(Script { nodes, session }),
+        Ok(nodes) => Ok(nodes),
         Err(TreeError::Invalid(_)) => Err(ScriptError::Refused(Refusal::Tree)),
         Err(TreeError::Memory) => Err(ScriptError::Memory),
     }
@@ -117,7 +164,6 @@ fn tested(alloc: Global, draft: Draft) -> Result<Script, ScriptError>
 
 /// The script that bytes are, as `read_script` reads it, but for the tests of its nodes and of the limits: it may be meant
 /// for another tree than that of its nodes. It is refused as `Long`, `Json` or `Shape`, or memory was wanted.
-#[tactic(auto, using(crate::proofs::Accepted::too_many, crate::proofs::Accepted::reads_within))]
 pub fn read_draft<A: Allocator + Copy>(
     alloc: Global,
     room: A,
@@ -125,45 +171,63 @@ pub fn read_draft<A: Allocator + Copy>(
 ) -> Result<Draft, ScriptError>
     ensures { ReadsDraft result (λ verdict. read_plan bytes.now ≡ verdict) }
 {
+    read_form(alloc, room, bytes)
+}
+
+// What bytes are in a form, or why they aren't of it: `Long`, `Json` or `Shape`.
+#[tactic(auto, using(crate::proofs::Accepted::too_long, crate::proofs::Accepted::reads_within))]
+fn read_form<T: Item, A: Allocator + Copy>(
+    alloc: Global,
+    room: A,
+    bytes: &[u8],
+) -> Result<T, ScriptError>
+    ensures { ReadsBy T.see result (λ verdict. specs.read_as T.of bytes.now ≡ verdict) }
+{
     if bytes.len() > MOST_BYTES {
         return Err(ScriptError::Refused(Refusal::Long));
     }
-    draft_in(alloc, room, bytes)
+    form_in(alloc, room, bytes)
 }
 
-fn draft_in<A: Allocator + Copy>(alloc: Global, room: A, bytes: &[u8]) -> Result<Draft, ScriptError>
-    ensures { ReadsDraft result (λ verdict. plan_in (value_of bytes.now) ≡ verdict) }
+fn form_in<T: Item, A: Allocator + Copy>(
+    alloc: Global,
+    room: A,
+    bytes: &[u8],
+) -> Result<T, ScriptError>
+    ensures { ReadsBy T.see result (λ verdict. formed T.of (value_of bytes.now) ≡ verdict) }
 {
-    match draft_of_bytes(alloc, room, bytes) {
-        Ok(Some(draft)) => Ok(draft),
+    match form_of_bytes(alloc, room, bytes) {
+        Ok(Some(found)) => Ok(found),
         Ok(None) => Err(ScriptError::Refused(Refusal::Shape)),
         Err(Unread::Shape) => Err(ScriptError::Refused(Refusal::Json)),
         Err(Unread::Memory) => Err(ScriptError::Memory),
     }
 }
 
-// `Shape` where there is no value of JSON; `None` where it is no script.
-fn draft_of_bytes<A: Allocator + Copy>(
+// `Shape` where there is no value of JSON; `None` where it is of another form.
+fn form_of_bytes<T: Item, A: Allocator + Copy>(
     alloc: Global,
     room: A,
     bytes: &[u8],
-) -> Reading<Option<Draft>>
-    ensures { IsRead (λ found. option_map drafted found) result
-        (option_map script_of (value_of bytes.now)) }
+) -> Reading<Option<T>>
+    ensures { IsRead (λ found. option_map T.see found) result (option_map T.of (value_of bytes.now)) }
 {
     match from_utf8(bytes) {
-        Ok(text) => draft_of_text(alloc, room, text),
+        Ok(text) => form_of_text(alloc, room, text),
         Err(_) => Err(Unread::Shape),
     }
 }
 
-fn draft_of_text<A: Allocator + Copy>(alloc: Global, room: A, text: &str) -> Reading<Option<Draft>>
-    ensures { IsRead (λ found. option_map drafted found) result
-        (option_map script_of (read_text text.now)) }
+fn form_of_text<T: Item, A: Allocator + Copy>(
+    alloc: Global,
+    room: A,
+    text: &str,
+) -> Reading<Option<T>>
+    ensures { IsRead (λ found. option_map T.see found) result (option_map T.of (read_text text.now)) }
 {
     let mut scratch = Scratch::new(room);
     let mut reader = Reader::new(text, &mut scratch)?;
-    let found = draft(alloc, &mut reader)?;
+    let found = T::next(alloc, &mut reader, DEPTH)?;
     match reader.next() {
         Some(_) => Err(Unread::Shape),
         None => Ok(found),
@@ -174,4 +238,10 @@ fn draft_of_text<A: Allocator + Copy>(alloc: Global, room: A, text: &str) -> Rea
 pub fn verdicts_are_one()
     ensures one { (bytes : List ℕ) (verdict other : Result Plan Refusal)
         → IsVerdict bytes verdict → IsVerdict bytes other → verdict ≡ other }
+{}
+
+/// Bytes have one verdict as a script of several guests.
+pub fn guest_verdicts_are_one()
+    ensures one { (bytes : List ℕ) (verdict other : Result GuestsPlan Refusal)
+        → IsGuestsVerdict bytes verdict → IsGuestsVerdict bytes other → verdict ≡ other }
 {}

@@ -1,13 +1,13 @@
 //! Which scripts are within the limits.
-ghost use Rattle.std.specs.Prelude.{◌≡◌, [], length, map, slice_get, sum_by, nat_le};
+ghost use Rattle.std.specs.Prelude.{◌≡◌, ◌+◌, ◌<◌, ◌&&◌, [], length, map, slice_get, sum_by, nat_le, MatchOption};
 ghost use Rattle.std.specs.List.{list_all};
 ghost use Rattle.wasi_tree.specs.Given.{given};
 ghost use Rattle.wasi_form.specs.LimitsForm.{default_limits};
-ghost use Rattle.wasi_form.specs.Plan.{plan, planned, planned_preopen, planned_piece};
+ghost use Rattle.wasi_form.specs.Plan.{plan, planned, planned_preopen, planned_piece, guests_plan};
 ghost use Rattle.wasi_form.specs.Within as specs;
-ghost use Rattle.wasi_form.specs.Within.{most_memory};
+ghost use Rattle.wasi_form.specs.Within.{most_memory, shown_bytes};
 
-use crate::script::{Piece, Script, ScriptPreopen, Session, Shown};
+use crate::script::{GuestScript, Piece, Script, ScriptPreopen, Session, Shown};
 use wasi_tree::{NewContent, NewNode};
 
 // How many descriptors a script lets be live at most: 65,536.
@@ -79,17 +79,24 @@ fn are_shown_within(size: u32, show: &[Shown]) -> bool
     show.iter().all(|shown| is_shown_within(size, *shown))
 }
 
-fn is_shown_little(show: &[Shown]) -> bool
-    ensures { result ≡ nat_le (sum_by (λ shown. shown.len) show.now) most_memory }
+// What is left of so many bytes that may be shown, once these are. `None` where more are.
+fn left_to_show(most: u32, show: &[Shown]) -> Option<u32>
+    ensures { MatchOption result (most < shown_bytes show.now) (λ left. shown_bytes show.now + left ≡ most) }
 {
-    let mut left = MOST_MEMORY;
+    let mut left = most;
     for shown in show {
         if shown.len > left {
-            return false;
+            return None;
         }
         left -= shown.len;
     }
-    true
+    Some(left)
+}
+
+fn is_shown_little(show: &[Shown]) -> bool
+    ensures { result ≡ nat_le (shown_bytes show.now) most_memory }
+{
+    left_to_show(MOST_MEMORY, show).is_some()
 }
 
 /// Whether what is run on a tree is within the limits, by whether its preopens are directories of that tree: its table is at
@@ -106,12 +113,71 @@ pub fn is_session_within(directories: bool, session: &Session) -> bool
         && is_shown_little(session.show.as_slice())
 }
 
+// Whether what is run on a tree of these nodes is within the limits.
+#[tactic(auto, unfolding(crate::specs::Within::is_within_limits))]
+fn is_within_on(nodes: &Vec<NewNode>, session: &Session) -> bool
+    ensures { result ≡ specs.is_within_limits (planned (map given nodes.now.items) default_limits session.now) }
+{
+    let directories = are_preopens_directories(nodes, session.preopens.as_slice());
+    is_session_within(directories, session)
+}
+
 /// Whether a script is within the limits.
 #[tactic(auto, unfolding(crate::specs::Within::is_within_limits))]
 pub fn is_within_limits(script: &Script) -> bool
     ensures { result ≡ specs.is_within_limits (plan script.now) }
 {
-    let session = &script.session;
-    let directories = are_preopens_directories(script.nodes.list(), session.preopens.as_slice());
-    is_session_within(directories, session)
+    is_within_on(script.nodes.list(), &script.session)
+}
+
+fn each_is_within(nodes: &Vec<NewNode>, guests: &[Session]) -> bool
+    ensures { result ≡ list_all (λ guest. specs.is_within_limits
+        (planned (map given nodes.now.items) default_limits guest)) guests.now }
+{
+    guests.iter().all(|guest| is_within_on(nodes, guest))
+}
+
+// Whether the memories of guests have together no more bytes than one may have.
+fn are_memories_little(guests: &[Session]) -> bool
+    ensures { result ≡ nat_le (sum_by (λ guest. guest.size) guests.now) most_memory }
+{
+    let mut left = MOST_MEMORY;
+    for guest in guests {
+        if guest.size > left {
+            return false;
+        }
+        left -= guest.size;
+    }
+    true
+}
+
+// Whether no more is shown of guests together than may be shown of one.
+fn are_shown_little(guests: &[Session]) -> bool
+    ensures { result ≡ nat_le (sum_by (λ guest. shown_bytes guest.show.items) guests.now) most_memory }
+{
+    let mut left = MOST_MEMORY;
+    for guest in guests {
+        let Some(rest) = left_to_show(left, guest.show.as_slice()) else {
+            return false;
+        };
+        left = rest;
+    }
+    true
+}
+
+// Whether what each guest runs on a tree of these nodes is within the limits, and together they are no larger than one may be.
+fn are_within_on(nodes: &Vec<NewNode>, guests: &[Session]) -> bool
+    ensures { result ≡ (list_all (λ guest. specs.is_within_limits
+        (planned (map given nodes.now.items) default_limits guest)) guests.now
+        && nat_le (sum_by (λ guest. guest.size) guests.now) most_memory
+        && nat_le (sum_by (λ guest. shown_bytes guest.show.items) guests.now) most_memory) }
+{
+    each_is_within(nodes, guests) && are_memories_little(guests) && are_shown_little(guests)
+}
+
+/// Whether several guests are within the limits.
+pub fn are_guests_within(script: &GuestScript) -> bool
+    ensures { result ≡ specs.guests_within (guests_plan script.now) }
+{
+    are_within_on(script.nodes.list(), script.guests.as_slice())
 }

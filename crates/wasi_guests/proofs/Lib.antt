@@ -1,3 +1,11 @@
-pub mod HoldersLemmas
+pub mod AgreeLemmas
+pub mod ApartLemmas
 pub mod FindLemmas
+pub mod HoldersLemmas
+pub mod JoinLemmas
+pub mod MadeLemmas
+pub mod PlaceLemmas
+pub mod RisingLemmas
+pub mod StepLemmas
+pub mod TurnLemmas
 pub mod WalkLemmas

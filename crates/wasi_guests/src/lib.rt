@@ -1,10 +1,16 @@
-//! Several guests over one tree in memory, each below directories of its own.
+//! Several guests in turns over one tree in memory, each below directories of its own.
 #![tactic(auto)]
 
+mod guest_run;
 mod holders;
 mod insides;
-#[cfg(test)]
-mod tests;
+mod laws;
+mod plan;
+mod run;
+mod turns;
 mod walk;
 
 pub use insides::lowest_shared;
+pub use laws::schedules_agree;
+pub use plan::{GuestEnd, GuestPlan, GuestPreopen, GuestsError, GuestsOutcome};
+pub use run::run_guests;

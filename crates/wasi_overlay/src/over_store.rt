@@ -99,7 +99,7 @@ impl<'a> OverStore<'a> {
     }
 
     /// The node of a number as a list gives it, in memory of its own.
-    fn new_node(&self, alloc: Global, n: u64) -> Result<NewNode, AllocError>
+    pub fn new_node(&self, alloc: Global, n: u64) -> Result<NewNode, AllocError>
         requires { n < next_of self.now.tree }
         ensures { IfOk result (λ node. given node ≡ given_of (node_at self.now.tree n)) }
     {

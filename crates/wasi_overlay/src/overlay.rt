@@ -1,9 +1,9 @@
 //! A tree of files over one that stays, as a host.
-ghost use Rattle.std.specs.Prelude.{◌≡◌, ◌↔◌, ℕ, true, false, Err, IfOk, OnErr, All, map};
+ghost use Rattle.std.specs.Prelude.{◌≡◌, ◌<◌, ◌↔◌, ℕ, true, false, Err, IfOk, OnErr, All, map};
 ghost use Rattle.std.specs.FinSet.{contains, insert, from_list};
 ghost use Rattle.std.specs.List.Sorted.{IsStrictlySortedBy};
 ghost use Rattle.std.specs.Ordering.{nat_cmp};
-ghost use Rattle.wasi_host.specs.Tree.{node_at, is_directory};
+ghost use Rattle.wasi_host.specs.Tree.{next_of, node_at, is_directory};
 ghost use Rattle.wasi_host.specs.Meaning.{never_fails};
 ghost use Rattle.wasi_host.specs.declared.fate.Fate.TheVariants.{Passes};
 ghost use Rattle.wasi_overlay.specs.Overlay.{IsFreshOn};
@@ -18,7 +18,7 @@ use wasi_host::{
     SyncFlags, SystemTime,
 };
 use wasi_paths::Name;
-use wasi_tree::{HandleError, MemTree, NewNode, TreeHost};
+use wasi_tree::{HandleError, MemTree, NewNode, NodeStore, TreeHost};
 
 /// A tree of files over a tree in memory that stays, as a host. Guests see and change the tree that both together are. The
 /// tree below is never changed, so dropping the overlay drops the changes; `commit` makes a tree of them. It never forgets
@@ -68,8 +68,24 @@ impl<'a> Overlay<'a> {
         self.host.handle(node)
     }
 
+    /// The number that the next node has which is made. The nodes have the numbers below it.
+    pub fn next(&self) -> u64
+        ensures { result ≡ next_of self.now.tree }
+    {
+        self.host.store().count()
+    }
+
+    /// The node of a number, in memory of its own. The entries of a directory stand in byte order. The only `Err` is want of
+    /// memory, as of all that follows here.
+    pub fn new_node(&self, alloc: Global, number: u64) -> Result<NewNode, AllocError>
+        requires { number < next_of self.now.tree }
+        ensures { IfOk result (λ node. given node ≡ given_of (node_at self.now.tree number)) }
+    {
+        self.host.store().new_node(alloc, number)
+    }
+
     /// The numbers of the nodes that steps have worked on, rising. Something stands apart of a node that was only read, too,
-    /// but that changes nothing of the node. The only `Err` is want of memory, as of all that follows here.
+    /// but that changes nothing of the node.
     pub fn kept(&self, alloc: Global) -> Result<Vec<u64>, AllocError>
         ensures nodes { IfOk result (λ nodes. from_list nodes.items ≡ self.now.tree.worked) }
         ensures touched { IfOk result (λ nodes. All (λ n. contains self.now.touched n ≡ true) nodes.items) }

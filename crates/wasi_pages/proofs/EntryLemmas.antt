@@ -1,5 +1,5 @@
 -- The things by number, of which the numbers and the things stand apart.
-use Rattle.std.proofs.Common.{◌≡◌, ◌≢◌, ℕ, zero, suc, ◌<◌, true, false, cond, List, [], ◌∷◌, ◌++◌, length, slice_set, slice_index_or, Some, None, is_some, inl, inr, ◌⊎◌, refl, sym, ap, ◌∙◌, arith}
+use Rattle.std.proofs.Common.{◌≤◌, ◌^◌, ◌≡◌, ◌≢◌, ℕ, zero, suc, ◌<◌, true, false, cond, List, [], ◌∷◌, ◌++◌, length, slice_set, slice_index_or, Some, None, is_some, inl, inr, ◌⊎◌, refl, sym, ap, ◌∙◌, arith}
 use Rattle.std.specs.Prelude.{Option, option_map}
 use Rattle.std.specs.Cmp.{nat_cmp_total, unsigned_tied}
 use Rattle.std.specs.FinMap.{get, insert, find, from_entries, get-insert, get-from_entries, same_map, nat_cmp-IsAntisymmetric, from_entries_push}
@@ -161,9 +161,10 @@ place_other n q (m ∷ numbers) other =
 pub placed_more : (old reached new : List (Vec ℕ)) (n : ℕ) (numbers : List ℕ) (count place more : ℕ)
     → ArePlaced old numbers count → place_among n numbers ≡ None → more ≡ suc count → place ≡ suc count
     → ((m : ℕ) → place_at reached m ≡ place_at old m)
-    → ((m : ℕ) → place_at new m ≡ cond (eq_by_cmp nat_cmp m n) place (place_at reached m))
+    → ((m : ℕ) → place_at new m ≡ cond (eq_by_cmp nat_cmp m n) place (place_at reached m)) → length new ≤ 2 ^ 48
     → ArePlaced new (numbers ++ n ∷ []) more
-placed_more old reached new n numbers count place more are none grown last same put = record {
+placed_more old reached new n numbers count place more are none grown last same put few = record {
+  few = few;
   paired = omega (arith, are.paired, length-append numbers (n ∷ []), grown);
   placed = λ q. ap less_one (put q) ∙ by q (cases_eq q n);
 }

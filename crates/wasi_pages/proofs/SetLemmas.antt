@@ -29,14 +29,14 @@ page_there pages k page within is = ap places_of (slice_get_read pages _ k page 
 pub same_places : (pages : List (Vec ℕ)) (k : ℕ) (old new : Vec ℕ) → k < length pages → old ≡ slice_index_or pages k old
     → ((i : ℕ) → slice_index_or new.items i 0 ≡ slice_index_or old.items i 0)
     → (m : ℕ) → place_at (slice_set pages k new) m ≡ place_at pages m
-same_places pages k old new within is same m = elim (cases_eq (m / 32) k) [
+same_places pages k old new within is same m = elim (cases_eq (m / 256) k) [
   | inl here ↦
-      ap (λ j. slice_index_or (page_at (slice_set pages k new) j) (m % 32) 0) here
-      ∙ ap (λ page. slice_index_or page (m % 32) 0) (set_here pages k new within)
-      ∙ same (m % 32)
-      ∙ sym (ap (λ j. slice_index_or (page_at pages j) (m % 32) 0) here
-      ∙ ap (λ page. slice_index_or page (m % 32) 0) (page_there pages k old within is))
-  | inr other ↦ ap (λ page. slice_index_or page (m % 32) 0) (set_elsewhere pages k (m / 32) new other)
+      ap (λ j. slice_index_or (page_at (slice_set pages k new) j) (m % 256) 0) here
+      ∙ ap (λ page. slice_index_or page (m % 256) 0) (set_here pages k new within)
+      ∙ same (m % 256)
+      ∙ sym (ap (λ j. slice_index_or (page_at pages j) (m % 256) 0) here
+      ∙ ap (λ page. slice_index_or page (m % 256) 0) (page_there pages k old within is))
+  | inr other ↦ ap (λ page. slice_index_or page (m % 256) 0) (set_elsewhere pages k (m / 256) new other)
 ]
 
 behind : (places : List ℕ) (more i : ℕ) → slice_index_or (places ++ replicate more 0) i 0 ≡ slice_index_or places i 0

@@ -1,5 +1,5 @@
 -- Where the thing of a number is.
-use Rattle.std.specs.Prelude.{◌≡◌, ℕ, zero, suc, ◌/◌, ◌%◌, ◌<◌, ◌≤◌, true, is_some, cond, List, [], ◌∷◌, length, Option, None, Some, option_map, slice_get, slice_index_or}
+use Rattle.std.specs.Prelude.{◌≡◌, ℕ, zero, suc, ◌/◌, ◌%◌, ◌<◌, ◌≤◌, ◌^◌, true, is_some, cond, List, [], ◌∷◌, length, Option, None, Some, option_map, slice_get, slice_index_or}
 use Rattle.std.specs.Global.{Vec}
 use Rattle.std.specs.Ordering.{eq_by_cmp, nat_cmp}
 
@@ -11,9 +11,9 @@ places_of (Some page) = page.items
 abbrev pub page_at : List (Vec ℕ) → ℕ → List ℕ
 page_at pages k = places_of (slice_get pages k)
 
--- what the pages, of 32 places each, say of a number
+-- what the pages, of 256 places each, say of a number
 abbrev pub place_at : List (Vec ℕ) → ℕ → ℕ
-place_at pages n = slice_index_or (page_at pages (n / 32)) (n % 32) 0
+place_at pages n = slice_index_or (page_at pages (n / 256)) (n % 256) 0
 
 -- a place says 1 more than where the thing is, and 0 where there is none
 abbrev pub less_one : ℕ → Option ℕ
@@ -28,8 +28,9 @@ abbrev pub place_among : ℕ → List ℕ → Option ℕ
 place_among n [] = None
 place_among n (m ∷ ms) = cond (eq_by_cmp nat_cmp n m) (Some 0) (option_map (λ i. suc i) (place_among n ms))
 
--- There are as many numbers as things, and the pages say of each number where it stands.
+-- There are as many numbers as things, and the pages say of each number where it stands; all their numbers have 56 bits.
 pub record ArePlaced (pages : List (Vec ℕ)) (numbers : List ℕ) (count : ℕ) : Type 0 where
+  pub few : length pages ≤ 2 ^ 48
   pub paired : length numbers ≡ count
   pub placed : (n : ℕ) → place_in pages n ≡ place_among n numbers
 

@@ -90,7 +90,8 @@ impl<T> Pages<T> {
         &mut self.things[place]
     }
 
-    /// Puts the thing of a number that has none. Where memory is wanted, all is as it was.
+    /// Puts the thing of a number that has none. Where memory is wanted, all is as it was. A number of 2^56 or more has no
+    /// place, which fails in the same way, and so does one thing more than 2^32 - 1.
     pub fn insert(&mut self, n: u64, thing: T) -> Result<(), AllocError>
     where
         T: Drop,

@@ -38,8 +38,10 @@ use Rattle.wasi_guest.specs.declared.answer.Value.TheVariants as values
 use Rattle.wasi_guest.specs.declared.fdstat.Fdstat.{Fdstat}
 use Rattle.wasi_guest.specs.declared.filestat.Filestat.{Filestat}
 use Rattle.wasi_guest.specs.Errnos.{errno_name}
-use Rattle.wasi_report.specs.Report.{Report, report_value, report_text, put_all, number_value, fdstat_numbers, filestat_numbers, success_value, trap_name, answer_value, hex_value, node_value, time_value, times_value, content_member, bits_text, bit_letter}
-use Rattle.wasi_report.specs.ReadBack.{FitsNumber, FitsValue, FitsAnswer, FitsEntry, FitsContent, FitsTime, FitsNode, IsOrdered, ReportsAreTold}
+use Rattle.wasi_report.specs.Report.{Report, report_value, report_text, list_value, put_all, number_value, fdstat_numbers, filestat_numbers, success_value, trap_name, answer_value, hex_value, node_value, time_value, times_value, content_member, bits_text, bit_letter, outcome_members}
+use Rattle.wasi_report.specs.ReadBack.{FitsNumber, FitsValue, FitsAnswer, FitsEntry, FitsContent, FitsTime, FitsNode, IsRising, IsOrdered, ReportsAreTold}
+use Rattle.wasi_report.specs.Guests.{GuestReport}
+use Rattle.wasi_report.specs.GuestsReadBack.{FitsGuest}
 
 -- ---- the JSON of a value has numbers, and is shallow
 
@@ -51,9 +53,9 @@ pub record AreShallow (n : ℕ) (js : json.Items) : Type 0 where
   pub numbers : tree.ItemsHaveNumbers js
   pub depth : tree.items_depth js ≤ n
 
-record AreMembersShallow (n : ℕ) (ms : json.Members) : Type 0 where
-  numbers : tree.MembersHaveNumbers ms
-  depth : tree.members_depth ms ≤ n
+pub record AreMembersShallow (n : ℕ) (ms : json.Members) : Type 0 where
+  pub numbers : tree.MembersHaveNumbers ms
+  pub depth : tree.members_depth ms ≤ n
 
 abbrev Same : ℕ → ℕ → Type 0
 Same m n = m ≡ n
@@ -335,9 +337,6 @@ told_time s t p q e =
 abbrev pub Entries : Type 0
 Entries = List (List ℕ × ℕ)
 
-abbrev pub IsRising : Entries → Type 0
-IsRising entries = IsStrictlySortedBy (slice_cmp nat_cmp) (map (λ e. e.0) entries)
-
 abbrev pub in_order : Entries → Members
 in_order [] = no_members
 in_order (e ∷ es) = member e.0 (number_value e.1) (in_order es)
@@ -439,44 +438,75 @@ same_node a b p q e =
     ∙ ap (λ t. make b.content b.bits b.atime t a.btime) (told_time a.mtime b.mtime p.times.mtime q.times.mtime modified)
     ∙ ap (make b.content b.bits b.atime b.mtime) (told_time a.btime b.btime p.times.btime q.times.btime created)
 
--- ---- reports
-
-pub shallow_report : (r : Report) → IsOrdered r → IsShallow 127 (outline (report_value r))
-unfolding IsOrdered
-shallow_report r h =
-    let answers = shallow_list 2 FitsAnswer answer_value shallow_answer r.answers h.0 in
-    let memory = shallow_list 0 IsBytes hex_value (λ bytes fits. record { numbers = tt; depth = omega arith }) r.memory h.1 in
-    let touched = shallow_list 0 FitsNumber number_value shallow_number r.touched h.4 in
-    let nodes = shallow_list 3 FitsNode node_value shallow_node r.tree h.5 in
-    record { numbers = (answers.numbers, (memory.numbers, (tt, (tt, (touched.numbers, (nodes.numbers, tt)))))); depth = omega arith }
+-- ---- what came of a run or of a guest
 
 -- the JSON of a list
 abbrev pub list_json : {A : Type 0} → (A → Data) → List A → json.Items
 list_json value_of items = items_outline (items_of (map value_of items))
 
-pub same_report : (a b : Report) → IsOrdered a → IsOrdered b → outline (report_value a) ≡ outline (report_value b) → a ≡ b
-unfolding IsOrdered
-same_report a b p q e =
-    let from_answers = ap members_in e in
-    let from_memory = ap after_first from_answers in
+-- the JSON of what came of a guest, before other members
+abbrev pub outcome_json : GuestReport → Members → json.Members
+outcome_json g others = members_outline (outcome_members g.answers g.memory g.stderr g.stdout others)
+
+pub shallow_outcome : (g : GuestReport) (others : Members) → FitsGuest g → AreMembersShallow 4 (members_outline others)
+    → AreMembersShallow 4 (outcome_json g others)
+shallow_outcome g others fits rest =
+    let answers = shallow_list 2 FitsAnswer answer_value shallow_answer g.answers fits.0 in
+    let memory = shallow_list 0 IsBytes hex_value (λ bytes fits. record { numbers = tt; depth = omega arith }) g.memory fits.1 in
+    record { numbers = (answers.numbers, (memory.numbers, (tt, (tt, rest.numbers)))); depth = omega arith }
+
+pub same_outcome : (a b : GuestReport) (ms ns : Members) → FitsGuest a → FitsGuest b → outcome_json a ms ≡ outcome_json b ns
+    → (a ≡ b) × (members_outline ms ≡ members_outline ns)
+same_outcome a b ms ns p q e =
+    let from_memory = ap after_first e in
     let from_stderr = ap after_first from_memory in
     let from_stdout = ap after_first from_stderr in
-    let from_touched = ap after_first from_stdout in
-    let from_tree = ap after_first from_touched in
-    let answers : list_json answer_value a.answers ≡ list_json answer_value b.answers = ap items_first from_answers in
+    let answers : list_json answer_value a.answers ≡ list_json answer_value b.answers = ap items_first e in
     let memory : list_json hex_value a.memory ≡ list_json hex_value b.memory = ap items_first from_memory in
     let stderr : encode_lower a.stderr ≡ encode_lower b.stderr = ap text_first from_stderr in
     let stdout : encode_lower a.stdout ≡ encode_lower b.stdout = ap text_first from_stdout in
+    let make : List Answer → List (List ℕ) → List ℕ → List ℕ → GuestReport =
+    λ answers memory stderr stdout. record { answers = answers; memory = memory; stderr = stderr; stdout = stdout } in (
+      ap (λ x. make x a.memory a.stderr a.stdout) (same_list FitsAnswer answer_value same_answer a.answers b.answers p.0 q.0 answers)
+          ∙ ap (λ x. make b.answers x a.stderr a.stdout) (same_list IsBytes hex_value same_hex a.memory b.memory p.1 q.1 memory)
+          ∙ ap (λ x. make b.answers b.memory x a.stdout) (same_bytes a.stderr b.stderr p.2 q.2 stderr)
+          ∙ ap (make b.answers b.memory b.stderr) (same_bytes a.stdout b.stdout p.3 q.3 stdout),
+      ap after_first from_stdout,
+    )
+
+-- ---- reports
+
+abbrev outcome_of : Report → GuestReport
+outcome_of r = record { answers = r.answers; memory = r.memory; stderr = r.stderr; stdout = r.stdout }
+
+-- the members behind what came of the run
+abbrev pub last_members : Report → Members
+last_members r =
+    member (codes "touched") (list_value number_value r.touched) (member (codes "tree") (list_value node_value r.tree) no_members)
+
+pub shallow_report : (r : Report) → IsOrdered r → IsShallow 127 (outline (report_value r))
+unfolding IsOrdered
+shallow_report r h =
+    let touched = shallow_list 0 FitsNumber number_value shallow_number r.touched h.4 in
+    let nodes = shallow_list 3 FitsNode node_value shallow_node r.tree h.5 in
+    let last : AreMembersShallow 4 (members_outline (last_members r)) =
+    record { numbers = (touched.numbers, (nodes.numbers, tt)); depth = omega arith } in
+    let all = shallow_outcome (outcome_of r) (last_members r) (h.0, h.1, h.2, h.3) last in
+    record { numbers = all.numbers; depth = omega arith }
+
+pub same_report : (a b : Report) → IsOrdered a → IsOrdered b → outline (report_value a) ≡ outline (report_value b) → a ≡ b
+unfolding IsOrdered
+same_report a b p q e =
+    let parts =
+    same_outcome (outcome_of a) (outcome_of b) (last_members a) (last_members b) (p.0, p.1, p.2, p.3) (q.0, q.1, q.2, q.3) (ap members_in e) in
+    let from_touched : members_outline (last_members a) ≡ members_outline (last_members b) = parts.1 in
     let touched : list_json number_value a.touched ≡ list_json number_value b.touched = ap items_first from_touched in
-    let nodes : list_json node_value a.tree ≡ list_json node_value b.tree = ap items_first from_tree in
-    let make : List Answer → List (List ℕ) → List ℕ → List ℕ → List ℕ → List Given → Report =
-    λ answers memory stderr stdout touched tree. record { answers = answers; memory = memory; stderr = stderr; stdout = stdout; touched = touched; tree = tree } in
-    ap (λ x. make x a.memory a.stderr a.stdout a.touched a.tree) (same_list FitsAnswer answer_value same_answer a.answers b.answers p.0 q.0 answers)
-    ∙ ap (λ x. make b.answers x a.stderr a.stdout a.touched a.tree) (same_list IsBytes hex_value same_hex a.memory b.memory p.1 q.1 memory)
-    ∙ ap (λ x. make b.answers b.memory x a.stdout a.touched a.tree) (same_bytes a.stderr b.stderr p.2 q.2 stderr)
-    ∙ ap (λ x. make b.answers b.memory b.stderr x a.touched a.tree) (same_bytes a.stdout b.stdout p.3 q.3 stdout)
-    ∙ ap (λ x. make b.answers b.memory b.stderr b.stdout x a.tree) (same_list FitsNumber number_value same_number a.touched b.touched p.4 q.4 touched)
-    ∙ ap (make b.answers b.memory b.stderr b.stdout b.touched) (same_list FitsNode node_value same_node a.tree b.tree p.5 q.5 nodes)
+    let nodes : list_json node_value a.tree ≡ list_json node_value b.tree = ap items_first (ap after_first from_touched) in
+    let make : GuestReport → List ℕ → List Given → Report = λ o touched tree.
+    record { answers = o.answers; memory = o.memory; stderr = o.stderr; stdout = o.stdout; touched = touched; tree = tree } in
+    ap (λ o. make o a.touched a.tree) parts.0
+    ∙ ap (λ x. make (outcome_of b) x a.tree) (same_list FitsNumber number_value same_number a.touched b.touched p.4 q.4 touched)
+    ∙ ap (make (outcome_of b) b.touched) (same_list FitsNode node_value same_node a.tree b.tree p.5 q.5 nodes)
 
 pub told : ReportsAreTold
 unfolding report_text

@@ -1,18 +1,18 @@
 -- The names of a directory in order, and the items and members that are left to be told.
-use Rattle.std.proofs.Common.{ℕ, zero, suc, List, [], ◌∷◌, ◌++◌, ◌≡◌, ◌<◌, ◌+◌, ◌^◌, All, refl, sym, ap, ◌∙◌, subst, map, drop, length, get_or, slice_index_or, append_assoc, arith}
+use Rattle.std.proofs.Common.{ℕ, zero, suc, List, [], ◌∷◌, ◌++◌, ◌≡◌, ◌<◌, ◌+◌, ◌^◌, All, refl, sym, ap, ◌∙◌, subst, map, drop, length, get_or, append_assoc, arith}
 use Rattle.std.proofs.lemmas.List.{drop_more, length-map, append-nil}
-use Rattle.std.proofs.lemmas.List.Elements.{All-nil, All-push}
+use Rattle.std.proofs.lemmas.List.Elements.{All-nil, All-cons, All-head, All-tail, All-push}
 use Rattle.json.specs.Token.{Token}
 use Rattle.json.specs.Tree.{items_tokens, members_tokens}
 use Rattle.serde_json.specs.Data.{Data, array, item, Members, no_members}
 use Rattle.serde_json.specs.View.{items_of}
 use Rattle.serde_json.specs.Written.{items_outline, members_outline}
-use Rattle.wasi_host.specs.Tree.{Tree, Node, node_at, next_of, stray}
-use Rattle.wasi_tree.specs.Given.{Given, GivenContent, file, directory, link, given_of}
-use Rattle.wasi_report.specs.Report.{put_all, node_value, list_value, content_member}
-use Rattle.wasi_report.specs.ReadBack.{FitsContent, FitsEntry}
-use Rattle.wasi_report.specs.Told.{told, told_at, content_told}
-use Rattle.wasi_report.proofs.ReadBack.{Entries, IsRising, in_order, put_rising}
+use Rattle.wasi_tree.specs.Given.{GivenContent, file, directory, link}
+use Rattle.wasi_guest.specs.declared.answer.Answer.{Answer}
+use Rattle.wasi_report.specs.Report.{put_all, list_value, content_member, outcome_members}
+use Rattle.wasi_report.specs.ReadBack.{FitsContent, FitsEntry, IsRising}
+use Rattle.wasi_report.specs.Told.{told, told_at, content_told, outcome_told}
+use Rattle.wasi_report.proofs.ReadBack.{Entries, in_order, put_rising}
 
 -- ---- the names of a directory
 
@@ -59,19 +59,18 @@ pub item_next : {A : Type 0} (value_of : A → Data) (items : List A) (i : ℕ) 
 item_next value_of items i a now next all so within here told_now =
     rw (told_now, append_assoc) (sym (ap (λ rest. now ++ items_told value_of rest) (drop_more items i a within ∙ ap (λ x. x ∷ drop (i + 1) items) (sym here))) ∙ so)
 
-given_at : (nodes : List Node) (n : ℕ) (node : Given) → n < length nodes → node ≡ given_of (slice_index_or nodes n stray)
-    → node ≡ get_or (map given_of nodes) n node
-given_at [] n node within is = absurd (omega arith)
-given_at (first ∷ nodes) zero node within is = is
-given_at (first ∷ nodes) (suc n) node within is = given_at nodes n node (omega arith) is
+seen_at : {A B : Type 0} (see : A → B) (items : List A) (n : ℕ) (d : A) (b : B) → n < length items → b ≡ see (get_or items n d)
+    → b ≡ get_or (map see items) n b
+seen_at see [] n d b within is = absurd (omega arith)
+seen_at see (first ∷ items) zero d b within is = is
+seen_at see (first ∷ items) (suc n) d b within is = seen_at see items n d b (omega arith) is
 
--- the node of the next number of a tree is told
-pub node_next : (t : Tree) (n : ℕ) (node : Given) (now next all : List Token)
-    → now ++ items_told node_value (drop n (map given_of t.nodes)) ≡ all → n < next_of t → node ≡ given_of (node_at t n)
-    → next ≡ now ++ told (node_value node) → next ++ items_told node_value (drop (n + 1) (map given_of t.nodes)) ≡ all
-unfolding node_at
-node_next t n node now next all so within is told_now =
-    item_next node_value (map given_of t.nodes) n node now next all so (omega (arith, length-map t.nodes given_of)) (given_at t.nodes n node within is) told_now
+-- what is seen of the next item is told
+pub seen_next : {A B : Type 0} (value_of : B → Data) (see : A → B) (items : List A) (i : ℕ) (d : A) (b : B) (now next all : List Token)
+    → now ++ items_told value_of (drop i (map see items)) ≡ all → i < length items → b ≡ see (get_or items i d)
+    → next ≡ now ++ told (value_of b) → next ++ items_told value_of (drop (i + 1) (map see items)) ≡ all
+seen_next value_of see items i d b now next all so within is told_now =
+    item_next value_of (map see items) i b now next all so (omega (arith, length-map items see)) (seen_at see items i d b within is) told_now
 
 -- ---- one part after another
 
@@ -80,6 +79,11 @@ pub content_is : (content : GivenContent) (others : Members)
 content_is (file bytes) others = refl
 content_is (directory entries) others = refl
 content_is (link text) others = refl
+
+pub outcome_is : (answers : List Answer) (memory : List (List ℕ)) (stderr stdout : List ℕ) (others : Members)
+    → members_tokens (members_outline (outcome_members answers memory stderr stdout others))
+    ≡ outcome_told answers memory stderr stdout ++ members_tokens (members_outline others)
+outcome_is answers memory stderr stdout others = simp append_assoc refl
 
 mapped : {A B : Type 0} (value_of : B → Data) (see : A → B) (items : List A) → items_of (map (λ a. value_of (see a)) items) ≡ items_of (map value_of (map see items))
 mapped value_of see [] = refl
@@ -90,6 +94,13 @@ pub told_seen : {A B : Type 0} (value_of : B → Data) (see : A → B) (items : 
     → new ≡ old ++ told_at name (list_value (λ a. value_of (see a)) items) → new ≡ old ++ told_at name (list_value value_of (map see items))
 told_seen value_of see items name old new added = added ∙ ap (λ ds. old ++ told_at name (array ds)) (mapped value_of see items)
 
+-- what holds of all that is seen of some items
+pub all_seen : {A B : Type 0} (P : B → Type 0) (see : A → B) (items : List A) → All P (map see items) → All (λ a. P (see a)) items
+all_seen P see [] all = All-nil _
+all_seen P see (a ∷ items) all =
+    All-cons (λ a. P (see a)) a items (All-head P (see a) (map see items) all)
+    (all_seen P see items (All-tail P (see a) (map see items) all))
+
 -- four parts one after another
 pub four : (s t u v all a b c d : List Token) → t ≡ s ++ a → u ≡ t ++ b → v ≡ u ++ c → all ≡ v ++ d
     → all ≡ s ++ (a ++ (b ++ (c ++ d)))
@@ -99,8 +110,3 @@ four s t u v all a b c d p q r i = rw (i, r, q, p) (simp append_assoc)
 pub five : (s t u v w all a b c d e : List Token) → t ≡ s ++ a → u ≡ t ++ b → v ≡ u ++ c → w ≡ v ++ d → all ≡ w ++ e
     → all ≡ s ++ (a ++ (b ++ (c ++ (d ++ e))))
 five s t u v w all a b c d e p q r i j = rw (j, i, r, q, p) (simp append_assoc)
-
--- eight parts one after another
-pub eight : (s t u v w x y z all a b c d e f g h : List Token) → t ≡ s ++ a → u ≡ t ++ b → v ≡ u ++ c → w ≡ v ++ d → x ≡ w ++ e → y ≡ x ++ f → z ≡ y ++ g → all ≡ z ++ h
-    → all ≡ s ++ (a ++ (b ++ (c ++ (d ++ (e ++ (f ++ (g ++ h)))))))
-eight s t u v w x y z all a b c d e f g h p q r i j k l m = rw (m, l, k, j, i, r, q, p) (simp append_assoc)

@@ -5,3 +5,5 @@ pub mod TrialReadBack
 pub mod ReadBack
 pub mod Audit
 pub mod AuditReadBack
+pub mod Guests
+pub mod GuestsReadBack

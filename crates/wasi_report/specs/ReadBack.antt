@@ -1,12 +1,12 @@
 -- A report's text tells the report.
-use Rattle.std.specs.Prelude.{◌≡◌, ℕ, ◌^◌, ◌<◌, [], ◌∷◌, map, ⊤, All}
+use Rattle.std.specs.Prelude.{◌≡◌, ℕ, ◌^◌, ◌<◌, List, [], ◌∷◌, map, ⊤, All}
 use Rattle.std.specs.Cmp.Lexicographic.{slice_cmp}
 use Rattle.std.specs.Int.Signed.{mag}
 use Rattle.std.specs.List.Sorted.{IsStrictlySortedBy}
 use Rattle.std.specs.Ordering.{nat_cmp}
 use Rattle.hex.specs.Hex.{IsBytes}
 use Rattle.wasi_host.specs.declared.system_time.SystemTime.{SystemTime}
-use Rattle.wasi_tree.specs.Given.{Given, GivenContent, file, directory, link}
+use Rattle.wasi_tree.specs.Given.{Given, GivenContent, file, directory, link, given_entries}
 use Rattle.wasi_report.specs.Report.{Report, fdstat_numbers, filestat_numbers, report_text}
 use Rattle.wasi_guest.specs.declared.answer.Answer.{Answer}
 use Rattle.wasi_guest.specs.declared.answer.Answer.TheVariants as answers
@@ -44,11 +44,17 @@ FitsAnswer (answers.Exit status) = FitsNumber status
 abbrev pub FitsEntry : {Name : Type 0} → Name × ℕ → Type 0
 FitsEntry entry = FitsNumber entry.1
 
--- the names of a directory stand in strictly rising byte order, so that none stands twice
+-- the names stand in strictly rising byte order, so that none stands twice
+abbrev pub IsRising : List (List ℕ × ℕ) → Type 0
+IsRising entries = IsStrictlySortedBy (slice_cmp nat_cmp) (map (λ e. e.0) entries)
+
+-- where the node is a directory, its names do
+abbrev pub HasRisingNames : Given → Type 0
+HasRisingNames node = IsRising (given_entries node.content)
+
 abbrev pub FitsContent : GivenContent → Type 0
 FitsContent (file bytes) = IsBytes bytes
-FitsContent (directory entries) =
-    IsStrictlySortedBy (slice_cmp nat_cmp) (map (λ e. e.0) entries) × All FitsEntry entries
+FitsContent (directory entries) = IsRising entries × All FitsEntry entries
 FitsContent (link text) = ⊤
 
 -- the seconds fit 64 bits with a sign

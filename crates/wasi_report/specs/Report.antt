@@ -119,15 +119,20 @@ abbrev pub node_value : Given → Data
 node_value node =
     object (member (codes "bits") (string (bits_text node.bits)) (content_member node.content (member (codes "times") (times_value node) no_members)))
 
+-- answers, shown ranges, standard error and standard output, before other members
+abbrev pub outcome_members : List Answer → List (List ℕ) → List ℕ → List ℕ → Members → Members
+outcome_members answers memory stderr stdout others =
+    member (codes "answers") (list_value answer_value answers)
+    (member (codes "memory") (list_value hex_value memory)
+    (member (codes "stderr") (hex_value stderr)
+    (member (codes "stdout") (hex_value stdout) others)))
+
 -- the keys stand in byte order
 abbrev pub report_value : Report → Data
 report_value r =
-    object (member (codes "answers") (list_value answer_value r.answers)
-    (member (codes "memory") (list_value hex_value r.memory)
-    (member (codes "stderr") (hex_value r.stderr)
-    (member (codes "stdout") (hex_value r.stdout)
+    object (outcome_members r.answers r.memory r.stderr r.stdout
     (member (codes "touched") (list_value number_value r.touched)
-    (member (codes "tree") (list_value node_value r.tree) no_members))))))
+    (member (codes "tree") (list_value node_value r.tree) no_members)))
 
 -- the compact text of the value, and a newline
 unfoldable pub report_text : Report → List ℕ

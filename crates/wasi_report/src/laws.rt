@@ -1,5 +1,6 @@
 //! Laws of what is defined.
 ghost use Rattle.wasi_report.specs.AuditReadBack.{AuditsAreTold};
+ghost use Rattle.wasi_report.specs.GuestsReadBack.{GuestsAreTold};
 ghost use Rattle.wasi_report.specs.ReadBack.{ReportsAreTold};
 ghost use Rattle.wasi_report.specs.TrialReadBack.{TrialsAreTold};
 
@@ -18,4 +19,10 @@ pub fn audits_are_told()
 /// stand in strictly rising byte order, as in each trial that `trial_in` writes.
 pub fn trials_are_told()
     ensures told { TrialsAreTold }
+{}
+
+/// Two runs of guests with the same text came to the same, where numbers fit 64 bits, bytes are bytes, and the names in each
+/// directory stand in strictly rising byte order, as in each text that `guests_in` writes.
+pub fn guests_are_told()
+    ensures told { GuestsAreTold }
 {}

@@ -1,7 +1,8 @@
-//! What a run came to, and the texts of a report, an audit and a trial.
+//! What a run came to, and the texts of a report, an audit, a trial and a run of several guests.
 #![tactic(auto)]
 
 mod audit;
+mod guests;
 mod laws;
 mod outcome;
 mod told;
@@ -10,6 +11,7 @@ mod told_nodes;
 mod trial;
 
 pub use audit::{PreopenNodes, audit_in};
-pub use laws::{audits_are_told, reports_are_told, trials_are_told};
+pub use guests::{GuestOutcome, guests_in};
+pub use laws::{audits_are_told, guests_are_told, reports_are_told, trials_are_told};
 pub use outcome::{Outcome, report, report_in};
 pub use trial::trial_in;

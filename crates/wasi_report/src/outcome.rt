@@ -2,9 +2,9 @@
 ghost use Rattle.std.specs.Prelude.{◌≡◌, ◌++◌, IfOk, OnOk, All, map};
 ghost use Rattle.hex.specs.Hex.{IsBytes};
 ghost use Rattle.wasi_tree.specs.Given.{given_of};
-ghost use Rattle.wasi_report.specs.ReadBack.{FitsNode, IsOrdered};
+ghost use Rattle.wasi_report.specs.ReadBack.{FitsAnswer, FitsNode, IsOrdered};
 ghost use Rattle.wasi_report.specs.Report.{reported, report_value, report_text, list_value, hex_value, node_value};
-ghost use Rattle.wasi_report.specs.Told.{told, told_at};
+ghost use Rattle.wasi_report.specs.Told.{outcome_told, told, told_at};
 
 use crate::told::{DigitRoom, tell_bytes, tell_list_at};
 use crate::told_answers::tell_answers;
@@ -71,15 +71,42 @@ pub fn tell_outcome<A: Allocator + Copy>(
     ensures ordered { OnOk result (IsOrdered (reported outcome.now tree.now.tree.nodes)) }
 {
     out.begin_object()?;
-    out.key("answers")?;
-    tell_answers(digits, &outcome.answers, out)?;
-    tell_texts_at(digits, "memory", outcome.shown.as_slice(), out)?;
-    tell_bytes_at(digits, "stderr", outcome.stderr.as_slice(), out)?;
-    tell_bytes_at(digits, "stdout", outcome.stdout.as_slice(), out)?;
+    tell_outcome_members(
+        digits,
+        &outcome.answers,
+        outcome.shown.as_slice(),
+        outcome.stderr.as_slice(),
+        outcome.stdout.as_slice(),
+        out,
+    )?;
     tell_list_at(digits, "touched", outcome.touched.as_slice(), out)?;
     out.key("tree")?;
     tell_tree(digits, tree, out)?;
     out.end_object()
+}
+
+/// What came of a run or of a guest, as members of an object.
+pub fn tell_outcome_members<A: Allocator + Copy>(
+    digits: DigitRoom<A>,
+    answers: &Answers,
+    shown: &[Vec<u8>],
+    stderr: &[u8],
+    stdout: &[u8],
+    out: &mut Writer,
+) -> Result<(), AllocError>
+    ensures before { out.new.before ≡ out.old.before }
+    ensures tokens { OnOk result (out.new.tokens ≡ out.old.tokens
+        ++ outcome_told answers.now.answers (map (λ text. text.items) shown.now) stderr.now stdout.now) }
+    ensures answers { OnOk result (All FitsAnswer answers.now.answers) }
+    ensures memory { OnOk result (All IsBytes (map (λ text. text.items) shown.now)) }
+    ensures stderr { OnOk result (IsBytes stderr.now) }
+    ensures stdout { OnOk result (IsBytes stdout.now) }
+{
+    out.key("answers")?;
+    tell_answers(digits, answers, out)?;
+    tell_texts_at(digits, "memory", shown, out)?;
+    tell_bytes_at(digits, "stderr", stderr, out)?;
+    tell_bytes_at(digits, "stdout", stdout, out)
 }
 
 fn tell_bytes_at<A: Allocator + Copy>(

@@ -25,7 +25,8 @@ use Rattle.wasi_start.proofs.Starts.{confined_at_start}
 use Rattle.wasi_script.specs.Through.{Stemmed, stems_behind, stemmed, GoesThrough, IsNearTurn, ListsThrough, IsListed}
 use Rattle.wasi_script.specs.AuditedRun.{AuditedTurn, AuditedRun, Covers, StartsAudit}
 use Rattle.wasi_script.proofs.StemLemmas.{stems_over, over_more, stemmed_more, covers_on, near_through}
-use Rattle.wasi_script.proofs.ListLemmas.{in_listed, in_list, listed_set, none_at, set_has, starts_empty, list_at, still_listed, newly_listed, listed_from}
+use Rattle.wasi_start.proofs.ListedNodes.{in_listed, in_list}
+use Rattle.wasi_script.proofs.ListLemmas.{listed_set, none_at, set_has, starts_empty, list_at, still_listed, newly_listed, listed_from}
 
 -- The calls so far were made and noted. So many directories were given, and so many descriptors may be live
 pub record NotedSoFar (before now : FaultCount) (first : State) (stems : Stems) (given most : ℕ) (calls : List FueledCall)

@@ -29,7 +29,7 @@ use Rattle.wasi_turns.specs.Guest.{State, guest_by, state_of}
 use Rattle.wasi_guest.specs.declared.answer.Answer.{Answer}
 use Rattle.wasi_turns.proofs.QuotaRuns.{run_counts, run_within}
 use Rattle.wasi_script.proofs.KeptTrees.{starts_opened}
-use Rattle.wasi_script.proofs.ListLemmas.{in_listed, in_list}
+use Rattle.wasi_start.proofs.ListedNodes.{in_listed, in_list}
 
 -- a run with so many faulted turns at most is one with more of them at most
 pub run_more : (calls : List FueledCall) (turns : List Turned) (j k : ℕ) (old new : State) → j ≤ k

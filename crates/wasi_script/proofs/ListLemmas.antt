@@ -22,16 +22,9 @@ use Rattle.wasi_audit.specs.Audits.{Stems, is_named_from, noted_list, noted_list
 use Rattle.wasi_audit.proofs.Membership.{IsNoted, Contains-noted, get-noted_lists}
 use Rattle.wasi_report.specs.Audit.{audited_preopen}
 use Rattle.wasi_report.specs.declared.audit.PreopenNodes.{PreopenNodes}
+use Rattle.wasi_start.proofs.ListedNodes.{in_list, in_listed}
 use Rattle.wasi_script.specs.Audited.{listed_preopens}
 use Rattle.wasi_script.specs.Through.{IsListed}
-
--- ---- a list's numbers as a set
-
-pub in_listed : (nodes : List ℕ) (n : ℕ) → contains (from_list {R = nat_cmp} nodes) n ≡ true → Contains nodes n
-in_listed nodes n has = Contains-from_any {eq = λ x y. nat_eq y x} (λ x y same. sym (eqb-true y x same)) n nodes (sym (contains-from_list_nat nodes n) ∙ has)
-
-pub in_list : (nodes : List ℕ) (n : ℕ) → Contains nodes n → contains (from_list {R = nat_cmp} nodes) n ≡ true
-in_list nodes n (k, within, is) = contains-from_list_nat nodes n ∙ list_any_at (λ y. nat_eq y n) nodes k n within (eq-eqb _ _ is)
 
 -- ---- the nodes of all lists
 

@@ -25,7 +25,7 @@ use Rattle.wasi_script.specs.declared.ran.RunEnd.{RunEnd}
 use Rattle.wasi_script.specs.declared.ran.Ran.{Ran}
 use Rattle.wasi_script.proofs.Headlines.{reported}
 use Rattle.wasi_script.proofs.KeptTrees.{tree_again}
-use Rattle.wasi_script.proofs.ListLemmas.{in_listed}
+use Rattle.wasi_start.proofs.ListedNodes.{in_listed}
 use Rattle.wasi_script.proofs.Merging.{reports_merged, reports_over}
 
 -- over a tree of nodes on which no step has worked, that very tree

@@ -9,7 +9,8 @@ use Rattle.wasi_report.specs.Trial.{Trial, trial_by, trial_text}
 use Rattle.wasi_report.specs.TrialReadBack.{FitsTrial}
 use Rattle.wasi_tree.specs.Given.{tree_of}
 use Rattle.wasi_script.specs.Headline.{Reports, own_nodes}
-use Rattle.wasi_script.specs.Merged.{IsMerged, IsMergedTree}
+use Rattle.wasi_script.specs.Merged.{IsMerged}
+use Rattle.wasi_start.specs.Merged.{IsMergedTree}
 use Rattle.wasi_script.specs.declared.ran.RunEnd.{RunEnd}
 use Rattle.wasi_start.specs.ReportAfter.{report_after}
 use Rattle.wasi_tree.specs.MemState.{MemState}

@@ -1,1 +1,4 @@
+pub mod ListedNodes
+pub mod Merging
 pub mod Starts
+pub mod ToldNodes

@@ -6,4 +6,4 @@ mod script_tree;
 mod start;
 
 pub use script_tree::ScriptTree;
-pub use start::{Beginning, begin, begin_over, shown};
+pub use start::{Beginning, begin, begin_over, first_context, first_memory, shown};

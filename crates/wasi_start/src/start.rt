@@ -65,9 +65,10 @@ fn given_handles<T: ScriptTree>(
     Ok(given)
 }
 
-// A context over a tree that has no live handle, in which the guest is handed in these services and given these directories
-// and this quota, as many descriptors may be live as its table has room for, and these calls of the host fail.
-fn first_context<T: ScriptTree>(
+/// A context over a tree that has no live handle, nothing touched and no look-up, in which the guest is handed in these
+/// services and given these directories and this quota, as many descriptors may be live as its table has room for, and these
+/// calls of the host fail. The only refusal is want of memory.
+pub fn first_context<T: ScriptTree>(
     alloc: Global,
     mut tree: T,
     services: Services,
@@ -102,8 +103,9 @@ fn first_context<T: ScriptTree>(
     }
 }
 
-// A memory of this size that has the pieces written into it, one after another.
-fn first_memory(alloc: Global, size: u32, pieces: &[Piece]) -> Result<GuestMemory, AllocError>
+/// A memory of this size in bytes, of zeros, that has the pieces written into it, one after another. The only refusal is
+/// want of memory.
+pub fn first_memory(alloc: Global, size: u32, pieces: &[Piece]) -> Result<GuestMemory, AllocError>
     requires { list_all (is_piece_within size) (map planned_piece pieces.now) ≡ true }
     ensures written { IfOk result (λ memory. memory ≡ with_pieces (replicate size 0) (map planned_piece pieces.now)) }
     ensures size { IfOk result (λ memory. length memory ≡ size) }

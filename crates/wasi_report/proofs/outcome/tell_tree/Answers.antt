@@ -4,7 +4,8 @@ use Rattle.std.proofs.lemmas.Result.{on_ok_weaker}
 use Rattle.wasi_host.specs.Tree.{node_at, stray}
 use Rattle.wasi_tree.specs.Given.{given_of}
 use Rattle.wasi_report.specs.ReadBack.{FitsNode}
-use Rattle.wasi_report.proofs.Telling.{node_next}
+use Rattle.wasi_report.specs.Report.{node_value}
+use Rattle.wasi_report.proofs.Telling.{seen_next}
 use Rattle.wasi_report.proofs.outcome.tell_tree.Goals as goal
 
 pub loop-n-preserved : goal.loop-n-preserved
@@ -15,7 +16,7 @@ loop-n-preserved g c =
     record {
       before = c.in_ok-tell_node.ensures.before ∙ c.loop-n.invariant.before;
       tokens =
-          node_next c.args.tree.now.tree c.loop-n.n _ _ _ _ c.loop-n.invariant.tokens within shown
+          seen_next node_value given_of _ _ stray _ _ _ _ c.loop-n.invariant.tokens within shown
           c.in_ok-tell_node.ensures.tokens;
       fits =
           All-more (λ node. FitsNode (given_of node)) _ _ stray within c.loop-n.invariant.fits

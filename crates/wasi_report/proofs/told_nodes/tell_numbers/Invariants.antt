@@ -7,13 +7,13 @@ use Rattle.wasi_report.proofs.Telling.{AreTold, numbers_told}
 use Rattle.wasi_report.proofs.told_nodes.tell_numbers.Given as goal
 
 abbrev pub invariant-loop-name : goal.invariant-loop-name
-invariant-loop-name l = record {
+invariant-loop-name g l = record {
   before : l.out.before ≡ l.initial.out.before;
   tokens :
-      l.out.tokens ++ numbers_told l.left
-      ≡ l.initial.out.tokens ++ members_tokens (members_outline (put_all l.numbers no_members));
-  told : AreTold l.numbers l.left;
+      l.out.tokens ++ numbers_told (g.N.Names.left l.names)
+      ≡ l.initial.out.tokens ++ members_tokens (members_outline (put_all (g.N.Names.left l.initial.names) no_members));
+  told : AreTold (g.N.Names.left l.initial.names) (g.N.Names.left l.names);
 }
 
 abbrev pub decreases-loop-name : goal.decreases-loop-name
-decreases-loop-name l = length l.left
+decreases-loop-name g l = length (g.N.Names.left l.names)

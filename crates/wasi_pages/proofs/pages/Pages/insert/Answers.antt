@@ -9,7 +9,8 @@ invariant_of-self-2 g c =
     (length c.self.inside.things.items) c.len-2.result _ c.self.invariant
     (no_place c.args.n c.self.inside.numbers.items c.self.inside.things.items c.self.invariant.paired (rw (← c.self.view_is) at c.requires))
     (omega (arith, c.push_reserved-2.ensures.len, c.reserve-2.ensures.len))
-    (omega (arith, c.len-2.ensures, c.push_reserved-2.ensures.len, c.reserve-2.ensures.len)) c.reach.ensures.same c.set.ensures)
+    (omega (arith, c.len-2.ensures, c.push_reserved-2.ensures.len, c.reserve-2.ensures.len)) c.reach.ensures.same c.set.ensures.set
+    (omega (arith, c.set.ensures.count, c.reach.ensures.few c.self.invariant.few)))
 
 pub returns-clause-put : goal.returns-clause-put
 returns-clause-put g c =

@@ -1,0 +1,52 @@
+-- The names of a directory stand in byte order, whatever numbers they hold.
+use Rattle.std.proofs.Common.{ℕ, ◌≡◌, List, [], ◌∷◌, map, ap, sym, subst, get_or}
+use Rattle.std.specs.Prelude.{All}
+use Rattle.std.specs.Cmp.Lexicographic.{slice_cmp}
+use Rattle.std.specs.FinMap.{entries, entries_sorted}
+use Rattle.std.specs.List.{AllByRecursion}
+use Rattle.std.specs.List.Sorted.{IsStrictlySortedBy}
+use Rattle.std.specs.Ordering.{nat_cmp}
+use Rattle.std.specs.declared.cmp.Ordering.TheVariants.{Less}
+use Rattle.std.proofs.lemmas.List.Elements.{All-map}
+use Rattle.wasi_host.specs.Tree.{Node, Content, File, Directory, Link}
+use Rattle.wasi_names.proofs.EntryLemmas.{AllLess, Rises, rises, true_of}
+use Rattle.wasi_report.specs.ReadBack.{HasRisingNames, IsRising}
+use Rattle.wasi_tree.specs.Given.{GivenContent, file, directory, link, content_given, given_entries, given_of}
+use Rattle.wasi_guests.specs.Joint.{content_renumbered, renumbered}
+
+names_less : (name : List ℕ) (es : List (List ℕ × ℕ)) → AllLess (slice_cmp nat_cmp) name es
+    → AllByRecursion (λ k. slice_cmp nat_cmp name k ≡ Less) (map (λ e. e.0) es)
+names_less name [] less = tt
+names_less name (e ∷ es) less = (less.0, names_less name es less.1)
+
+names_rise : (es : List (List ℕ × ℕ)) → Rises (slice_cmp nat_cmp) es → IsRising es
+unfolding IsStrictlySortedBy
+names_rise [] rise = tt
+names_rise (e ∷ es) rise = (names_less e.0 es rise.0, names_rise es rise.1)
+
+content_rises : (content : Content) → IsRising (given_entries (content_given content))
+content_rises (File bytes links) = names_rise [] tt
+content_rises (Directory names gone) =
+    names_rise (entries names) (rises (slice_cmp nat_cmp) (entries names) (true_of _ (entries_sorted names)))
+content_rises (Link text links) = names_rise [] tt
+
+-- as a node is told
+pub given_rises : (node : Node) → HasRisingNames (given_of node)
+given_rises node = content_rises node.content
+
+pub all_rise : (nodes : List Node) → All HasRisingNames (map given_of nodes)
+all_rise nodes = All-map HasRisingNames given_of nodes (λ k node within. given_rises (get_or nodes k node))
+
+names_same : (number : ℕ → ℕ) (es : List (List ℕ × ℕ)) → map (λ (e : List ℕ × ℕ). e.0) (map (λ e. (e.0, number e.1)) es) ≡ map (λ e. e.0) es
+names_same number [] = λ k. []
+names_same number (e ∷ es) = ap (λ l. e.0 ∷ l) (names_same number es)
+
+-- and with other numbers
+pub rises_again : (number : ℕ → ℕ) (content : GivenContent) → IsRising (given_entries content)
+    → IsRising (given_entries (content_renumbered number content))
+rises_again number (file bytes) rise = rise
+rises_again number (directory es) rise = subst (IsStrictlySortedBy (slice_cmp nat_cmp)) (sym (names_same number es)) rise
+rises_again number (link text) rise = rise
+
+pub joint_rises : (number : ℕ → ℕ) (node : Node) → HasRisingNames (renumbered number (given_of node))
+joint_rises number node = rises_again number (content_given node.content) (given_rises node)
