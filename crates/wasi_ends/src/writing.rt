@@ -3,6 +3,7 @@ ghost use Rattle.std.specs.Prelude.{◌≡◌, ◌≤◌, ◌++◌, IsTrue};
 ghost use Rattle.std.specs.Bool.{OnTrue, OnFalse};
 ghost use Rattle.wasi_host.specs.Meaning.{Risen};
 ghost use Rattle.wasi_ends.specs.Ends.{TookFront};
+ghost use Rattle.wasi_ends.specs.Endings.{Written};
 
 use crate::ends::Sink;
 
@@ -22,4 +23,13 @@ pub fn write_all<K: Sink>(sink: &mut K, text: &[u8]) -> bool
         }
     }
     true
+}
+
+/// Writes a text that is due under a status, piece after piece: that status where all of it was taken, else that of a fault.
+pub fn write_under<K: Sink, T: Copy>(sink: &mut K, text: &[u8], status: T, fault: T) -> T
+    ensures count { K.faults sink.old ≤ K.faults sink.new }
+    ensures written { Written fault (IsTrue K.told) (Risen (K.faults sink.old) (K.faults sink.new)) (K.taken sink.old)
+        (K.taken sink.new) text.now status result }
+{
+    if write_all(sink, text) { status } else { fault }
 }

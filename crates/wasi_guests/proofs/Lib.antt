@@ -6,6 +6,8 @@ pub mod JoinLemmas
 pub mod MadeLemmas
 pub mod PlaceLemmas
 pub mod RisingLemmas
+pub mod ScriptLemmas
 pub mod StepLemmas
+pub mod TopLemmas
 pub mod TurnLemmas
 pub mod WalkLemmas

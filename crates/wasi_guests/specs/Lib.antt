@@ -6,3 +6,6 @@ pub mod Insides
 pub mod Joint
 pub mod Holders
 pub mod Walk
+pub mod GuestScript
+pub mod Status
+pub mod GuestsDue

@@ -1,12 +1,16 @@
-//! Several guests in turns over one tree in memory, each below directories of its own.
+//! Several guests in turns over one tree in memory, each below directories of its own; and a run of them from bytes to bytes,
+//! on which the program `wasiguests` stands.
 #![tactic(auto)]
 
 mod guest_run;
+mod guest_script;
 mod holders;
 mod insides;
 mod laws;
 mod plan;
 mod run;
+mod status;
+mod top;
 mod turns;
 mod walk;
 
@@ -14,3 +18,5 @@ pub use insides::lowest_shared;
 pub use laws::schedules_agree;
 pub use plan::{GuestEnd, GuestPlan, GuestPreopen, GuestsError, GuestsOutcome};
 pub use run::run_guests;
+pub use status::{GuestRefusal, GuestStatus};
+pub use top::run_guest_script;

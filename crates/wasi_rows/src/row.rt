@@ -1,9 +1,10 @@
 //! One row: its script is run, and what comes is held against what the row says.
-use crate::line::{Asked, Wanted};
+use crate::line::{Asked, Program, Wanted};
 use crate::repeats::expanded;
 use std::alloc::{AllocError, Global};
 use wasi_ends::{BytesSink, BytesSource, write_all};
 use wasi_form::{Refusal, ScriptError};
+use wasi_guests::run_guest_script;
 use wasi_script::run_script;
 
 // The sink takes so many bytes; the longest report has a few more than 33,554,432.
@@ -58,8 +59,17 @@ fn words_of(alloc: Global, word: &str) -> Result<Vec<String>, AllocError> {
 }
 
 // The exit status of a run.
-fn ended(alloc: Global, words: &Vec<String>, source: &mut BytesSource, sink: &mut BytesSink) -> u8 {
-    run_script(alloc, words, source, sink).exit_code()
+fn ended(
+    alloc: Global,
+    program: Program,
+    words: &Vec<String>,
+    source: &mut BytesSource,
+    sink: &mut BytesSink,
+) -> u8 {
+    match program {
+        Program::Wasirun => run_script(alloc, words, source, sink).exit_code(),
+        Program::Wasiguests => run_guest_script(alloc, words, source, sink).exit_code(),
+    }
 }
 
 fn source_of(alloc: Global, asked: Asked<'_>) -> Result<BytesSource, AllocError> {
@@ -77,7 +87,7 @@ fn sink_of(alloc: Global, word: &str) -> Result<BytesSink, AllocError> {
 fn run_into(alloc: Global, asked: Asked<'_>, sink: &mut BytesSink) -> Result<u8, AllocError> {
     let words = words_of(alloc, asked.word)?;
     let mut source = source_of(alloc, asked)?;
-    Ok(ended(alloc, &words, &mut source, sink))
+    Ok(ended(alloc, asked.program, &words, &mut source, sink))
 }
 
 // Writes the text of the error of this name into a sink, as a line: the exit status, 0 where it was taken.
@@ -151,11 +161,13 @@ fn difference_of(
 // How the first run ended otherwise than the row says, of each text that a script begins with, and that is shorter.
 fn cut_difference(
     alloc: Global,
-    script: &str,
+    asked: Asked<'_>,
     wanted: Wanted<'_>,
 ) -> Result<Option<String>, AllocError> {
+    let script = asked.script;
     for (end, _) in script.char_indices() {
         let cut = Asked {
+            program: asked.program,
             word: "run",
             script: script.get(..end).unwrap_or(script),
         };
@@ -174,7 +186,7 @@ pub fn difference(
     wanted: Wanted<'_>,
 ) -> Result<Option<String>, AllocError> {
     if asked.word == "cut" {
-        cut_difference(alloc, asked.script, wanted)
+        cut_difference(alloc, asked, wanted)
     } else {
         difference_of(alloc, asked, wanted)
     }

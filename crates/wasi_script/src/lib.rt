@@ -12,4 +12,5 @@ mod words;
 
 pub use status::Status;
 pub use top::run_script;
-pub use words::{ScriptTask, Task, task_of, words_after_name};
+pub use wasi_ends::words_after_name;
+pub use words::{ScriptTask, Task, task_of};

@@ -1,28 +1,9 @@
 //! The words of the command line.
-ghost use Rattle.std.specs.Prelude.{◌≡◌, ◌<◌, ◌≤◌, drop, map, IfOk, IfSome};
+ghost use Rattle.std.specs.Prelude.{◌≡◌, ◌<◌, ◌≤◌, map, IfSome};
 ghost use Rattle.std.specs.Char.{is_ascii_digit};
 ghost use Rattle.std.specs.List.{list_all};
 ghost use Rattle.std.specs.String.{string_bytes};
-ghost use Rattle.std.specs.Vec.Iter.{into_iter_items};
 ghost use Rattle.wasi_script.specs.Words as specs;
-
-use std::alloc::{AllocError, Global};
-use std::env::Args;
-
-/// The words after the program's name, in order.
-pub fn words_after_name(alloc: Global, args: Args) -> Result<Vec<String>, AllocError>
-    ensures words { IfOk result (λ words. words.items ≡ drop 1 (into_iter_items args)) }
-{
-    let mut left = args;
-    let mut words = Vec::new(alloc);
-    if left.next().is_none() {
-        return Ok(words);
-    }
-    while let Some(word) = left.next() {
-        words.push(word)?;
-    }
-    Ok(words)
-}
 
 /// What is written of a script that is read and run.
 #[derive(Clone, Copy, Debug, PartialEq, Eq)]
