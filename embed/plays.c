@@ -1,5 +1,5 @@
 // A program that plays a guest: it calls the functions of wasi.h on a memory of its own, and holds what they answer
-// against docs/SCRIPT.md and docs/EMBEDDING.md. It writes a line for each that differs, and at the end whether
+// against docs/calls.md and docs/embedding.md. It writes a line for each that differs, and at the end whether
 // all agree.
 #include <stdio.h>
 #include <stdlib.h>

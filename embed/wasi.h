@@ -1,11 +1,11 @@
 /// The calls of `wasi_snapshot_preview1` over a tree of files in memory, for an engine of WebAssembly. Plain C99.
 ///
-/// A sandbox is begun by the text of a script (docs/SCRIPT.md) that has no calls, no memory and no ranges of it to be
+/// A sandbox is begun by the text of a script (docs/scripts.md) that has no calls, no memory and no ranges of it to be
 /// shown. Each call of a guest is then one function, with the parameters of preview1's C interface behind three of the
 /// engine's: the sandbox, and the guest's memory as a pointer and a length, which is lent for the call and never
 /// copied. Results are written into it at the addresses that the guest gave. Sizes, offsets, positions and lengths are
 /// in bytes, but `iovs_len` and `count`, which are in records; times are in nanoseconds. What is proved of this, and
-/// what the caller owes, stands in docs/EMBEDDING.md.
+/// what the caller owes, stands in docs/embedding.md.
 #ifndef WASI_EMBED_H
 #define WASI_EMBED_H
 
@@ -162,7 +162,7 @@ static inline uint32_t wasi_quota_used(wasi_sandbox *sandbox, uint64_t *nodes, u
 
 uint32_t wasi_c_report(wasi_sandbox *sandbox, wasi_sandbox empty, uint8_t *text, size_t room, size_t *len);
 
-/// The report of the sandbox as it stands (docs/SCRIPT.md), with no answers and no memory: 0, the text in front of
+/// The report of the sandbox as it stands (docs/scripts.md), with no answers and no memory: 0, the text in front of
 /// the room, and its length; or WASI_SHORT, and the length alone; or WASI_NO_MEMORY or WASI_EMPTY, and neither. Any
 /// room of 0 bytes tells the length first; its pointer isn't null.
 static inline uint32_t wasi_report(wasi_sandbox *sandbox, uint8_t *text, size_t room, size_t *len) {

@@ -8,7 +8,7 @@
 //     const report = JSON.parse(sandbox.report());
 //     sandbox.end();
 //
-// `./build` makes the addon that this stands on, of addon.c. docs/EMBEDDING.md says what is proved, and what isn't.
+// `./build` makes the addon that this stands on, of addon.c. docs/embedding.md says what is proved, and what isn't.
 
 const native = require("./out/wasi.node");
 
@@ -169,7 +169,7 @@ class Sandbox {
 
   /**
    * The numbers of the nodes that calls have worked on, rising, as the report numbers them; a read or a look works on
-   * none (docs/SCRIPT.md, "A trial"). `null` of a sandbox over no base.
+   * none (docs/scripts.md, "A trial"). `null` of a sandbox over no base.
    */
   kept() {
     this.#check();

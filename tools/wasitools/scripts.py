@@ -1,7 +1,7 @@
 """Scripts, reports, audits and trials as they are read from files: their shape is checked, and a fault is a `Mistake`
 of one line.
 
-What is said here of a script is what docs/SCRIPT.md says; whether its nodes are a tree is left to the program.
+What is said here of a script is what docs/scripts.md says; whether its nodes are a tree is left to the program.
 """
 
 from __future__ import annotations

@@ -6,7 +6,7 @@ use Rattle.std.specs.Ordering.{nat_cmp}
 use Rattle.wasi_guest.specs.declared.answer.Value.{Value}
 use Rattle.wasi_guest.specs.declared.call.Call.{Call}
 use Rattle.wasi_turns.specs.declared.error.P1Error.{P1Error}
-use Rattle.wasi_results.specs.declared.shape.Places.{Places}
+use Rattle.wasi_embed.specs.declared.shape.Places.{Places}
 use Rattle.wasi_tree.specs.MemState.{MemState}
 use Rattle.wasi_overlay.specs.Overlay.{IsFreshOn}
 use Rattle.wasi_embed.specs.Any.{one_of, Becomes}

@@ -1,5 +1,5 @@
 //! The calls of a sandbox for C, and for each program that calls C's functions. `embed/wasi.h` declares them, and
-//! `docs/EMBEDDING.md` says what a caller owes.
+//! `docs/embedding.md` says what a caller owes.
 //!
 //! Each of these functions takes a `Global`, by which an export of the kit says that C's `malloc` and `free` may be
 //! called: it has no bytes, and C hands in nothing for it. The functions that begin, tell and commit use theirs; in the

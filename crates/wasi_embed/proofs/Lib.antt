@@ -1,2 +1,2 @@
-mod Starts
 mod Calls
+mod Starts

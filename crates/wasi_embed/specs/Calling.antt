@@ -17,8 +17,8 @@ use Rattle.wasi_turns.specs.Slots.{View}
 use Rattle.wasi_turns.specs.Unchanged.{LeavesAll}
 use Rattle.wasi_turns.specs.declared.error.P1Error.{P1Error}
 use Rattle.wasi_turns.specs.declared.error.P1Error.TheVariants.{Memory, Trap}
-use Rattle.wasi_results.specs.Shapes.{has_room, shape_of, with_answer}
-use Rattle.wasi_results.specs.declared.shape.Places.{Places}
+use Rattle.wasi_embed.specs.Shapes.{has_room, shape_of, with_answer}
+use Rattle.wasi_embed.specs.declared.shape.Places.{Places}
 use Rattle.wasi_tree.specs.MemState.{MemState, live_of, world_of}
 use Rattle.wasi_embed.specs.declared.sandbox.Sandbox.{Sandbox}
 

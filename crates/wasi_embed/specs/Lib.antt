@@ -1,4 +1,6 @@
-pub mod Starting
-pub mod Calling
-pub mod Telling
 pub mod Any
+pub mod Calling
+pub mod Records
+pub mod Shapes
+pub mod Starting
+pub mod Telling

@@ -7,11 +7,11 @@ ghost use Rattle.wasi_overlay.specs.Overlay.{IsFreshOn};
 ghost use Rattle.wasi_turns.specs.Quotas.{IsWithinQuota};
 
 use crate::sandbox::Sandbox;
+use crate::shape::Places;
 use std::alloc::{AllocError, Global};
 use wasi_guest::QuotaUsed;
 use wasi_overlay::Overlay;
 use wasi_p1::{Call, P1Error, Value};
-use wasi_results::Places;
 use wasi_tree::MemTree;
 
 /// A sandbox that stands alone, over a tree of its own, or over a tree that stays for as long as the program runs: for a

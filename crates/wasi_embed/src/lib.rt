@@ -6,18 +6,21 @@
 mod any;
 mod base;
 mod error;
+mod records;
 mod sandbox;
+mod shape;
 mod starting;
 mod tree;
 
 pub use any::AnySandbox;
 pub use base::Base;
 pub use error::StartError;
+pub use records::{fdstat_bytes, filestat_bytes, prestat_bytes};
 pub use sandbox::Sandbox;
+pub use shape::{Places, Shape};
 pub use starting::{start, start_over};
 pub use tree::SandboxTree;
 pub use wasi_guest::QuotaUsed;
 pub use wasi_overlay::Overlay;
 pub use wasi_p1::{Call, Errno, P1Error, TrapKind, Value};
-pub use wasi_results::{Places, Shape};
 pub use wasi_tree::MemTree;

@@ -1,5 +1,5 @@
 //! A context over a tree, whose guest's memory is lent for each call.
-ghost use Rattle.std.specs.Prelude.{◌≡◌, true, length, All, IfOk};
+ghost use Rattle.std.specs.Prelude.{◌≡◌, true, All, IfOk};
 ghost use Rattle.std.specs.FinSet.{contains, from_list};
 ghost use Rattle.std.specs.List.Sorted.{IsStrictlySortedBy};
 ghost use Rattle.std.specs.Ordering.{nat_cmp};
@@ -8,15 +8,15 @@ ghost use Rattle.wasi_embed.specs.Telling.{Tells};
 ghost use Rattle.wasi_overlay.specs.Overlay.{IsFreshOn};
 ghost use Rattle.wasi_turns.specs.Quotas.{IsWithinQuota};
 
+use crate::shape::{Places, Shape};
 use crate::tree::SandboxTree;
 use std::alloc::{AllocError, Global};
 use wasi_faults::FailAt;
 use wasi_guest::{Answers, QuotaUsed};
 use wasi_host::Host;
 use wasi_overlay::Overlay;
-use wasi_p1::{Call, P1Error, TrapKind, Value, WasiP1Ctx, call};
+use wasi_p1::{Call, P1Error, P1State, TrapKind, Value, WasiP1Ctx, call};
 use wasi_report::Outcome;
-use wasi_results::{Places, Shape};
 use wasi_tree::MemTree;
 
 /// The calls of one guest over a tree: one in memory, which is the sandbox's own, or an overlay over a tree that stays. The
@@ -40,19 +40,19 @@ fn count_answer(answered: u64, outcome: Result<Value, P1Error>) -> u64
 }
 
 impl<T: SandboxTree> Sandbox<T> {
-    /// A sandbox of a context in which nothing was called yet.
-    pub(crate) fn of_context(context: WasiP1Ctx<FailAt<T>>, fuel: u64) -> Sandbox<T>
-        ensures { result ≡ record { context = context; fuel = fuel; answered = 0 } }
+    /// A sandbox of a guest's state in which nothing was called yet.
+    pub(crate) fn of_state(state: P1State<FailAt<T>>, fuel: u64) -> Sandbox<T>
+        ensures { result ≡ record { context = state; fuel = fuel; answered = 0 } }
     {
         Sandbox {
-            context,
+            context: WasiP1Ctx::of(state),
             fuel,
             answered: 0,
         }
     }
 
     /// One call on the memory that is lent, by the row of its name: the arguments are raw numbers, in the order of
-    /// `wasi_snapshot_preview1`, and `docs/SCRIPT.md` says what each call refuses and answers. A refusal or a trap leaves
+    /// `wasi_snapshot_preview1`, and `docs/calls.md` says what each call refuses and answers. A refusal or a trap leaves
     /// what is the guest's own.
     pub fn call(&mut self, memory: &mut [u8], request: Call) -> Result<Value, P1Error>
         ensures called { Called T.seen self.old self.new memory.old memory.new request result }

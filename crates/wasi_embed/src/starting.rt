@@ -29,7 +29,7 @@ fn has_no_guest(session: &Session) -> bool
 }
 
 /// A sandbox that stands as a script begins: over the tree of its nodes, with its preopens, all that its guest is handed
-/// in, its quotas, its table and its fuel, and with its faults to come. `docs/SCRIPT.md` says what a script is; this one
+/// in, its quotas, its table and its fuel, and with its faults to come. `docs/scripts.md` says what a script is; this one
 /// has no calls, no memory and nothing to be shown.
 pub fn start(alloc: Global, text: &[u8]) -> Result<Sandbox<MemTree>, StartError>
     ensures starts { StartsBy (λ m. m) text.now result }
@@ -39,7 +39,7 @@ pub fn start(alloc: Global, text: &[u8]) -> Result<Sandbox<MemTree>, StartError>
         return Err(StartError::Guest);
     }
     let begun = begin(alloc, script)?;
-    Ok(Sandbox::of_context(begun.context, begun.fuel))
+    Ok(Sandbox::of_state(begun.context, begun.fuel))
 }
 
 fn has_no_tree(draft: &Draft) -> bool
@@ -109,5 +109,5 @@ pub fn start_over<'a>(
 {
     let session = session_over(alloc, base, text)?;
     let begun = begin_over(alloc, Overlay::new(alloc, base), session)?;
-    Ok(Sandbox::of_context(begun.context, begun.fuel))
+    Ok(Sandbox::of_state(begun.context, begun.fuel))
 }

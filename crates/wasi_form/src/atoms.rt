@@ -15,7 +15,6 @@ use crate::tokens::{number, pass_after};
 use json::{Reader, Token};
 use serde_json::Number;
 use smallvec::SmallVec;
-use std::alloc::Global;
 
 /// An item of a list: a number, a text, or any other value, which was passed.
 #[derive(Clone, Copy, Default)]

@@ -1,6 +1,5 @@
 //! Several guests that run in turns over one tree, read one after another.
 ghost use Rattle.std.specs.Prelude.{◌≡◌, option_map};
-ghost use Rattle.std.specs.List.{list_all};
 ghost use Rattle.wasi_form.specs.FoundGuests.{guests_found_of};
 ghost use Rattle.wasi_form.specs.GuestsForm as specs;
 ghost use Rattle.wasi_form.specs.Lists.{names, same};

@@ -1,5 +1,5 @@
 -- Which quotas there are.
-use Rattle.std.specs.Prelude.{ℕ, ◌^◌, ◌≤◌, Option, None, IfSome}
+use Rattle.std.specs.Prelude.{◌^◌, ◌≤◌, None, IfSome}
 use Rattle.wasi_guest.specs.declared.quota.Quota.{Quota}
 use Rattle.wasi_guest.specs.declared.quota.QuotaUsed.{QuotaUsed}
 

@@ -3,26 +3,15 @@ use Rattle.std.proofs.Common.{ℕ, ◌≡◌, List, [], ◌∷◌, map, ap, sym,
 use Rattle.std.specs.Prelude.{All}
 use Rattle.std.specs.Cmp.Lexicographic.{slice_cmp}
 use Rattle.std.specs.FinMap.{entries, entries_sorted}
-use Rattle.std.specs.List.{AllByRecursion}
 use Rattle.std.specs.List.Sorted.{IsStrictlySortedBy}
 use Rattle.std.specs.Ordering.{nat_cmp}
-use Rattle.std.specs.declared.cmp.Ordering.TheVariants.{Less}
 use Rattle.std.proofs.lemmas.List.Elements.{All-map}
 use Rattle.wasi_host.specs.Tree.{Node, Content, File, Directory, Link}
-use Rattle.wasi_names.proofs.EntryLemmas.{AllLess, Rises, rises, true_of}
+use Rattle.wasi_names.proofs.EntryLemmas.{rises, true_of}
+use Rattle.wasi_names.proofs.RunLemmas.{names_rise}
 use Rattle.wasi_report.specs.ReadBack.{HasRisingNames, IsRising}
 use Rattle.wasi_tree.specs.Given.{GivenContent, file, directory, link, content_given, given_entries, given_of}
 use Rattle.wasi_guests.specs.Joint.{content_renumbered, renumbered}
-
-names_less : (name : List ℕ) (es : List (List ℕ × ℕ)) → AllLess (slice_cmp nat_cmp) name es
-    → AllByRecursion (λ k. slice_cmp nat_cmp name k ≡ Less) (map (λ e. e.0) es)
-names_less name [] less = tt
-names_less name (e ∷ es) less = (less.0, names_less name es less.1)
-
-names_rise : (es : List (List ℕ × ℕ)) → Rises (slice_cmp nat_cmp) es → IsRising es
-unfolding IsStrictlySortedBy
-names_rise [] rise = tt
-names_rise (e ∷ es) rise = (names_less e.0 es rise.0, names_rise es rise.1)
 
 content_rises : (content : Content) → IsRising (given_entries (content_given content))
 content_rises (File bytes links) = names_rise [] tt

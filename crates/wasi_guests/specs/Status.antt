@@ -34,15 +34,15 @@ extent NoMemory = none_of_it
 
 -- why guests can't be run, and which document says more
 abbrev pub why_refused : GuestRefusal → List ℕ
-why_refused Long = codes "wasiguests: the script has more than 16,777,216 bytes; docs/SCRIPT.md says what a script is"
-why_refused Json = codes "wasiguests: the script isn't JSON; docs/SCRIPT.md says what a script is"
+why_refused Long = codes "wasiguests: the script has more than 16,777,216 bytes; docs/scripts.md says what a script is"
+why_refused Json = codes "wasiguests: the script isn't JSON; docs/scripts.md says what a script is"
 why_refused Shape =
-    codes "wasiguests: the script is JSON, and isn't of a script of guests; docs/SCRIPT.md says what one is"
-why_refused Tree = codes "wasiguests: the nodes of the script are no tree; docs/SCRIPT.md says what a tree is"
-why_refused Limit = codes "wasiguests: the script passes a limit; docs/SCRIPT.md says which there are"
-why_refused Overlap = codes "wasiguests: a node lies inside two guests; docs/SCRIPT.md says what lies inside a guest"
+    codes "wasiguests: the script is JSON, and isn't of the shape of a script of guests; docs/scripts.md says what one is"
+why_refused Tree = codes "wasiguests: the nodes of the script are no tree; docs/scripts.md says what a tree is"
+why_refused Limit = codes "wasiguests: the script passes a limit; docs/scripts.md says which there are"
+why_refused Overlap = codes "wasiguests: a node lies inside two guests; docs/scripts.md says what lies inside a guest"
 why_refused Room =
-    codes "wasiguests: the turns may make more nodes than the tree has room for; docs/SCRIPT.md says what limits are"
+    codes "wasiguests: the turns may make more nodes than the tree has room for; docs/scripts.md says what limits are"
 
 -- the line for a person
 abbrev pub message_of : GuestStatus → Option (List ℕ)

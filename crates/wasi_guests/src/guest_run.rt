@@ -1,7 +1,7 @@
 //! A guest between its turns.
-ghost use Rattle.std.specs.Prelude.{◌≡◌, ◌+◌, ◌++◌, ◌∷◌, ◌<◌, ◌≤◌, [], length, map, suc, if◌then◌else◌, IfOk, OnOk};
-ghost use Rattle.wasi_host.specs.Tree.{next_of, node_at};
-ghost use Rattle.wasi_tree.specs.Given.{given, given_content, given_of, pair_of};
+ghost use Rattle.std.specs.Prelude.{◌≡◌, ◌+◌, ◌++◌, ◌∷◌, ◌<◌, [], length, map, suc, if◌then◌else◌, IfOk, OnOk};
+ghost use Rattle.wasi_host.specs.Tree.{next_of};
+ghost use Rattle.wasi_tree.specs.Given.{given, given_content, pair_of};
 ghost use Rattle.wasi_report.specs.ReadBack.{HasRisingNames};
 ghost use Rattle.wasi_turns.specs.Run.{ends};
 ghost use Rattle.wasi_guests.specs.Alone.{ended};
@@ -52,7 +52,7 @@ impl<'a> GuestRun<'a> {
             plan.table,
         )?;
         Ok(GuestRun {
-            context,
+            context: WasiP1Ctx::of(context),
             memory: plan.memory,
             fuel: plan.fuel,
             next: 0,

@@ -1,5 +1,5 @@
 //! Several guests in turns over one tree.
-ghost use Rattle.std.specs.Prelude.{◌≡◌, ◌+◌, ◌<◌, ◌≤◌, ◌↔◌, ◌^◌, [], length, map, All, IfOk, IsTrue, None, OnOk};
+ghost use Rattle.std.specs.Prelude.{◌≡◌, ◌+◌, ◌<◌, ◌≤◌, ◌↔◌, length, map, All, IfOk, IsTrue, None, OnOk};
 ghost use Rattle.wasi_host.specs.Tree.{next_of};
 ghost use Rattle.wasi_tree.specs.Given.{given};
 ghost use Rattle.wasi_report.specs.ReadBack.{HasRisingNames};

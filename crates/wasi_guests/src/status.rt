@@ -85,25 +85,25 @@ fn why_refused(refusal: GuestRefusal) -> &'static str
 {
     match refusal {
         GuestRefusal::Long => {
-            "wasiguests: the script has more than 16,777,216 bytes; docs/SCRIPT.md says what a script is"
+            "wasiguests: the script has more than 16,777,216 bytes; docs/scripts.md says what a script is"
         }
         GuestRefusal::Json => {
-            "wasiguests: the script isn't JSON; docs/SCRIPT.md says what a script is"
+            "wasiguests: the script isn't JSON; docs/scripts.md says what a script is"
         }
         GuestRefusal::Shape => {
-            "wasiguests: the script is JSON, and isn't of a script of guests; docs/SCRIPT.md says what one is"
+            "wasiguests: the script is JSON, and isn't of the shape of a script of guests; docs/scripts.md says what one is"
         }
         GuestRefusal::Tree => {
-            "wasiguests: the nodes of the script are no tree; docs/SCRIPT.md says what a tree is"
+            "wasiguests: the nodes of the script are no tree; docs/scripts.md says what a tree is"
         }
         GuestRefusal::Limit => {
-            "wasiguests: the script passes a limit; docs/SCRIPT.md says which there are"
+            "wasiguests: the script passes a limit; docs/scripts.md says which there are"
         }
         GuestRefusal::Overlap => {
-            "wasiguests: a node lies inside two guests; docs/SCRIPT.md says what lies inside a guest"
+            "wasiguests: a node lies inside two guests; docs/scripts.md says what lies inside a guest"
         }
         GuestRefusal::Room => {
-            "wasiguests: the turns may make more nodes than the tree has room for; docs/SCRIPT.md says what limits are"
+            "wasiguests: the turns may make more nodes than the tree has room for; docs/scripts.md says what limits are"
         }
     }
 }

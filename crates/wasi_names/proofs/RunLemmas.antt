@@ -191,7 +191,7 @@ names_less : (name : List ℕ) (es : List (List ℕ × ℕ)) → AllLess (slice_
 names_less name [] h = tt
 names_less name (e ∷ es) h = (h.0, names_less name es h.1)
 
-names_rise : (es : List (List ℕ × ℕ)) → Rises (slice_cmp nat_cmp) es
+pub names_rise : (es : List (List ℕ × ℕ)) → Rises (slice_cmp nat_cmp) es
     → IsStrictlySortedBy (slice_cmp nat_cmp) (map (λ e. e.0) es)
 unfolding IsStrictlySortedBy
 names_rise [] h = tt

@@ -1,6 +1,6 @@
 //! Rows in blocks: each has room for as many rows as a block may have, so what is put or taken moves the rows of one
 //! block alone, but where a name is renamed and there is no room for a block more.
-ghost use Rattle.std.specs.Prelude.{◌≡◌, ℕ, ◌+◌, ◌<◌, ◌≤◌, [], ◌∷◌, ◌++◌, slice_index_or, suc, is_some, Some, None, IfSome, MatchOption, true, false, map, length, take, drop, not, All, IsTrue, if◌then◌else◌};
+ghost use Rattle.std.specs.Prelude.{◌≡◌, ℕ, ◌+◌, ◌<◌, ◌≤◌, [], ◌∷◌, ◌++◌, is_some, Some, None, IfSome, MatchOption, true, false, map, length, take, drop, not, All, IsTrue, if◌then◌else◌};
 ghost use Rattle.std.specs.List.{insert, remove};
 ghost use Rattle.std.specs.Vec.{vec_len, vec_capacity};
 ghost use Rattle.std.specs.Ordering.{eq_by_cmp};

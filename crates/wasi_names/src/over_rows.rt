@@ -1,5 +1,5 @@
 //! Names that were put or taken, over rows that stay.
-ghost use Rattle.std.specs.Prelude.{◌≡◌, ℕ, ◌<◌, ◌-◌, ◌^◌, OnErr, OnOk, IfOk, Some, is_some, true, nat_eq};
+ghost use Rattle.std.specs.Prelude.{◌≡◌, ◌<◌, ◌-◌, ◌^◌, OnErr, OnOk, IfOk, Some, is_some, true, nat_eq};
 ghost use Rattle.std.specs.FinMap as maps;
 ghost use Rattle.wasi_names.specs.NameRows.{AllNames, Key, names_at};
 ghost use Rattle.wasi_names.specs.OverNames.{overlaid, found_over, IsChanged};

@@ -1,109 +1,30 @@
-//! The calls of `wasi_snapshot_preview1` over any host: the context of a guest, a function for each call, and runs of
+//! The calls of `wasi_snapshot_preview1` over any host: the context of a guest with a method for each call, and runs of
 //! them.
 #![tactic(auto)]
 
+mod ctx;
+mod env_calls;
+mod fd_calls;
+mod file_calls;
 mod naming;
+mod path_calls;
 mod run;
 
+pub use ctx::WasiP1Ctx;
 pub use naming::named;
-pub use run::answer_of;
-pub use run::call;
-pub use run::ends_run;
-pub use run::run_calls;
+pub use run::{answer_of, call, ends_run, run_calls};
 pub use wasi_fs::FsPerms;
-pub use wasi_guest::Answer;
-pub use wasi_guest::Answers;
-pub use wasi_guest::Call;
-pub use wasi_guest::EnvPair;
-pub use wasi_guest::Errno;
-pub use wasi_guest::GuestMemory;
-pub use wasi_guest::Quota;
-pub use wasi_guest::QuotaUsed;
-pub use wasi_guest::Services;
-pub use wasi_guest::TrapKind;
-pub use wasi_guest::Value;
-pub use wasi_guest::WallDatetime;
-pub use wasi_p1_context::CtxRefused;
-pub use wasi_p1_context::Ended;
-pub use wasi_p1_context::FUEL;
-pub use wasi_p1_context::WasiP1Ctx;
-pub use wasi_p1_descriptors::fd_close;
-pub use wasi_p1_descriptors::fd_fdstat_get;
-pub use wasi_p1_descriptors::fd_fdstat_set_flags;
-pub use wasi_p1_descriptors::fd_fdstat_set_rights;
-pub use wasi_p1_descriptors::fd_filestat_get;
-pub use wasi_p1_descriptors::fd_filestat_set_times;
-pub use wasi_p1_descriptors::fd_prestat_dir_name;
-pub use wasi_p1_descriptors::fd_prestat_get;
-pub use wasi_p1_descriptors::fd_readdir;
-pub use wasi_p1_descriptors::fd_renumber;
-pub use wasi_p1_files::fd_advise;
-pub use wasi_p1_files::fd_allocate;
-pub use wasi_p1_files::fd_datasync;
-pub use wasi_p1_files::fd_filestat_set_size;
-pub use wasi_p1_files::fd_pread;
-pub use wasi_p1_files::fd_pwrite;
-pub use wasi_p1_files::fd_read;
-pub use wasi_p1_files::fd_seek;
-pub use wasi_p1_files::fd_sync;
-pub use wasi_p1_files::fd_tell;
-pub use wasi_p1_files::fd_write;
-pub use wasi_p1_paths::path_create_directory;
-pub use wasi_p1_paths::path_filestat_get;
-pub use wasi_p1_paths::path_filestat_set_times;
-pub use wasi_p1_paths::path_link;
-pub use wasi_p1_paths::path_open;
-pub use wasi_p1_paths::path_readlink;
-pub use wasi_p1_paths::path_remove_directory;
-pub use wasi_p1_paths::path_rename;
-pub use wasi_p1_paths::path_symlink;
-pub use wasi_p1_paths::path_unlink_file;
-pub use wasi_p1_services::args_get;
-pub use wasi_p1_services::args_sizes_get;
-pub use wasi_p1_services::clock_res_get;
-pub use wasi_p1_services::clock_time_get;
-pub use wasi_p1_services::environ_get;
-pub use wasi_p1_services::environ_sizes_get;
-pub use wasi_p1_services::poll_oneoff;
-pub use wasi_p1_services::proc_exit;
-pub use wasi_p1_services::proc_raise;
-pub use wasi_p1_services::random_get;
-pub use wasi_p1_services::sched_yield;
-pub use wasi_p1_services::sock_accept;
-pub use wasi_p1_services::sock_recv;
-pub use wasi_p1_services::sock_send;
-pub use wasi_p1_services::sock_shutdown;
-pub use wasi_turns::CtxError;
-pub use wasi_turns::DirectorySlot;
-pub use wasi_turns::FileModes;
-pub use wasi_turns::FileSlot;
-pub use wasi_turns::Holdings;
-pub use wasi_turns::Output;
-pub use wasi_turns::Outputs;
-pub use wasi_turns::P1Error;
-pub use wasi_turns::P1Preopen;
-pub use wasi_turns::RunError;
-pub use wasi_turns::Slot;
-pub use wasi_turns::Stream;
-pub use wasi_turns::append_only_runs_keep;
-pub use wasi_turns::append_only_turns_add;
-pub use wasi_turns::bytes_put_are_got;
-pub use wasi_turns::descriptor_numbers;
-pub use wasi_turns::live_handles_stay;
-pub use wasi_turns::methods_are_complete;
-pub use wasi_turns::other_errors_never_come;
-pub use wasi_turns::pages_list_each_entry_once;
-pub use wasi_turns::permissions_stem;
-pub use wasi_turns::positions;
-pub use wasi_turns::quotas_are_counted;
-pub use wasi_turns::read_only_runs_leave_the_tree;
-pub use wasi_turns::read_only_turns_leave_the_tree;
-pub use wasi_turns::records_and_pages_have_lengths;
-pub use wasi_turns::runs_agree;
-pub use wasi_turns::runs_are_functions;
-pub use wasi_turns::runs_stay_valid;
-pub use wasi_turns::runs_stay_within_quotas;
-pub use wasi_turns::turns_agree;
-pub use wasi_turns::turns_are_confined;
-pub use wasi_turns::valid_calls_are_answered;
-pub use wasi_turns::writes_are_whole;
+pub use wasi_guest::{
+    Answer, Answers, Call, EnvPair, Errno, GuestMemory, Quota, QuotaUsed, Services, TrapKind,
+    Value, WallDatetime,
+};
+pub use wasi_p1_context::{CtxRefused, Ended, FUEL, P1State};
+pub use wasi_turns::{
+    CtxError, DirectorySlot, FileModes, FileSlot, Holdings, Output, Outputs, P1Error, P1Preopen,
+    RunError, Slot, Stream, append_only_runs_keep, append_only_turns_add, bytes_put_are_got,
+    descriptor_numbers, live_handles_stay, methods_are_complete, other_errors_never_come,
+    pages_list_each_entry_once, permissions_stem, positions, quotas_are_counted,
+    read_only_runs_leave_the_tree, read_only_turns_leave_the_tree, records_and_pages_have_lengths,
+    runs_agree, runs_are_functions, runs_stay_valid, runs_stay_within_quotas, turns_agree,
+    turns_are_confined, valid_calls_are_answered, writes_are_whole,
+};

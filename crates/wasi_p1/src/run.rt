@@ -20,27 +20,10 @@ ghost use Rattle.wasi_turns.specs.QuotaLaws.{WritesAsOpened};
 ghost use Rattle.wasi_p1.specs.RunQuotas.{KeepsToQuotas, KeptToQuotas};
 ghost use Rattle.wasi_turns.specs.Validity.{IsValidState};
 
+use crate::ctx::WasiP1Ctx;
 use std::alloc::Global;
 use wasi_guest::{Answer, Answers, Call, Value};
 use wasi_host::Host;
-use wasi_p1_context::WasiP1Ctx;
-use wasi_p1_descriptors::{
-    fd_close, fd_fdstat_get, fd_fdstat_set_flags, fd_fdstat_set_rights, fd_filestat_get,
-    fd_filestat_set_times, fd_prestat_dir_name, fd_prestat_get, fd_readdir, fd_renumber,
-};
-use wasi_p1_files::{
-    fd_advise, fd_allocate, fd_datasync, fd_filestat_set_size, fd_pread, fd_pwrite, fd_read,
-    fd_seek, fd_sync, fd_tell, fd_write,
-};
-use wasi_p1_paths::{
-    path_create_directory, path_filestat_get, path_filestat_set_times, path_link, path_open,
-    path_readlink, path_remove_directory, path_rename, path_symlink, path_unlink_file,
-};
-use wasi_p1_services::{
-    args_get, args_sizes_get, clock_res_get, clock_time_get, environ_get, environ_sizes_get,
-    poll_oneoff, proc_exit, proc_raise, random_get, sched_yield, sock_accept, sock_recv, sock_send,
-    sock_shutdown,
-};
 use wasi_turns::{P1Error, RunError};
 
 /// The answer of a call; want of memory is none.
@@ -63,7 +46,7 @@ pub fn ends_run(answer: Answer) -> bool
     matches!(answer, Answer::Trap(_) | Answer::Exit(_))
 }
 
-/// One call of the context, by the function of its name, with its arguments in the order of `wasi_snapshot_preview1`.
+/// One call of the context, by the method of its name, with its arguments in the order of `wasi_snapshot_preview1`.
 /// Where it is valid, so that its row answers it, it is answered, unless memory was wanted or the host failed. No error
 /// number is answered that `may_be_answered` doesn't list. A trap, want of memory and every error number but `io` leave all
 /// as before: the descriptors, the guest's memory, its outputs, what it has left of its input, the clocks, the place in the
@@ -98,7 +81,7 @@ pub fn call<H: Host>(
     by_name(context, memory, call)
 }
 
-/// The function of a call's name.
+/// The method of a call's name.
 fn by_name<H: Host>(
     context: &mut WasiP1Ctx<H>,
     memory: &mut [u8],
@@ -108,76 +91,76 @@ fn by_name<H: Host>(
     ensures turn { DoesItsRow H.Host context.old context.new memory.old memory.new call result }
 {
     match call {
-        Call::ArgsGet { argv, argv_buf } => args_get(context, memory, argv, argv_buf),
-        Call::ArgsSizesGet => args_sizes_get(context, memory),
+        Call::ArgsGet { argv, argv_buf } => context.args_get(memory, argv, argv_buf),
+        Call::ArgsSizesGet => context.args_sizes_get(memory),
         Call::EnvironGet {
             environ,
             environ_buf,
-        } => environ_get(context, memory, environ, environ_buf),
-        Call::EnvironSizesGet => environ_sizes_get(context, memory),
-        Call::ClockResGet { id } => clock_res_get(context, memory, id),
-        Call::ClockTimeGet { id, precision } => clock_time_get(context, memory, id, precision),
+        } => context.environ_get(memory, environ, environ_buf),
+        Call::EnvironSizesGet => context.environ_sizes_get(memory),
+        Call::ClockResGet { id } => context.clock_res_get(memory, id),
+        Call::ClockTimeGet { id, precision } => context.clock_time_get(memory, id, precision),
         Call::FdAdvise {
             fd,
             offset,
             len,
             advice,
-        } => fd_advise(context, memory, fd, offset, len, advice),
-        Call::FdAllocate { fd, offset, len } => fd_allocate(context, memory, fd, offset, len),
-        Call::FdClose { fd } => fd_close(context, memory, fd),
-        Call::FdDatasync { fd } => fd_datasync(context, memory, fd),
-        Call::FdSync { fd } => fd_sync(context, memory, fd),
-        Call::FdFdstatGet { fd } => fd_fdstat_get(context, memory, fd),
-        Call::FdFdstatSetFlags { fd, flags } => fd_fdstat_set_flags(context, memory, fd, flags),
+        } => context.fd_advise(memory, fd, offset, len, advice),
+        Call::FdAllocate { fd, offset, len } => context.fd_allocate(memory, fd, offset, len),
+        Call::FdClose { fd } => context.fd_close(memory, fd),
+        Call::FdDatasync { fd } => context.fd_datasync(memory, fd),
+        Call::FdSync { fd } => context.fd_sync(memory, fd),
+        Call::FdFdstatGet { fd } => context.fd_fdstat_get(memory, fd),
+        Call::FdFdstatSetFlags { fd, flags } => context.fd_fdstat_set_flags(memory, fd, flags),
         Call::FdFdstatSetRights {
             fd,
             base,
             inheriting,
-        } => fd_fdstat_set_rights(context, memory, fd, base, inheriting),
-        Call::FdFilestatGet { fd } => fd_filestat_get(context, memory, fd),
-        Call::FdFilestatSetSize { fd, size } => fd_filestat_set_size(context, memory, fd, size),
+        } => context.fd_fdstat_set_rights(memory, fd, base, inheriting),
+        Call::FdFilestatGet { fd } => context.fd_filestat_get(memory, fd),
+        Call::FdFilestatSetSize { fd, size } => context.fd_filestat_set_size(memory, fd, size),
         Call::FdFilestatSetTimes {
             fd,
             atim,
             mtim,
             fst_flags,
-        } => fd_filestat_set_times(context, memory, fd, atim, mtim, fst_flags),
+        } => context.fd_filestat_set_times(memory, fd, atim, mtim, fst_flags),
         Call::FdPread {
             fd,
             iovs,
             iovs_len,
             offset,
-        } => fd_pread(context, memory, fd, iovs, iovs_len, offset),
-        Call::FdPrestatGet { fd } => fd_prestat_get(context, memory, fd),
+        } => context.fd_pread(memory, fd, iovs, iovs_len, offset),
+        Call::FdPrestatGet { fd } => context.fd_prestat_get(memory, fd),
         Call::FdPrestatDirName { fd, path, path_len } => {
-            fd_prestat_dir_name(context, memory, fd, path, path_len)
+            context.fd_prestat_dir_name(memory, fd, path, path_len)
         }
         Call::FdPwrite {
             fd,
             iovs,
             iovs_len,
             offset,
-        } => fd_pwrite(context, memory, fd, iovs, iovs_len, offset),
-        Call::FdRead { fd, iovs, iovs_len } => fd_read(context, memory, fd, iovs, iovs_len),
+        } => context.fd_pwrite(memory, fd, iovs, iovs_len, offset),
+        Call::FdRead { fd, iovs, iovs_len } => context.fd_read(memory, fd, iovs, iovs_len),
         Call::FdReaddir {
             fd,
             buf,
             buf_len,
             cookie,
-        } => fd_readdir(context, memory, fd, buf, buf_len, cookie),
-        Call::FdRenumber { from, to } => fd_renumber(context, memory, from, to),
-        Call::FdSeek { fd, offset, whence } => fd_seek(context, memory, fd, offset, whence),
-        Call::FdTell { fd } => fd_tell(context, memory, fd),
-        Call::FdWrite { fd, iovs, iovs_len } => fd_write(context, memory, fd, iovs, iovs_len),
+        } => context.fd_readdir(memory, fd, buf, buf_len, cookie),
+        Call::FdRenumber { from, to } => context.fd_renumber(memory, from, to),
+        Call::FdSeek { fd, offset, whence } => context.fd_seek(memory, fd, offset, whence),
+        Call::FdTell { fd } => context.fd_tell(memory, fd),
+        Call::FdWrite { fd, iovs, iovs_len } => context.fd_write(memory, fd, iovs, iovs_len),
         Call::PathCreateDirectory { fd, path, path_len } => {
-            path_create_directory(context, memory, fd, path, path_len)
+            context.path_create_directory(memory, fd, path, path_len)
         }
         Call::PathFilestatGet {
             fd,
             flags,
             path,
             path_len,
-        } => path_filestat_get(context, memory, fd, flags, path, path_len),
+        } => context.path_filestat_get(memory, fd, flags, path, path_len),
         Call::PathFilestatSetTimes {
             fd,
             flags,
@@ -186,8 +169,8 @@ fn by_name<H: Host>(
             atim,
             mtim,
             fst_flags,
-        } => path_filestat_set_times(
-            context, memory, fd, flags, path, path_len, atim, mtim, fst_flags,
+        } => context.path_filestat_set_times(
+            memory, fd, flags, path, path_len, atim, mtim, fst_flags,
         ),
         Call::PathLink {
             old_fd,
@@ -197,8 +180,7 @@ fn by_name<H: Host>(
             new_fd,
             new_path,
             new_path_len,
-        } => path_link(
-            context,
+        } => context.path_link(
             memory,
             old_fd,
             old_flags,
@@ -217,8 +199,8 @@ fn by_name<H: Host>(
             base,
             inheriting,
             fdflags,
-        } => path_open(
-            context, memory, fd, dirflags, path, path_len, oflags, base, inheriting, fdflags,
+        } => context.path_open(
+            memory, fd, dirflags, path, path_len, oflags, base, inheriting, fdflags,
         ),
         Call::PathReadlink {
             fd,
@@ -226,12 +208,12 @@ fn by_name<H: Host>(
             path_len,
             buf,
             buf_len,
-        } => path_readlink(context, memory, fd, path, path_len, buf, buf_len),
+        } => context.path_readlink(memory, fd, path, path_len, buf, buf_len),
         Call::PathRemoveDirectory { fd, path, path_len } => {
-            path_remove_directory(context, memory, fd, path, path_len)
+            context.path_remove_directory(memory, fd, path, path_len)
         }
         Call::PathUnlinkFile { fd, path, path_len } => {
-            path_unlink_file(context, memory, fd, path, path_len)
+            context.path_unlink_file(memory, fd, path, path_len)
         }
         Call::PathRename {
             old_fd,
@@ -240,8 +222,7 @@ fn by_name<H: Host>(
             new_fd,
             new_path,
             new_path_len,
-        } => path_rename(
-            context,
+        } => context.path_rename(
             memory,
             old_fd,
             old_path,
@@ -256,38 +237,30 @@ fn by_name<H: Host>(
             fd,
             new_path,
             new_path_len,
-        } => path_symlink(
-            context,
-            memory,
-            old_path,
-            old_path_len,
-            fd,
-            new_path,
-            new_path_len,
-        ),
+        } => context.path_symlink(memory, old_path, old_path_len, fd, new_path, new_path_len),
         Call::PollOneoff {
             subscriptions,
             events,
             count,
-        } => poll_oneoff(context, memory, subscriptions, events, count),
-        Call::ProcExit { status } => proc_exit(context, memory, status),
-        Call::ProcRaise { signal } => proc_raise(context, memory, signal),
-        Call::RandomGet { buf, buf_len } => random_get(context, memory, buf, buf_len),
-        Call::SchedYield => sched_yield(context, memory),
-        Call::SockAccept { fd, flags } => sock_accept(context, memory, fd, flags),
+        } => context.poll_oneoff(memory, subscriptions, events, count),
+        Call::ProcExit { status } => context.proc_exit(memory, status),
+        Call::ProcRaise { signal } => context.proc_raise(memory, signal),
+        Call::RandomGet { buf, buf_len } => context.random_get(memory, buf, buf_len),
+        Call::SchedYield => context.sched_yield(memory),
+        Call::SockAccept { fd, flags } => context.sock_accept(memory, fd, flags),
         Call::SockRecv {
             fd,
             iovs,
             iovs_len,
             ri_flags,
-        } => sock_recv(context, memory, fd, iovs, iovs_len, ri_flags),
+        } => context.sock_recv(memory, fd, iovs, iovs_len, ri_flags),
         Call::SockSend {
             fd,
             iovs,
             iovs_len,
             si_flags,
-        } => sock_send(context, memory, fd, iovs, iovs_len, si_flags),
-        Call::SockShutdown { fd, how } => sock_shutdown(context, memory, fd, how),
+        } => context.sock_send(memory, fd, iovs, iovs_len, si_flags),
+        Call::SockShutdown { fd, how } => context.sock_shutdown(memory, fd, how),
     }
 }
 

@@ -11,12 +11,11 @@ use wasi_p2::WasiFilesystemCtx;
 use wasi_streams::ResourceTable;
 use wasi_turns::{CtxError, Holdings, P1Preopen};
 
-/// The calls of one guest over preview2's files of a host, with its descriptors, and what it has beside them: the
-/// crate's `WasiP1Ctx` of `preview1.rs`. The directories that the guest is given are descriptors from the first, so the
-/// files have none of their own. The calls are functions over it, each with the name and the rule of the call in
-/// `wasi_snapshot_preview1`; for them its fields are public.
+/// The state of one guest: preview2's files of a host, the guest's descriptors, and its environment. The preopens are
+/// descriptors from the first, so the files have none of their own. The calls are functions over it, which have its fields;
+/// `WasiP1Ctx` keeps them to itself.
 #[derive(Drop)]
-pub struct WasiP1Ctx<H: Host> {
+pub struct P1State<H: Host> {
     /// The host, and no preopens.
     pub fs: WasiFilesystemCtx<H>,
     /// What stands under each number.
@@ -27,7 +26,7 @@ pub struct WasiP1Ctx<H: Host> {
     pub fuel: u64,
 }
 
-impl<H: Host> Model for WasiP1Ctx<H> {
+impl<H: Host> Model for P1State<H> {
     ghost use Rattle.wasi_turns.specs.Slots.{View};
     ghost use Rattle.wasi_p1_parts.specs.Held.{HoldsHandles};
     ghost use Rattle.wasi_turns.specs.Owners.{handles};
@@ -63,7 +62,7 @@ pub struct Ended<H: Host> {
     pub holdings: Holdings,
 }
 
-impl<H: Host> WasiP1Ctx<H> {
+impl<H: Host> P1State<H> {
     ghost use Rattle.wasi_p1_parts.specs.LiveEntries.{AreLiveDescriptors};
     ghost use Rattle.wasi_turns.specs.Numbering.{live_count};
     ghost use Rattle.wasi_turns.specs.Owners.{OwnedApart, handles};
@@ -89,7 +88,7 @@ impl<H: Host> WasiP1Ctx<H> {
         preopens: Vec<P1Preopen>,
         services: Services,
         table_max: u32,
-    ) -> Result<WasiP1Ctx<H>, CtxRefused<H>>
+    ) -> Result<P1State<H>, CtxRefused<H>>
         requires live { All (λ preopen. contains (H.live host) preopen.handle ≡ true) preopens.items }
         requires once { AllPairs (λ one other. one.handle ≢ other.handle) preopens.items }
         ensures made { IfOk result (λ c. c
@@ -111,7 +110,7 @@ impl<H: Host> WasiP1Ctx<H> {
             let error = CtxError::Memory;
             return Err(CtxRefused { host, error });
         };
-        Ok(WasiP1Ctx {
+        Ok(P1State {
             fs: WasiFilesystemCtx {
                 alloc,
                 host,
@@ -207,7 +206,7 @@ impl<H: Host> WasiP1Ctx<H> {
     }
 }
 
-impl<H: Forget> WasiP1Ctx<H> {
+impl<H: Forget> P1State<H> {
     ghost use Rattle.std.specs.Prelude.{ℕ, IsTrue};
     ghost use Rattle.wasi_host.specs.Meaning.{forgotten};
     ghost use Rattle.wasi_host.specs.Tree.{Tree};

@@ -3,4 +3,4 @@
 
 mod context;
 
-pub use context::{CtxRefused, Ended, FUEL, WasiP1Ctx};
+pub use context::{CtxRefused, Ended, FUEL, P1State};

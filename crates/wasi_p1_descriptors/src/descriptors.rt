@@ -5,7 +5,7 @@ ghost use Rattle.wasi_turns.specs.Method.{StaysInBounds, DoesItsRow};
 use wasi_fs::Descriptor;
 use wasi_guest::{Errno, Value};
 use wasi_host::Host;
-use wasi_p1_context::WasiP1Ctx;
+use wasi_p1_context::P1State;
 use wasi_p1_parts::call_parts::{close_slot, descriptor_at, live_at, put_back, renumber_slot};
 use wasi_p1_parts::file_parts::{file_at, keeps_append, not_synchronized, preopen_at, put_name};
 use wasi_p1_parts::look_parts::{dir_fdstat, node_filestat, open_file_fdstat};
@@ -19,7 +19,7 @@ use wasi_turns::{
 /// no memory.
 #[tactic(auto, using(wasi_turns::proofs::Taking::refusals, wasi_turns::proofs::CallTracing::traced_free), unfolding(wasi_turns::specs::Rows::Descriptors::fd_close))]
 pub fn fd_close<H: Host>(
-    context: &mut WasiP1Ctx<H>,
+    context: &mut P1State<H>,
     memory: &mut [u8],
     fd: u32,
 ) -> Result<Value, P1Error>
@@ -38,7 +38,7 @@ pub fn fd_close<H: Host>(
 /// host refuses it. It takes no memory.
 #[tactic(auto, using(wasi_turns::proofs::Taking::refusals, wasi_turns::proofs::Taking::answered_at_once), unfolding(wasi_turns::specs::Rows::Descriptors::fd_fdstat_get))]
 pub fn fd_fdstat_get<H: Host>(
-    context: &mut WasiP1Ctx<H>,
+    context: &mut P1State<H>,
     memory: &mut [u8],
     fd: u32,
 ) -> Result<Value, P1Error>
@@ -69,7 +69,7 @@ pub fn fd_fdstat_get<H: Host>(
 /// permissions. It takes no memory.
 #[tactic(auto, using(wasi_turns::proofs::Taking::refusals), unfolding(wasi_turns::specs::Rows::Descriptors::fd_fdstat_set_flags))]
 pub fn fd_fdstat_set_flags<H: Host>(
-    context: &mut WasiP1Ctx<H>,
+    context: &mut P1State<H>,
     memory: &mut [u8],
     fd: u32,
     flags: u32,
@@ -95,7 +95,7 @@ pub fn fd_fdstat_set_flags<H: Host>(
 /// the number is no directory's or file's; Notsup. It takes no memory.
 #[tactic(auto, using(wasi_turns::proofs::Taking::refusals), unfolding(wasi_turns::specs::Rows::Descriptors::fd_fdstat_set_rights))]
 pub fn fd_fdstat_set_rights<H: Host>(
-    context: &mut WasiP1Ctx<H>,
+    context: &mut P1State<H>,
     memory: &mut [u8],
     fd: u32,
     base: u64,
@@ -116,7 +116,7 @@ pub fn fd_fdstat_set_rights<H: Host>(
 /// POSIX's `fstat` may. It takes no memory.
 #[tactic(auto, using(wasi_turns::proofs::Taking::refusals, wasi_turns::proofs::Taking::answered_at_once), unfolding(wasi_turns::specs::Rows::Descriptors::fd_filestat_get))]
 pub fn fd_filestat_get<H: Host>(
-    context: &mut WasiP1Ctx<H>,
+    context: &mut P1State<H>,
     memory: &mut [u8],
     fd: u32,
 ) -> Result<Value, P1Error>
@@ -144,7 +144,7 @@ pub fn fd_filestat_get<H: Host>(
 /// takes no memory.
 #[tactic(auto, using(wasi_turns::proofs::Taking::refusals), unfolding(wasi_turns::specs::Rows::Descriptors::fd_prestat_get))]
 pub fn fd_prestat_get<H: Host>(
-    context: &mut WasiP1Ctx<H>,
+    context: &mut P1State<H>,
     memory: &mut [u8],
     fd: u32,
 ) -> Result<Value, P1Error>
@@ -166,7 +166,7 @@ pub fn fd_prestat_get<H: Host>(
 /// name has more bytes than the range; trap Pointer where the memory doesn't hold it there.
 #[tactic(auto, using(wasi_turns::proofs::Taking::refusals), unfolding(wasi_turns::specs::Rows::Descriptors::fd_prestat_dir_name))]
 pub fn fd_prestat_dir_name<H: Host>(
-    context: &mut WasiP1Ctx<H>,
+    context: &mut P1State<H>,
     memory: &mut [u8],
     fd: u32,
     path: u32,
@@ -192,7 +192,7 @@ pub fn fd_prestat_dir_name<H: Host>(
 /// are one number nothing changes. Refusal: Badf where one of them isn't live. It takes no memory.
 #[tactic(auto, using(wasi_turns::proofs::Taking::refusals, wasi_turns::proofs::CallTracing::traced_free), unfolding(wasi_turns::specs::Rows::Descriptors::fd_renumber))]
 pub fn fd_renumber<H: Host>(
-    context: &mut WasiP1Ctx<H>,
+    context: &mut P1State<H>,
     memory: &mut [u8],
     from: u32,
     to: u32,

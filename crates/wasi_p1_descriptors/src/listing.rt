@@ -4,7 +4,7 @@ ghost use Rattle.wasi_turns.specs.Method.{StaysInBounds, DoesItsRow};
 
 use wasi_guest::{Errno, Value};
 use wasi_host::Host;
-use wasi_p1_context::WasiP1Ctx;
+use wasi_p1_context::P1State;
 use wasi_p1_parts::call_parts::{directory_at, room_at};
 use wasi_p1_types::listing_parts::{listing_of, write_page};
 use wasi_turns::P1Error;
@@ -22,7 +22,7 @@ use wasi_turns::P1Error;
 /// each name included, and memory by its length.
 #[tactic(auto, using(wasi_turns::proofs::Taking::refusals, wasi_turns::proofs::CallTracing::traced_below), unfolding(wasi_turns::specs::Rows::Listing::fd_readdir))]
 pub fn fd_readdir<H: Host>(
-    context: &mut WasiP1Ctx<H>,
+    context: &mut P1State<H>,
     memory: &mut [u8],
     fd: u32,
     buf: u32,

@@ -1,23 +1,21 @@
 //! The calls that set times.
-ghost use Rattle.wasi_guest.specs.declared.call.Call.TheVariants.{FdFilestatSetTimes, PathFilestatSetTimes};
+ghost use Rattle.wasi_guest.specs.declared.call.Call.TheVariants.{FdFilestatSetTimes};
 ghost use Rattle.wasi_turns.specs.Method.{StaysInBounds, DoesItsRow};
 
-use wasi_guest::{Errno, Value};
+use wasi_guest::Value;
 use wasi_host::Host;
-use wasi_p1_context::WasiP1Ctx;
-use wasi_p1_parts::call_parts::{descriptor_at, directory_at};
+use wasi_p1_context::P1State;
+use wasi_p1_parts::call_parts::descriptor_at;
+use wasi_p1_parts::view_parts::about;
 use wasi_p1_parts::view_parts::nodes::SetTimesOf;
-use wasi_p1_parts::view_parts::places::SetTimesAt;
-use wasi_p1_parts::view_parts::{about, below};
-use wasi_p1_types::open_with::path_flags_of;
-use wasi_turns::{NewTimes, P1Error, text_at};
+use wasi_turns::{NewTimes, P1Error};
 
 /// Sets the times of the node of a descriptor, as `path_filestat_set_times` does. It takes no memory. Refusals, in
 /// this order: those of its flags and times, as there; Badf where the number isn't a directory's or file's; Perm
 /// unless its permissions are read-write. No host refuses it further, where POSIX's `futimens` may.
 #[tactic(auto, using(wasi_turns::proofs::Taking::refusals), unfolding(wasi_turns::specs::Rows::Times::fd_filestat_set_times))]
 pub fn fd_filestat_set_times<H: Host>(
-    context: &mut WasiP1Ctx<H>,
+    context: &mut P1State<H>,
     memory: &mut [u8],
     fd: u32,
     atim: u64,

@@ -9,10 +9,10 @@ use Rattle.wasi_host.specs.HostCall.{SetSize}
 use Rattle.wasi_host.specs.Meaning.{World, Handles, FaultCount, Rose}
 use Rattle.wasi_host.specs.declared.held.Held.{Held}
 use Rattle.wasi_host.specs.declared.lookup.Lookup.{Lookup}
-use Rattle.wasi_turns.specs.CallParts.{Follows, IsReplied, Makes, WantsNoMemory}
+use Rattle.wasi_turns.specs.CallParts.{IsReplied, Makes, WantsNoMemory}
 use Rattle.wasi_turns.specs.CallTurn.{FollowsRow}
 use Rattle.wasi_turns.specs.Front.{ask}
-use Rattle.wasi_turns.specs.Guest.{Guest, guest_by, guest_of, guest_slots}
+use Rattle.wasi_turns.specs.Guest.{Guest, guest_by, guest_of}
 use Rattle.wasi_turns.specs.Owners.{handles, Owned, SlotsOfCall}
 use Rattle.wasi_turns.specs.Putting.{count_in, put_call, put_end, put_in, put_request}
 use Rattle.wasi_turns.specs.Quotas.{counted_growth}

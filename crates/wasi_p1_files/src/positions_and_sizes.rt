@@ -4,7 +4,7 @@ ghost use Rattle.wasi_turns.specs.Method.{StaysInBounds, DoesItsRow};
 
 use wasi_guest::{Errno, Value};
 use wasi_host::Host;
-use wasi_p1_context::WasiP1Ctx;
+use wasi_p1_context::P1State;
 use wasi_p1_parts::call_parts::put_back;
 use wasi_p1_parts::file_parts::{check_alter, check_growth, file_at, position_sought, view_advice};
 use wasi_p1_parts::view_parts::files::{AdviseOf, SyncDataOf, SyncOf, about_file, set_size};
@@ -15,7 +15,7 @@ use wasi_turns::{FileEnd, FileSlot, FileUse, P1Error, advice_of, whence_of};
 /// it, where POSIX's `posix_fadvise` may. It takes no memory.
 #[tactic(auto, using(wasi_turns::proofs::Taking::refusals), unfolding(wasi_turns::specs::Rows::PositionsAndSizes::fd_advise))]
 pub fn fd_advise<H: Host>(
-    context: &mut WasiP1Ctx<H>,
+    context: &mut P1State<H>,
     memory: &mut [u8],
     fd: u32,
     offset: u64,
@@ -44,7 +44,7 @@ pub fn fd_advise<H: Host>(
 /// Is refused, as the crate does: Badf where the number isn't a file's, and Notsup of a file.
 #[tactic(auto, using(wasi_turns::proofs::Taking::refusals), unfolding(wasi_turns::specs::Rows::PositionsAndSizes::fd_allocate))]
 pub fn fd_allocate<H: Host>(
-    context: &mut WasiP1Ctx<H>,
+    context: &mut P1State<H>,
     memory: &mut [u8],
     fd: u32,
     offset: u64,
@@ -61,7 +61,7 @@ pub fn fd_allocate<H: Host>(
 /// POSIX's `fdatasync` may. It takes no memory.
 #[tactic(auto, using(wasi_turns::proofs::Taking::refusals), unfolding(wasi_turns::specs::Rows::PositionsAndSizes::fd_datasync))]
 pub fn fd_datasync<H: Host>(
-    context: &mut WasiP1Ctx<H>,
+    context: &mut P1State<H>,
     memory: &mut [u8],
     fd: u32,
 ) -> Result<Value, P1Error>
@@ -83,7 +83,7 @@ pub fn fd_datasync<H: Host>(
 /// host refuses it, where POSIX's `fsync` may. It takes no memory.
 #[tactic(auto, using(wasi_turns::proofs::Taking::refusals), unfolding(wasi_turns::specs::Rows::PositionsAndSizes::fd_sync))]
 pub fn fd_sync<H: Host>(
-    context: &mut WasiP1Ctx<H>,
+    context: &mut P1State<H>,
     memory: &mut [u8],
     fd: u32,
 ) -> Result<Value, P1Error>
@@ -109,7 +109,7 @@ pub fn fd_sync<H: Host>(
 /// gives none back.
 #[tactic(auto, using(wasi_turns::proofs::Taking::refusals), unfolding(wasi_turns::specs::Rows::PositionsAndSizes::fd_filestat_set_size))]
 pub fn fd_filestat_set_size<H: Host>(
-    context: &mut WasiP1Ctx<H>,
+    context: &mut P1State<H>,
     memory: &mut [u8],
     fd: u32,
     size: u64,
@@ -139,7 +139,7 @@ pub fn fd_filestat_set_size<H: Host>(
 /// below 0, or 64 bits don't hold it, as POSIX's `lseek` refuses them. It takes no memory.
 #[tactic(auto, using(wasi_turns::proofs::Taking::refusals), unfolding(wasi_turns::specs::Rows::PositionsAndSizes::fd_seek))]
 pub fn fd_seek<H: Host>(
-    context: &mut WasiP1Ctx<H>,
+    context: &mut P1State<H>,
     memory: &mut [u8],
     fd: u32,
     offset: i64,
@@ -168,7 +168,7 @@ pub fn fd_seek<H: Host>(
 /// no memory.
 #[tactic(auto, using(wasi_turns::proofs::Taking::refusals), unfolding(wasi_turns::specs::Rows::PositionsAndSizes::fd_tell))]
 pub fn fd_tell<H: Host>(
-    context: &mut WasiP1Ctx<H>,
+    context: &mut P1State<H>,
     memory: &mut [u8],
     fd: u32,
 ) -> Result<Value, P1Error>

@@ -7,7 +7,7 @@ ghost use Rattle.wasi_turns.specs.Writing.{WritesWhole};
 
 use wasi_guest::{Iovec, Value};
 use wasi_host::Host;
-use wasi_p1_context::WasiP1Ctx;
+use wasi_p1_context::P1State;
 use wasi_p1_parts::call_parts::{put_back, read_into, sink_at, source_at};
 use wasi_p1_parts::file_parts::{check_growth, file_at, put_end, put_next, put_piece, read_place};
 use wasi_turns::{FileSlot, FileUse, P1Error, Put, Sink, Source, buffer_at, bytes_at, check_write};
@@ -24,7 +24,7 @@ const MOST_READ: u32 = 65_536;
 /// memory.
 #[tactic(auto, using(wasi_turns::proofs::Taking::refusals), unfolding(wasi_turns::specs::Rows::ReadingAndWriting::fd_pread))]
 pub fn fd_pread<H: Host>(
-    context: &mut WasiP1Ctx<H>,
+    context: &mut P1State<H>,
     memory: &mut [u8],
     fd: u32,
     iovs: u32,
@@ -56,7 +56,7 @@ pub fn fd_pread<H: Host>(
 /// failure of the host.
 #[tactic(auto, using(wasi_turns::proofs::Taking::refusals), unfolding(wasi_turns::specs::Rows::ReadingAndWriting::fd_pwrite))]
 pub fn fd_pwrite<H: Host>(
-    context: &mut WasiP1Ctx<H>,
+    context: &mut P1State<H>,
     memory: &mut [u8],
     fd: u32,
     iovs: u32,
@@ -88,7 +88,7 @@ pub fn fd_pwrite<H: Host>(
 /// with no bytes of a file to fill, the answer is 0.
 #[tactic(auto, using(wasi_turns::proofs::Taking::refusals), unfolding(wasi_turns::specs::Rows::ReadingAndWriting::fd_read))]
 pub fn fd_read<H: Host>(
-    context: &mut WasiP1Ctx<H>,
+    context: &mut P1State<H>,
     memory: &mut [u8],
     fd: u32,
     iovs: u32,
@@ -129,7 +129,7 @@ pub fn fd_read<H: Host>(
 /// the bytes by which the file grew, and so may a failure of the host.
 #[tactic(auto, using(wasi_turns::proofs::Taking::refusals), unfolding(wasi_turns::specs::Rows::ReadingAndWriting::fd_write))]
 pub fn fd_write<H: Host>(
-    context: &mut WasiP1Ctx<H>,
+    context: &mut P1State<H>,
     memory: &mut [u8],
     fd: u32,
     iovs: u32,

@@ -16,12 +16,12 @@ use Rattle.wasi_streams.specs.Table.{Entries}
 use Rattle.wasi_streams.specs.declared.entry.Entry.{Entry}
 use Rattle.wasi_streams.specs.declared.entry.Entry.TheVariants.{Descriptor as AnOpened}
 use Rattle.wasi_streams.specs.declared.table.Resource.{Resource}
-use Rattle.wasi_p2_errors.specs.FsErrors.{fs_error, FsCause}
+use Rattle.wasi_p2_types.specs.FsErrors.{fs_error, FsCause}
 use Rattle.wasi_p2_types.specs.FlagNames.{how_named}
 use Rattle.wasi_p2.specs.Opens.{AddsEntry, AddsHandle, GotFor, HasRoom, OpensAt, OpensBelow, StandsFor}
 use Rattle.wasi_p2.specs.Resources.{entry_handle, HasIt}
 use Rattle.wasi_p2.specs.Views.{Files, OrRefused}
-use Rattle.wasi_p2_errors.specs.declared.error.FsError.{FsError}
+use Rattle.wasi_p2_types.specs.declared.error.FsError.{FsError}
 use Rattle.wasi_p2_types.specs.declared.flags.DescriptorFlags.{DescriptorFlags}
 use Rattle.wasi_p2_types.specs.declared.flags.OpenFlags.{OpenFlags}
 use Rattle.wasi_p2_types.specs.declared.flags.PathFlags.{PathFlags}

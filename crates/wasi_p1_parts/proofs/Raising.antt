@@ -10,9 +10,9 @@ use Rattle.wasi_host.specs.declared.errors.HostError.TheVariants.{Code as Failed
 use Rattle.wasi_host.specs.declared.held.Held.{Held}
 use Rattle.wasi_resolve.specs.Resolved.{Resolved}
 use Rattle.wasi_p1_parts.specs.Viewed.{LoweredTo}
-use Rattle.wasi_p2_errors.specs.FsErrors.{fs_error, raised, FsCause}
-use Rattle.wasi_p2_errors.specs.declared.error.FsError.{FsError}
-use Rattle.wasi_p2_errors.specs.declared.error.FsError.TheVariants.{Code as Refused, Trap as Trapped, Memory as Wanted}
+use Rattle.wasi_p2_types.specs.FsErrors.{fs_error, raised, FsCause}
+use Rattle.wasi_p2_types.specs.declared.error.FsError.{FsError}
+use Rattle.wasi_p2_types.specs.declared.error.FsError.TheVariants.{Code as Refused, Trap as Trapped, Memory as Wanted}
 use Rattle.wasi_p2_types.specs.declared.error_code.ErrorCode.{ErrorCode}
 use Rattle.wasi_p2_types.specs.declared.error_code.ErrorCode.TheVariants as codes
 use Rattle.wasi_streams.specs.declared.errors.TableError.TheVariants as tables

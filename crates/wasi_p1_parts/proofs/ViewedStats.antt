@@ -10,7 +10,7 @@ use Rattle.wasi_host.specs.declared.errors.HostError.{HostError}
 use Rattle.wasi_host.specs.declared.host.Host.{Ghosts}
 use Rattle.wasi_p2_types.specs.Stats.{after_epoch, moment_kept, type_named, wall_seconds}
 use Rattle.wasi_turns.specs.Filestats.{filestat_in, filetype_of, nanoseconds_in, or_overflow, since_epoch}
-use Rattle.wasi_p2_errors.specs.declared.error.FsError.{FsError}
+use Rattle.wasi_p2_types.specs.declared.error.FsError.{FsError}
 use Rattle.wasi_turns.specs.CallParts.{Makes}
 use Rattle.wasi_turns.specs.Errnos.{error_of}
 use Rattle.wasi_turns.specs.Request.{Reply, Request}

@@ -25,7 +25,7 @@ use Rattle.wasi_streams.specs.Table.{Entries}
 use Rattle.wasi_streams.specs.declared.entry.Entry.{Entry}
 use Rattle.wasi_streams.specs.declared.entry.Entry.TheVariants as entries
 use Rattle.wasi_p2_types.specs.ErrorCodes.{code_named}
-use Rattle.wasi_p2_errors.specs.FsErrors.{fs_error, FsCause}
+use Rattle.wasi_p2_types.specs.FsErrors.{fs_error, FsCause}
 use Rattle.wasi_p2_types.specs.Moments.{time_wanted}
 use Rattle.wasi_p2.specs.Nodes.{AboutFile, SyncsIt}
 use Rattle.wasi_p2.specs.Timed.{timed_by, with_wanted, TimesWanted}
@@ -36,7 +36,7 @@ use Rattle.wasi_streams.specs.Found.{descriptor_found}
 use Rattle.wasi_p2.specs.Resources.{as_directory_of, as_file_or, as_opened, both_found, directory_at, file_at, descriptor_at, AreOwned, HasIt, Holder, OneHasIt, entry_handle, handle_held, preopened, tabled}
 use Rattle.wasi_p2.specs.Views.{CallsOn, Files, Passes, Performs, tree_in}
 use Rattle.wasi_p2.specs.declared.context.Preopen.{Preopen}
-use Rattle.wasi_p2_errors.specs.declared.error.FsError.{FsError}
+use Rattle.wasi_p2_types.specs.declared.error.FsError.{FsError}
 use Rattle.wasi_p2_types.specs.declared.error_code.ErrorCode.TheVariants.{BadDescriptor}
 use Rattle.wasi_turns.specs.CallTurn.{FollowsRow}
 use Rattle.wasi_p1_parts.specs.Descriptors.{AreKept, SlotTable}

@@ -18,9 +18,9 @@ use Rattle.wasi_turns.specs.Slots.{descriptor_in, is_closed_slot, slot_of}
 use Rattle.wasi_turns.specs.ViewErrors.{view_raised}
 use Rattle.wasi_turns.specs.declared.error.P1Error.{P1Error}
 use Rattle.wasi_turns.specs.declared.slots.Slot.{Slot}
-use Rattle.wasi_p2_errors.specs.FsErrors.{fs_error, raised}
+use Rattle.wasi_p2_types.specs.FsErrors.{fs_error, raised}
 use Rattle.wasi_p2.specs.Views.{Performs}
-use Rattle.wasi_p2_errors.specs.declared.error.FsError.{FsError}
+use Rattle.wasi_p2_types.specs.declared.error.FsError.{FsError}
 
 -- what a directory's or file's number stands for
 abbrev pub descriptor_under : Option Slot → Option Descriptor

@@ -24,7 +24,7 @@ ghost use Rattle.wasi_turns.specs.Row.{give};
 ghost use Rattle.wasi_p1_parts.specs.Viewed.{descriptor_under, Lowered};
 ghost use Rattle.wasi_p1_parts.specs.ViewedStats.{viewed};
 ghost use Rattle.wasi_p2_types.specs.FlagNames.{path_flags_named};
-ghost use Rattle.wasi_p2_errors.specs.FsErrors.{FsCause};
+ghost use Rattle.wasi_p2_types.specs.FsErrors.{FsCause};
 ghost use Rattle.wasi_p2.specs.Views.{Performs};
 
 use crate::descriptors::Descriptors;

@@ -8,7 +8,7 @@ ghost use Rattle.wasi_turns.specs.CallParts.{Rests};
 ghost use Rattle.wasi_p1_parts.specs.Descriptors.{AreKept};
 ghost use Rattle.wasi_p1_parts.specs.Placed.{TakesFreeNumber};
 ghost use Rattle.wasi_p1_parts.specs.Viewed.{descriptor_under, Opens, PutDescriptor};
-ghost use Rattle.wasi_p2_errors.specs.FsErrors.{FsCause};
+ghost use Rattle.wasi_p2_types.specs.FsErrors.{FsCause};
 ghost use Rattle.wasi_p2_types.specs.FlagNames.{how_named};
 ghost use Rattle.wasi_p1_parts.specs.Held.{HoldsHandles};
 ghost use Rattle.wasi_p1_parts.specs.LiveEntries.{AreLiveDescriptors};

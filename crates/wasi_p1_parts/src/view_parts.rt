@@ -8,7 +8,7 @@ ghost use Rattle.wasi_host.specs.declared.errors.HostError.{HostError};
 ghost use Rattle.wasi_p1_parts.specs.Held.{HoldsHandles};
 ghost use Rattle.wasi_p1_types.specs.Items.{is_closed_item, NamesResource};
 ghost use Rattle.wasi_p1_parts.specs.Viewed.{descriptor_under, Lowered};
-ghost use Rattle.wasi_p2_errors.specs.FsErrors.{FsCause};
+ghost use Rattle.wasi_p2_types.specs.FsErrors.{FsCause};
 ghost use Rattle.wasi_p2.specs.Nodes.{AboutIt};
 ghost use Rattle.wasi_p2.specs.Places.{BelowIt};
 ghost use Rattle.wasi_p2.specs.Views.{files_of, FilesOwned};

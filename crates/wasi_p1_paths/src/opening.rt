@@ -4,7 +4,7 @@ ghost use Rattle.wasi_turns.specs.Method.{StaysInBounds, DoesItsRow};
 
 use wasi_guest::{Errno, Value};
 use wasi_host::Host;
-use wasi_p1_context::WasiP1Ctx;
+use wasi_p1_context::P1State;
 use wasi_p1_parts::call_parts::{directory_at, open_into, room_at};
 use wasi_p1_parts::making_parts::check_open;
 use wasi_p1_types::open_with::OpenWith;
@@ -34,7 +34,7 @@ use wasi_turns::{P1Error, text_at};
 /// an answer counts a making, whether or not the file was there, and so may a failure of the host.
 #[tactic(auto, using(wasi_turns::proofs::Taking::refusals, wasi_turns::proofs::CallTracing::traced_from), unfolding(wasi_turns::specs::Rows::Opening::path_open))]
 pub fn path_open<H: Host>(
-    context: &mut WasiP1Ctx<H>,
+    context: &mut P1State<H>,
     memory: &mut [u8],
     fd: u32,
     dirflags: u32,

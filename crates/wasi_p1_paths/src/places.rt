@@ -4,7 +4,7 @@ ghost use Rattle.wasi_turns.specs.Method.{StaysInBounds, DoesItsRow};
 
 use wasi_guest::{Errno, Value};
 use wasi_host::Host;
-use wasi_p1_context::WasiP1Ctx;
+use wasi_p1_context::P1State;
 use wasi_p1_parts::call_parts::{directory_at, stat_both};
 use wasi_p1_parts::making_parts::{check_link, check_make, make_below};
 use wasi_p1_parts::view_parts::below;
@@ -25,7 +25,7 @@ use wasi_turns::{P1Error, text_at, write_front};
 /// the host.
 #[tactic(auto, using(wasi_turns::proofs::Taking::refusals, wasi_turns::proofs::CallTracing::traced_below), unfolding(wasi_turns::specs::Rows::Places::path_create_directory))]
 pub fn path_create_directory<H: Host>(
-    context: &mut WasiP1Ctx<H>,
+    context: &mut P1State<H>,
     memory: &mut [u8],
     fd: u32,
     path: u32,
@@ -57,7 +57,7 @@ pub fn path_create_directory<H: Host>(
 /// Acces where its directory may not be written, Notdir where it holds no directory, Notempty where that has names.
 #[tactic(auto, using(wasi_turns::proofs::Taking::refusals, wasi_turns::proofs::CallTracing::traced_below), unfolding(wasi_turns::specs::Rows::Places::path_remove_directory))]
 pub fn path_remove_directory<H: Host>(
-    context: &mut WasiP1Ctx<H>,
+    context: &mut P1State<H>,
     memory: &mut [u8],
     fd: u32,
     path: u32,
@@ -81,7 +81,7 @@ pub fn path_remove_directory<H: Host>(
 /// Noent where the name is missing, Acces where its directory may not be written, Isdir of a directory.
 #[tactic(auto, using(wasi_turns::proofs::Taking::refusals, wasi_turns::proofs::CallTracing::traced_below), unfolding(wasi_turns::specs::Rows::Places::path_unlink_file))]
 pub fn path_unlink_file<H: Host>(
-    context: &mut WasiP1Ctx<H>,
+    context: &mut P1State<H>,
     memory: &mut [u8],
     fd: u32,
     path: u32,
@@ -106,7 +106,7 @@ pub fn path_unlink_file<H: Host>(
 /// those of `path_create_directory` behind its walk.
 #[tactic(auto, using(wasi_turns::proofs::Taking::refusals, wasi_turns::proofs::CallTracing::traced_below), unfolding(wasi_turns::specs::Rows::Places::path_symlink))]
 pub fn path_symlink<H: Host>(
-    context: &mut WasiP1Ctx<H>,
+    context: &mut P1State<H>,
     memory: &mut [u8],
     old_path: u32,
     old_path_len: u32,
@@ -143,7 +143,7 @@ pub fn path_symlink<H: Host>(
 /// leaves the memory.
 #[tactic(auto, using(wasi_turns::proofs::Taking::refusals, wasi_turns::proofs::CallTracing::traced_below), unfolding(wasi_turns::specs::Rows::Places::path_readlink))]
 pub fn path_readlink<H: Host>(
-    context: &mut WasiP1Ctx<H>,
+    context: &mut P1State<H>,
     memory: &mut [u8],
     fd: u32,
     path: u32,
@@ -171,7 +171,7 @@ pub fn path_readlink<H: Host>(
 /// `path_open` and POSIX's `fstatat`; Overflow of a time that 64 bits of nanoseconds don't hold.
 #[tactic(auto, using(wasi_turns::proofs::Taking::refusals, wasi_turns::proofs::CallTracing::traced_below), unfolding(wasi_turns::specs::Rows::Places::path_filestat_get))]
 pub fn path_filestat_get<H: Host>(
-    context: &mut WasiP1Ctx<H>,
+    context: &mut P1State<H>,
     memory: &mut [u8],
     fd: u32,
     flags: u32,

@@ -1,14 +1,13 @@
 //! The calls that set times.
-ghost use Rattle.wasi_guest.specs.declared.call.Call.TheVariants.{FdFilestatSetTimes, PathFilestatSetTimes};
+ghost use Rattle.wasi_guest.specs.declared.call.Call.TheVariants.{PathFilestatSetTimes};
 ghost use Rattle.wasi_turns.specs.Method.{StaysInBounds, DoesItsRow};
 
 use wasi_guest::{Errno, Value};
 use wasi_host::Host;
-use wasi_p1_context::WasiP1Ctx;
-use wasi_p1_parts::call_parts::{descriptor_at, directory_at};
-use wasi_p1_parts::view_parts::nodes::SetTimesOf;
+use wasi_p1_context::P1State;
+use wasi_p1_parts::call_parts::directory_at;
+use wasi_p1_parts::view_parts::below;
 use wasi_p1_parts::view_parts::places::SetTimesAt;
-use wasi_p1_parts::view_parts::{about, below};
 use wasi_p1_types::open_with::path_flags_of;
 use wasi_turns::{NewTimes, P1Error, text_at};
 
@@ -24,7 +23,7 @@ use wasi_turns::{NewTimes, P1Error, text_at};
 /// reading, of which Acces is answered Notsup.
 #[tactic(auto, using(wasi_turns::proofs::Taking::refusals, wasi_turns::proofs::CallTracing::traced_below), unfolding(wasi_turns::specs::Rows::Times::path_filestat_set_times))]
 pub fn path_filestat_set_times<H: Host>(
-    context: &mut WasiP1Ctx<H>,
+    context: &mut P1State<H>,
     memory: &mut [u8],
     fd: u32,
     flags: u32,

@@ -4,7 +4,7 @@ ghost use Rattle.wasi_turns.specs.Method.{StaysInBounds, DoesItsRow};
 
 use wasi_guest::{Errno, Value};
 use wasi_host::Host;
-use wasi_p1_context::WasiP1Ctx;
+use wasi_p1_context::P1State;
 use wasi_p1_parts::call_parts::directory_at;
 use wasi_p1_parts::view_parts::two_places::{LinkAt, RenameAt, between};
 use wasi_p1_types::open_with::path_flags_of;
@@ -23,7 +23,7 @@ use wasi_turns::{P1Error, text_at};
 /// that has as many names as it may.
 #[tactic(auto, using(wasi_turns::proofs::Taking::refusals, wasi_turns::proofs::CallTracing::traced_between), unfolding(wasi_turns::specs::Rows::TwoPlaces::path_link))]
 pub fn path_link<H: Host>(
-    context: &mut WasiP1Ctx<H>,
+    context: &mut P1State<H>,
     memory: &mut [u8],
     old_fd: u32,
     old_flags: u32,
@@ -75,7 +75,7 @@ pub fn path_link<H: Host>(
 /// directory onto what is none; Isdir of what is none onto a directory; Notempty onto a directory that has names.
 #[tactic(auto, using(wasi_turns::proofs::Taking::refusals, wasi_turns::proofs::CallTracing::traced_between), unfolding(wasi_turns::specs::Rows::TwoPlaces::path_rename))]
 pub fn path_rename<H: Host>(
-    context: &mut WasiP1Ctx<H>,
+    context: &mut P1State<H>,
     memory: &mut [u8],
     old_fd: u32,
     old_path: u32,

@@ -4,7 +4,7 @@ ghost use Rattle.wasi_turns.specs.Method.{StaysInBounds, DoesItsRow};
 
 use wasi_guest::{Event, Subscription, Value};
 use wasi_host::Host;
-use wasi_p1_context::WasiP1Ctx;
+use wasi_p1_context::P1State;
 use wasi_p1_parts::call_parts::room_at;
 use wasi_p1_parts::poll_parts::{
     all_waited, judged_at, lists_within, reads_files, sizes_of, some_asked, tell_events,
@@ -26,7 +26,7 @@ use wasi_turns::{P1Error, charge};
 /// look at each file that is read.
 #[tactic(auto, using(wasi_turns::proofs::Taking::refusals), unfolding(wasi_turns::specs::Rows::Polling::poll_oneoff))]
 pub fn poll_oneoff<H: Host>(
-    context: &mut WasiP1Ctx<H>,
+    context: &mut P1State<H>,
     memory: &mut [u8],
     subscriptions: u32,
     events: u32,

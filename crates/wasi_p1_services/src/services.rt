@@ -4,7 +4,7 @@ ghost use Rattle.wasi_turns.specs.Method.{StaysInBounds, DoesItsRow};
 
 use wasi_guest::{Errno, FdFlags, RiFlags, SdFlags, Value};
 use wasi_host::Host;
-use wasi_p1_context::WasiP1Ctx;
+use wasi_p1_context::P1State;
 use wasi_p1_parts::call_parts::live_at;
 use wasi_turns::{INVALID, P1Error, bytes_at, exit_with, known_signal};
 
@@ -13,7 +13,7 @@ use wasi_turns::{INVALID, P1Error, bytes_at, exit_with, known_signal};
 /// leaves the memory.
 #[tactic(auto, using(wasi_turns::proofs::Taking::refusals, wasi_turns::proofs::Taking::answered_at_once), unfolding(wasi_turns::specs::Rows::Services::args_get))]
 pub fn args_get<H: Host>(
-    context: &mut WasiP1Ctx<H>,
+    context: &mut P1State<H>,
     memory: &mut [u8],
     argv: u32,
     argv_buf: u32,
@@ -29,7 +29,7 @@ pub fn args_get<H: Host>(
 /// two numbers is above 2^32 - 1.
 #[tactic(auto, using(wasi_turns::proofs::Taking::refusals, wasi_turns::proofs::Taking::answered_at_once), unfolding(wasi_turns::specs::Rows::Services::args_sizes_get))]
 pub fn args_sizes_get<H: Host>(
-    context: &mut WasiP1Ctx<H>,
+    context: &mut P1State<H>,
     memory: &mut [u8],
 ) -> Result<Value, P1Error>
     ensures bounds { StaysInBounds H.Host context.old context.new memory.old ArgsSizesGet result }
@@ -41,7 +41,7 @@ pub fn args_sizes_get<H: Host>(
 /// As `args_get`, of the variables of the environment, each a text with `=` between its key and its value.
 #[tactic(auto, using(wasi_turns::proofs::Taking::refusals, wasi_turns::proofs::Taking::answered_at_once), unfolding(wasi_turns::specs::Rows::Services::environ_get))]
 pub fn environ_get<H: Host>(
-    context: &mut WasiP1Ctx<H>,
+    context: &mut P1State<H>,
     memory: &mut [u8],
     environ: u32,
     environ_buf: u32,
@@ -57,7 +57,7 @@ pub fn environ_get<H: Host>(
 /// As `args_sizes_get`, of the variables of the environment as `environ_get` has them.
 #[tactic(auto, using(wasi_turns::proofs::Taking::refusals, wasi_turns::proofs::Taking::answered_at_once), unfolding(wasi_turns::specs::Rows::Services::environ_sizes_get))]
 pub fn environ_sizes_get<H: Host>(
-    context: &mut WasiP1Ctx<H>,
+    context: &mut P1State<H>,
     memory: &mut [u8],
 ) -> Result<Value, P1Error>
     ensures bounds { StaysInBounds H.Host context.old context.new memory.old EnvironSizesGet result }
@@ -70,7 +70,7 @@ pub fn environ_sizes_get<H: Host>(
 /// processor; Overflow of a number that 64 bits don't hold.
 #[tactic(auto, using(wasi_turns::proofs::Taking::refusals, wasi_turns::proofs::Taking::answered_at_once), unfolding(wasi_turns::specs::Rows::Services::clock_res_get))]
 pub fn clock_res_get<H: Host>(
-    context: &mut WasiP1Ctx<H>,
+    context: &mut P1State<H>,
     memory: &mut [u8],
     id: u32,
 ) -> Result<Value, P1Error>
@@ -83,7 +83,7 @@ pub fn clock_res_get<H: Host>(
 /// What a clock stands at, in nanoseconds, refused as in `clock_res_get`. The precision isn't used.
 #[tactic(auto, using(wasi_turns::proofs::Taking::refusals, wasi_turns::proofs::Taking::answered_at_once), unfolding(wasi_turns::specs::Rows::Services::clock_time_get))]
 pub fn clock_time_get<H: Host>(
-    context: &mut WasiP1Ctx<H>,
+    context: &mut P1State<H>,
     memory: &mut [u8],
     id: u32,
     precision: u64,
@@ -97,7 +97,7 @@ pub fn clock_time_get<H: Host>(
 /// Ends the guest with a status below 126; trap ExitStatus of another.
 #[tactic(auto, using(wasi_turns::proofs::Taking::refusals, wasi_turns::proofs::Taking::answered_at_once), unfolding(wasi_turns::specs::Rows::Services::proc_exit))]
 pub fn proc_exit<H: Host>(
-    context: &mut WasiP1Ctx<H>,
+    context: &mut P1State<H>,
     memory: &mut [u8],
     status: u32,
 ) -> Result<Value, P1Error>
@@ -110,7 +110,7 @@ pub fn proc_exit<H: Host>(
 /// Refusals: Inval of an unknown signal; Notsup of every other.
 #[tactic(auto, using(wasi_turns::proofs::Taking::refusals, wasi_turns::proofs::Taking::answered_at_once), unfolding(wasi_turns::specs::Rows::Services::proc_raise))]
 pub fn proc_raise<H: Host>(
-    context: &mut WasiP1Ctx<H>,
+    context: &mut P1State<H>,
     memory: &mut [u8],
     signal: u32,
 ) -> Result<Value, P1Error>
@@ -124,7 +124,7 @@ pub fn proc_raise<H: Host>(
 /// Puts the next random bytes into a buffer: trap Pointer where it leaves the memory.
 #[tactic(auto, using(wasi_turns::proofs::Taking::refusals, wasi_turns::proofs::Taking::answered_at_once), unfolding(wasi_turns::specs::Rows::Services::random_get))]
 pub fn random_get<H: Host>(
-    context: &mut WasiP1Ctx<H>,
+    context: &mut P1State<H>,
     memory: &mut [u8],
     buf: u32,
     buf_len: u32,
@@ -139,7 +139,7 @@ pub fn random_get<H: Host>(
 
 /// Lets others run: nothing is done.
 #[tactic(auto, using(wasi_turns::proofs::Taking::refusals, wasi_turns::proofs::Taking::answered_at_once), unfolding(wasi_turns::specs::Rows::Services::sched_yield))]
-pub fn sched_yield<H: Host>(context: &mut WasiP1Ctx<H>, memory: &mut [u8]) -> Result<Value, P1Error>
+pub fn sched_yield<H: Host>(context: &mut P1State<H>, memory: &mut [u8]) -> Result<Value, P1Error>
     ensures bounds { StaysInBounds H.Host context.old context.new memory.old SchedYield result }
     ensures turn { DoesItsRow H.Host context.old context.new memory.old memory.new SchedYield result }
 {
@@ -150,7 +150,7 @@ pub fn sched_yield<H: Host>(context: &mut WasiP1Ctx<H>, memory: &mut [u8]) -> Re
 /// no number is a socket's.
 #[tactic(auto, using(wasi_turns::proofs::Taking::refusals, wasi_turns::proofs::Taking::answered_at_once), unfolding(wasi_turns::specs::Rows::Services::sock_accept))]
 pub fn sock_accept<H: Host>(
-    context: &mut WasiP1Ctx<H>,
+    context: &mut P1State<H>,
     memory: &mut [u8],
     fd: u32,
     flags: u32,
@@ -166,7 +166,7 @@ pub fn sock_accept<H: Host>(
 /// Refused as in `sock_accept`, by the flags of `riflags`. No buffer is looked at.
 #[tactic(auto, using(wasi_turns::proofs::Taking::refusals, wasi_turns::proofs::Taking::answered_at_once), unfolding(wasi_turns::specs::Rows::Services::sock_recv))]
 pub fn sock_recv<H: Host>(
-    context: &mut WasiP1Ctx<H>,
+    context: &mut P1State<H>,
     memory: &mut [u8],
     fd: u32,
     iovs: u32,
@@ -185,7 +185,7 @@ pub fn sock_recv<H: Host>(
 /// Refused as in `sock_accept`; any number is a set of `siflags`. No buffer is looked at.
 #[tactic(auto, using(wasi_turns::proofs::Taking::refusals, wasi_turns::proofs::Taking::answered_at_once), unfolding(wasi_turns::specs::Rows::Services::sock_send))]
 pub fn sock_send<H: Host>(
-    context: &mut WasiP1Ctx<H>,
+    context: &mut P1State<H>,
     memory: &mut [u8],
     fd: u32,
     iovs: u32,
@@ -203,7 +203,7 @@ pub fn sock_send<H: Host>(
 /// Refused as in `sock_accept`, by the flags of `sdflags`.
 #[tactic(auto, using(wasi_turns::proofs::Taking::refusals, wasi_turns::proofs::Taking::answered_at_once), unfolding(wasi_turns::specs::Rows::Services::sock_shutdown))]
 pub fn sock_shutdown<H: Host>(
-    context: &mut WasiP1Ctx<H>,
+    context: &mut P1State<H>,
     memory: &mut [u8],
     fd: u32,
     how: u32,

@@ -5,8 +5,8 @@ use Rattle.wasi_host.specs.declared.errors.HostError.{HostError}
 use Rattle.wasi_host.specs.declared.host.Host.{Ghosts}
 use Rattle.wasi_host.specs.declared.lookup.Lookup.{Lookup}
 use Rattle.wasi_streams.specs.Table.{Table}
-use Rattle.wasi_p2_errors.specs.FsErrors.{raised, FsCause}
-use Rattle.wasi_p2_errors.specs.declared.error.FsError.{FsError}
+use Rattle.wasi_p2_types.specs.FsErrors.{raised, FsCause}
+use Rattle.wasi_p2_types.specs.declared.error.FsError.{FsError}
 use Rattle.wasi_p2.proofs.Causes.{cause_err, cause_ok}
 use Rattle.wasi_p2.specs.Resources.{both_found}
 use Rattle.wasi_p2.specs.Timed.{timed_by}

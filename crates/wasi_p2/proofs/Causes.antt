@@ -6,8 +6,8 @@ use Rattle.wasi_host.specs.declared.errors.ErrorCode.TheVariants as lower
 use Rattle.wasi_host.specs.declared.errors.HostError.{HostError}
 use Rattle.wasi_host.specs.declared.errors.HostError.TheVariants as hosts
 use Rattle.wasi_p2_types.specs.ErrorCodes.{code_named}
-use Rattle.wasi_p2_errors.specs.FsErrors.{fs_error, FsCause}
-use Rattle.wasi_p2_errors.specs.declared.error.FsError.TheVariants.{Code}
+use Rattle.wasi_p2_types.specs.FsErrors.{fs_error, FsCause}
+use Rattle.wasi_p2_types.specs.declared.error.FsError.TheVariants.{Code}
 use Rattle.wasi_p2_types.specs.declared.error_code.ErrorCode.TheVariants.{Io}
 
 -- only the code of this name becomes `Io`

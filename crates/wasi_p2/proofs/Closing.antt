@@ -16,7 +16,7 @@ use Rattle.wasi_p2.specs.Rooms.{ClosesHandle, TakenOut}
 use Rattle.wasi_p2.specs.Views.{OrRefused, files_of}
 use Rattle.wasi_p2.specs.declared.context.Preopen.{Preopen}
 use Rattle.wasi_p2.specs.declared.context.WasiFilesystemCtx.{WasiFilesystemCtx}
-use Rattle.wasi_p2_errors.specs.declared.error.FsError.{FsError}
+use Rattle.wasi_p2_types.specs.declared.error.FsError.{FsError}
 use Rattle.wasi_p2_types.specs.declared.descriptor_stat.DirectoryEntry.{DirectoryEntry}
 use Rattle.wasi_p2.proofs.Owning.{owned_taken}
 

@@ -22,15 +22,14 @@ use Rattle.wasi_streams.specs.Table.{Entries, Table}
 use Rattle.wasi_streams.specs.declared.entry.Entry.{Entry}
 use Rattle.wasi_p2.specs.Directories.{EachOrNone, GivesDirectories, GivesEach, GivesNone, GivesOne, GivesThese, IsNewlyLive, IsOfThese, TakesBack, WhyNotAll, preopen_entry}
 use Rattle.wasi_p2.specs.Drops.{LeavesTree, live_without}
-use Rattle.wasi_p2_types.specs.ErrorCodes.{code_named}
-use Rattle.wasi_p2_errors.specs.FsErrors.{FsCause, fs_error}
+use Rattle.wasi_p2_types.specs.FsErrors.{FsCause, fs_error}
 use Rattle.wasi_p2.specs.Resources.{AreOwned, entry_handle, preopened}
 use Rattle.wasi_p2.specs.Rooms.{KeepsTable}
 use Rattle.wasi_p2.specs.Views.{files_of}
 use Rattle.wasi_p2.specs.declared.context.Preopen.{Preopen}
 use Rattle.wasi_p2.specs.declared.context.WasiFilesystemCtx.{WasiFilesystemCtx}
-use Rattle.wasi_p2_errors.specs.declared.error.FsError.{FsError}
-use Rattle.wasi_p2_errors.specs.declared.error.FsError.TheVariants.{Code}
+use Rattle.wasi_p2_types.specs.declared.error.FsError.{FsError}
+use Rattle.wasi_p2_types.specs.declared.error.FsError.TheVariants.{Code}
 use Rattle.wasi_p2.specs.declared.preopens.PreopenEntry.{PreopenEntry}
 use Rattle.wasi_p2_types.specs.declared.error_code.ErrorCode.TheVariants.{Io}
 use Rattle.wasi_p2.proofs.Owning.{got_put, owned_added}

@@ -13,7 +13,7 @@ use Rattle.wasi_p2.specs.Drops.{DropsDescriptor, DropsStream, ReadsNext, listing
 use Rattle.wasi_p2.specs.Resources.{AreOwned, Holder, descriptor_at, handle_held, preopened, tabled}
 use Rattle.wasi_p2.specs.Views.{Files, FilesOwned, OrRefused}
 use Rattle.wasi_p2.specs.declared.context.Preopen.{Preopen}
-use Rattle.wasi_p2_errors.specs.declared.error.FsError.{FsError}
+use Rattle.wasi_p2_types.specs.declared.error.FsError.{FsError}
 use Rattle.wasi_p2_types.specs.declared.descriptor_stat.DirectoryEntry.{DirectoryEntry}
 
 -- a refusal leaves all as it is

@@ -15,13 +15,13 @@ use Rattle.wasi_streams.specs.Table.{Entries, Table}
 use Rattle.wasi_streams.specs.declared.entry.Entry.{Entry}
 use Rattle.wasi_streams.specs.declared.entry.Entry.TheVariants.{Descriptor as AnOpened, Readdir}
 use Rattle.wasi_streams.specs.declared.table.Resource.{Resource}
-use Rattle.wasi_p2_errors.specs.FsErrors.{fs_error}
+use Rattle.wasi_p2_types.specs.FsErrors.{fs_error}
 use Rattle.wasi_p2.specs.Opens.{AddsHandle, GotFor, MakesEntry}
 use Rattle.wasi_p2.specs.Resources.{AreOwned, HasIt, entry_handle}
 use Rattle.wasi_p2.specs.Rooms.{KeepsTable, NoRoom, PutIn}
 use Rattle.wasi_p2.specs.Views.{files_of}
 use Rattle.wasi_p2.specs.declared.context.WasiFilesystemCtx.{WasiFilesystemCtx}
-use Rattle.wasi_p2_errors.specs.declared.error.FsError.{FsError}
+use Rattle.wasi_p2_types.specs.declared.error.FsError.{FsError}
 use Rattle.wasi_p2.proofs.Causes.{cause_err, cause_ok}
 use Rattle.wasi_p2.proofs.Owning.{owned_added, got_put}
 

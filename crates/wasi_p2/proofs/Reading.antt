@@ -9,11 +9,11 @@ use Rattle.wasi_streams.specs.Reading.{HasRead}
 use Rattle.wasi_streams.specs.Table.{Table}
 use Rattle.wasi_p2_types.specs.ErrorCodes.{code_named}
 use Rattle.wasi_p2.specs.FileBytes.{ReadsFile, is_none_left, read_answer, read_shown}
-use Rattle.wasi_p2_errors.specs.FsErrors.{FsCause}
+use Rattle.wasi_p2_types.specs.FsErrors.{FsCause}
 use Rattle.wasi_p2.specs.Resources.{AreOwned, file_at}
 use Rattle.wasi_p2.specs.Views.{files_of, seen_in}
 use Rattle.wasi_p2.specs.declared.context.WasiFilesystemCtx.{WasiFilesystemCtx}
-use Rattle.wasi_p2_errors.specs.declared.error.FsError.{FsError}
+use Rattle.wasi_p2_types.specs.declared.error.FsError.{FsError}
 use Rattle.wasi_p2.specs.declared.read_result.ReadResult.{ReadResult}
 use Rattle.wasi_p2_types.specs.declared.error_code.ErrorCode.TheVariants.{Io}
 use Rattle.wasi_p2.proofs.Causes.{io_named}

@@ -14,13 +14,13 @@ use Rattle.wasi_streams.specs.declared.entry.Entry.{Entry}
 use Rattle.wasi_streams.specs.declared.entry.Entry.TheVariants.{Descriptor}
 use Rattle.wasi_streams.specs.declared.errors.TableError.TheVariants.{Full}
 use Rattle.wasi_p2.specs.Drops.{LeavesTree}
-use Rattle.wasi_p2_errors.specs.FsErrors.{FsCause}
+use Rattle.wasi_p2_types.specs.FsErrors.{FsCause}
 use Rattle.wasi_p2.specs.Resources.{entry_handle}
 use Rattle.wasi_p2.specs.Rooms.{ClosesHandle}
 use Rattle.wasi_p2.specs.Views.{Files, FilesOwned}
 use Rattle.wasi_p2.specs.declared.context.Preopen.{Preopen}
-use Rattle.wasi_p2_errors.specs.declared.error.FsError.{FsError}
-use Rattle.wasi_p2_errors.specs.declared.error.FsError.TheVariants.{Code, Memory, Trap}
+use Rattle.wasi_p2_types.specs.declared.error.FsError.{FsError}
+use Rattle.wasi_p2_types.specs.declared.error.FsError.TheVariants.{Code, Memory, Trap}
 use Rattle.wasi_p2.specs.declared.preopens.PreopenEntry.{PreopenEntry}
 use Rattle.wasi_p2_types.specs.ErrorCodes.{code_named}
 

@@ -12,12 +12,12 @@ use Rattle.wasi_streams.specs.declared.entry.Entry.{Entry}
 use Rattle.wasi_streams.specs.declared.entry.Entry.TheVariants.{Descriptor, Input, Output, Readdir, Stdin, Stdout, Stderr}
 use Rattle.wasi_streams.specs.declared.errors.TableError.{TableError}
 use Rattle.wasi_streams.specs.declared.errors.TableError.TheVariants.{NotPresent, WrongKind}
-use Rattle.wasi_p2_errors.specs.FsErrors.{table_error}
+use Rattle.wasi_p2_types.specs.FsErrors.{table_error}
 use Rattle.wasi_p2.specs.Resources.{descriptor_at, entry_handle}
 use Rattle.wasi_p2_types.specs.Stats.{kind_named}
 use Rattle.wasi_p2.specs.Views.{Files, FilesOwned, OrRefused}
-use Rattle.wasi_p2_errors.specs.declared.error.FsError.{FsError}
-use Rattle.wasi_p2_errors.specs.declared.error.FsError.TheVariants.{Trap}
+use Rattle.wasi_p2_types.specs.declared.error.FsError.{FsError}
+use Rattle.wasi_p2_types.specs.declared.error.FsError.TheVariants.{Trap}
 use Rattle.wasi_p2_types.specs.declared.descriptor_stat.DescriptorType.{DescriptorType}
 use Rattle.wasi_p2_types.specs.declared.descriptor_stat.DirectoryEntry.{DirectoryEntry}
 

@@ -7,11 +7,11 @@ use Rattle.wasi_streams.specs.Reading.{HasRead}
 use Rattle.wasi_streams.specs.Writing.{Puts}
 use Rattle.wasi_streams.specs.declared.output.FileOutputMode.TheVariants.{Position}
 use Rattle.wasi_p2_types.specs.ErrorCodes.{code_named}
-use Rattle.wasi_p2_errors.specs.FsErrors.{fs_error}
+use Rattle.wasi_p2_types.specs.FsErrors.{fs_error}
 use Rattle.wasi_p2.specs.Resources.{file_at, writable_at}
 use Rattle.wasi_p2.specs.Views.{Files, AsksHost, OrRefused, seen_in}
-use Rattle.wasi_p2_errors.specs.declared.error.FsError.{FsError}
-use Rattle.wasi_p2_errors.specs.declared.error.FsError.TheVariants.{Code, Memory}
+use Rattle.wasi_p2_types.specs.declared.error.FsError.{FsError}
+use Rattle.wasi_p2_types.specs.declared.error.FsError.TheVariants.{Code, Memory}
 use Rattle.wasi_p2.specs.declared.read_result.ReadResult.{ReadResult}
 use Rattle.wasi_p2_types.specs.declared.error_code.ErrorCode.TheVariants.{Io}
 use Rattle.wasi_fs.specs.declared.perms.Act.TheVariants.{Alter}

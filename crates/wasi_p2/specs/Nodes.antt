@@ -15,7 +15,7 @@ use Rattle.wasi_p2.specs.Resources.{both_found, descriptor_at, file_at}
 use Rattle.wasi_p2_types.specs.Stats.{type_named, stat_named, hash_named}
 use Rattle.wasi_p2.specs.Timed.{timed_by}
 use Rattle.wasi_p2.specs.Views.{Files, CallsOn, LooksAtNone, LooksFrom, Performs, node_held, tree_in}
-use Rattle.wasi_p2_errors.specs.declared.error.FsError.{FsError}
+use Rattle.wasi_p2_types.specs.declared.error.FsError.{FsError}
 use Rattle.wasi_p2_types.specs.declared.advice.Advice.{Advice}
 use Rattle.wasi_p2_types.specs.declared.descriptor_stat.DescriptorStat.{DescriptorStat}
 use Rattle.wasi_p2_types.specs.declared.descriptor_stat.DescriptorType.{DescriptorType}

@@ -26,11 +26,11 @@ use Rattle.wasi_streams.specs.declared.output.FileOutputMode.TheVariants.{Positi
 use Rattle.wasi_streams.specs.declared.output.OutputState.TheVariants.{Ready}
 use Rattle.wasi_streams.specs.declared.table.Resource.{Resource}
 use Rattle.wasi_p2_types.specs.FlagNames.{how_named}
-use Rattle.wasi_p2_errors.specs.FsErrors.{fs_error, FsCause}
+use Rattle.wasi_p2_types.specs.FsErrors.{fs_error, FsCause}
 use Rattle.wasi_p2.specs.Resources.{HasIt, directory_at, entry_handle, readable_at, writable_at}
 use Rattle.wasi_p2.specs.Views.{Files, FilesOwned, OrRefused, Performs, node_held, tree_in}
-use Rattle.wasi_p2_errors.specs.declared.error.FsError.{FsError}
-use Rattle.wasi_p2_errors.specs.declared.error.FsError.TheVariants.{Trap, Memory}
+use Rattle.wasi_p2_types.specs.declared.error.FsError.{FsError}
+use Rattle.wasi_p2_types.specs.declared.error.FsError.TheVariants.{Trap, Memory}
 use Rattle.wasi_p2_types.specs.declared.flags.DescriptorFlags.{DescriptorFlags}
 use Rattle.wasi_p2_types.specs.declared.flags.OpenFlags.{OpenFlags}
 use Rattle.wasi_p2_types.specs.declared.flags.PathFlags.{PathFlags}

@@ -19,7 +19,7 @@ use Rattle.wasi_p2.specs.Resources.{both_found, directory_at}
 use Rattle.wasi_p2_types.specs.Stats.{stat_named, hash_named}
 use Rattle.wasi_p2.specs.Timed.{timed_by}
 use Rattle.wasi_p2.specs.Views.{Files, CallsOn, LooksFrom, LooksFromBoth, Performs, node_held, tree_in}
-use Rattle.wasi_p2_errors.specs.declared.error.FsError.{FsError}
+use Rattle.wasi_p2_types.specs.declared.error.FsError.{FsError}
 use Rattle.wasi_p2_types.specs.declared.descriptor_stat.DescriptorStat.{DescriptorStat}
 use Rattle.wasi_p2_types.specs.declared.descriptor_stat.MetadataHashValue.{MetadataHashValue}
 use Rattle.wasi_p2_types.specs.declared.flags.PathFlags.{PathFlags}

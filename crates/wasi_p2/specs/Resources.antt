@@ -15,10 +15,10 @@ use Rattle.wasi_streams.specs.Table.{Entries}
 use Rattle.wasi_streams.specs.declared.entry.Entry.{Entry}
 use Rattle.wasi_streams.specs.declared.entry.Entry.TheVariants.{Descriptor as AnOpened, Input, Output, Readdir, Stdin, Stdout, Stderr}
 use Rattle.wasi_streams.specs.declared.errors.TableError.{TableError}
-use Rattle.wasi_p2_errors.specs.FsErrors.{table_error}
+use Rattle.wasi_p2_types.specs.FsErrors.{table_error}
 use Rattle.wasi_p2.specs.declared.context.Preopen.{Preopen}
-use Rattle.wasi_p2_errors.specs.declared.error.FsError.{FsError}
-use Rattle.wasi_p2_errors.specs.declared.error.FsError.TheVariants.{Code}
+use Rattle.wasi_p2_types.specs.declared.error.FsError.{FsError}
+use Rattle.wasi_p2_types.specs.declared.error.FsError.TheVariants.{Code}
 use Rattle.wasi_p2_types.specs.declared.error_code.ErrorCode.{ErrorCode}
 use Rattle.wasi_p2_types.specs.declared.error_code.ErrorCode.TheVariants.{BadDescriptor, IsDirectory, NotDirectory, NotPermitted}
 

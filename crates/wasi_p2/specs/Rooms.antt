@@ -6,8 +6,8 @@ use Rattle.wasi_streams.specs.Table.{Table}
 use Rattle.wasi_streams.specs.declared.entry.Entry.{Entry}
 use Rattle.wasi_streams.specs.declared.errors.TableError.TheVariants.{Full}
 use Rattle.wasi_p2.specs.Drops.{LeavesTree, live_without}
-use Rattle.wasi_p2_errors.specs.declared.error.FsError.{FsError}
-use Rattle.wasi_p2_errors.specs.declared.error.FsError.TheVariants.{Trap, Memory}
+use Rattle.wasi_p2_types.specs.declared.error.FsError.{FsError}
+use Rattle.wasi_p2_types.specs.declared.error.FsError.TheVariants.{Trap, Memory}
 
 -- the entries stay, and no room is lost
 pub record KeepsTable (table now : Table) : Type 0 where

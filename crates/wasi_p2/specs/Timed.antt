@@ -2,8 +2,8 @@
 use Rattle.std.specs.Prelude.{Option, Result, Ok, Err}
 use Rattle.wasi_host.specs.declared.system_time.SystemTime.{SystemTime}
 use Rattle.wasi_p2_types.specs.Moments.{time_wanted}
-use Rattle.wasi_p2_errors.specs.declared.error.FsError.{FsError}
-use Rattle.wasi_p2_errors.specs.declared.error.FsError.TheVariants.{Code}
+use Rattle.wasi_p2_types.specs.declared.error.FsError.{FsError}
+use Rattle.wasi_p2_types.specs.declared.error.FsError.TheVariants.{Code}
 use Rattle.wasi_p2_types.specs.declared.error_code.ErrorCode.{ErrorCode}
 use Rattle.wasi_p2_types.specs.declared.times.NewTimestamp.{NewTimestamp}
 

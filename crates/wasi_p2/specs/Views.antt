@@ -10,10 +10,10 @@ use Rattle.wasi_resolve.specs.Resolved.{Meant, Resolved}
 use Rattle.wasi_fs.specs.Calls.{Refuses}
 use Rattle.wasi_streams.specs.Reading.{HostSeen, host_seen}
 use Rattle.wasi_streams.specs.Table.{Entries, Table}
-use Rattle.wasi_p2_errors.specs.FsErrors.{raised, FsCause}
+use Rattle.wasi_p2_types.specs.FsErrors.{raised, FsCause}
 use Rattle.wasi_p2.specs.Resources.{AreOwned, HasIt, OneHasIt}
 use Rattle.wasi_p2.specs.declared.context.WasiFilesystemCtx.{WasiFilesystemCtx}
-use Rattle.wasi_p2_errors.specs.declared.error.FsError.{FsError}
+use Rattle.wasi_p2_types.specs.declared.error.FsError.{FsError}
 
 -- a context and its table
 pub record Files (H : Type 0) : Type 0 where

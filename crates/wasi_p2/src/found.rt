@@ -1,7 +1,7 @@
 //! What a resource stands for: copies, which name the same handles, since a call changes its table beside them.
 ghost use Rattle.std.specs.Prelude.{◌≡◌, IfOk};
 ghost use Rattle.wasi_fs.specs.Calls.{handle_of};
-ghost use Rattle.wasi_p2_errors.specs.FsErrors.{raised};
+ghost use Rattle.wasi_p2_types.specs.FsErrors.{raised};
 ghost use Rattle.wasi_p2.specs.Resources.{descriptor_at, directory_at, file_at, file_or, writable_at, HasIt};
 
 use crate::types::ErrorCode;

@@ -12,4 +12,4 @@ pub mod types;
 pub use context::{Preopen, WasiFilesystemCtx, WasiFilesystemCtxView};
 pub use preopens::PreopenEntry;
 pub use read_result::ReadResult;
-pub use wasi_p2_errors::{FsError, FsResult};
+pub use wasi_p2_types::{FsError, FsResult};

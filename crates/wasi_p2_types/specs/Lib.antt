@@ -1,6 +1,7 @@
 pub mod Advices
 pub mod ErrorCodes
+pub mod FlagBits
 pub mod FlagNames
+pub mod FsErrors
 pub mod Moments
 pub mod Stats
-pub mod FlagBits

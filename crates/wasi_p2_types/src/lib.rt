@@ -4,12 +4,14 @@
 
 mod advice;
 mod descriptor_stat;
+mod error;
 mod error_code;
 mod flags;
 mod times;
 
 pub use advice::Advice;
 pub use descriptor_stat::{DescriptorStat, DescriptorType, DirectoryEntry, MetadataHashValue};
+pub use error::{FsError, FsResult};
 pub use error_code::ErrorCode;
 pub use flags::{DescriptorFlags, OpenFlags, PathFlags};
 pub use times::{

@@ -1,5 +1,5 @@
 //! A name in the directory that a path leads to.
-ghost use Rattle.std.specs.Prelude.{◌≡◌, ◌≤◌, ◌+◌, ◌*◌, true, IsTrue, IfOk, length};
+ghost use Rattle.std.specs.Prelude.{◌≡◌, ◌≤◌, ◌+◌, true, IsTrue, IfOk, length};
 ghost use Rattle.std.specs.FinSet.{contains};
 ghost use Rattle.wasi_host.specs.Meaning.{HasCause};
 ghost use Rattle.wasi_host.specs.Lineage.{Traced, Only, Nothing};

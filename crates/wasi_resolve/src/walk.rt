@@ -1,5 +1,5 @@
 //! The walk along the parts of a path.
-ghost use Rattle.std.specs.Prelude.{◌≡◌, ◌∷◌, ◌≤◌, ◌+◌, ◌*◌, ◌&&◌, ◌||◌, ℕ, true, IsTrue, List, length};
+ghost use Rattle.std.specs.Prelude.{◌≡◌, ◌∷◌, ◌≤◌, ◌+◌, ◌&&◌, ◌||◌, ℕ, true, IsTrue, List, length};
 ghost use Rattle.std.specs.FinSet.{contains};
 ghost use Rattle.wasi_host.specs.Meaning.{HasCause, World};
 ghost use Rattle.wasi_host.specs.Lineage.{Traced, Only, Nothing};

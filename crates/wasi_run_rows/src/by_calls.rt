@@ -1,6 +1,6 @@
 //! The report by the calls that the program stands on.
+use crate::begun::Begun;
 use std::alloc::{AllocError, Global};
-use wasi_begun::Begun;
 
 /// The report of a script's calls, made over a tree in memory whose calls fail as it says, if it can be run.
 pub fn report_by_calls(alloc: Global, script: &[u8]) -> Result<Option<Vec<u8>>, AllocError> {

@@ -15,6 +15,7 @@
 //! Empty lines and those that begin with `#` are nothing.
 #![tactic(auto)]
 
+mod begun;
 mod by_calls;
 mod by_script;
 mod faults;

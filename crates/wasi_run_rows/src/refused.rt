@@ -1,7 +1,7 @@
 //! Scripts in which memory may be refused.
+use crate::begun::Begun;
 use std::alloc::{AllocError, Global};
 use std::io;
-use wasi_begun::Begun;
 use wasi_p1::RunError;
 use wasi_table::Tally;
 

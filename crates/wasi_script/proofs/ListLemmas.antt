@@ -1,21 +1,18 @@
 -- Which nodes the lists of an audit have, call by call.
 use Rattle.std.proofs.Common.{ℕ, String, Global, zero, suc, ◌+◌, ◌<◌, ◌≡◌, ◌⊎◌, ◌↔◌, inl, inr, true, List, [], ◌∷◌, ◌++◌, append-nil, get_or, length, map, replicate, take, refl, ap, sym, ◌∙◌, subst, arith, slice_get, Option, Some, None, nat_eq}
 use Rattle.std.specs.Prelude.{All, Contains, option_map}
-use Rattle.std.specs.FinSet.{contains, from_list, contains-from_list_nat}
+use Rattle.std.specs.FinSet.{contains, from_list}
 use Rattle.std.specs.List.{dedup, flat_map}
 use Rattle.std.specs.List.Sorted.{IsPermutation, IsSorted, IsStrictlyIncreasing}
 use Rattle.std.specs.Ordering.{nat_cmp}
 use Rattle.std.specs.String.{string_bytes}
-use Rattle.std.proofs.lemmas.Bool.{eqb-true, eq-eqb}
 use Rattle.std.proofs.lemmas.List.{map-append, take-map, take_more}
 use Rattle.std.proofs.lemmas.List.Concat.{flat_map-append}
 use Rattle.std.proofs.lemmas.List.Elements.{All-contains, All-contains_itself, Contains-append_cases, Contains-append_left, Contains-append_right}
 use Rattle.std.proofs.lemmas.List.Filters.{All-dedup}
-use Rattle.std.proofs.lemmas.List.Folds.{list_any_at}
 use Rattle.std.proofs.lemmas.List.Kept.{Contains-dedup_nat}
 use Rattle.std.proofs.lemmas.List.Sorted.{Contains-permutation, IsPermutation-sym}
 use Rattle.std.proofs.lemmas.Map.Keys.{IsStrictlyIncreasing-dedup}
-use Rattle.std.proofs.lemmas.Map.Views.{Contains-from_any}
 use Rattle.std.proofs.lemmas.Option.{get_or_from_slice_get, slice_get-get_or, slice_get-map, slice_get_within}
 use Rattle.wasi_host.specs.Tree.{Nodes}
 use Rattle.wasi_audit.specs.Audits.{Stems, is_named_from, noted_list, noted_lists}

@@ -1,9 +1,8 @@
 -- The script's own nodes and those that are kept of a run are together the tree of its report.
-use Rattle.std.proofs.Common.{ℕ, ◌≤◌, ◌<◌, ◌≡◌, inl, inr, true, false, List, length, Some, None, ap, sym, ◌∙◌, arith, map, slice_get}
+use Rattle.std.proofs.Common.{ℕ, ◌≡◌, inl, inr, true, false, List, length, Some, ap, sym, ◌∙◌, arith, map, slice_get}
 use Rattle.std.specs.FinSet.{contains, from_list}
-use Rattle.std.specs.Prelude.{Contains}
 use Rattle.std.proofs.lemmas.Bool.{true≢false, false_from_ne_true, cases_lt}
-use Rattle.wasi_host.specs.Tree.{Tree, node_at, next_of}
+use Rattle.wasi_host.specs.Tree.{Tree, next_of}
 use Rattle.wasi_tree.specs.Given.{given_of, tree_of}
 use Rattle.wasi_form.specs.Plan.{Plan}
 use Rattle.wasi_start.specs.Merged.{IsMergedTree}

@@ -22,12 +22,12 @@ exit_code NoMemory = 6
 -- why bytes aren't a script that can be run, and which document says more
 abbrev pub why_refused : Refusal → List ℕ
 why_refused Long =
-    codes "wasirun: the script has more than 16,777,216 bytes; docs/SCRIPT.md says what a script is"
-why_refused Json = codes "wasirun: the script isn't JSON; docs/SCRIPT.md says what a script is"
+    codes "wasirun: the script has more than 16,777,216 bytes; docs/scripts.md says what a script is"
+why_refused Json = codes "wasirun: the script isn't JSON; docs/scripts.md says what a script is"
 why_refused Shape =
-    codes "wasirun: the script is JSON, and isn't of a script's shape; docs/SCRIPT.md says what a script is"
-why_refused Tree = codes "wasirun: the nodes of the script are no tree; docs/SCRIPT.md says what a tree is"
-why_refused Limit = codes "wasirun: the script passes a limit; docs/SCRIPT.md says which there are"
+    codes "wasirun: the script is JSON, and isn't of a script's shape; docs/scripts.md says what a script is"
+why_refused Tree = codes "wasirun: the nodes of the script are no tree; docs/scripts.md says what a tree is"
+why_refused Limit = codes "wasirun: the script passes a limit; docs/scripts.md says which there are"
 
 -- the line for a person
 abbrev pub message_of : Status → Option (List ℕ)

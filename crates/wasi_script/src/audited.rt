@@ -121,11 +121,12 @@ fn audit(alloc: Global, script: Script) -> Result<ScriptAudit, AllocError>
     let mut audit = Audit::new(alloc, names.len() as u32)?;
     let Beginning {
         mut memory,
-        mut context,
+        context,
         fuel,
         calls,
         ..
     } = begin(alloc, script)?;
+    let mut context = WasiP1Ctx::of(context);
     audit_calls(alloc, &mut context, &mut memory, fuel, &calls, &mut audit)?;
     Ok(ScriptAudit { names, audit })
 }

@@ -56,15 +56,16 @@ pub fn run_over<T: ScriptTree>(
         → IsRanOf (planned nodes limits session) T.seen ran) }
 {
     let mut begun = begin_over(alloc, tree, session)?;
+    let mut context = WasiP1Ctx::of(begun.context);
     let bytes = begun.memory.bytes_mut();
-    let ran = run_calls(alloc, &mut begun.context, bytes, begun.fuel, &begun.calls);
+    let ran = run_calls(alloc, &mut context, bytes, begun.fuel, &begun.calls);
     let Ok(answers) = ran else {
         return Err(AllocError);
     };
     Ok(Ran {
         answers,
         memory: begun.memory,
-        context: begun.context,
+        context,
         show: begun.show,
         calls: begun.calls,
     })

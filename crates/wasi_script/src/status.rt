@@ -64,16 +64,17 @@ fn why_refused(refusal: Refusal) -> &'static str
 {
     match refusal {
         Refusal::Long => {
-            "wasirun: the script has more than 16,777,216 bytes; docs/SCRIPT.md says what a script is"
+            "wasirun: the script has more than 16,777,216 bytes; docs/scripts.md says what a script is"
         }
-        Refusal::Json => "wasirun: the script isn't JSON; docs/SCRIPT.md says what a script is",
+        Refusal::Json => "wasirun: the script isn't JSON; docs/scripts.md says what a script is",
         Refusal::Shape => {
-            "wasirun: the script is JSON, and isn't of a script's shape; docs/SCRIPT.md says what a script is"
+            "wasirun: the script is JSON, and isn't of a script's shape; docs/scripts.md says what a script is"
         }
         Refusal::Tree => {
-            "wasirun: the nodes of the script are no tree; docs/SCRIPT.md says what a tree is"
+            "wasirun: the nodes of the script are no tree; docs/scripts.md says what a tree is"
         }
-        Refusal::Limit => "wasirun: the script passes a limit; docs/SCRIPT.md says which there are",
+        Refusal::Limit =>
+            "wasirun: the script passes a limit; docs/scripts.md says which there are",
     }
 }
 

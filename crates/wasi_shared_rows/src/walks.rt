@@ -1,12 +1,11 @@
 //! The lines of the tables, each over a tree of its own.
 ghost use Rattle.std.specs.Prelude.{◌≡◌, true};
 ghost use Rattle.std.specs.FinSet.{contains};
-ghost use Rattle.wasi_tree.specs.MemState.{live_of};
 
 use crate::changes::changes_of;
 use crate::trees::{small_tree, walked_tree};
 use std::alloc::{AllocError, Global};
-use wasi_host::{Handle, Host, HostError, Metadata, dir_options};
+use wasi_host::{Handle, Host, HostError, dir_options};
 use wasi_resolve::open;
 use wasi_shared::Shared;
 use wasi_table::{Answering, Asked, Told, answered, coded, unknown};

@@ -1,6 +1,6 @@
 -- A run leaves each node that it doesn't work on.
-use Rattle.std.proofs.Common.{ℕ, ◌≤◌, ◌<◌, ◌≡◌, ◌≢◌, ◌⊎◌, inl, inr, true, false, cond, Bool, List, [], ◌∷◌, ◌++◌, length, Option, Some, None, Result, Ok, Err, refl, ap, sym, ◌∙◌, subst, arith, map, slice_get, slice_index_or, nat_eq}
-use Rattle.std.specs.FinSet.{contains, from_list}
+use Rattle.std.proofs.Common.{ℕ, ◌≡◌, ◌≢◌, ◌⊎◌, inl, inr, true, false, cond, Bool, List, [], ◌∷◌, ◌++◌, length, Option, Some, None, Result, Ok, Err, refl, ap, sym, ◌∙◌, subst, arith, slice_index_or, nat_eq}
+use Rattle.std.specs.FinSet.{contains}
 use Rattle.std.specs.List.{list_any}
 use Rattle.std.specs.Prelude.{Contains}
 use Rattle.std.specs.Cmp.{nat_eq_equiv}
@@ -8,7 +8,6 @@ use Rattle.std.proofs.lemmas.Bool.{true≢false, false_from_ne_true, or_left, or
 use Rattle.std.proofs.lemmas.List.{length-set, length-append, get_or-set_other, get_or_append_left, get_or_past}
 use Rattle.std.proofs.lemmas.List.Elements.{Contains-push}
 use Rattle.std.proofs.lemmas.Map.Views.{list_any-from_Contains}
-use Rattle.std.proofs.lemmas.Option.{slice_get-get_or, slice_get-map, slice_get_past}
 use Rattle.wasi_host.specs.HostCall.{HostCall, OpenAt, StatAt, ReadLinkAt, MakeDirAt, SymlinkAt, LinkAt, RenameAt, UnlinkAt, RemoveDirAt, TimesAt, Access, Stat, SetTimes, Pread, Pwrite, Append, SetSize, Sync, Advise, Flags, ListDir, Dup, Close}
 use Rattle.wasi_host.specs.Options.{Options}
 use Rattle.wasi_host.specs.Step.{step, with_nodes, with_content, content_changed, entry_changed, with_name, without_name, node_made, new_file, new_directory, new_link, other_bytes, with_size, with_piece, with_entry, without_entry, is_cut, file_cut, opened_step, open_step, write_step, one_name_more, added_step, link_step, one_name_less, made_gone, dropped_step, unlink_step, remove_step, name_lost, name_taken, name_moved, moved_step, rename_step, with_times, times_set, times_set_if, times_step}

@@ -19,7 +19,7 @@ use wasi_faults::{FailAt, Fault};
 use wasi_form::{Piece, Script, ScriptPreopen, Session, Shown};
 use wasi_guest::{Call, GuestMemory, Quota, Services, slice_at};
 use wasi_host::Host;
-use wasi_p1_context::WasiP1Ctx;
+use wasi_p1_context::P1State;
 use wasi_tree::{HandleError, MemTree};
 use wasi_turns::{CtxError, P1Preopen};
 
@@ -27,7 +27,7 @@ use wasi_turns::{CtxError, P1Preopen};
 #[derive(Drop)]
 pub struct Beginning<T: Host> {
     pub memory: GuestMemory,
-    pub context: WasiP1Ctx<FailAt<T>>,
+    pub context: P1State<FailAt<T>>,
     pub fuel: u64,
     pub calls: Vec<Call>,
     pub show: Vec<Shown>,
@@ -76,7 +76,7 @@ pub fn first_context<T: ScriptTree>(
     quota: Quota,
     preopens: &[ScriptPreopen],
     table: u32,
-) -> Result<WasiP1Ctx<FailAt<T>>, AllocError>
+) -> Result<P1State<FailAt<T>>, AllocError>
     requires directories { All (λ preopen. is_directory (node_at (T.seen tree).tree preopen.node).content ≡ true)
         preopens.now }
     requires none { live_of (T.seen tree).handles ≡ empty }
@@ -91,7 +91,7 @@ pub fn first_context<T: ScriptTree>(
 {
     let given = given_handles(alloc, &mut tree, preopens)?;
     let host = FailAt::new(tree, faults);
-    match WasiP1Ctx::new(alloc, host, given, services, table) {
+    match P1State::new(alloc, host, given, services, table) {
         Ok(mut context) => {
             context.set_quota(quota);
             Ok(context)

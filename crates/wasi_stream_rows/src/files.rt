@@ -1,7 +1,6 @@
 //! The lines of the tables, each over a tree of its own.
 ghost use Rattle.std.specs.Prelude.{◌≡◌, true};
 ghost use Rattle.std.specs.FinSet.{contains};
-ghost use Rattle.wasi_tree.specs.MemState.{live_of};
 
 use crate::amounts::{copy_line, turns_line};
 use crate::inputs::input_line;

@@ -4,7 +4,7 @@ use Rattle.std.proofs.lemmas.List.{take-append-drop, drop-drop}
 use Rattle.std.proofs.lemmas.Grind.{common_steps}
 use Rattle.wasi_host.specs.Answer.{unless}
 use Rattle.wasi_host.specs.declared.errors.ErrorCode.{ErrorCode}
-use Rattle.wasi_streams.specs.Input.{Input, ReadReply, InputAnswer, InputRow, known, read_then, performed, left, asked, taken, moved_by, waits}
+use Rattle.wasi_streams.specs.Input.{Input, ReadReply, InputAnswer, InputRow, known, read_then, performed, left, taken, moved_by, waits}
 use Rattle.wasi_streams.specs.Input as rows
 use Rattle.wasi_streams.specs.Reading.{FollowsRead}
 use Rattle.wasi_streams.specs.Chunks.{IsPrefix, FromFile, IsNext, bytes_given, IsCall, was_read, was_ready, was_blocking, was_cancelled, no_call, one_call_more, ChunksArePrefix, ReadsAreFromFile}

@@ -1,5 +1,5 @@
 -- Entries by number, as a table's slots hold them.
-use Rattle.std.proofs.Common.{◌≡◌, ◌≢◌, ◌<◌, ◌≤◌, ℕ, zero, suc, ◌+◌, true, false, List, [], ◌∷◌, ◌++◌, Option, Some, None, IsSome, is_some, ◌⊎◌, Bool, nat_lt, inl, inr, refl, sym, ap, ◌∙◌, subst, arith, slice_index_or, slice_set, length, count_by, cond, ◌-◌, min, rules, Ok, length-append}
+use Rattle.std.proofs.Common.{◌≡◌, ◌≢◌, ◌<◌, ◌≤◌, ℕ, zero, suc, ◌+◌, true, false, List, [], ◌∷◌, ◌++◌, Option, Some, None, IsSome, is_some, ◌⊎◌, Bool, nat_lt, inl, inr, refl, sym, ap, ◌∙◌, subst, arith, slice_index_or, slice_set, length, cond, ◌-◌, Ok, length-append}
 use Rattle.std.proofs.lemmas.Bool.{cases_eq, true≢false}
 use Rattle.std.proofs.lemmas.Bool.Decides.{nat_tests}
 use Rattle.std.proofs.lemmas.List.{get_or-set_same, get_or-set_other, get_or_push, length-set}

@@ -1,5 +1,5 @@
 //! The table of a guest's resources.
-ghost use Rattle.std.specs.Prelude.{◌≡◌, ◌≤◌, ◌<◌, ◌+◌, ◌⊎◌, ◌↔◌, ℕ, Ok, Err, Some, None, IsOk, IsSome, IsTrue, IfOk, IfErr, OnOk, OnErr, min, nat_le};
+ghost use Rattle.std.specs.Prelude.{◌≡◌, ◌≤◌, ◌<◌, ◌+◌, ◌⊎◌, ◌↔◌, Ok, Err, Some, None, IsOk, IsSome, IfOk, IfErr, OnOk, OnErr, min, nat_le};
 ghost use Rattle.std.specs.Result.{result_map_both};
 ghost use Rattle.std.specs.FinMap.{get, insert, remove, empty, len};
 ghost use Rattle.wasi_streams.specs.Found.{entry_found, descriptor_found, input_found, output_found, readdir_found};

@@ -1,6 +1,5 @@
 //! Which lists of nodes a tree can be made of.
 ghost use Rattle.std.specs.Prelude.{◌≡◌, ◌+◌, ◌<◌, ◌≤◌, ◌&&◌, not, [], ◌∷◌, List, map, length, slice_index_or, slice_set, IfOk, IfErr, OnOk, false, true};
-ghost use Rattle.std.specs.Bool.{Decides};
 ghost use Rattle.std.specs.FinSet.{empty};
 ghost use Rattle.std.specs.List.{list_all};
 ghost use Rattle.std.specs.Vec.{vec_len, vec_capacity};

@@ -1,16 +1,16 @@
 //! How a tree keeps its nodes.
-ghost use Rattle.std.specs.Prelude.{◌≡◌, ◌+◌, ◌<◌, ◌≤◌, ℕ, true, List, All, IsTrue, IfSome, IfOk, OnOk, OnErr, length, map};
+ghost use Rattle.std.specs.Prelude.{◌≡◌, ◌+◌, ◌<◌, ◌≤◌, ℕ, true, All, IsTrue, IfOk, OnOk, OnErr, length, map};
 ghost use Rattle.std.specs.Ordering.{nat_cmp};
 ghost use Rattle.std.specs.List.Sorted.{IsStrictlySortedBy};
-ghost use Rattle.std.specs.FinSet.{empty, insert, from_list};
+ghost use Rattle.std.specs.FinSet.{empty, from_list};
 ghost use Rattle.std.specs.FinMap as maps;
 ghost use Rattle.std.specs.Option.{ForSome};
 ghost use Rattle.wasi_paths.specs.Name.{name_bytes};
 ghost use Rattle.wasi_paths.specs.Text.{is_entry_name};
-ghost use Rattle.wasi_host.specs.Tree.{next_of, node_at, child, is_directory, is_file, is_link, is_gone, names_of, links_of, bytes_of, text_of};
+ghost use Rattle.wasi_host.specs.Tree.{next_of, node_at, is_directory, is_file, is_link, is_gone, names_of, links_of, bytes_of, text_of};
 ghost use Rattle.wasi_host.specs.Below.{is_below};
 ghost use Rattle.wasi_host.specs.Refusal.{is_bare};
-ghost use Rattle.wasi_host.specs.Step.{file_cut, node_made, bytes_put, size_set, times_set, name_added, name_dropped, name_lost, name_moved_onto, with_nodes};
+ghost use Rattle.wasi_host.specs.Step.{file_cut, node_made, bytes_put, size_set, times_set, name_added, name_dropped, name_lost, name_moved_onto};
 ghost use Rattle.wasi_host.specs.Answer.{metadata_of, entry_of, listed};
 ghost use Rattle.wasi_host.specs.Numbers.{largest_file};
 ghost use Rattle.wasi_host.specs.Time.{HasTimes};

@@ -1,5 +1,5 @@
 //! What the host's table refuses, in whatever way the nodes are kept.
-ghost use Rattle.std.specs.Prelude.{◌≡◌, ◌-◌, ◌<◌, ◌^◌, OnOk, Some, IfOk, MatchResult, Ok, Err, true, map, All, IsTrue};
+ghost use Rattle.std.specs.Prelude.{◌≡◌, ◌-◌, ◌<◌, ◌^◌, OnOk, Some, IfOk, MatchResult, Ok, Err, map, All, IsTrue};
 ghost use Rattle.std.specs.Option.{ForSome};
 ghost use Rattle.wasi_paths.specs.Name.{name_bytes};
 ghost use Rattle.wasi_host.specs.Tree.{next_of, node_at, child, links_of};

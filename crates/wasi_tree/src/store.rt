@@ -1,35 +1,28 @@
 //! The nodes by number.
-ghost use Rattle.std.specs.Prelude.{◌≡◌, ℕ, ◌+◌, ◌-◌, ◌<◌, ◌≤◌, ◌^◌, OnOk, Some, None, IfSome, IfOk, OnErr, MatchResult, Ok, Err, if◌then◌else◌, take, drop, length, map, true, false, IsTrue, All};
+ghost use Rattle.std.specs.Prelude.{◌≡◌, ℕ, ◌+◌, ◌-◌, ◌<◌, ◌≤◌, OnOk, Some, None, IfSome, IfOk, OnErr, Ok, length, map, true, false, IsTrue, All};
 ghost use Rattle.wasi_paths.specs.Name.{name_bytes};
 ghost use Rattle.wasi_paths.specs.Text.{is_entry_name};
 ghost use Rattle.wasi_host.specs.Tree.{Tree, next_of, node_at, child, is_directory, is_file, is_link, is_gone, names_of, links_of, bytes_of, text_of};
-ghost use Rattle.wasi_host.specs.HostCall.{OpenAt, StatAt, MakeDirAt, SymlinkAt, Access, SetSize};
-ghost use Rattle.wasi_host.specs.Refusal.{is_bare, refusal, refused_with, first_row, is_too_large, name_rows, entry_rows, growing_rows, making_rows, text_rows, missing_rows, found_rows};
-ghost use Rattle.wasi_host.specs.Step.{is_cut, file_cut, node_made, bytes_put, write_step, append_step, size_set, times_set};
-ghost use Rattle.wasi_host.specs.Answer.{metadata_of, kind_of, stat_at_answer, link_answer, access_answer, bytes_read, bytes_taken, bytes_appended, entry_of, listed, list_answer, host_answer};
+ghost use Rattle.wasi_host.specs.Refusal.{is_bare};
+ghost use Rattle.wasi_host.specs.Step.{file_cut, node_made, bytes_put, size_set, times_set};
+ghost use Rattle.wasi_host.specs.Answer.{metadata_of, kind_of, entry_of, listed};
 ghost use Rattle.wasi_host.specs.Numbers.{largest_file};
 ghost use Rattle.wasi_tree.specs.Given.{given, given_of, nodes_from, tree_of};
 ghost use Rattle.wasi_tree.specs.Fit.{name_counts};
 ghost use Rattle.wasi_tree.specs.Viewed.{Views};
-ghost use Rattle.wasi_tree.specs.Looked.{IsLooked};
 ghost use Rattle.wasi_tree.specs.Sound.{NodesStay, IsSoundText};
 ghost use Rattle.std.specs.FinSet.{empty};
 ghost use Rattle.wasi_tree.specs.StoredTree.{stored_node, stored_tree, named_from, AreBelow, IsStored};
 ghost use Rattle.std.specs.FinMap as maps;
 ghost use Rattle.wasi_names.specs.NameRows.{names_at};
-ghost use Rattle.wasi_tree.specs.TouchedTree.{MeansCode};
 
 use crate::fit_nodes::FitNodes;
-use crate::looked::Looked;
 use crate::marks::Marks;
 use crate::node::{NewNode, NodeView};
 use crate::row::Row;
 use std::alloc::{AllocError, Global};
 use std::marker::Model;
-use wasi_host::{
-    Bits, DirEntry, ErrorCode, FILE_MAX, FileType, Held, HostError, LINK_MAX, Limits, Metadata,
-    OpenOptions, SystemTime,
-};
+use wasi_host::{Bits, DirEntry, FileType, Limits, Metadata, SystemTime};
 use wasi_names::{Near, Rows, Run};
 use wasi_paths::Name;
 

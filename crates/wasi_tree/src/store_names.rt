@@ -1,21 +1,16 @@
 //! What is done to the names of directories.
-ghost use Rattle.std.specs.Prelude.{◌≡◌, ◌-◌, ◌<◌, ◌^◌, OnOk, Some, IfOk, OnErr, true, false, nat_eq, IsTrue};
+ghost use Rattle.std.specs.Prelude.{◌≡◌, ◌-◌, ◌<◌, ◌^◌, OnOk, Some, OnErr, true, false, nat_eq, IsTrue};
 ghost use Rattle.std.specs.Option.{ForSome};
 ghost use Rattle.std.specs.String.{string_bytes};
 ghost use Rattle.wasi_paths.specs.Name.{name_bytes};
 ghost use Rattle.wasi_paths.specs.Text.{is_entry_name};
-ghost use Rattle.wasi_host.specs.Tree.{next_of, node_at, child, is_directory, links_of};
-ghost use Rattle.wasi_host.specs.HostCall.{LinkAt, UnlinkAt, RemoveDirAt, TimesAt};
-ghost use Rattle.wasi_host.specs.Refusal.{refusal, refused_with, first_row, both_rows, links_rows, dropping_rows, naming_rows, access_rows, replacing_rows, moving_rows};
-ghost use Rattle.wasi_host.specs.Step.{with_entry, without_entry, content_changed, one_name_more, name_lost, name_dropped, unlink_step, remove_step, times_step, name_added, name_moved_onto};
-ghost use Rattle.wasi_tree.specs.Looked.{IsLooked};
+ghost use Rattle.wasi_host.specs.Tree.{next_of, node_at, is_directory, links_of};
+ghost use Rattle.wasi_host.specs.Step.{with_entry, without_entry, content_changed, one_name_more, name_lost, name_dropped, name_added, name_moved_onto};
 ghost use Rattle.wasi_tree.specs.Sound.{NodesStay};
 ghost use Rattle.wasi_tree.specs.Move.{IsExchange, IsMove, found_lost};
 
-use crate::looked::Looked;
 use crate::store::Store;
 use std::alloc::AllocError;
-use wasi_host::{ErrorCode, SystemTime};
 use wasi_paths::Name;
 
 #[tactic(auto, using(crate::proofs::StoreLemmas::store_rules))]

@@ -1,5 +1,5 @@
 -- What holds of each row, a file a family.
-use Rattle.std.proofs.Common.{refl, false}
+use Rattle.std.proofs.Common.{refl}
 use Rattle.wasi_guest.specs.declared.answer.Value.TheVariants.{Unit as Nothing}
 use Rattle.wasi_guest.specs.declared.call.Call.{Call}
 use Rattle.wasi_guest.specs.declared.call.Call.TheVariants as calls

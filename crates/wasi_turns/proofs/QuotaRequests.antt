@@ -8,7 +8,7 @@ use Rattle.wasi_guest.specs.Flags as flag
 use Rattle.wasi_guest.specs.Flags.{are_known, flags_in, has, known_fdflags, known_lookupflags, known_oflags, known_rights}
 use Rattle.wasi_host.specs.Answer.{access_of, host_answer}
 use Rattle.wasi_host.specs.HostCall as calls
-use Rattle.wasi_host.specs.HostCall.{HostCall, OpenAt, Pwrite, Append, SetSize, Stat}
+use Rattle.wasi_host.specs.HostCall.{OpenAt, Pwrite, Append, SetSize}
 use Rattle.wasi_host.specs.Options.{Options, creates}
 use Rattle.wasi_host.specs.Refusal.{can_write, refusal}
 use Rattle.wasi_host.specs.Step.{open_step, step}

@@ -9,8 +9,8 @@ ghost use Rattle.wasi_turns.specs.declared.error.P1Error.TheVariants as errors;
 use std::alloc::AllocError;
 use wasi_guest::{Errno, GuestError, TrapKind};
 use wasi_host::{ErrorCode, HostError};
-use wasi_p2_errors::FsError;
 use wasi_p2_types as types;
+use wasi_p2_types::FsError;
 use wasi_streams::TableError;
 
 /// Why a call didn't succeed.

@@ -2,7 +2,7 @@
 //! `embed/wasi.h` behind a type that keeps what they ask of their caller. A sandbox is one value that nobody copies; a
 //! call borrows it and the guest's memory alone; and a guest that was stopped calls nothing more.
 //!
-//! `docs/EMBEDDING.md` says what is proved, and what isn't: this file isn't.
+//! `docs/embedding.md` says what is proved, and what isn't: this file isn't.
 
 use std::fmt;
 use std::ptr;
@@ -197,7 +197,7 @@ impl Base {
 }
 
 impl Sandbox {
-    /// Begins a sandbox by the text of a script (docs/SCRIPT.md) without calls, memory and ranges to be shown.
+    /// Begins a sandbox by the text of a script (docs/scripts.md) without calls, memory and ranges to be shown.
     pub fn start(script: &str) -> Result<Sandbox, Refused> {
         let mut raw = nothing();
         // SAFETY: the sandbox is the empty one, and the text is there for the call.
@@ -225,7 +225,7 @@ impl Sandbox {
     }
 
     /// The numbers of the nodes that calls have worked on, rising, as the report numbers them; a read or a look works
-    /// on none (docs/SCRIPT.md, "A trial"). `None` of a sandbox over no base. `Stop::Memory` where memory was wanted.
+    /// on none (docs/scripts.md, "A trial"). `None` of a sandbox over no base. `Stop::Memory` where memory was wanted.
     pub fn kept(&mut self) -> Result<Option<Vec<u64>>, Stop> {
         // SAFETY: the sandbox isn't empty; the room and the length are borrowed for the call, and don't overlap.
         let kept = with_room(64, |numbers, room, len| unsafe {

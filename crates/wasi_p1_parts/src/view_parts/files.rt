@@ -10,7 +10,7 @@ ghost use Rattle.wasi_host.specs.declared.errors.HostError.{HostError};
 ghost use Rattle.wasi_p1_parts.specs.Held.{HoldsHandles};
 ghost use Rattle.wasi_p1_parts.specs.Viewed.{descriptor_under, Lowered};
 ghost use Rattle.wasi_p2_types.specs.Advices.{advice_named};
-ghost use Rattle.wasi_p2_errors.specs.FsErrors.{FsCause};
+ghost use Rattle.wasi_p2_types.specs.FsErrors.{FsCause};
 ghost use Rattle.wasi_p2.specs.Views.{files_of, AsksHost, FilesOwned, Performs};
 ghost use Rattle.wasi_streams.specs.declared.entry.Entry.TheVariants.{Descriptor as AnOpened};
 ghost use Rattle.wasi_host.specs.Meaning.{Rose};

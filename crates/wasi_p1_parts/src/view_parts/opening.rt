@@ -5,7 +5,7 @@ ghost use Rattle.wasi_fs.specs.declared.descriptor.Descriptor.{Descriptor as Ope
 ghost use Rattle.wasi_p1_types.specs.Items.{resource_in, slot_in, Admitted, IsOfKind};
 ghost use Rattle.wasi_turns.specs.Slots.{slot_of};
 ghost use Rattle.wasi_p1_parts.specs.Viewed.{Opens};
-ghost use Rattle.wasi_p2_errors.specs.FsErrors.{FsCause};
+ghost use Rattle.wasi_p2_types.specs.FsErrors.{FsCause};
 ghost use Rattle.wasi_p2_types.specs.FlagNames.{how_named};
 ghost use Rattle.wasi_p2.specs.Opens.{OpensAt};
 ghost use Rattle.wasi_p2.specs.Resources.{AreOwned};

@@ -9,7 +9,7 @@ ghost use Rattle.wasi_p1_parts.specs.Held.{HoldsHandles};
 ghost use Rattle.wasi_turns.specs.Owners.{handles};
 ghost use Rattle.wasi_p1_parts.specs.Viewed.{descriptor_under, Lowered};
 ghost use Rattle.wasi_p2_types.specs.FlagNames.{path_flags_named};
-ghost use Rattle.wasi_p2_errors.specs.FsErrors.{FsCause};
+ghost use Rattle.wasi_p2_types.specs.FsErrors.{FsCause};
 ghost use Rattle.wasi_p2.specs.Resources.{both_found, directory_at};
 ghost use Rattle.wasi_p2.specs.Views.{files_of, CallsOn, FilesOwned, LooksFromBoth, Performs};
 ghost use Rattle.wasi_resolve.specs.AtTwo.{HardLink, Rename};

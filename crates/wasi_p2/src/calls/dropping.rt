@@ -8,7 +8,7 @@ use crate::found::descriptor_at;
 use crate::types::DirectoryEntry;
 use crate::{FsResult, WasiFilesystemCtxView};
 use wasi_host::Host;
-use wasi_streams::{Resource, TableError};
+use wasi_streams::Resource;
 
 /// None of these calls takes memory.
 impl<'a, H: Host> WasiFilesystemCtxView<'a, H> {

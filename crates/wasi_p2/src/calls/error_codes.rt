@@ -1,6 +1,6 @@
 //! The calls of a view that tell the codes of errors.
 ghost use Rattle.std.specs.Prelude.{◌≡◌};
-ghost use Rattle.wasi_p2_errors.specs.FsErrors.{code_of_error, stream_code};
+ghost use Rattle.wasi_p2_types.specs.FsErrors.{code_of_error, stream_code};
 
 use crate::types::ErrorCode;
 use crate::{FsError, WasiFilesystemCtxView};

@@ -1,12 +1,10 @@
 //! The calls of a view.
 ghost use Rattle.wasi_p2.specs.Views.{FilesOwned, files_of};
 
-use crate::answers::{all_kept, first, flags, kept, resource, shown, time, told_read};
 use wasi_host::Host;
 use wasi_p2::WasiFilesystemCtxView;
-use wasi_p2::types::Advice;
 use wasi_streams::Resource;
-use wasi_table::{Asked, Told, number, unknown, word};
+use wasi_table::{Asked, Told};
 
 /// `CALL ARGUMENTS`. The numbers of resources that are answered are kept.
 pub fn view_call<H: Host>(

@@ -2,12 +2,10 @@
 ghost use Rattle.std.specs.Prelude.{◌<◌, length};
 ghost use Rattle.wasi_p2_rows.specs.AllOwned.{AllOwned, StayOwned};
 
-use crate::answers::{all_kept, first, flags, kept, resource, shown, time, told_read};
 use wasi_host::Host;
-use wasi_p2::types::Advice;
 use wasi_p2_views::{NamedId, WasiCtxNamedView, WasiFilesystemNamedView};
 use wasi_streams::Resource;
-use wasi_table::{Asked, Told, number, unknown, word};
+use wasi_table::{Asked, Told};
 
 /// `CALL ARGUMENTS`, of the view at a place. The numbers of resources that are answered are kept.
 pub fn named_call<H: Host, T: WasiFilesystemNamedView<H>>(

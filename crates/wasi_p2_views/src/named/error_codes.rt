@@ -1,6 +1,6 @@
 //! The calls of a named view that tell the codes of errors.
 ghost use Rattle.std.specs.Prelude.{◌≡◌, ◌<◌, length};
-ghost use Rattle.wasi_p2_errors.specs.FsErrors.{code_of_error, stream_code};
+ghost use Rattle.wasi_p2_types.specs.FsErrors.{code_of_error, stream_code};
 ghost use Rattle.wasi_p2_views.specs.Named.{OneDoes};
 
 use crate::{NamedId, WasiCtxNamedView, WasiFilesystemNamedView};

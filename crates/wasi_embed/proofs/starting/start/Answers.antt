@@ -31,7 +31,7 @@ returns-in_err-begun c =
 pub returns : goal.returns
 returns c =
     let begins = c.in_ok-begun.ensures.begins in
-    rw c.of_context.ensures (record {
+    rw c.of_state.ensures (record {
       starts = (
         plan c.in_ok-script.script,
         c.in_ok-script.ensures.verdict,

@@ -17,7 +17,7 @@ begin_over-requires c =
 pub returns : goal.returns
 returns c =
     let begins = rw c.new.ensures.tree at c.in_ok-begun.ensures.begins in
-    rw c.of_context.ensures (record {
+    rw c.of_state.ensures (record {
       starts = (
         _,
         c.in_ok-session.ensures.judged,

@@ -17,8 +17,8 @@ audit_calls-requires c =
     let begins = c.in_ok-memory.ensures.begins in
     let sized : c.len.result ≡ length (plan c.args.script).preopens = omega (arith, count, c.len.ensures) in
     record {
-      starts = starts_audit (plan c.args.script) c.len.result c.requires.within
-          (begun_at (plan c.args.script) begins.begun begins.written) sized c.in_ok-audit.ensures;
+      starts = rw c.of-context.ensures (starts_audit (plan c.args.script) c.len.result c.requires.within
+          (begun_at (plan c.args.script) begins.begun begins.written) sized c.in_ok-audit.ensures);
     }
 
 pub returns : goal.returns
@@ -27,14 +27,15 @@ returns c =
     let count = names_count (plan c.args.script) c.in_ok-names.names.items names in
     let few = few_given (plan c.args.script) c.requires.within in
     let begins = c.in_ok-memory.ensures.begins in
+    let same = c.of-context.ensures in
     let sized : c.len.result ≡ length (plan c.args.script).preopens = omega (arith, count, c.len.ensures) in
     record {
       names = names;
       short = omega (arith, few);
       has = has_audit (counted never_fails c.in_ok-memory.field-0.context.host.calls)
           (counted never_fails c.audit_calls.new.context.host.calls) c.len.result c.in_ok-audit.audit
-          (few_listed _ c.audit_calls.new.context.host.calls begins.faults c.in_ok-audit_calls.ensures.most
+          (few_listed _ c.audit_calls.new.context.host.calls begins.faults (rw same at c.in_ok-audit_calls.ensures.most)
           (let v = c.args.script.session.faults in omega (arith, v.small, v.ok.0, v.ok.1)))
           (begun_at (plan c.args.script) begins.begun begins.written) sized c.in_ok-audit.ensures
-          c.in_ok-audit_calls.ensures.count (rw (begins.fuel, begins.calls) at c.in_ok-audit_calls.ensures.ran);
+          c.in_ok-audit_calls.ensures.count (rw (same, begins.fuel, begins.calls) at c.in_ok-audit_calls.ensures.ran);
     }

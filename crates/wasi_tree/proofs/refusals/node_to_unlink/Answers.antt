@@ -6,7 +6,7 @@ use Rattle.wasi_tree.proofs.KeptLemmas.{unlink_has}
 use Rattle.wasi_tree.proofs.DropLemmas.{MayDrop, unlink_refused, unlink_by, unlinks}
 use Rattle.wasi_tree.proofs.refusals.node_to_unlink.Goals as goal
 use Rattle.wasi_tree.proofs.refusals.node_to_unlink.Given.{Over}
-use Rattle.wasi_tree.proofs.refusals.node_to_unlink.Goals.{In_ok-node, After-is_directory}
+use Rattle.wasi_tree.proofs.refusals.node_to_unlink.Goals.{In_ok-node}
 
 pub returns-in_err-node-clause-refusal : goal.returns-in_err-node-clause-refusal
 returns-in_err-node-clause-refusal g c =

@@ -9,7 +9,7 @@ first_context-requires-clause-directories c = rw (c.as_slice.ensures.value, c.ne
 pub returns : goal.returns
 returns c =
     let begun = rw c.as_slice.ensures.value at c.in_ok-context.ensures.begun in
-    record {
+    rw c.of.ensures (record {
       state = rw c.new.ensures.tree at (begun.state c.args.plan.memory);
       untouched = begun.untouched;
       unfailing = rw c.new-2.ensures.items at c.in_ok-context.ensures.faults;
@@ -18,4 +18,4 @@ returns c =
       unanswered = c.in_ok-with_room.ensures.empty;
       room = omega (arith, c.in_ok-with_room.ensures.room, c.len.ensures);
       unmade = c.new-3.ensures.items;
-    }
+    })

@@ -1,5 +1,5 @@
 use Rattle.std.proofs.Common.{ap, Err, ◌∙◌}
-use Rattle.wasi_p2_errors.specs.FsErrors.{raised}
+use Rattle.wasi_p2_types.specs.FsErrors.{raised}
 use Rattle.wasi_p1_parts.proofs.Raising.{raised_causes, size_made, size_replied}
 use Rattle.wasi_p1_parts.proofs.view_parts.files.set_size.Goals as goal
 
