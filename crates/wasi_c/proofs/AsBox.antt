@@ -6,9 +6,9 @@ use Rattle.std.proofs.BoxSteps.Form.{Bx}
 use Rattle.std.specs.contracts.alloc.Global as Heap
 use Rattle.std.specs.contracts.impls.GlobalAllocator.TheImpl.{ghosts, dict}
 use Rattle.std.proofs.alloc.Global.TheLaws as heap
-use Rattle.wasi_embed.specs.contracts.any.AnySandbox as Inner
-use Rattle.wasi_embed.proofs.any.AnySandbox.TheLaws as inner
-use Rattle.wasi_c.specs.contracts.parts.Parts as Parts
+use Rattle.wasi_sandbox.specs.contracts.any.AnySandbox as Inner
+use Rattle.wasi_sandbox.proofs.any.AnySandbox.TheLaws as inner
+use Rattle.wasi_c.specs.contracts.boxed.Parts as Parts
 use Rattle.wasi_c.specs.contracts.handle.SandboxHandle as Handle
 
 abbrev pub E : Bx

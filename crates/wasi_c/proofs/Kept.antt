@@ -2,9 +2,9 @@
 use Rattle.std.proofs.Common.{◌≡◌, ◌<◌, ℕ, List, ◌++◌, length, drop, Some, None, refl}
 use Rattle.std.specs.Prelude.{Vec}
 use Rattle.std.specs.Global.{Global}
-use Rattle.wasi_embed.specs.Any.{Keeps}
-use Rattle.wasi_embed.specs.declared.any.AnySandbox.{AnySandbox}
-use Rattle.wasi_embed.specs.declared.any.AnySandbox.TheVariants.{Alone, Over}
+use Rattle.wasi_sandbox.specs.Any.{Keeps}
+use Rattle.wasi_sandbox.specs.declared.any.AnySandbox.{AnySandbox}
+use Rattle.wasi_sandbox.specs.declared.any.AnySandbox.TheVariants.{Alone, Over}
 use Rattle.wasi_c.specs.Told.{KeptTold, all_kept, kept_short, alone}
 
 pub tells_all : (s : AnySandbox) (kept : Vec ℕ Global) (before after : List ℕ) (len len' : ℕ) → Keeps s (Some kept)

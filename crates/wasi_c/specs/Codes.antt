@@ -1,14 +1,14 @@
 -- The numbers that C is given.
 use Rattle.std.specs.Prelude.{ℕ, Result, Ok, Err}
-use Rattle.wasi_form.specs.declared.verdict.Refusal.{Refusal}
-use Rattle.wasi_form.specs.declared.verdict.Refusal.TheVariants.{Long, Json, Shape, Tree, Limit}
+use Rattle.wasi_form.specs.declared.script_reader.Refusal.{Refusal}
+use Rattle.wasi_form.specs.declared.script_reader.Refusal.TheVariants.{Long, Json, Shape, Tree, Limit}
 use Rattle.wasi_guest.specs.Errnos.{errno_number}
 use Rattle.wasi_guest.specs.declared.answer.TrapKind.TheVariants.{Pointer, TableFull, ExitStatus}
 use Rattle.wasi_guest.specs.declared.answer.Value.{Value}
-use Rattle.wasi_turns.specs.declared.error.P1Error.{P1Error}
-use Rattle.wasi_turns.specs.declared.error.P1Error.TheVariants.{Errno, Trap, Exit, Memory}
-use Rattle.wasi_embed.specs.declared.error.StartError.{StartError}
-use Rattle.wasi_embed.specs.declared.error.StartError.TheVariants as starts
+use Rattle.wasi_p1_model.specs.declared.error.P1Error.{P1Error}
+use Rattle.wasi_p1_model.specs.declared.error.P1Error.TheVariants.{Errno, Trap, Exit, Memory}
+use Rattle.wasi_sandbox.specs.declared.error.StartError.{StartError}
+use Rattle.wasi_sandbox.specs.declared.error.StartError.TheVariants as starts
 
 -- that of an answer: 0, preview1's error number, all of which are below 256, or another
 abbrev pub code_of : Result Value P1Error → ℕ

@@ -9,8 +9,8 @@ use denote.RawPtr.{Ptr, block_ptr, null_ptr}
 use Rattle.std.specs.Box.Ownership.{box_owns}
 use Rattle.std.specs.Global.{Global}
 use Rattle.std.specs.contracts.impls.GlobalAllocator.TheImpl.{ghosts}
-use Rattle.wasi_embed.specs.contracts.any.AnySandbox.{the_row}
-use Rattle.wasi_embed.specs.contracts.base.Base as Inner
+use Rattle.wasi_sandbox.specs.contracts.any.AnySandbox.{the_row}
+use Rattle.wasi_sandbox.specs.contracts.base.Base as Inner
 
 -- what a sandbox's handle is worth
 abbrev pub Held : Type 0

@@ -5,19 +5,19 @@ use Rattle.std.specs.List.Sorted.{IsStrictlySortedBy}
 use Rattle.std.specs.Ordering.{nat_cmp}
 use Rattle.wasi_guest.specs.declared.answer.Value.{Value}
 use Rattle.wasi_guest.specs.declared.call.Call.{Call}
-use Rattle.wasi_turns.specs.declared.error.P1Error.{P1Error}
-use Rattle.wasi_embed.specs.declared.shape.Places.{Places}
+use Rattle.wasi_p1_model.specs.declared.error.P1Error.{P1Error}
+use Rattle.wasi_sandbox.specs.declared.result_layout.Places.{Places}
 use Rattle.wasi_tree.specs.MemState.{MemState}
 use Rattle.wasi_overlay.specs.Overlay.{IsFreshOn}
-use Rattle.wasi_embed.specs.Any.{one_of, Becomes}
-use Rattle.wasi_embed.specs.Calling.{CalledInto}
-use Rattle.wasi_embed.specs.Starting.{StartsBy, StartsOver}
-use Rattle.wasi_embed.specs.Telling.{Tells}
-use Rattle.wasi_embed.specs.declared.any.AnySandbox.{AnySandbox}
-use Rattle.wasi_embed.specs.declared.any.AnySandbox.TheVariants.{Alone, Over}
-use Rattle.wasi_embed.specs.declared.base.Base.{Base}
-use Rattle.wasi_embed.specs.declared.error.StartError.{StartError}
-use Rattle.wasi_embed.specs.declared.sandbox.Sandbox.{Sandbox}
+use Rattle.wasi_sandbox.specs.Any.{one_of, Becomes}
+use Rattle.wasi_sandbox.specs.Calling.{CalledInto}
+use Rattle.wasi_sandbox.specs.Starting.{StartsBy, StartsOver}
+use Rattle.wasi_sandbox.specs.Telling.{Tells}
+use Rattle.wasi_sandbox.specs.declared.any.AnySandbox.{AnySandbox}
+use Rattle.wasi_sandbox.specs.declared.any.AnySandbox.TheVariants.{Alone, Over}
+use Rattle.wasi_sandbox.specs.declared.base.Base.{Base}
+use Rattle.wasi_sandbox.specs.declared.error.StartError.{StartError}
+use Rattle.wasi_sandbox.specs.declared.sandbox.Sandbox.{Sandbox}
 use Rattle.wasi_c.specs.Codes.{code_of, start_code}
 use Rattle.wasi_c.specs.Held.{Held, HeldBase}
 

@@ -3,7 +3,7 @@ ghost use Rattle.std.specs.Prelude.{◌≡◌, Some, IsSome};
 ghost use Rattle.wasi_c.specs.Held.{HeldBase, base_coded, lent_by};
 
 use std::marker::Model;
-use wasi_embed::Base;
+use wasi_sandbox::Base;
 
 /// A tree on the heap that sandboxes stand over, and that stays for as long as the program runs (`lent_by`); or nothing, and
 /// then the pointer is null, which C writes as all zeros. It only lends the tree, so it may be copied, and let go.

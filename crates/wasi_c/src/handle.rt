@@ -2,11 +2,11 @@
 ghost use Rattle.std.specs.Prelude.{◌≡◌, Some, None, IsSome};
 ghost use Rattle.wasi_c.specs.Held.{Held, held_coded, owned_by};
 
-use crate::parts::Parts;
+use crate::boxed::Parts;
 use std::alloc::Global;
 use std::marker::Model;
 use std::mem;
-use wasi_embed::AnySandbox;
+use wasi_sandbox::AnySandbox;
 
 /// A sandbox on the heap; or nothing, and then the pointer is null (`owned_by`), which C writes as all zeros. It isn't
 /// `Drop`, so none is let go or written over but by `let_go`, which takes an empty one.

@@ -11,8 +11,8 @@ mod calls;
 mod codes;
 mod handle;
 mod life;
-mod parts;
-mod told;
+mod boxed;
+mod answer;
 
 pub use base::BaseHandle;
 pub use handle::SandboxHandle;

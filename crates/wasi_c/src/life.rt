@@ -6,7 +6,7 @@ use crate::base::BaseHandle;
 use crate::codes::{ALONE, NO_MEMORY, SHORT, start_code};
 use crate::handle::SandboxHandle;
 use std::alloc::Global;
-use wasi_embed::{AnySandbox, Base, start, start_over};
+use wasi_sandbox::{AnySandbox, Base, start, start_over};
 
 /// Begins a sandbox by the text of a script, in place of an empty one. 0; or NO_MEMORY (260); or why the script is
 /// refused, one of the REFUSED_ numbers (270 to 275). Where it isn't 0 the handle stays as it was.

@@ -7,14 +7,14 @@ use Rattle.std.proofs.lemmas.Bool.Decides.{same_from_decides}
 use Rattle.std.proofs.lemmas.List.{get_or-map, length-map}
 use Rattle.std.proofs.lemmas.List.Sums.{AllPass-from_list_all}
 use Rattle.serde_json.specs.Data.{Data}
-use Rattle.wasi_faults.specs.Faults.{numbers_rise}
+use Rattle.wasi_host_faults.specs.Faults.{numbers_rise}
 use Rattle.wasi_guest.specs.Quotas.{IsQuota}
 use Rattle.wasi_guest.specs.Services.{AreWithin}
 use Rattle.wasi_host.specs.Steps.{◌>>=◌}
 use Rattle.wasi_host.specs.ValidTree.{AreLimits}
 use Rattle.wasi_host.specs.declared.limits.Limits.{Limits}
-use Rattle.wasi_tree.specs.Fit.{AreFit}
-use Rattle.wasi_tree.specs.FitNodes.{NodeList}
+use Rattle.wasi_tree.specs.WellFormed.{AreFit}
+use Rattle.wasi_tree.specs.WellFormedNodes.{NodeList}
 use Rattle.wasi_tree.specs.Given.{Given}
 use Rattle.wasi_form.specs.declared.script.Session.{Session}
 use Rattle.wasi_form.specs.Plan.{Plan, GuestsPlan, planned}
@@ -22,11 +22,11 @@ use Rattle.wasi_form.specs.ScriptForm.{script_of}
 use Rattle.wasi_form.specs.GuestsForm.{guests_of}
 use Rattle.wasi_form.specs.Within.{most_memory, shown_bytes, are_preopens_directories, is_piece_within, is_shown_within, is_within_limits, guests_within}
 use Rattle.wasi_form.specs.Verdict.{refused_unless, found, value_of, formed, read_as, read_plan, most_script, Kind, script_kind, guests_kind, judged, verdict_by, IsFit, IsFitFor, IsVerdictBy, IsVerdict, IsGuestsVerdict, Refuses, ReadsBy, IsTestOf}
-use Rattle.wasi_form.specs.declared.verdict.Refusal.{Refusal}
-use Rattle.wasi_form.specs.declared.verdict.Refusal.TheVariants.{Long, Shape, Tree, Limit}
+use Rattle.wasi_form.specs.declared.script_reader.Refusal.{Refusal}
+use Rattle.wasi_form.specs.declared.script_reader.Refusal.TheVariants.{Long, Shape, Tree, Limit}
 use Rattle.wasi_form.proofs.ScriptRanges.{IsInRange, script_in_range, IsGuestOn, AreInRange, guests_read_in_range}
-use Rattle.wasi_form.specs.declared.verdict.ScriptError.{ScriptError}
-use Rattle.wasi_form.specs.declared.verdict.ScriptError.TheVariants.{Refused, Memory}
+use Rattle.wasi_form.specs.declared.script_reader.ScriptError.{ScriptError}
+use Rattle.wasi_form.specs.declared.script_reader.ScriptError.TheVariants.{Refused, Memory}
 
 -- ---- from the bytes to a plan
 

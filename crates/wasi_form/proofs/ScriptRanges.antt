@@ -11,12 +11,12 @@ use Rattle.serde_json.specs.Find as find
 use Rattle.serde_json.specs.Find.{get_member}
 use Rattle.wasi_host.specs.ValidTree.{AreLimits}
 use Rattle.wasi_host.specs.declared.limits.Limits.{Limits}
-use Rattle.wasi_faults.specs.Faults.{numbers_rise}
-use Rattle.wasi_faults.specs.declared.fault.Fault.{Fault}
+use Rattle.wasi_host_faults.specs.Faults.{numbers_rise}
+use Rattle.wasi_host_faults.specs.declared.fault.Fault.{Fault}
 use Rattle.wasi_guest.specs.Quotas.{IsQuota, no_quota}
 use Rattle.wasi_guest.specs.Services.{IsWallMoment, AreWithin}
 use Rattle.wasi_guest.specs.declared.quota.Quota.{Quota}
-use Rattle.wasi_guest.specs.declared.services.WallDatetime.{WallDatetime}
+use Rattle.wasi_guest.specs.declared.guest_env.WallDatetime.{WallDatetime}
 use Rattle.wasi_form.specs.FaultsForm.{fault_of, where_rising, faults_of}
 use Rattle.wasi_form.specs.Lists.{◌>>=◌, only_if, needed, optional, items_all, list_of}
 use Rattle.wasi_form.specs.Shapes.{u64_of, u32_of, two_in}

@@ -3,8 +3,8 @@
 use Rattle.std.specs.Prelude.{List, Bool, true, false, codes, if◌then◌else◌, Option, Some, None}
 use Rattle.serde_json.specs.Data.{Data, Items}
 use Rattle.serde_json.specs.Find as find
-use Rattle.wasi_faults.specs.Faults.{numbers_rise}
-use Rattle.wasi_faults.specs.declared.fault.Fault.{Fault}
+use Rattle.wasi_host_faults.specs.Faults.{numbers_rise}
+use Rattle.wasi_host_faults.specs.declared.fault.Fault.{Fault}
 use Rattle.wasi_form.specs.Lists.{◌>>=◌, list_of}
 use Rattle.wasi_form.specs.Shapes.{u64_of, is_text, two_in}
 

@@ -8,7 +8,7 @@ use Rattle.wasi_guest.specs.declared.call.Call.{Call}
 use Rattle.wasi_guest.specs.declared.quota.Quota.{Quota}
 use Rattle.wasi_host.specs.declared.limits.Limits.{Limits}
 use Rattle.wasi_tree.specs.Given.{Given}
-use Rattle.wasi_faults.specs.declared.fault.Fault.{Fault}
+use Rattle.wasi_host_faults.specs.declared.fault.Fault.{Fault}
 use Rattle.wasi_form.specs.declared.script.Shown.{Shown}
 use Rattle.wasi_form.specs.Lists.{◌>>=◌, names, only_if, needed, optional, list_of}
 use Rattle.wasi_form.specs.Shapes.{u64_of, u32_of, all_keys}

@@ -4,7 +4,7 @@ use Rattle.serde_json.specs.Data.{Data, Items, Members}
 use Rattle.serde_json.specs.Find as find
 use Rattle.serde_json.specs.Find.{get_member}
 use Rattle.wasi_guest.specs.Services.{Handed}
-use Rattle.wasi_guest.specs.declared.services.WallDatetime.{WallDatetime}
+use Rattle.wasi_guest.specs.declared.guest_env.WallDatetime.{WallDatetime}
 use Rattle.wasi_form.specs.declared.services.ServiceKey.{ServiceKey}
 use Rattle.wasi_form.specs.declared.services.ServiceKey.TheVariants.{Args, Env, Stdin, Wall, WallResolution, Monotonic, MonotonicResolution, Random}
 use Rattle.wasi_form.specs.Lists.{◌>>=◌, at_name, only_if, optional, list_of}

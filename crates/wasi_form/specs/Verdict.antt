@@ -6,16 +6,16 @@ use Rattle.std.specs.Str.{is_utf8}
 use Rattle.serde_json.specs.Data.{Data}
 use Rattle.serde_json.specs.Read.{read}
 use Rattle.wasi_host.specs.Steps.{◌>>=◌}
-use Rattle.wasi_tree.specs.Fit.{AreFit}
-use Rattle.wasi_tree.specs.FitNodes.{NodeList}
-use Rattle.wasi_ends.specs.Ends.{most_bytes}
+use Rattle.wasi_tree.specs.WellFormed.{AreFit}
+use Rattle.wasi_tree.specs.WellFormedNodes.{NodeList}
+use Rattle.wasi_io.specs.Ends.{most_bytes}
 use Rattle.wasi_form.specs.declared.script.Draft.{Draft}
 use Rattle.wasi_form.specs.declared.script.GuestScript.{GuestScript}
 use Rattle.wasi_form.specs.declared.script.Script.{Script}
-use Rattle.wasi_form.specs.declared.verdict.Refusal.{Refusal}
-use Rattle.wasi_form.specs.declared.verdict.Refusal.TheVariants.{Long, Json, Shape, Tree, Limit}
-use Rattle.wasi_form.specs.declared.verdict.ScriptError.{ScriptError}
-use Rattle.wasi_form.specs.declared.verdict.ScriptError.TheVariants.{Refused, Memory}
+use Rattle.wasi_form.specs.declared.script_reader.Refusal.{Refusal}
+use Rattle.wasi_form.specs.declared.script_reader.Refusal.TheVariants.{Long, Json, Shape, Tree, Limit}
+use Rattle.wasi_form.specs.declared.script_reader.ScriptError.{ScriptError}
+use Rattle.wasi_form.specs.declared.script_reader.ScriptError.TheVariants.{Refused, Memory}
 use Rattle.wasi_form.specs.Plan.{Plan, plan, drafted, GuestsPlan, guests_plan}
 use Rattle.wasi_form.specs.ScriptForm.{script_of}
 use Rattle.wasi_form.specs.GuestsForm.{guests_of}

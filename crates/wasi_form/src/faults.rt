@@ -1,7 +1,7 @@
 //! The calls of the host that a script lets fail.
 ghost use Rattle.std.specs.Prelude.{◌≡◌, option_map};
 ghost use Rattle.json.specs.Json.{parse_map};
-ghost use Rattle.wasi_faults.specs.Faults.{numbers_rise};
+ghost use Rattle.wasi_host_faults.specs.Faults.{numbers_rise};
 ghost use Rattle.wasi_form.specs.Atoms.{atom_data};
 ghost use Rattle.wasi_form.specs.FaultsForm as specs;
 ghost use Rattle.wasi_form.specs.IsRead.{IsRead};
@@ -14,7 +14,7 @@ use crate::lists::{Listed, list};
 use crate::shapes::{Reading, Unread};
 use json::Reader;
 use std::alloc::Global;
-use wasi_faults::Fault;
+use wasi_host_faults::Fault;
 
 // Whether a call that fails is made first, by the text that says so. `None` where it is another value.
 fn is_after(atom: Atom<'_>) -> Option<bool>
@@ -30,7 +30,7 @@ fn is_after(atom: Atom<'_>) -> Option<bool>
 }
 
 impl Listed for Fault {
-    ghost use Rattle.wasi_faults.specs.declared.fault.Fault.{Fault};
+    ghost use Rattle.wasi_host_faults.specs.declared.fault.Fault.{Fault};
 
     ghost Seen = { Fault };
 

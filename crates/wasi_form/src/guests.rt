@@ -11,7 +11,7 @@ use crate::atoms::next_u32;
 use crate::limits::{DEFAULT_LIMITS, limits};
 use crate::lists::{Item, list};
 use crate::objects::{Fields, object};
-use crate::parts::Parts;
+use crate::members::Parts;
 use crate::script::Session;
 use crate::shapes::Reading;
 use crate::tokens::pass;

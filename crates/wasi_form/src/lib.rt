@@ -11,7 +11,7 @@ mod lists;
 mod memory;
 mod nodes;
 mod objects;
-mod parts;
+mod members;
 mod preopens;
 mod quota;
 mod script;
@@ -19,13 +19,13 @@ mod services;
 mod shapes;
 mod texts;
 mod tokens;
-mod verdict;
+mod script_reader;
 mod within;
 
 pub use limits::DEFAULT_LIMITS;
-pub use parts::{DEFAULT_FUEL, DEFAULT_TABLE};
+pub use members::{DEFAULT_FUEL, DEFAULT_TABLE};
 pub use script::{Draft, GuestScript, Piece, PieceBytes, Script, ScriptPreopen, Session, Shown};
-pub use verdict::{
+pub use script_reader::{
     Refusal, ScriptError, guest_verdicts_are_one, read_draft, read_guest_script, read_script,
     verdicts_are_one,
 };

@@ -1,7 +1,7 @@
 //! A script: a tree of files, what the guest is given of it, its memory, and its calls.
 
 use smallvec::SmallVec;
-use wasi_faults::Fault;
+use wasi_host_faults::Fault;
 use wasi_fs::FsPerms;
 use wasi_guest::{Call, Quota, Services};
 use wasi_host::Limits;

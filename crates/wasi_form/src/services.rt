@@ -102,7 +102,7 @@ impl Listed for EnvPair {
 }
 
 impl Listed for WallDatetime {
-    ghost use Rattle.wasi_guest.specs.declared.services.WallDatetime.{WallDatetime};
+    ghost use Rattle.wasi_guest.specs.declared.guest_env.WallDatetime.{WallDatetime};
 
     ghost Seen = { WallDatetime };
 

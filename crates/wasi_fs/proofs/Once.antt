@@ -4,7 +4,7 @@ use Rattle.std.specs.Prelude.{Contains}
 use Rattle.std.proofs.lemmas.List.Elements.{All-nil, All-cons}
 use Rattle.wasi_host.specs.Answer.{HostAnswer}
 use Rattle.wasi_host.specs.HostCall.{HostCall}
-use Rattle.wasi_host.specs.Meaning.{World, Handles, Told}
+use Rattle.wasi_host.specs.HostLaws.{World, Handles, Told}
 use Rattle.wasi_host.specs.Step.{found_by, made_by}
 use Rattle.wasi_host.specs.declared.errors.HostError.{HostError}
 use Rattle.wasi_resolve.specs.Resolved.{Resolved}

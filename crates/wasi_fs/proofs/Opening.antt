@@ -13,12 +13,12 @@ use Rattle.wasi_host.specs.Refusal.{refusal}
 use Rattle.wasi_host.specs.Answer.{unless, reached, access_of}
 use Rattle.wasi_host.specs.Step.{with_nodes}
 use Rattle.wasi_host.specs.Steps.{◌>>=◌}
-use Rattle.wasi_host.specs.Meaning.{World, Handles, Told, MeansErr, AfterErr, hosted, answered}
+use Rattle.wasi_host.specs.HostLaws.{World, Handles, Told, MeansErr, AfterErr, hosted, answered}
 use Rattle.wasi_host.specs.declared.errors.ErrorCode.{ErrorCode}
 use Rattle.wasi_host.specs.declared.errors.ErrorCode.TheVariants.{Io, NotDirectory}
 use Rattle.wasi_host.specs.declared.errors.HostError.{HostError}
 use Rattle.wasi_host.specs.declared.errors.HostError.TheVariants.{Code, Memory}
-use Rattle.wasi_host.specs.declared.held.Held.{Held}
+use Rattle.wasi_host.specs.declared.open_handle.Held.{Held}
 use Rattle.wasi_host.specs.declared.metadata.Metadata.{Metadata}
 use Rattle.wasi_host.proofs.Chain.{remove-insert}
 use Rattle.wasi_host.proofs.Touching.{touches_with, no_ends}

@@ -7,10 +7,10 @@ use Rattle.wasi_host.specs.Tree.{Tree}
 use Rattle.wasi_host.specs.HostCall.{Sync}
 use Rattle.wasi_host.specs.Refusal.{refusal}
 use Rattle.wasi_host.specs.Steps.{◌>>=◌}
-use Rattle.wasi_host.specs.Meaning.{World, Handles, Told}
+use Rattle.wasi_host.specs.HostLaws.{World, Handles, Told}
 use Rattle.wasi_host.specs.declared.errors.ErrorCode.{ErrorCode}
 use Rattle.wasi_host.specs.declared.errors.HostError.{HostError}
-use Rattle.wasi_host.specs.declared.held.Held.{Held}
+use Rattle.wasi_host.specs.declared.open_handle.Held.{Held}
 use Rattle.wasi_host.specs.ValidTree.{Reached}
 use Rattle.wasi_host.proofs.Agreeing.{itself}
 use Rattle.wasi_host.proofs.Touching.{at_root}

@@ -10,12 +10,12 @@ use Rattle.wasi_host.specs.Answer.{HostAnswer, stat_answer}
 use Rattle.wasi_host.specs.Step.{times_set}
 use Rattle.wasi_host.specs.Steps.{◌>>=◌}
 use Rattle.wasi_host.specs.Lineage.{Traced, Only, Nothing}
-use Rattle.wasi_host.specs.Meaning.{World, Handles, Means}
+use Rattle.wasi_host.specs.HostLaws.{World, Handles, Means}
 use Rattle.wasi_host.specs.declared.errors.ErrorCode.{ErrorCode}
 use Rattle.wasi_host.specs.declared.errors.ErrorCode.TheVariants.{Invalid, NotPermitted}
 use Rattle.wasi_host.specs.declared.errors.HostError.{HostError}
 use Rattle.wasi_host.specs.declared.errors.HostError.TheVariants.{Code, Memory}
-use Rattle.wasi_host.specs.declared.held.Held.{Held}
+use Rattle.wasi_host.specs.declared.open_handle.Held.{Held}
 use Rattle.wasi_host.specs.declared.lookup.Lookup.{Lookup}
 use Rattle.wasi_host.specs.declared.metadata.Metadata.{Metadata}
 use Rattle.wasi_host.specs.declared.sync_flags.SyncFlags.{SyncFlags}

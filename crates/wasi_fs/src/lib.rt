@@ -4,8 +4,8 @@
 mod descriptor;
 mod descriptor_stat;
 mod dir;
-mod files;
-mod looks;
+mod file;
+mod stat;
 mod metadata_hash;
 mod open_flags;
 mod open_how;
@@ -13,7 +13,7 @@ mod open_mode;
 mod perms;
 mod syncs;
 mod times;
-mod two_places;
+mod dir_two_paths;
 
 pub use bitflags::Flags;
 pub use descriptor::{Descriptor, Dir, File};

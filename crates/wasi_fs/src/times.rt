@@ -1,7 +1,7 @@
 //! The calls of a descriptor that set times.
 ghost use Rattle.std.specs.Prelude.{◌≡◌, true, IsTrue, IfErr, None};
 ghost use Rattle.std.specs.FinSet.{contains};
-ghost use Rattle.wasi_host.specs.Meaning.{HasCause};
+ghost use Rattle.wasi_host.specs.HostLaws.{HasCause};
 ghost use Rattle.wasi_host.specs.Lineage.{Traced, Only, Nothing};
 ghost use Rattle.wasi_resolve.specs.PathRequest.{meant_by};
 ghost use Rattle.wasi_resolve.specs.Resolved.{Resolved};

@@ -1,9 +1,9 @@
 -- What a guest is handed in beside its directories, as plain data.
 use Rattle.std.specs.Prelude.{ℕ, ◌^◌, ◌<◌, List, map}
 use Rattle.std.specs.String.{string_bytes}
-use Rattle.wasi_guest.specs.declared.services.EnvPair.{EnvPair}
-use Rattle.wasi_guest.specs.declared.services.Services.{Services}
-use Rattle.wasi_guest.specs.declared.services.WallDatetime.{WallDatetime}
+use Rattle.wasi_guest.specs.declared.guest_env.EnvPair.{EnvPair}
+use Rattle.wasi_guest.specs.declared.guest_env.Services.{Services}
+use Rattle.wasi_guest.specs.declared.guest_env.WallDatetime.{WallDatetime}
 
 -- its arguments, its environment as pairs of a key and a value, the bytes of its standard input, its two clocks with their
 -- resolutions, and the bytes that it takes for random

@@ -20,7 +20,7 @@ mod prestat;
 mod quota;
 mod range;
 mod records;
-mod services;
+mod guest_env;
 mod subscription;
 
 pub use answer::{Answer, TrapKind, Value};
@@ -44,5 +44,5 @@ pub use prestat::PrestatDir;
 pub use quota::{Quota, QuotaUsed};
 pub use range::{in_memory, slice_at, write_bytes};
 pub use records::{first_buffer, iovec_in, subscription_in, text_in, u32_in};
-pub use services::{EnvPair, Services, WallDatetime};
+pub use guest_env::{EnvPair, Services, WallDatetime};
 pub use subscription::{Subscription, SubscriptionKind};

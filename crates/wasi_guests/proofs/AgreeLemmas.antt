@@ -4,7 +4,7 @@ use Rattle.std.proofs.lemmas.Option.{slice_get_within}
 use Rattle.std.specs.Prelude.{sum_by}
 use Rattle.wasi_host.specs.Tree.{Tree, next_of}
 use Rattle.wasi_tree.specs.Given.{Given}
-use Rattle.wasi_turns.proofs.RunLaws.{one_run}
+use Rattle.wasi_p1_model.proofs.RunLaws.{one_run}
 use Rattle.wasi_guests.specs.Agree.{CameToTheSame, SchedulesAgree}
 use Rattle.wasi_guests.specs.Alone.{AloneRun, End, Starting, end_alone, made_by, turns_of}
 use Rattle.wasi_guests.specs.AsIfAlone.{AsIfAlone, IsGuest}

@@ -15,23 +15,23 @@ use Rattle.wasi_host.specs.Agree.{IsMade}
 use Rattle.wasi_host.specs.Tree.{Tree, Content, File, Directory, Link, next_of, node_at, names_of, is_directory}
 use Rattle.wasi_host.specs.ValidTree.{Reached, root, held}
 use Rattle.wasi_host.proofs.Changes.{directory_within}
-use Rattle.wasi_start.specs.Start.{given_guest_slots}
-use Rattle.wasi_start.proofs.Starts.{confined_at_start}
-use Rattle.wasi_start.proofs.ToldNodes.{told_at}
+use Rattle.wasi_setup.specs.Start.{given_guest_slots}
+use Rattle.wasi_setup.proofs.Starts.{confined_at_start}
+use Rattle.wasi_setup.proofs.ToldNodes.{told_at}
 use Rattle.wasi_tree.specs.Given.{Given, directory, content_given, given_of}
 use Rattle.wasi_tree.specs.Sound.{IsSoundNode}
-use Rattle.wasi_turns.specs.Guest.{State, open_nodes}
-use Rattle.wasi_turns.specs.Reach.{Inside}
+use Rattle.wasi_p1_model.specs.Guest.{State, open_nodes}
+use Rattle.wasi_p1_model.specs.Reach.{Inside}
 use Rattle.wasi_guests.specs.Alone.{AloneRun, End, IsAlone, Starting, end_alone, made_by, starting, turns_of}
 use Rattle.wasi_guests.specs.AsIfAlone.{AsIfAlone, IsGuest, MayBegin, directories_given}
 use Rattle.wasi_guests.specs.Between.{AreAt, AreBegunOn, AreJoined, AreNumbered, HasRoom, IsAt, IsBegunOn, IsGoing, IsOver, end_of, joint_given, joint_in, tree_of}
 use Rattle.wasi_guests.specs.Insides.{AreInTree, IsLowestShared, LiesInside, directories_of}
 use Rattle.wasi_guests.specs.Joint.{MadeNode, content_renumbered, joint_number, made_before, renumbered}
-use Rattle.wasi_start.specs.Merged.{IsMergedTree}
+use Rattle.wasi_setup.specs.Merged.{IsMergedTree}
 use Rattle.wasi_guests.specs.declared.guest_run.GuestRun.{GuestRun}
 use Rattle.wasi_guests.specs.declared.plan.GuestPlan.{GuestPlan}
 use Rattle.wasi_guests.proofs.MadeLemmas.{not_one}
-use Rattle.wasi_start.proofs.Merging.{run_over}
+use Rattle.wasi_setup.proofs.Merging.{run_over}
 use Rattle.wasi_guests.proofs.PlaceLemmas.{is_there, map_alike, some_same}
 use Rattle.wasi_guests.proofs.WalkLemmas.{entries_within}
 

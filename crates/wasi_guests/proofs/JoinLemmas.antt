@@ -7,9 +7,9 @@ use Rattle.std.proofs.lemmas.Bool.{cases_eq, cases_lt, true≢false}
 use Rattle.std.proofs.lemmas.List.{get_or-map, length-append, length-map, length-set}
 use Rattle.std.proofs.lemmas.List.Elements.{All-contains, Contains-append_left, Contains-push, Contains-push_cases}
 use Rattle.std.proofs.lemmas.Option.{slice_get_within}
-use Rattle.wasi_names.proofs.RunLemmas.{get_within}
+use Rattle.wasi_tree_index.proofs.RunLemmas.{get_within}
 use Rattle.wasi_overlay.specs.Overlay.{WorksOnTouched}
-use Rattle.wasi_start.proofs.ListedNodes.{in_list, in_listed}
+use Rattle.wasi_setup.proofs.ListedNodes.{in_list, in_listed}
 use Rattle.wasi_tree.specs.Given.{Given}
 use Rattle.wasi_tree.specs.MemState.{MemState}
 use Rattle.wasi_guests.specs.Between.{AreJoined, IsMadeBy, IsPut, IsPutAt, made_node, joint_given, tree_of}

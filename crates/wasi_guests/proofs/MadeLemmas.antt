@@ -6,7 +6,7 @@ use Rattle.std.proofs.lemmas.Bool.Decides.{nat_tests}
 use Rattle.std.proofs.lemmas.List.{length-append, map-append}
 use Rattle.std.proofs.lemmas.List.Sums.{sum_by-cons, sum_by_push}
 use Rattle.std.proofs.lemmas.Option.{slice_get_past}
-use Rattle.wasi_turns.specs.Run.{Turned}
+use Rattle.wasi_p1_model.specs.Run.{Turned}
 use Rattle.wasi_guests.specs.Alone.{turns_of}
 use Rattle.wasi_guests.specs.Between.{AreNumbered}
 use Rattle.wasi_guests.specs.Joint.{MadeNode, made_after, made_before, made_in_turn, numbers_from}

@@ -1,6 +1,6 @@
 -- Items of a list by their places.
 use Rattle.std.proofs.Common.{ℕ, zero, suc, ◌-◌, ◌<◌, ◌≡◌, ◌≢◌, List, [], ◌∷◌, ◌++◌, length, map, refl, ap, ◌∙◌, arith, Some, slice_get, slice_set}
-use Rattle.wasi_names.proofs.RunLemmas.{get_behind}
+use Rattle.wasi_tree_index.proofs.RunLemmas.{get_behind}
 
 pub some_same : {A : Type 0} {x y : A} → Some x ≡ Some y → x ≡ y
 some_same is = cc

@@ -7,8 +7,8 @@ use Rattle.std.specs.List.Sorted.{IsStrictlySortedBy}
 use Rattle.std.specs.Ordering.{nat_cmp}
 use Rattle.std.proofs.lemmas.List.Elements.{All-map}
 use Rattle.wasi_host.specs.Tree.{Node, Content, File, Directory, Link}
-use Rattle.wasi_names.proofs.EntryLemmas.{rises, true_of}
-use Rattle.wasi_names.proofs.RunLemmas.{names_rise}
+use Rattle.wasi_tree_index.proofs.EntryLemmas.{rises, true_of}
+use Rattle.wasi_tree_index.proofs.RunLemmas.{names_rise}
 use Rattle.wasi_report.specs.ReadBack.{HasRisingNames, IsRising}
 use Rattle.wasi_tree.specs.Given.{GivenContent, file, directory, link, content_given, given_entries, given_of}
 use Rattle.wasi_guests.specs.Joint.{content_renumbered, renumbered}

@@ -19,7 +19,7 @@ use Rattle.wasi_host.specs.declared.limits.Limits.{Limits}
 use Rattle.wasi_report.specs.Guests.{GuestReport, guest_reported, guests_text}
 use Rattle.wasi_report.specs.GuestsReadBack.{FitsGuests}
 use Rattle.wasi_report.specs.declared.guests.GuestOutcome.{GuestOutcome}
-use Rattle.wasi_start.proofs.Starts.{within_on}
+use Rattle.wasi_setup.proofs.Starts.{within_on}
 use Rattle.wasi_tree.specs.Given.{Given, tree_of}
 use Rattle.wasi_guests.specs.Alone.{End, Starting, ended, starting}
 use Rattle.wasi_guests.specs.AsIfAlone.{AsIfAlone, IsOutcome, MayBegin, directories_given}

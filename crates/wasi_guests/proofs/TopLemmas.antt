@@ -1,17 +1,17 @@
 -- What the program has read and written, by its status.
 use Rattle.std.proofs.Common.{ℕ, ◌≡◌, ◌≤◌, List, [], length, refl, subst, arith, Bool, Ok, Err}
-use Rattle.wasi_ends.specs.Ends.{ReadAll, ReadFront, most_bytes}
-use Rattle.wasi_ends.specs.Endings.{all_of_it, left_unread, IsStatus, Took, Written}
-use Rattle.wasi_ends.specs.declared.reading.Unfinished.{Unfinished}
-use Rattle.wasi_ends.specs.declared.reading.Unfinished.TheVariants as errors
-use Rattle.wasi_ends.proofs.EndingLemmas.{none_unread, front_read, some_longer, is_status, of_owed, takes}
+use Rattle.wasi_io.specs.Ends.{ReadAll, ReadFront, most_bytes}
+use Rattle.wasi_io.specs.Endings.{all_of_it, left_unread, IsStatus, Took, Written}
+use Rattle.wasi_io.specs.declared.reading.Unfinished.{Unfinished}
+use Rattle.wasi_io.specs.declared.reading.Unfinished.TheVariants as errors
+use Rattle.wasi_io.proofs.EndingLemmas.{none_unread, front_read, some_longer, is_status, of_owed, takes}
 use Rattle.wasi_form.proofs.Accepted.{too_long, refused_before}
 use Rattle.wasi_form.specs.Plan.{GuestsPlan}
 use Rattle.wasi_form.specs.Verdict.{IsGuestsVerdict, ReadsGuests, guests_kind}
-use Rattle.wasi_form.specs.declared.verdict.Refusal.{Refusal}
-use Rattle.wasi_form.specs.declared.verdict.Refusal.TheVariants as forms
-use Rattle.wasi_form.specs.declared.verdict.ScriptError.{ScriptError}
-use Rattle.wasi_form.specs.declared.verdict.ScriptError.TheVariants as scripts
+use Rattle.wasi_form.specs.declared.script_reader.Refusal.{Refusal}
+use Rattle.wasi_form.specs.declared.script_reader.Refusal.TheVariants as forms
+use Rattle.wasi_form.specs.declared.script_reader.ScriptError.{ScriptError}
+use Rattle.wasi_form.specs.declared.script_reader.ScriptError.TheVariants as scripts
 use Rattle.wasi_guests.specs.GuestsDue.{Due, the_usage, the_refusal, the_outcome, IsOwed, IsRefused, IsText, NoText, OfDue, status_of}
 use Rattle.wasi_guests.specs.GuestScript.{ComesTo}
 use Rattle.wasi_guests.specs.Status.{extent, guests_status, refusal_of, script_status, unfinished_status}

@@ -4,22 +4,22 @@ use Rattle.std.specs.Prelude.{Vec, option_map}
 use Rattle.std.proofs.lemmas.List.{length-append, length-map, map-append, take_all}
 use Rattle.std.proofs.lemmas.Option.{slice_get-map, slice_get_past, slice_get_within}
 use Rattle.wasi_guest.specs.declared.call.Call.{Call}
-use Rattle.wasi_faults.proofs.Rising.{counts_few}
+use Rattle.wasi_host_faults.proofs.Rising.{counts_few}
 use Rattle.wasi_host.specs.Tree.{next_of}
-use Rattle.wasi_host.specs.Meaning.{Rose}
-use Rattle.wasi_names.proofs.RunLemmas.{get_within}
-use Rattle.wasi_start.specs.Start.{world_behind}
-use Rattle.wasi_turns.specs.Front.{FueledCall, with_fuel}
-use Rattle.wasi_turns.specs.Guest.{State, state_of}
-use Rattle.wasi_turns.specs.Reach.{Confined}
-use Rattle.wasi_turns.specs.Run.{Turned, Played, Run, answers_of, ends}
-use Rattle.wasi_turns.proofs.Confining.{turn_confines}
-use Rattle.wasi_turns.proofs.Runs.{turn_of, turned}
+use Rattle.wasi_host.specs.HostLaws.{Rose}
+use Rattle.wasi_tree_index.proofs.RunLemmas.{get_within}
+use Rattle.wasi_setup.specs.Start.{world_behind}
+use Rattle.wasi_p1_model.specs.Front.{FueledCall, with_fuel}
+use Rattle.wasi_p1_model.specs.Guest.{State, state_of}
+use Rattle.wasi_p1_model.specs.Reach.{Confined}
+use Rattle.wasi_p1_model.specs.Run.{Turned, Played, Run, answers_of, ends}
+use Rattle.wasi_p1_model.proofs.Confining.{turn_confines}
+use Rattle.wasi_p1_model.proofs.Runs.{turn_of, turned}
 use Rattle.wasi_guests.specs.Alone.{AloneRun, IsAlone, Starting}
 use Rattle.wasi_guests.specs.Between.{HasRoom, IsAt, IsGoing, IsOver, MadeCall, NotesTurn, TakesItsTurn, faults_of, made_since, tree_of}
 use Rattle.wasi_guests.specs.Joint.{MadeNode, made_in_turn, numbers_from}
 use Rattle.wasi_guests.specs.declared.guest_run.GuestRun.{GuestRun}
-use Rattle.wasi_start.proofs.Merging.{turned_over}
+use Rattle.wasi_setup.proofs.Merging.{turned_over}
 use Rattle.wasi_guests.proofs.PlaceLemmas.{got_last}
 
 -- What a turn of a guest comes to: one turn more of its run alone, or none. The turns before stay, and the nodes that the

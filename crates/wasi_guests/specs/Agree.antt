@@ -3,7 +3,7 @@ use Rattle.std.specs.Prelude.{ℕ, ◌≡◌, ◌<◌, List, length, Some, slice
 use Rattle.wasi_host.specs.Agree.{IsMade}
 use Rattle.wasi_host.specs.Tree.{Tree, next_of, node_at}
 use Rattle.wasi_tree.specs.Given.{Given, given_of}
-use Rattle.wasi_turns.specs.Reach.{Inside}
+use Rattle.wasi_p1_model.specs.Reach.{Inside}
 use Rattle.wasi_guests.specs.Alone.{AloneRun, End, Starting, turns_of}
 use Rattle.wasi_guests.specs.AsIfAlone.{AsIfAlone, IsGuest}
 use Rattle.wasi_guests.specs.Joint.{MadeNode, joint_number, renumbered}

@@ -5,10 +5,10 @@ use Rattle.wasi_guest.specs.Services.{handed}
 use Rattle.wasi_guest.specs.declared.answer.Answer.{Answer}
 use Rattle.wasi_host.specs.Tree.{Tree, next_of}
 use Rattle.wasi_form.specs.Plan.{planned_preopen}
-use Rattle.wasi_start.specs.Start.{begun}
-use Rattle.wasi_turns.specs.Front.{FueledCall, with_fuel}
-use Rattle.wasi_turns.specs.Guest.{State}
-use Rattle.wasi_turns.specs.Run.{Turned, Run, answers_of}
+use Rattle.wasi_setup.specs.Start.{begun}
+use Rattle.wasi_p1_model.specs.Front.{FueledCall, with_fuel}
+use Rattle.wasi_p1_model.specs.Guest.{State}
+use Rattle.wasi_p1_model.specs.Run.{Turned, Run, answers_of}
 use Rattle.wasi_guests.specs.declared.plan.GuestEnd.{GuestEnd}
 use Rattle.wasi_guests.specs.declared.plan.GuestPlan.{GuestPlan}
 

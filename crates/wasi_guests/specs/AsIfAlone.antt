@@ -4,7 +4,7 @@ use Rattle.wasi_guest.specs.Quotas.{IsQuota}
 use Rattle.wasi_host.specs.Agree.{IsMade}
 use Rattle.wasi_host.specs.Tree.{Tree, is_directory, next_of, node_at}
 use Rattle.wasi_tree.specs.Given.{Given, given_of}
-use Rattle.wasi_turns.specs.Reach.{Inside}
+use Rattle.wasi_p1_model.specs.Reach.{Inside}
 use Rattle.wasi_guests.specs.Alone.{AloneRun, End, IsAlone, Starting, end_alone, made_by, turns_at, turns_of}
 use Rattle.wasi_guests.specs.Insides.{IsLowestShared}
 use Rattle.wasi_guests.specs.Joint.{MadeNode, joint_number, made_in, renumbered}

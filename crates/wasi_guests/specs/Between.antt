@@ -1,23 +1,23 @@
 -- A guest between its turns, and what a turn does.
 use Rattle.std.specs.Prelude.{ℕ, suc, ◌≡◌, ◌≢◌, ◌<◌, ◌≤◌, ◌⊎◌, ◌+◌, ◌-◌, true, false, List, [], ◌∷◌, ◌++◌, length, map, sum_by, take, All, Some, option_map, unwrap_or, slice_get, slice_set, nat_lt, Result, if◌then◌else◌}
 use Rattle.std.specs.FinSet.{contains, empty}
-use Rattle.wasi_faults.specs.Faults.{Failing, counted}
+use Rattle.wasi_host_faults.specs.Faults.{Failing, counted}
 use Rattle.wasi_guest.specs.declared.answer.Answer.{Answer}
 use Rattle.wasi_guest.specs.declared.answer.Value.{Value}
 use Rattle.wasi_guest.specs.declared.call.Call.{Call}
-use Rattle.wasi_host.specs.Meaning.{FaultCount, Rose, never_fails}
+use Rattle.wasi_host.specs.HostLaws.{FaultCount, Rose, never_fails}
 use Rattle.wasi_host.specs.Tree.{Tree, next_of, node_at}
 use Rattle.wasi_overlay.specs.Overlay.{WorksOnTouched}
-use Rattle.wasi_start.specs.Start.{world_behind}
+use Rattle.wasi_setup.specs.Start.{world_behind}
 use Rattle.wasi_tree.specs.Given.{Given, given_of}
 use Rattle.wasi_tree.specs.MemState.{MemState}
-use Rattle.wasi_turns.specs.CallTurn.{Causes, TakesTurn}
-use Rattle.wasi_turns.specs.Front.{FueledCall, with_fuel}
-use Rattle.wasi_turns.specs.Guest.{State, state_of}
-use Rattle.wasi_turns.specs.Reach.{Confined}
-use Rattle.wasi_turns.specs.Run.{Turned, Run, answer_of, answers_of, ends}
-use Rattle.wasi_turns.specs.Slots.{View}
-use Rattle.wasi_turns.specs.declared.error.P1Error.{P1Error}
+use Rattle.wasi_p1_model.specs.CallTurn.{Causes, TakesTurn}
+use Rattle.wasi_p1_model.specs.Front.{FueledCall, with_fuel}
+use Rattle.wasi_p1_model.specs.Guest.{State, state_of}
+use Rattle.wasi_p1_model.specs.Reach.{Confined}
+use Rattle.wasi_p1_model.specs.Run.{Turned, Run, answer_of, answers_of, ends}
+use Rattle.wasi_p1_model.specs.Slots.{View}
+use Rattle.wasi_p1_model.specs.declared.error.P1Error.{P1Error}
 use Rattle.wasi_guests.specs.Alone.{AloneRun, End, IsAlone, Starting, made_by, starting, turns_at, turns_of}
 use Rattle.wasi_guests.specs.AsIfAlone.{IsGuest}
 use Rattle.wasi_guests.specs.Joint.{MadeNode, made_before, made_in, numbers_from, renumbered}

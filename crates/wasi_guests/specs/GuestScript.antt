@@ -11,10 +11,10 @@ use Rattle.wasi_guest.specs.Quotas.{IsQuota}
 use Rattle.wasi_host.specs.Tree.{Tree, next_of}
 use Rattle.wasi_report.specs.Guests.{GuestReport, GuestsReport, guests_text}
 use Rattle.wasi_report.specs.GuestsReadBack.{FitsGuests}
-use Rattle.wasi_start.specs.ReportAfter.{bytes_shown}
-use Rattle.wasi_start.specs.Start.{start, with_pieces}
+use Rattle.wasi_setup.specs.ReportAfter.{bytes_shown}
+use Rattle.wasi_setup.specs.Start.{start, with_pieces}
 use Rattle.wasi_tree.specs.Given.{Given, tree_of}
-use Rattle.wasi_turns.specs.Front.{with_fuel}
+use Rattle.wasi_p1_model.specs.Front.{with_fuel}
 use Rattle.wasi_guests.specs.Alone.{End, Starting}
 use Rattle.wasi_guests.specs.AsIfAlone.{AsIfAlone}
 use Rattle.wasi_guests.specs.Insides.{IsLowestShared}

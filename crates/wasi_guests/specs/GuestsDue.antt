@@ -2,12 +2,12 @@
 use Rattle.std.specs.Prelude.{◌≡◌, ℕ, ◌++◌, ◌<◌, ◌≤◌, Bool, false, true, List, [], ◌∷◌, codes, Vec, Result, Ok, Err, ⊤}
 use Rattle.std.specs.Str.{bytes_eq}
 use Rattle.std.specs.declared.alloc.Global.{Global}
-use Rattle.wasi_ends.specs.Ends.{ReadFront}
-use Rattle.wasi_ends.specs.Endings.{OfOwed, Took, left_unread}
+use Rattle.wasi_io.specs.Ends.{ReadFront}
+use Rattle.wasi_io.specs.Endings.{OfOwed, Took, left_unread}
 use Rattle.wasi_form.specs.Plan.{GuestsPlan, guests_plan}
 use Rattle.wasi_form.specs.Verdict.{IsGuestsVerdict}
 use Rattle.wasi_form.specs.declared.script.GuestScript.{GuestScript}
-use Rattle.wasi_form.specs.declared.verdict.Refusal.TheVariants as forms
+use Rattle.wasi_form.specs.declared.script_reader.Refusal.TheVariants as forms
 use Rattle.wasi_guests.specs.GuestScript.{AreApart, HasOverlap, TellsAsIfAlone, most_nodes}
 use Rattle.wasi_guests.specs.Status.{extent}
 use Rattle.wasi_guests.specs.declared.status.GuestRefusal.{GuestRefusal}

@@ -2,7 +2,7 @@
 use Rattle.std.specs.Prelude.{ℕ, zero, suc, ◌+◌, ◌-◌, ◌==◌, ◌&&◌, List, [], ◌∷◌, ◌++◌, map, Option, Some, None, option_map, unwrap_or, slice_get, if◌then◌else◌}
 use Rattle.wasi_host.specs.Tree.{Tree, next_of}
 use Rattle.wasi_tree.specs.Given.{Given, GivenContent, file, directory, link}
-use Rattle.wasi_turns.specs.Run.{Turned}
+use Rattle.wasi_p1_model.specs.Run.{Turned}
 
 -- a node that a guest made: the guest, and the number that the node has for the guest alone
 abbrev pub MadeNode : Type 0

@@ -1,12 +1,12 @@
 -- The statuses of the program.
 use Rattle.std.specs.Prelude.{ℕ, List, codes, Option, Some, None}
-use Rattle.wasi_ends.specs.Endings.{Extent, all_of_it, front_of_it, none_of_it}
-use Rattle.wasi_ends.specs.declared.reading.Unfinished.{Unfinished}
-use Rattle.wasi_ends.specs.declared.reading.Unfinished.TheVariants as unfinished
-use Rattle.wasi_form.specs.declared.verdict.Refusal.{Refusal}
-use Rattle.wasi_form.specs.declared.verdict.Refusal.TheVariants as forms
-use Rattle.wasi_form.specs.declared.verdict.ScriptError.{ScriptError}
-use Rattle.wasi_form.specs.declared.verdict.ScriptError.TheVariants as scripts
+use Rattle.wasi_io.specs.Endings.{Extent, all_of_it, front_of_it, none_of_it}
+use Rattle.wasi_io.specs.declared.reading.Unfinished.{Unfinished}
+use Rattle.wasi_io.specs.declared.reading.Unfinished.TheVariants as unfinished
+use Rattle.wasi_form.specs.declared.script_reader.Refusal.{Refusal}
+use Rattle.wasi_form.specs.declared.script_reader.Refusal.TheVariants as forms
+use Rattle.wasi_form.specs.declared.script_reader.ScriptError.{ScriptError}
+use Rattle.wasi_form.specs.declared.script_reader.ScriptError.TheVariants as scripts
 use Rattle.wasi_guests.specs.declared.plan.GuestsError.{GuestsError}
 use Rattle.wasi_guests.specs.declared.plan.GuestsError.TheVariants as guests
 use Rattle.wasi_guests.specs.declared.status.GuestRefusal.{GuestRefusal}

@@ -3,7 +3,7 @@ ghost use Rattle.std.specs.Prelude.{◌≡◌, ◌+◌, ◌++◌, ◌∷◌, ◌
 ghost use Rattle.wasi_host.specs.Tree.{next_of};
 ghost use Rattle.wasi_tree.specs.Given.{given, given_content, pair_of};
 ghost use Rattle.wasi_report.specs.ReadBack.{HasRisingNames};
-ghost use Rattle.wasi_turns.specs.Run.{ends};
+ghost use Rattle.wasi_p1_model.specs.Run.{ends};
 ghost use Rattle.wasi_guests.specs.Alone.{ended};
 ghost use Rattle.wasi_guests.specs.AsIfAlone.{MayBegin};
 ghost use Rattle.wasi_guests.specs.Between.{HasRoom, IsBegunOn, TakesItsTurn, end_of, joint_given, joint_in, tree_of};
@@ -11,11 +11,11 @@ ghost use Rattle.wasi_guests.specs.Joint.{content_renumbered};
 
 use crate::plan::{GuestEnd, GuestPlan};
 use std::alloc::{AllocError, Global};
-use wasi_faults::FailAt;
+use wasi_host_faults::FailAt;
 use wasi_guest::{Answer, Answers, Call, GuestMemory};
 use wasi_overlay::Overlay;
 use wasi_p1::{WasiP1Ctx, answer_of, call, ends_run};
-use wasi_start::first_context;
+use wasi_setup::first_context;
 use wasi_tree::{MemTree, NewContent, NewEntry, NewNode};
 
 /// A guest between its turns, over an overlay of its own. So it finds the tree as its own calls left it.

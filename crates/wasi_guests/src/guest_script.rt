@@ -12,7 +12,7 @@ use crate::run::run_guests;
 use std::alloc::{AllocError, Allocator, Global};
 use wasi_form::{GuestScript, Session, Shown};
 use wasi_report::{GuestOutcome, guests_in};
-use wasi_start::{first_memory, shown};
+use wasi_setup::{first_memory, shown};
 use wasi_tree::MemTree;
 
 /// The guests of a script as they are run, and of each the ranges of its memory that are shown afterwards.

@@ -10,7 +10,7 @@ mod laws;
 mod plan;
 mod run;
 mod status;
-mod top;
+mod program;
 mod turns;
 mod walk;
 
@@ -19,4 +19,4 @@ pub use laws::schedules_agree;
 pub use plan::{GuestEnd, GuestPlan, GuestPreopen, GuestsError, GuestsOutcome};
 pub use run::run_guests;
 pub use status::{GuestRefusal, GuestStatus};
-pub use top::run_guest_script;
+pub use program::run_guest_script;

@@ -6,7 +6,7 @@ ghost use Rattle.wasi_guests.specs.declared.holders.Holders.TheVariants.{Several
 
 use crate::holders::Holders;
 use std::alloc::{AllocError, Global};
-use wasi_names::Run;
+use wasi_tree_index::Run;
 use wasi_tree::MemTree;
 
 /// A walk over a tree from the directories of all guests at once. The names of a directory are gone over at most twice:

@@ -16,7 +16,7 @@ use Rattle.wasi_host.specs.Refusal.{refusal, first_row, is_too_large, directory_
 use Rattle.wasi_host.specs.Step.{with_nodes, directory_made, link_made, with_content, content_changed, other_bytes, with_size, size_set, is_cut, file_cut, opened_step, open_step, bytes_put, write_step, one_name_less, made_gone, dropped_step, unlink_step, remove_step, rename_step, moved_step, name_lost, name_moved, link_step, added_step, with_times, times_set, times_set_if, times_step, step, with_piece}
 use Rattle.wasi_host.specs.declared.errors.ErrorCode.{ErrorCode}
 use Rattle.wasi_host.specs.declared.errors.ErrorCode.TheVariants.{Exist}
-use Rattle.wasi_host.specs.declared.held.Held.{Held}
+use Rattle.wasi_host.specs.declared.open_handle.Held.{Held}
 use Rattle.wasi_host.specs.declared.system_time.SystemTime.{SystemTime}
 use Rattle.wasi_host.specs.Numbers.{largest_file, longest_link}
 use Rattle.wasi_host.proofs.Changes as changes

@@ -1,6 +1,6 @@
 //! Forgetting what was touched.
 ghost use Rattle.std.specs.Prelude.{◌≡◌, ℕ, IsTrue};
-ghost use Rattle.wasi_host.specs.Meaning.{forgotten};
+ghost use Rattle.wasi_host.specs.HostLaws.{forgotten};
 ghost use Rattle.wasi_host.specs.Tree.{Tree};
 
 use crate::Host;

@@ -7,11 +7,11 @@ use Rattle.std.specs.FinMap as maps
 use Rattle.std.specs.FinSet.{empty}
 use Rattle.wasi_host.specs.Tree.{Tree, Node, Content, File, Directory, Link, node_at, next_of, stray, names_of, is_directory}
 use Rattle.wasi_host.specs.declared.limits.Limits.{Limits}
-use Rattle.wasi_names.specs.NameRows.{AllNames, names_at}
+use Rattle.wasi_tree_index.specs.NameRows.{AllNames, names_at}
 use Rattle.wasi_tree.specs.ParentOf.{AreParents}
 use Rattle.wasi_tree.specs.Sound.{IsSound}
 use Rattle.wasi_tree.specs.StoredTree.{named_content, named_from, stored_node, stored_tree, with_names, AreBelow, IsStored, OtherNamesStay}
-use Rattle.wasi_tree.specs.declared.row.Row.{Row}
+use Rattle.wasi_tree.specs.declared.inode.Row.{Row}
 use Rattle.wasi_tree.proofs.NamedLemmas.{apart_from}
 use Rattle.wasi_overlay.specs.OverStore.{HoldsNames}
 use Rattle.wasi_overlay.proofs.Beginning.{sound_unworked, stand_unworked, unworked}

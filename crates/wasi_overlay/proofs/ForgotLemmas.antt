@@ -3,7 +3,7 @@ use Rattle.std.proofs.Common.{◌≡◌, ◌<◌, ◌≤◌, ◌+◌, ℕ, Some,
 use Rattle.std.proofs.lemmas.Bool.{cases_eq, cases_lt}
 use Rattle.std.specs.FinMap as maps
 use Rattle.std.specs.Prelude.{option_map}
-use Rattle.wasi_pages.specs.Places.{IsFirstFrom}
+use Rattle.wasi_paged_map.specs.Places.{IsFirstFrom}
 use Rattle.wasi_overlay.specs.OverSeats.{SeatMap, seat_changed, in_round}
 use Rattle.wasi_overlay.proofs.OverLemmas.{seat_here, seat_other}
 

@@ -3,7 +3,7 @@ use Rattle.std.proofs.Common.{◌≡◌, ◌<◌, ◌≤◌, ◌+◌, ◌-◌, �
 use Rattle.std.proofs.lemmas.List.{length-map, length-append, map_push}
 use Rattle.wasi_host.specs.Tree.{Tree, Node, stray, node_at}
 use Rattle.wasi_tree.specs.StoredTree.{stored_node}
-use Rattle.wasi_tree.specs.declared.row.Row.{Row}
+use Rattle.wasi_tree.specs.declared.inode.Row.{Row}
 use Rattle.wasi_overlay.specs.Grown.{grown}
 
 -- there are as many nodes as in the tree, and were made

@@ -10,7 +10,7 @@ use Rattle.std.specs.List.{AllByRecursion, list_any}
 use Rattle.std.specs.List.Sorted.{IsStrictlySortedBy}
 use Rattle.std.specs.Ordering.{nat_cmp, eq_by_cmp}
 use Rattle.std.specs.declared.cmp.Ordering.TheVariants.{Less}
-use Rattle.wasi_pages.specs.Places.{IsFirstFrom}
+use Rattle.wasi_paged_map.specs.Places.{IsFirstFrom}
 use Rattle.wasi_overlay.specs.OverSeats.{SeatMap, passes, numbers_with}
 use Rattle.wasi_overlay.specs.declared.seat.Seat.{Seat}
 use Rattle.wasi_overlay.proofs.OverLemmas.{same_numbers, contains-numbers_with}

@@ -14,7 +14,7 @@ use Rattle.std.specs.Ordering.{nat_cmp}
 use Rattle.std.specs.Prelude.{All, Contains, IfOk, option_to_list, is_none}
 use Rattle.wasi_host.specs.Answer.{HostAnswer}
 use Rattle.wasi_host.specs.HostCall.{HostCall, OpenAt, StatAt, ReadLinkAt, MakeDirAt, SymlinkAt, LinkAt, RenameAt, UnlinkAt, RemoveDirAt, TimesAt, Access, Stat, SetTimes, Pread, Pwrite, Append, SetSize, Sync, Advise, Flags, ListDir, Dup, Close}
-use Rattle.wasi_host.specs.Meaning.{Handles, Told, Stepped, Looked, Stayed}
+use Rattle.wasi_host.specs.HostLaws.{Handles, Told, Stepped, Looked, Stayed}
 use Rattle.wasi_host.specs.Options.{Options}
 use Rattle.wasi_host.specs.Step.{step, with_nodes, open_step, opened_step, is_cut, file_cut, write_step, link_step, added_step, unlink_step, remove_step, dropped_step, one_name_less, made_gone, rename_step, moved_step, name_moved_onto, times_step, times_set_if, found_under, found_by, made_by}
 use Rattle.wasi_host.specs.Tree.{Tree, Nodes, Content, child, next_of, node_at, bytes_of, hold_one}

@@ -4,7 +4,7 @@ use Rattle.std.specs.Coded.{Coded, code_by, coded×, coded_ℕ, coded_list}
 use Rattle.wasi_host.specs.Tree.{Node}
 use Rattle.wasi_host.specs.TreeCode.{node_code}
 use Rattle.wasi_tree.specs.StoredTree.{stored_node}
-use Rattle.wasi_tree.specs.declared.row.Row.{Row}
+use Rattle.wasi_tree.specs.declared.inode.Row.{Row}
 
 -- the nodes by number, and how many more can be made before memory is taken
 pub record GrownNodes : Type 0 where

@@ -9,7 +9,7 @@ ghost use Rattle.wasi_overlay.specs.OverStore.{HoldsNames};
 use crate::over_store::OverStore;
 use std::alloc::{AllocError, Global};
 use wasi_host::Metadata;
-use wasi_names::Rows;
+use wasi_tree_index::Rows;
 use wasi_tree::{MemStore, NodeStore, Row, RowContent, add_entries};
 
 impl<'a> OverStore<'a> {

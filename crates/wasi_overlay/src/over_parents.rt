@@ -7,7 +7,7 @@ ghost use Rattle.wasi_tree.specs.ParentOf.{is_on_way, without_parent};
 
 use std::alloc::{AllocError, Global};
 use std::marker::Model;
-use wasi_pages::Pages;
+use wasi_paged_map::Pages;
 use wasi_tree::{MemStore, NodeStore, TellsParents, is_below};
 
 /// In which directory each node of an overlay stands. The tree below stays as it is and tells it of its own nodes; what

@@ -16,7 +16,7 @@ use crate::over_parents::OverParents;
 use std::alloc::{AllocError, Global};
 use std::marker::Model;
 use wasi_host::{Bits, DirEntry, FileType, Limits, Metadata, SystemTime};
-use wasi_names::{Near, OverRows};
+use wasi_tree_index::{Near, OverRows};
 use wasi_paths::Name;
 use wasi_tree::{Looked, MemStore, NewContent, NewEntry, NewNode, NodeStore, Row};
 

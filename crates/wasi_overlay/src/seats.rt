@@ -13,7 +13,7 @@ use crate::seat::{Mark, Seat};
 use std::alloc::{AllocError, Global};
 use std::marker::Model;
 use wasi_host::{Metadata, SystemTime};
-use wasi_pages::Pages;
+use wasi_paged_map::Pages;
 
 /// The seats of nodes, by their numbers. Contracts see a finite map.
 #[derive(Debug, Drop)]

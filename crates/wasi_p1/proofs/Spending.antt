@@ -2,18 +2,18 @@
 use Rattle.std.proofs.Common.{ℕ, List, inl, inr, sym, subst, Result}
 use Rattle.wasi_guest.specs.declared.answer.Answer.{Answer}
 use Rattle.wasi_guest.specs.declared.answer.Value.{Value}
-use Rattle.wasi_host.specs.Meaning.{World, FaultCount}
+use Rattle.wasi_host.specs.HostLaws.{World, FaultCount}
 use Rattle.wasi_host.specs.Tree.{Nodes}
 use Rattle.wasi_p1.specs.RunQuotas.{KeepsToQuotas, KeptToQuotas}
-use Rattle.wasi_turns.specs.CallTurn.{Turns, in_world}
-use Rattle.wasi_turns.specs.Front.{FueledCall}
-use Rattle.wasi_turns.specs.Guest.{Guest, State}
-use Rattle.wasi_turns.specs.QuotaLaws.{WritesAsOpened}
-use Rattle.wasi_turns.specs.Run.{DidRun, StoodAt}
-use Rattle.wasi_turns.specs.declared.error.P1Error.{P1Error}
-use Rattle.wasi_turns.proofs.Moving.{turn_moves}
-use Rattle.wasi_turns.proofs.QuotaRuns.{run_counts, run_opened, run_within}
-use Rattle.wasi_turns.proofs.QuotaTurns.{answered_spends}
+use Rattle.wasi_p1_model.specs.CallTurn.{Turns, in_world}
+use Rattle.wasi_p1_model.specs.Front.{FueledCall}
+use Rattle.wasi_p1_model.specs.Guest.{Guest, State}
+use Rattle.wasi_p1_model.specs.QuotaLaws.{WritesAsOpened}
+use Rattle.wasi_p1_model.specs.Run.{DidRun, StoodAt}
+use Rattle.wasi_p1_model.specs.declared.error.P1Error.{P1Error}
+use Rattle.wasi_p1_model.proofs.Moving.{turn_moves}
+use Rattle.wasi_p1_model.proofs.QuotaRuns.{run_counts, run_opened, run_within}
+use Rattle.wasi_p1_model.proofs.QuotaTurns.{answered_spends}
 
 -- a call leaves files that are written as they were opened
 pub turn_writes : {rose : Type 0} {w v : World} {g g' : Guest} {call : FueledCall} {r : Result Value P1Error}

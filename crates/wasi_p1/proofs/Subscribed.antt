@@ -7,7 +7,7 @@ use Rattle.wasi_guest.specs.Range.{in_memory}
 use Rattle.wasi_guest.specs.Records.{read_on}
 use Rattle.wasi_guest.specs.Subscription.{subscription_in, subscription_of}
 use Rattle.wasi_guest.specs.declared.guest_error.GuestError.TheVariants as errors
-use Rattle.wasi_turns.specs.Subscriptions.{named_in, waited_for}
+use Rattle.wasi_p1_model.specs.Subscriptions.{named_in, waited_for}
 
 -- of so many from a start on, these numbers are named before one of them, and the others from it on
 pub record Named (memory : List ℕ) (start count i : ℕ) (numbers : List ℕ) : Type 0 where

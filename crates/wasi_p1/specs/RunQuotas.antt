@@ -1,10 +1,10 @@
 -- What a run makes and grows, against the quota of its context.
 use Rattle.std.specs.Prelude.{ℕ, ◌≡◌, List, length, take, All}
 use Rattle.wasi_guest.specs.declared.answer.Answer.{Answer}
-use Rattle.wasi_turns.specs.Front.{FueledCall}
-use Rattle.wasi_turns.specs.Guest.{State}
-use Rattle.wasi_turns.specs.QuotaLaws.{CountsUse, StaysWithinQuotas, WritesAsOpened}
-use Rattle.wasi_turns.specs.Run.{Turned, Run, answers_of}
+use Rattle.wasi_p1_model.specs.Front.{FueledCall}
+use Rattle.wasi_p1_model.specs.Guest.{State}
+use Rattle.wasi_p1_model.specs.QuotaLaws.{CountsUse, StaysWithinQuotas, WritesAsOpened}
+use Rattle.wasi_p1_model.specs.Run.{Turned, Run, answers_of}
 
 -- A run of these calls with these answers. The nodes that it makes, and the bytes by which it makes files longer, are at
 -- most what the quota leaves at its start. Each of its turns counts its use, and no more. Its files are written as they

@@ -6,9 +6,9 @@ use std::alloc::Global;
 use std::marker::Model;
 use wasi_guest::{Quota, QuotaUsed, Services};
 use wasi_host::{Forget, Host};
-use wasi_p1_context::{CtxRefused, Ended, P1State};
+use wasi_p1_state::{CtxRefused, Ended, P1State};
 use wasi_streams::ResourceTable;
-use wasi_turns::P1Preopen;
+use wasi_p1_model::P1Preopen;
 
 /// The calls of one guest over a host: the crate's `WasiP1Ctx` of `preview1.rs`. Each call is a method with the name, the
 /// arguments and the rule of the call in `wasi_snapshot_preview1`. Contracts see the host, the descriptors, the guest's
@@ -19,7 +19,7 @@ pub struct WasiP1Ctx<H: Host> {
 }
 
 impl<H: Host> Model for WasiP1Ctx<H> {
-    ghost use Rattle.wasi_turns.specs.Slots.{View};
+    ghost use Rattle.wasi_p1_model.specs.Slots.{View};
 
     ghost Value = { View H };
 
@@ -28,14 +28,14 @@ impl<H: Host> Model for WasiP1Ctx<H> {
 
 impl<H: Host> WasiP1Ctx<H> {
     ghost use Rattle.wasi_p1_parts.specs.LiveEntries.{AreLiveDescriptors};
-    ghost use Rattle.wasi_turns.specs.Numbering.{live_count};
-    ghost use Rattle.wasi_turns.specs.Owners.{OwnedApart, handles};
-    ghost use Rattle.wasi_turns.specs.Slots.{first_slots, given_name, is_closed_slot};
-    ghost use Rattle.wasi_turns.specs.declared.error.CtxError.TheVariants.{Full};
+    ghost use Rattle.wasi_p1_model.specs.Numbering.{live_count};
+    ghost use Rattle.wasi_p1_model.specs.Owners.{OwnedApart, handles};
+    ghost use Rattle.wasi_p1_model.specs.Slots.{first_slots, given_name, is_closed_slot};
+    ghost use Rattle.wasi_p1_model.specs.declared.error.CtxError.TheVariants.{Full};
     ghost use Rattle.wasi_guest.specs.Quotas.{IsQuota};
     ghost use Rattle.wasi_guest.specs.Services.{handed};
-    ghost use Rattle.wasi_turns.specs.Quotas.{with_quota, IsWithinQuota};
-    ghost use Rattle.wasi_turns.specs.Stock.{first_fuel, first_stock};
+    ghost use Rattle.wasi_p1_model.specs.Quotas.{with_quota, IsWithinQuota};
+    ghost use Rattle.wasi_p1_model.specs.Stock.{first_fuel, first_stock};
 
     /// A context with the three standard streams as descriptors 0 to 2, and then the preopens, in order, which takes their
     /// handles over. Each handle is live, and given once. Nothing is asked of the host. The fuel left is `FUEL`.
@@ -157,7 +157,7 @@ impl<H: Host> WasiP1Ctx<H> {
 
 impl<H: Forget> WasiP1Ctx<H> {
     ghost use Rattle.std.specs.Prelude.{ℕ, IsTrue};
-    ghost use Rattle.wasi_host.specs.Meaning.{forgotten};
+    ghost use Rattle.wasi_host.specs.HostLaws.{forgotten};
     ghost use Rattle.wasi_host.specs.Tree.{Tree};
 
     /// Has the host forget which nodes were touched, so that those of the calls to come are known by themselves. All else

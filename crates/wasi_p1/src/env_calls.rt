@@ -1,16 +1,16 @@
 //! The calls on arguments, the environment, clocks, random bytes, polls, the process and sockets.
 ghost use Rattle.wasi_guest.specs.declared.call.Call.TheVariants.{ArgsGet, ArgsSizesGet, ClockResGet, ClockTimeGet, EnvironGet, EnvironSizesGet, PollOneoff, ProcExit, ProcRaise, RandomGet, SchedYield, SockAccept, SockRecv, SockSend, SockShutdown};
-ghost use Rattle.wasi_turns.specs.Method.{StaysInBounds, DoesItsRow};
+ghost use Rattle.wasi_p1_model.specs.Method.{StaysInBounds, DoesItsRow};
 
 use crate::ctx::WasiP1Ctx;
 use wasi_guest::Value;
 use wasi_host::Host;
-use wasi_p1_services::{
+use wasi_p1_env_calls::{
     args_get, args_sizes_get, clock_res_get, clock_time_get, environ_get, environ_sizes_get,
     poll_oneoff, proc_exit, proc_raise, random_get, sched_yield, sock_accept, sock_recv, sock_send,
     sock_shutdown,
 };
-use wasi_turns::P1Error;
+use wasi_p1_model::P1Error;
 
 impl<H: Host> WasiP1Ctx<H> {
     /// Waits until one of a list of subscriptions comes, writes an event for each that has come, and answers how many.

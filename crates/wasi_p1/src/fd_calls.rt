@@ -1,15 +1,15 @@
 //! The calls on descriptors, and on what they refer to.
 ghost use Rattle.wasi_guest.specs.declared.call.Call.TheVariants.{FdClose, FdFdstatGet, FdFdstatSetFlags, FdFdstatSetRights, FdFilestatGet, FdFilestatSetTimes, FdPrestatDirName, FdPrestatGet, FdReaddir, FdRenumber};
-ghost use Rattle.wasi_turns.specs.Method.{StaysInBounds, DoesItsRow};
+ghost use Rattle.wasi_p1_model.specs.Method.{StaysInBounds, DoesItsRow};
 
 use crate::ctx::WasiP1Ctx;
 use wasi_guest::Value;
 use wasi_host::Host;
-use wasi_p1_descriptors::{
+use wasi_p1_fd_calls::{
     fd_close, fd_fdstat_get, fd_fdstat_set_flags, fd_fdstat_set_rights, fd_filestat_get,
     fd_filestat_set_times, fd_prestat_dir_name, fd_prestat_get, fd_readdir, fd_renumber,
 };
-use wasi_turns::P1Error;
+use wasi_p1_model::P1Error;
 
 impl<H: Host> WasiP1Ctx<H> {
     /// Closes a descriptor. Its number may be used again. Refusals: docs/calls.md.

@@ -1,15 +1,15 @@
 //! The calls on the bytes, the position, the size and the storing of an open file.
 ghost use Rattle.wasi_guest.specs.declared.call.Call.TheVariants.{FdAdvise, FdAllocate, FdDatasync, FdFilestatSetSize, FdPread, FdPwrite, FdRead, FdSeek, FdSync, FdTell, FdWrite};
-ghost use Rattle.wasi_turns.specs.Method.{StaysInBounds, DoesItsRow};
+ghost use Rattle.wasi_p1_model.specs.Method.{StaysInBounds, DoesItsRow};
 
 use crate::ctx::WasiP1Ctx;
 use wasi_guest::Value;
 use wasi_host::Host;
-use wasi_p1_files::{
+use wasi_p1_file_calls::{
     fd_advise, fd_allocate, fd_datasync, fd_filestat_set_size, fd_pread, fd_pwrite, fd_read,
     fd_seek, fd_sync, fd_tell, fd_write,
 };
-use wasi_turns::P1Error;
+use wasi_p1_model::P1Error;
 
 impl<H: Host> WasiP1Ctx<H> {
     /// Tells the host how `len` bytes of a file from `offset` on will be used, as POSIX's `posix_fadvise`. Nothing

@@ -2,8 +2,8 @@
 ghost use Rattle.std.specs.Prelude.{[], ◌∷◌, ◌≡◌, IfOk};
 ghost use Rattle.std.specs.Option.{option_to_list};
 ghost use Rattle.wasi_guest.specs.Subscription.{subscription_in};
-ghost use Rattle.wasi_turns.specs.Rows.{descriptors_named};
-ghost use Rattle.wasi_turns.specs.Subscriptions.{named_in, waited_for};
+ghost use Rattle.wasi_p1_model.specs.Calls.{descriptors_named};
+ghost use Rattle.wasi_p1_model.specs.Subscriptions.{named_in, waited_for};
 
 use std::alloc::{AllocError, Global};
 use wasi_guest::{Call, GuestMemory, Subscription, SubscriptionKind};

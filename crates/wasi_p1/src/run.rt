@@ -1,30 +1,30 @@
 //! A list of calls, one after another.
 ghost use Rattle.std.specs.Prelude.{◌≡◌, ◌≤◌, length, map, Err, All, IsTrue, IfOk, IfErr, IfSome};
-ghost use Rattle.wasi_turns.specs.ErrorNumbers.{MayCome};
-ghost use Rattle.wasi_turns.specs.Front.{with_fuel};
+ghost use Rattle.wasi_p1_model.specs.ErrorNumbers.{MayCome};
+ghost use Rattle.wasi_p1_model.specs.Front.{with_fuel};
 ghost use Rattle.wasi_fs.specs.declared.perms.FsPerms.TheVariants.{AppendOnly};
-ghost use Rattle.wasi_turns.specs.AppendOnly.{Adds, AppendsAtEnd};
-ghost use Rattle.wasi_turns.specs.CallTurn.{IsAnswered, IsValidCall, NamesUnder, OthersStay, TakesTurn};
-ghost use Rattle.wasi_turns.specs.Method.{StaysInBounds, DoesItsRow};
-ghost use Rattle.wasi_host.specs.Meaning.{Rose};
-ghost use Rattle.wasi_turns.specs.Guest.{State, guest_of, state_of};
-ghost use Rattle.wasi_turns.specs.Rows.{may_want};
-ghost use Rattle.wasi_turns.specs.Run.{AnswersEach, answer_of, ends, ios, Allows, answered_in, WantedAt, DidRun, StoodAt};
-ghost use Rattle.wasi_turns.specs.declared.error.P1Error.TheVariants.{Memory};
-ghost use Rattle.wasi_turns.specs.Owners.{RunTraced, SlotsOfCall};
-ghost use Rattle.wasi_turns.specs.Reach.{Confined, StaysTouched};
-ghost use Rattle.wasi_turns.specs.InTurn.{DoesCall, DoCalls, DoCallsUntil, SlotsOfRun};
-ghost use Rattle.wasi_turns.specs.StatesAgree.{SeesOnlyReach};
-ghost use Rattle.wasi_turns.specs.Unchanged.{LeavesAll};
-ghost use Rattle.wasi_turns.specs.QuotaLaws.{WritesAsOpened};
+ghost use Rattle.wasi_p1_model.specs.AppendOnly.{Adds, AppendsAtEnd};
+ghost use Rattle.wasi_p1_model.specs.CallTurn.{IsAnswered, IsValidCall, NamesUnder, OthersStay, TakesTurn};
+ghost use Rattle.wasi_p1_model.specs.Method.{StaysInBounds, DoesItsRow};
+ghost use Rattle.wasi_host.specs.HostLaws.{Rose};
+ghost use Rattle.wasi_p1_model.specs.Guest.{State, guest_of, state_of};
+ghost use Rattle.wasi_p1_model.specs.Calls.{may_want};
+ghost use Rattle.wasi_p1_model.specs.Run.{AnswersEach, answer_of, ends, ios, Allows, answered_in, WantedAt, DidRun, StoodAt};
+ghost use Rattle.wasi_p1_model.specs.declared.error.P1Error.TheVariants.{Memory};
+ghost use Rattle.wasi_p1_model.specs.Owners.{RunTraced, SlotsOfCall};
+ghost use Rattle.wasi_p1_model.specs.Reach.{Confined, StaysTouched};
+ghost use Rattle.wasi_p1_model.specs.InTurn.{DoesCall, DoCalls, DoCallsUntil, SlotsOfRun};
+ghost use Rattle.wasi_p1_model.specs.StatesAgree.{SeesOnlyReach};
+ghost use Rattle.wasi_p1_model.specs.Unchanged.{LeavesAll};
+ghost use Rattle.wasi_p1_model.specs.QuotaLaws.{WritesAsOpened};
 ghost use Rattle.wasi_p1.specs.RunQuotas.{KeepsToQuotas, KeptToQuotas};
-ghost use Rattle.wasi_turns.specs.Validity.{IsValidState};
+ghost use Rattle.wasi_p1_model.specs.Validity.{IsValidState};
 
 use crate::ctx::WasiP1Ctx;
 use std::alloc::Global;
 use wasi_guest::{Answer, Answers, Call, Value};
 use wasi_host::Host;
-use wasi_turns::{P1Error, RunError};
+use wasi_p1_model::{P1Error, RunError};
 
 /// The answer of a call; want of memory is none.
 pub fn answer_of(outcome: Result<Value, P1Error>) -> Option<Answer>
@@ -57,7 +57,7 @@ pub fn ends_run(answer: Answer) -> bool
 /// as they are after each call.
 ///
 /// Files that are written as they were opened, as those of a new context are, which has none, still are after each call.
-#[tactic(auto, using(wasi_turns::proofs::Completing::turn_completes))]
+#[tactic(auto, using(wasi_p1_model::proofs::Completing::turn_completes))]
 pub fn call<H: Host>(
     context: &mut WasiP1Ctx<H>,
     memory: &mut [u8],

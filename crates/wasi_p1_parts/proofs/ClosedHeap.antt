@@ -9,14 +9,14 @@ use Rattle.std.proofs.lemmas.Bool.Decides.{nat_tests}
 use Rattle.std.proofs.lemmas.List.Sorted.{length_permutation, sum_by-IsPermutation}
 use Rattle.std.proofs.lemmas.List.Sums.{sum_by-cons, sum_by-set, sum_by_push, count_by-le-length}
 use Rattle.std.proofs.lemmas.List.{length-set}
-use Rattle.wasi_turns.specs.Numbering.{passes_at, free_number, with_new}
+use Rattle.wasi_p1_model.specs.Numbering.{passes_at, free_number, with_new}
 use Rattle.wasi_p1_parts.specs.Descriptors.{HoldsClosed}
-use Rattle.wasi_turns.specs.Owners.{one_if}
-use Rattle.wasi_turns.specs.Slots.{is_closed_slot}
-use Rattle.wasi_turns.specs.declared.slots.Slot.{Slot}
-use Rattle.wasi_turns.specs.declared.slots.Slot.TheVariants.{Closed}
-use Rattle.wasi_turns.proofs.Numbers.{same_number, other_number, not_true, passes_within, passes_at-get_or, passes_at-set_same, passes_at-set_other, passes_at-push, new_behind, new_under}
-use Rattle.wasi_turns.proofs.Owning.{live_if}
+use Rattle.wasi_p1_model.specs.Owners.{one_if}
+use Rattle.wasi_p1_model.specs.Slots.{is_closed_slot}
+use Rattle.wasi_p1_model.specs.declared.slots.Slot.{Slot}
+use Rattle.wasi_p1_model.specs.declared.slots.Slot.TheVariants.{Closed}
+use Rattle.wasi_p1_model.proofs.Numbers.{same_number, other_number, not_true, passes_within, passes_at-get_or, passes_at-set_same, passes_at-set_other, passes_at-push, new_behind, new_under}
+use Rattle.wasi_p1_model.proofs.Owning.{live_if}
 
 -- how often a number is in the heap
 abbrev times : ℕ → List ℕ → ℕ

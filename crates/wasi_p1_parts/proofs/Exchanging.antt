@@ -8,15 +8,15 @@ use Rattle.std.proofs.Math.ListN.{get_or-map}
 use Rattle.wasi_streams.specs.Table.{Entries}
 use Rattle.wasi_p1_parts.specs.Descriptors.{AreKept, HoldsClosed}
 use Rattle.wasi_p1_types.specs.Items.{resource_in, slot_in, slots_of, IsOfKind, AreNamed}
-use Rattle.wasi_turns.specs.Numbering.{passes_at, renumbered}
-use Rattle.wasi_turns.specs.Slots.{is_closed_slot}
-use Rattle.wasi_turns.specs.declared.slots.Slot.{Slot}
-use Rattle.wasi_turns.specs.declared.slots.Slot.TheVariants as slots
+use Rattle.wasi_p1_model.specs.Numbering.{passes_at, renumbered}
+use Rattle.wasi_p1_model.specs.Slots.{is_closed_slot}
+use Rattle.wasi_p1_model.specs.declared.slots.Slot.{Slot}
+use Rattle.wasi_p1_model.specs.declared.slots.Slot.TheVariants as slots
 use Rattle.wasi_p1_types.specs.declared.items.Item.{Item}
 use Rattle.wasi_p1_types.specs.declared.items.Item.TheVariants.{Closed}
 use Rattle.wasi_p1_parts.proofs.ClosedHeap.{holds_set}
-use Rattle.wasi_turns.proofs.Numbers.{other_number, passes_at-get_or, passes_at-set_other, same_number}
-use Rattle.wasi_turns.proofs.Renumbering.{AreTwo}
+use Rattle.wasi_p1_model.proofs.Numbers.{other_number, passes_at-get_or, passes_at-set_other, same_number}
+use Rattle.wasi_p1_model.proofs.Renumbering.{AreTwo}
 use Rattle.wasi_p1_parts.proofs.Tabled.{is_given}
 
 -- ---- where an item stood

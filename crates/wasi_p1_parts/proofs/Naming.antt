@@ -14,14 +14,14 @@ use Rattle.wasi_fs.specs.declared.descriptor.File.{File as OpenedFile}
 use Rattle.wasi_streams.specs.declared.entry.Entry.TheVariants as entries
 use Rattle.wasi_p1_parts.specs.Descriptors.{AreKept}
 use Rattle.wasi_p1_parts.specs.LiveEntries.{AreLiveDescriptors, entry_of_slot, entry_under}
-use Rattle.wasi_turns.specs.Numbering.{passes_at, live_count}
-use Rattle.wasi_turns.specs.Slots.{file_under, is_closed_slot}
-use Rattle.wasi_turns.proofs.Numbers.{passes_within, passes_at-get_or, live_and_closed}
+use Rattle.wasi_p1_model.specs.Numbering.{passes_at, live_count}
+use Rattle.wasi_p1_model.specs.Slots.{file_under, is_closed_slot}
+use Rattle.wasi_p1_model.proofs.Numbers.{passes_within, passes_at-get_or, live_and_closed}
 use Rattle.wasi_streams.specs.Table.{Entries}
 use Rattle.wasi_streams.specs.declared.entry.Entry.{Entry}
-use Rattle.wasi_turns.specs.declared.slots.FileModes.{FileModes}
-use Rattle.wasi_turns.specs.declared.slots.Slot.{Slot}
-use Rattle.wasi_turns.specs.declared.slots.Slot.TheVariants as slots
+use Rattle.wasi_p1_model.specs.declared.slots.FileModes.{FileModes}
+use Rattle.wasi_p1_model.specs.declared.slots.Slot.{Slot}
+use Rattle.wasi_p1_model.specs.declared.slots.Slot.TheVariants as slots
 use Rattle.wasi_p1_types.specs.declared.items.Item.{Item}
 use Rattle.wasi_p1_types.specs.declared.items.Item.TheVariants.{Closed, Stream, Directory, File}
 use Rattle.wasi_p1_types.specs.Items.{resource_in, slot_in, slots_of, directory_of_entry, file_of_entry, stream_entry, IsOfKind, NamesResource, AreNamed, Admitted, is_closed_item, without_item, put_item}

@@ -8,7 +8,7 @@ use Rattle.wasi_fs.specs.declared.descriptor.Descriptor.{Descriptor}
 use Rattle.wasi_fs.specs.declared.descriptor.Descriptor.TheVariants as descriptors
 use Rattle.wasi_fs.specs.declared.descriptor.Dir.{Dir}
 use Rattle.wasi_host.specs.Lineage.{Traced, Only, Nothing}
-use Rattle.wasi_host.specs.Meaning.{FaultCount}
+use Rattle.wasi_host.specs.HostLaws.{FaultCount}
 use Rattle.wasi_host.specs.declared.errors.HostError.{HostError}
 use Rattle.wasi_host.specs.declared.host.Host.{Ghosts}
 use Rattle.wasi_host.proofs.Tracing.{traced_given, traced_kept}
@@ -18,9 +18,9 @@ use Rattle.wasi_streams.specs.declared.entry.Entry.TheVariants.{Descriptor as An
 use Rattle.wasi_streams.specs.declared.table.Resource.{Resource}
 use Rattle.wasi_p2_types.specs.FsErrors.{fs_error, FsCause}
 use Rattle.wasi_p2_types.specs.FlagNames.{how_named}
-use Rattle.wasi_p2.specs.Opens.{AddsEntry, AddsHandle, GotFor, HasRoom, OpensAt, OpensBelow, StandsFor}
-use Rattle.wasi_p2.specs.Resources.{entry_handle, HasIt}
-use Rattle.wasi_p2.specs.Views.{Files, OrRefused}
+use Rattle.wasi_p2_calls.specs.Opens.{AddsEntry, AddsHandle, GotFor, HasRoom, OpensAt, OpensBelow, StandsFor}
+use Rattle.wasi_p2_calls.specs.Resources.{entry_handle, HasIt}
+use Rattle.wasi_p2_calls.specs.Views.{Files, OrRefused}
 use Rattle.wasi_p2_types.specs.declared.error.FsError.{FsError}
 use Rattle.wasi_p2_types.specs.declared.flags.DescriptorFlags.{DescriptorFlags}
 use Rattle.wasi_p2_types.specs.declared.flags.OpenFlags.{OpenFlags}

@@ -3,11 +3,11 @@ use Rattle.std.proofs.Common.{ℕ, ◌≡◌, inl, Result, Ok, Err, refl, ap, su
 use Rattle.wasi_fs.specs.Calls.{asks_at}
 use Rattle.wasi_guest.specs.declared.errno.Errno.TheVariants.{Io}
 use Rattle.wasi_host.specs.HostCall.{SetSize}
-use Rattle.wasi_host.specs.Meaning.{World, Handles, FaultCount, HasCause}
+use Rattle.wasi_host.specs.HostLaws.{World, Handles, FaultCount, HasCause}
 use Rattle.wasi_host.specs.declared.errors.ErrorCode.TheVariants.{Io as HostIo}
 use Rattle.wasi_host.specs.declared.errors.HostError.{HostError}
 use Rattle.wasi_host.specs.declared.errors.HostError.TheVariants.{Code as Failed}
-use Rattle.wasi_host.specs.declared.held.Held.{Held}
+use Rattle.wasi_host.specs.declared.open_handle.Held.{Held}
 use Rattle.wasi_resolve.specs.Resolved.{Resolved}
 use Rattle.wasi_p1_parts.specs.Viewed.{LoweredTo}
 use Rattle.wasi_p2_types.specs.FsErrors.{fs_error, raised, FsCause}
@@ -16,15 +16,15 @@ use Rattle.wasi_p2_types.specs.declared.error.FsError.TheVariants.{Code as Refus
 use Rattle.wasi_p2_types.specs.declared.error_code.ErrorCode.{ErrorCode}
 use Rattle.wasi_p2_types.specs.declared.error_code.ErrorCode.TheVariants as codes
 use Rattle.wasi_streams.specs.declared.errors.TableError.TheVariants as tables
-use Rattle.wasi_turns.specs.CallParts.{IsReplied, Makes}
-use Rattle.wasi_turns.specs.CallTurn.{Causes}
-use Rattle.wasi_turns.specs.Errnos.{error_of}
-use Rattle.wasi_turns.specs.Request.{Direct}
-use Rattle.wasi_turns.specs.Row.{give}
-use Rattle.wasi_turns.specs.ViewErrors.{errno_named, view_error_of, view_raised}
-use Rattle.wasi_turns.specs.declared.error.P1Error.{P1Error}
-use Rattle.wasi_turns.specs.declared.error.P1Error.TheVariants.{Errno}
-use Rattle.wasi_turns.proofs.Setting.{called_err, called_ok}
+use Rattle.wasi_p1_model.specs.CallParts.{IsReplied, Makes}
+use Rattle.wasi_p1_model.specs.CallTurn.{Causes}
+use Rattle.wasi_p1_model.specs.Errnos.{error_of}
+use Rattle.wasi_p1_model.specs.Request.{Direct}
+use Rattle.wasi_p1_model.specs.Row.{give}
+use Rattle.wasi_p1_model.specs.ViewErrors.{errno_named, view_error_of, view_raised}
+use Rattle.wasi_p1_model.specs.declared.error.P1Error.{P1Error}
+use Rattle.wasi_p1_model.specs.declared.error.P1Error.TheVariants.{Errno}
+use Rattle.wasi_p1_model.proofs.Setting.{called_err, called_ok}
 use Rattle.wasi_p1_parts.proofs.Viewing.{same_error}
 
 -- a refusal of a view is a failure of the host only as its code `Io`

@@ -8,11 +8,11 @@ use Rattle.std.proofs.lemmas.List.Sorted.{length_permutation}
 use Rattle.wasi_streams.specs.Table.{Entries}
 use Rattle.wasi_p1_parts.specs.Descriptors.{AreKept}
 use Rattle.wasi_p1_types.specs.Items.{slots_of, is_closed_item, without_item, put_item, Admitted}
-use Rattle.wasi_turns.specs.Numbering.{passes_at}
-use Rattle.wasi_turns.specs.Slots.{file_under, is_closed_slot}
-use Rattle.wasi_turns.specs.declared.slots.FileSlot.{FileSlot}
-use Rattle.wasi_turns.specs.declared.slots.Slot.{Slot}
-use Rattle.wasi_turns.specs.declared.slots.Slot.TheVariants as slots
+use Rattle.wasi_p1_model.specs.Numbering.{passes_at}
+use Rattle.wasi_p1_model.specs.Slots.{file_under, is_closed_slot}
+use Rattle.wasi_p1_model.specs.declared.slots.FileSlot.{FileSlot}
+use Rattle.wasi_p1_model.specs.declared.slots.Slot.{Slot}
+use Rattle.wasi_p1_model.specs.declared.slots.Slot.TheVariants as slots
 use Rattle.wasi_p1_types.specs.declared.items.Item.{Item}
 use Rattle.wasi_p1_types.specs.declared.items.Item.TheVariants.{Closed}
 use Rattle.wasi_p1_parts.proofs.ClosedHeap.{holds_pushed, top_closed, holds_taken, holds_closed, holds_set}

@@ -5,17 +5,17 @@ use Rattle.wasi_fs.specs.Calls.{NotMemory}
 use Rattle.wasi_fs.specs.declared.descriptor_stat.Datetime.{Datetime}
 use Rattle.wasi_fs.specs.declared.descriptor_stat.DescriptorType.{DescriptorType}
 use Rattle.wasi_fs.specs.declared.descriptor_stat.DescriptorType.TheVariants as lower
-use Rattle.wasi_host.specs.Meaning.{FaultCount, Rose}
+use Rattle.wasi_host.specs.HostLaws.{FaultCount, Rose}
 use Rattle.wasi_host.specs.declared.errors.HostError.{HostError}
 use Rattle.wasi_host.specs.declared.host.Host.{Ghosts}
 use Rattle.wasi_p2_types.specs.Stats.{after_epoch, moment_kept, type_named, wall_seconds}
-use Rattle.wasi_turns.specs.Filestats.{filestat_in, filetype_of, nanoseconds_in, or_overflow, since_epoch}
+use Rattle.wasi_p1_model.specs.Filestats.{filestat_in, filetype_of, nanoseconds_in, or_overflow, since_epoch}
 use Rattle.wasi_p2_types.specs.declared.error.FsError.{FsError}
-use Rattle.wasi_turns.specs.CallParts.{Makes}
-use Rattle.wasi_turns.specs.Errnos.{error_of}
-use Rattle.wasi_turns.specs.Request.{Reply, Request}
-use Rattle.wasi_turns.specs.Row.{Row}
-use Rattle.wasi_turns.specs.ViewErrors.{view_error_of}
+use Rattle.wasi_p1_model.specs.CallParts.{Makes}
+use Rattle.wasi_p1_model.specs.Errnos.{error_of}
+use Rattle.wasi_p1_model.specs.Request.{Reply, Request}
+use Rattle.wasi_p1_model.specs.Row.{Row}
+use Rattle.wasi_p1_model.specs.ViewErrors.{view_error_of}
 use Rattle.wasi_p1_parts.specs.ViewedStats.{filetype_named, viewed, viewed_filestat, wall_nanoseconds, LookMakes}
 use Rattle.wasi_fs.specs.declared.open_mode.OpenMode.{OpenMode}
 use Rattle.wasi_guest.specs.FiletypeNumber.{filetype_number}
@@ -23,11 +23,11 @@ use Rattle.wasi_guest.specs.declared.fdstat.Fdstat.{Fdstat}
 use Rattle.wasi_guest.specs.declared.filestat.Filestat.{Filestat}
 use Rattle.wasi_guest.specs.declared.filetype.Filetype.{Filetype}
 use Rattle.wasi_p2_types.specs.declared.descriptor_stat.DescriptorType.{DescriptorType as Viewed}
-use Rattle.wasi_turns.specs.Fdstats.{file_fdstat, file_rights, modes_bits}
-use Rattle.wasi_turns.specs.declared.slots.FileModes.{FileModes}
-use Rattle.wasi_turns.specs.declared.looked.StatBoth.{StatBoth}
+use Rattle.wasi_p1_model.specs.Fdstats.{file_fdstat, file_rights, modes_bits}
+use Rattle.wasi_p1_model.specs.declared.slots.FileModes.{FileModes}
+use Rattle.wasi_p1_model.specs.declared.looked.StatBoth.{StatBoth}
 use Rattle.wasi_p1_parts.specs.declared.filestats.ViewedStat.{ViewedStat}
-use Rattle.wasi_turns.proofs.Setting.{not_wanted}
+use Rattle.wasi_p1_model.proofs.Setting.{not_wanted}
 use Rattle.wasi_p1_parts.proofs.Viewing.{refusal_is, LowerRefusal}
 
 -- a time before the epoch is none

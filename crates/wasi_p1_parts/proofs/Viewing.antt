@@ -11,7 +11,7 @@ use Rattle.wasi_fs.specs.declared.descriptor.Descriptor.{Descriptor}
 use Rattle.wasi_fs.specs.declared.descriptor.Descriptor.TheVariants as descriptors
 use Rattle.wasi_host.specs.Lineage.{Traced, Only, OneOf}
 use Rattle.wasi_host.specs.declared.system_time.SystemTime.{SystemTime}
-use Rattle.wasi_host.specs.Meaning.{World, Handles, FaultCount, HasCause}
+use Rattle.wasi_host.specs.HostLaws.{World, Handles, FaultCount, HasCause}
 use Rattle.wasi_host.specs.declared.errors.ErrorCode.{ErrorCode}
 use Rattle.wasi_host.specs.declared.errors.ErrorCode.TheVariants as codes
 use Rattle.wasi_host.specs.declared.errors.HostError.TheVariants as hosts
@@ -27,38 +27,38 @@ use Rattle.wasi_streams.specs.declared.entry.Entry.TheVariants as entries
 use Rattle.wasi_p2_types.specs.ErrorCodes.{code_named}
 use Rattle.wasi_p2_types.specs.FsErrors.{fs_error, FsCause}
 use Rattle.wasi_p2_types.specs.Moments.{time_wanted}
-use Rattle.wasi_p2.specs.Nodes.{AboutFile, SyncsIt}
-use Rattle.wasi_p2.specs.Timed.{timed_by, with_wanted, TimesWanted}
+use Rattle.wasi_p2_calls.specs.Nodes.{AboutFile, SyncsIt}
+use Rattle.wasi_p2_calls.specs.Timed.{timed_by, with_wanted, TimesWanted}
 use Rattle.wasi_p2_types.specs.declared.times.NewTimestamp.{NewTimestamp}
 use Rattle.wasi_fs.specs.declared.descriptor.Dir.{Dir}
 use Rattle.wasi_fs.specs.declared.descriptor.File.{File as OpenedFile}
 use Rattle.wasi_streams.specs.Found.{descriptor_found}
-use Rattle.wasi_p2.specs.Resources.{as_directory_of, as_file_or, as_opened, both_found, directory_at, file_at, descriptor_at, AreOwned, HasIt, Holder, OneHasIt, entry_handle, handle_held, preopened, tabled}
-use Rattle.wasi_p2.specs.Views.{CallsOn, Files, Passes, Performs, tree_in}
-use Rattle.wasi_p2.specs.declared.context.Preopen.{Preopen}
+use Rattle.wasi_p2_calls.specs.Resources.{as_directory_of, as_file_or, as_opened, both_found, directory_at, file_at, descriptor_at, AreOwned, HasIt, Holder, OneHasIt, entry_handle, handle_held, preopened, tabled}
+use Rattle.wasi_p2_calls.specs.Views.{CallsOn, Files, Passes, Performs, tree_in}
+use Rattle.wasi_p2_calls.specs.declared.context.Preopen.{Preopen}
 use Rattle.wasi_p2_types.specs.declared.error.FsError.{FsError}
 use Rattle.wasi_p2_types.specs.declared.error_code.ErrorCode.TheVariants.{BadDescriptor}
-use Rattle.wasi_turns.specs.CallTurn.{FollowsRow}
+use Rattle.wasi_p1_model.specs.CallTurn.{FollowsRow}
 use Rattle.wasi_p1_parts.specs.Descriptors.{AreKept, SlotTable}
-use Rattle.wasi_turns.specs.Errnos.{errno_of, error_of}
+use Rattle.wasi_p1_model.specs.Errnos.{errno_of, error_of}
 use Rattle.wasi_p1_parts.specs.Held.{HoldsHandles}
 use Rattle.wasi_p1_types.specs.Items.{resource_in, slot_in, slots_of, directory_of_entry, file_of_entry, stream_entry, is_closed_item, IsOfKind, NamesResource, AreNamed}
-use Rattle.wasi_turns.specs.Owners.{handle_in, handles, Owned}
-use Rattle.wasi_turns.specs.Slots.{descriptor_in, View}
-use Rattle.wasi_turns.specs.ViewErrors.{errno_named, view_error_of}
+use Rattle.wasi_p1_model.specs.Owners.{handle_in, handles, Owned}
+use Rattle.wasi_p1_model.specs.Slots.{descriptor_in, View}
+use Rattle.wasi_p1_model.specs.ViewErrors.{errno_named, view_error_of}
 use Rattle.wasi_p1_parts.specs.Viewed.{descriptor_under, Lowered}
-use Rattle.wasi_turns.specs.declared.slots.Slot.{Slot}
-use Rattle.wasi_turns.specs.declared.slots.Slot.TheVariants as slots
-use Rattle.wasi_turns.specs.declared.slots.Stream.{Stream as StandardStream}
-use Rattle.wasi_turns.specs.declared.slots.Stream.TheVariants as streams
-use Rattle.wasi_turns.specs.declared.error.P1Error.{P1Error}
-use Rattle.wasi_turns.specs.declared.error.P1Error.TheVariants.{Errno as ByNumber}
+use Rattle.wasi_p1_model.specs.declared.slots.Slot.{Slot}
+use Rattle.wasi_p1_model.specs.declared.slots.Slot.TheVariants as slots
+use Rattle.wasi_p1_model.specs.declared.slots.Stream.{Stream as StandardStream}
+use Rattle.wasi_p1_model.specs.declared.slots.Stream.TheVariants as streams
+use Rattle.wasi_p1_model.specs.declared.error.P1Error.{P1Error}
+use Rattle.wasi_p1_model.specs.declared.error.P1Error.TheVariants.{Errno as ByNumber}
 use Rattle.wasi_p1_types.specs.declared.items.Item.{Item}
 use Rattle.wasi_p1_types.specs.declared.items.Item.TheVariants.{Closed, Stream, Directory, File}
-use Rattle.wasi_turns.proofs.Counting.{handle_at}
+use Rattle.wasi_p1_model.proofs.Counting.{handle_at}
 use Rattle.wasi_p1_parts.proofs.Naming.{slots_get, one}
-use Rattle.wasi_turns.proofs.Owning.{owned_apart}
-use Rattle.wasi_turns.proofs.Taking.{on_err}
+use Rattle.wasi_p1_model.proofs.Owning.{owned_apart}
+use Rattle.wasi_p1_model.proofs.Taking.{on_err}
 
 -- the value of descriptors
 abbrev pub shown_by : Entries → List Item → ℕ → ℕ → SlotTable

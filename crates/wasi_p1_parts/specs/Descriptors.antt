@@ -5,10 +5,10 @@ use Rattle.std.specs.Ordering.{nat_cmp}
 use Rattle.std.specs.BinaryHeap.{IsHeap}
 use Rattle.wasi_streams.specs.Table.{Entries}
 use Rattle.wasi_p1_types.specs.Items.{slots_of, AreNamed}
-use Rattle.wasi_turns.specs.Numbering.{passes_at}
-use Rattle.wasi_turns.specs.Owners.{one_if}
-use Rattle.wasi_turns.specs.Slots.{is_closed_slot}
-use Rattle.wasi_turns.specs.declared.slots.Slot.{Slot}
+use Rattle.wasi_p1_model.specs.Numbering.{passes_at}
+use Rattle.wasi_p1_model.specs.Owners.{one_if}
+use Rattle.wasi_p1_model.specs.Slots.{is_closed_slot}
+use Rattle.wasi_p1_model.specs.declared.slots.Slot.{Slot}
 use Rattle.wasi_p1_types.specs.declared.items.Item.{Item}
 
 -- what stands under each number, for how many new descriptors memory was taken, and how many live ones there may be

@@ -6,8 +6,8 @@ use Rattle.wasi_streams.specs.Table.{Entries}
 use Rattle.wasi_streams.specs.declared.entry.Entry.{Entry}
 use Rattle.wasi_streams.specs.declared.entry.Entry.TheVariants as entries
 use Rattle.wasi_p1_types.specs.Items.{stream_entry}
-use Rattle.wasi_turns.specs.declared.slots.Slot.{Slot}
-use Rattle.wasi_turns.specs.declared.slots.Slot.TheVariants as slots
+use Rattle.wasi_p1_model.specs.declared.slots.Slot.{Slot}
+use Rattle.wasi_p1_model.specs.declared.slots.Slot.TheVariants as slots
 
 -- the entry of a descriptor that stands for this
 abbrev pub entry_of_slot : Slot → Option Entry

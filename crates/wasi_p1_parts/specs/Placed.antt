@@ -3,9 +3,9 @@ use Rattle.std.specs.Prelude.{◌≡◌, ℕ, false, List}
 use Rattle.wasi_streams.specs.Table.{Entries}
 use Rattle.wasi_p1_parts.specs.Descriptors.{AreKept}
 use Rattle.wasi_p1_types.specs.Items.{slots_of, Admitted}
-use Rattle.wasi_turns.specs.Numbering.{free_number, with_new}
-use Rattle.wasi_turns.specs.Slots.{is_closed_slot}
-use Rattle.wasi_turns.specs.declared.slots.Slot.{Slot}
+use Rattle.wasi_p1_model.specs.Numbering.{free_number, with_new}
+use Rattle.wasi_p1_model.specs.Slots.{is_closed_slot}
+use Rattle.wasi_p1_model.specs.declared.slots.Slot.{Slot}
 use Rattle.wasi_p1_types.specs.declared.items.Item.{Item}
 
 -- what is kept of it stands under its number

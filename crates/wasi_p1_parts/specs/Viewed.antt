@@ -11,15 +11,15 @@ use Rattle.wasi_resolve.specs.PathRequest.{meant_by}
 use Rattle.wasi_streams.specs.Table.{Entries}
 use Rattle.wasi_streams.specs.declared.entry.Entry.TheVariants.{Descriptor as AnOpened}
 use Rattle.wasi_streams.specs.declared.table.Resource.{Resource}
-use Rattle.wasi_turns.specs.Numbering.{free_number, with_new}
-use Rattle.wasi_turns.specs.declared.slots.FileModes.{FileModes}
+use Rattle.wasi_p1_model.specs.Numbering.{free_number, with_new}
+use Rattle.wasi_p1_model.specs.declared.slots.FileModes.{FileModes}
 use Rattle.wasi_host.specs.declared.errors.HostError.{HostError}
-use Rattle.wasi_turns.specs.Slots.{descriptor_in, is_closed_slot, slot_of}
-use Rattle.wasi_turns.specs.ViewErrors.{view_raised}
-use Rattle.wasi_turns.specs.declared.error.P1Error.{P1Error}
-use Rattle.wasi_turns.specs.declared.slots.Slot.{Slot}
+use Rattle.wasi_p1_model.specs.Slots.{descriptor_in, is_closed_slot, slot_of}
+use Rattle.wasi_p1_model.specs.ViewErrors.{view_raised}
+use Rattle.wasi_p1_model.specs.declared.error.P1Error.{P1Error}
+use Rattle.wasi_p1_model.specs.declared.slots.Slot.{Slot}
 use Rattle.wasi_p2_types.specs.FsErrors.{fs_error, raised}
-use Rattle.wasi_p2.specs.Views.{Performs}
+use Rattle.wasi_p2_calls.specs.Views.{Performs}
 use Rattle.wasi_p2_types.specs.declared.error.FsError.{FsError}
 
 -- what a directory's or file's number stands for

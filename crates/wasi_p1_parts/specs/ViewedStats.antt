@@ -4,15 +4,15 @@ use Rattle.wasi_guest.specs.FiletypeNumber.{filetype_number}
 use Rattle.wasi_guest.specs.declared.filestat.Filestat.{Filestat}
 use Rattle.wasi_guest.specs.declared.filetype.Filetype.{Filetype}
 use Rattle.wasi_guest.specs.declared.filetype.Filetype.TheVariants as filetypes
-use Rattle.wasi_guest.specs.declared.services.WallDatetime.{WallDatetime}
-use Rattle.wasi_host.specs.Meaning.{Rose}
+use Rattle.wasi_guest.specs.declared.guest_env.WallDatetime.{WallDatetime}
+use Rattle.wasi_host.specs.HostLaws.{Rose}
 use Rattle.wasi_host.specs.Steps.{◌>>=◌}
 use Rattle.wasi_host.specs.declared.host.Host.{Ghosts}
-use Rattle.wasi_turns.specs.CallParts.{IsReplied, Makes, WantsNoMemory}
-use Rattle.wasi_turns.specs.Filestats.{or_overflow}
-use Rattle.wasi_turns.specs.Request.{Reply, Request}
-use Rattle.wasi_turns.specs.Row.{Row, give}
-use Rattle.wasi_turns.specs.declared.looked.StatBoth.{StatBoth}
+use Rattle.wasi_p1_model.specs.CallParts.{IsReplied, Makes, WantsNoMemory}
+use Rattle.wasi_p1_model.specs.Filestats.{or_overflow}
+use Rattle.wasi_p1_model.specs.Request.{Reply, Request}
+use Rattle.wasi_p1_model.specs.Row.{Row, give}
+use Rattle.wasi_p1_model.specs.declared.looked.StatBoth.{StatBoth}
 use Rattle.wasi_p1_parts.specs.declared.filestats.ViewedStat.{ViewedStat}
 use Rattle.wasi_p2_types.specs.Stats.{hash_named, stat_named}
 use Rattle.wasi_p2_types.specs.declared.descriptor_stat.DescriptorType.{DescriptorType}

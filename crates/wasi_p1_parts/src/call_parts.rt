@@ -3,29 +3,29 @@ ghost use Rattle.std.specs.Prelude.{◌≡◌, ◌<◌, ◌≤◌, ◌+◌, ◌^
 ghost use Rattle.std.specs.Result.{result_map_both};
 ghost use Rattle.std.specs.FinSet.{contains};
 ghost use Rattle.wasi_host.specs.HostCall.{Pread, Pwrite};
-ghost use Rattle.wasi_host.specs.Meaning.{Rose};
+ghost use Rattle.wasi_host.specs.HostLaws.{Rose};
 ghost use Rattle.wasi_host.specs.Lineage.{Traced, Only, Nothing};
-ghost use Rattle.wasi_turns.specs.CallTurn.{Causes};
+ghost use Rattle.wasi_p1_model.specs.CallTurn.{Causes};
 ghost use Rattle.wasi_p1_parts.specs.Held.{HoldsHandles};
-ghost use Rattle.wasi_turns.specs.Owners.{handles, HasHandle, Owned, Owns, SlotsTraced, SlotsStay};
-ghost use Rattle.wasi_turns.specs.Guest.{guest_slot, guest_slots};
+ghost use Rattle.wasi_p1_model.specs.Owners.{handles, HasHandle, Owned, Owns, SlotsTraced, SlotsStay};
+ghost use Rattle.wasi_p1_model.specs.Guest.{guest_slot, guest_slots};
 ghost use Rattle.wasi_resolve.specs.PathRequest.{meant_by};
-ghost use Rattle.wasi_turns.specs.Request.{Path, Direct};
+ghost use Rattle.wasi_p1_model.specs.Request.{Path, Direct};
 ghost use Rattle.wasi_fs.specs.Calls.{opens, looks, meant_as, handle_of};
 ghost use Rattle.wasi_fs.specs.OpenHow.{may_open, mode_of};
 ghost use Rattle.wasi_p2_types.specs.FlagNames.{how_named};
-ghost use Rattle.wasi_turns.specs.Filestats.{stat_both, IsStated};
-ghost use Rattle.wasi_turns.specs.Parts.{live_in, directory_or, source_in, sink_in, open_node_in, room_for, opened_among};
-ghost use Rattle.wasi_turns.specs.Numbering.{passes_at, live_count, renumbered};
-ghost use Rattle.wasi_turns.specs.Slots.{file_under, is_closed_slot};
+ghost use Rattle.wasi_p1_model.specs.Filestats.{stat_both, IsStated};
+ghost use Rattle.wasi_p1_model.specs.Parts.{live_in, directory_or, source_in, sink_in, open_node_in, room_for, opened_among};
+ghost use Rattle.wasi_p1_model.specs.Numbering.{passes_at, live_count, renumbered};
+ghost use Rattle.wasi_p1_model.specs.Slots.{file_under, is_closed_slot};
 ghost use Rattle.wasi_guest.specs.Range.{IsInMemory};
-ghost use Rattle.wasi_turns.specs.CallParts.{open_directory_of, source_of, sink_of, OfSource, OfSink, open_node_of, Refused, ReadsInto, WritesPiece, OpensInto, filled_at, with_after, Stays, IsReplied, WantsNoMemory, is_failure};
-ghost use Rattle.wasi_turns.specs.Row.{give};
+ghost use Rattle.wasi_p1_model.specs.CallParts.{open_directory_of, source_of, sink_of, OfSource, OfSink, open_node_of, Refused, ReadsInto, WritesPiece, OpensInto, filled_at, with_after, Stays, IsReplied, WantsNoMemory, is_failure};
+ghost use Rattle.wasi_p1_model.specs.Row.{give};
 ghost use Rattle.wasi_p1_parts.specs.Viewed.{descriptor_under, Lowered};
 ghost use Rattle.wasi_p1_parts.specs.ViewedStats.{viewed};
 ghost use Rattle.wasi_p2_types.specs.FlagNames.{path_flags_named};
 ghost use Rattle.wasi_p2_types.specs.FsErrors.{FsCause};
-ghost use Rattle.wasi_p2.specs.Views.{Performs};
+ghost use Rattle.wasi_p2_calls.specs.Views.{Performs};
 
 use crate::descriptors::Descriptors;
 use crate::filestats::ViewedStat;
@@ -35,12 +35,12 @@ use wasi_fs::{Descriptor, Dir, File};
 use wasi_guest::{Errno, Iovec, TrapKind};
 use wasi_host::{Handle, Host};
 use wasi_p1_types::open_with::OpenWith;
-use wasi_p2::types::PathFlags;
-use wasi_p2::{FsResult, WasiFilesystemCtx};
-use wasi_turns::{DirectorySlot, FileModes, FileSlot, Output, P1Error, Sink, Slot, Source, Stream};
+use wasi_p2_calls::types::PathFlags;
+use wasi_p2_calls::{FsResult, WasiFilesystemCtx};
+use wasi_p1_model::{DirectorySlot, FileModes, FileSlot, Output, P1Error, Sink, Slot, Source, Stream};
 
 /// What a live number stands for.
-#[tactic(auto, using(wasi_turns::proofs::SlotRules::slots))]
+#[tactic(auto, using(wasi_p1_model::proofs::SlotRules::slots))]
 pub fn live_at<H: Host>(host: &H, descriptors: &Descriptors, fd: u32) -> Result<Slot, P1Error>
     ensures is { IfOk result (λ slot. slice_get descriptors.now.slots fd ≡ Some slot) }
     ensures in_use { IfOk result (λ slot. is_closed_slot slot ≡ false) }
@@ -57,7 +57,7 @@ pub fn live_at<H: Host>(host: &H, descriptors: &Descriptors, fd: u32) -> Result<
 }
 
 /// The directory of a number: `of_file` where that is a file's, and Badf of any other.
-#[tactic(auto, using(wasi_turns::proofs::SlotRules::slots))]
+#[tactic(auto, using(wasi_p1_model::proofs::SlotRules::slots))]
 pub fn directory_at<H: Host>(
     host: &H,
     descriptors: &Descriptors,
@@ -83,7 +83,7 @@ pub fn directory_at<H: Host>(
 }
 
 /// The descriptor of a directory's or file's number: Badf of any other.
-#[tactic(auto, using(wasi_turns::proofs::SlotRules::slots))]
+#[tactic(auto, using(wasi_p1_model::proofs::SlotRules::slots))]
 pub fn descriptor_at<H: Host>(
     host: &H,
     descriptors: &Descriptors,
@@ -108,7 +108,7 @@ pub fn descriptor_at<H: Host>(
 }
 
 /// What is read by a number: Badf where that is neither a file's nor the standard input's.
-#[tactic(auto, using(wasi_turns::proofs::SlotRules::slots))]
+#[tactic(auto, using(wasi_p1_model::proofs::SlotRules::slots))]
 pub fn source_at<H: Host>(host: &H, descriptors: &Descriptors, fd: u32) -> Result<Source, P1Error>
     requires owned { Owned (H.live host.now) (handles descriptors.now.slots) }
     ensures live { IfOk result (OfSource (λ file. contains (H.live host.now) file.file.file ≡ true)) }
@@ -130,7 +130,7 @@ pub fn source_at<H: Host>(host: &H, descriptors: &Descriptors, fd: u32) -> Resul
 }
 
 /// What is written by a number: Badf where that is neither a file's nor an output's.
-#[tactic(auto, using(wasi_turns::proofs::SlotRules::slots))]
+#[tactic(auto, using(wasi_p1_model::proofs::SlotRules::slots))]
 pub fn sink_at<H: Host>(host: &H, descriptors: &Descriptors, fd: u32) -> Result<Sink, P1Error>
     requires owned { Owned (H.live host.now) (handles descriptors.now.slots) }
     ensures live { IfOk result (OfSink (λ file. contains (H.live host.now) file.file.file ≡ true)) }
@@ -241,7 +241,7 @@ pub fn put_back(descriptors: &mut Descriptors, fd: u32, file: File, position: u6
 
 /// Opens a path into the descriptors, of which there may be one more, and gives the new one's number. The memory for it
 /// is taken before the host is called.
-#[tactic(auto, using(wasi_turns::proofs::Staying::all_stay))]
+#[tactic(auto, using(wasi_p1_model::proofs::Staying::all_stay))]
 pub fn open_into<H: Host>(
     fs: &mut WasiFilesystemCtx<H>,
     descriptors: &mut Descriptors,

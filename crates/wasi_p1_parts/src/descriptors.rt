@@ -4,7 +4,7 @@ ghost use Rattle.std.specs.Prelude.{◌-◌, min};
 ghost use Rattle.std.specs.Vec.{vec_len, vec_capacity};
 ghost use Rattle.std.specs.BinaryHeap.{heap_items, heap_len, heap_capacity};
 ghost use Rattle.wasi_streams.specs.Table.{Entries};
-ghost use Rattle.wasi_turns.specs.CallParts.{Rests};
+ghost use Rattle.wasi_p1_model.specs.CallParts.{Rests};
 ghost use Rattle.wasi_p1_parts.specs.Descriptors.{AreKept};
 ghost use Rattle.wasi_p1_parts.specs.Placed.{TakesFreeNumber};
 ghost use Rattle.wasi_p1_parts.specs.Viewed.{descriptor_under, Opens, PutDescriptor};
@@ -12,10 +12,10 @@ ghost use Rattle.wasi_p2_types.specs.FsErrors.{FsCause};
 ghost use Rattle.wasi_p2_types.specs.FlagNames.{how_named};
 ghost use Rattle.wasi_p1_parts.specs.Held.{HoldsHandles};
 ghost use Rattle.wasi_p1_parts.specs.LiveEntries.{AreLiveDescriptors};
-ghost use Rattle.wasi_turns.specs.Numbering.{passes_at, free_number, with_new, renumbered, live_count};
-ghost use Rattle.wasi_turns.specs.Owners.{handle_in, handles, without};
-ghost use Rattle.wasi_turns.specs.Slots.{file_under, first_slots, is_closed_slot};
-ghost use Rattle.wasi_turns.specs.declared.error.CtxError.TheVariants.{Full};
+ghost use Rattle.wasi_p1_model.specs.Numbering.{passes_at, free_number, with_new, renumbered, live_count};
+ghost use Rattle.wasi_p1_model.specs.Owners.{handle_in, handles, without};
+ghost use Rattle.wasi_p1_model.specs.Slots.{file_under, first_slots, is_closed_slot};
+ghost use Rattle.wasi_p1_model.specs.declared.error.CtxError.TheVariants.{Full};
 
 use crate::view_parts::closing::drop_item;
 use crate::view_parts::opening::open_item;
@@ -29,9 +29,9 @@ use wasi_p1_types::items::{
     Item, admit, item_at, item_under, put_item, reserve_entry, slot_of_item,
 };
 use wasi_p1_types::open_with::OpenWith;
-use wasi_p2::{FsResult, WasiFilesystemCtx};
+use wasi_p2_calls::{FsResult, WasiFilesystemCtx};
 use wasi_streams::ResourceTable;
-use wasi_turns::{CtxError, DirectorySlot, FileSlot, P1Preopen, Slot, Stream};
+use wasi_p1_model::{CtxError, DirectorySlot, FileSlot, P1Preopen, Slot, Stream};
 
 /// How many standard streams there are.
 const STREAMS: usize = 3;
@@ -101,7 +101,7 @@ impl Descriptors {
     }
 
     /// The three standard streams as descriptors 0 to 2.
-    #[tactic(auto, unfolding(wasi_turns::specs::Numbering::with_new))]
+    #[tactic(auto, unfolding(wasi_p1_model::specs::Numbering::with_new))]
     fn streams(alloc: Global, max: u32) -> Result<Descriptors, AllocError>
         requires fits { 3 ≤ max }
         ensures slots { IfOk result (λ descriptors. descriptors.slots ≡ first_slots []) }

@@ -4,27 +4,27 @@ ghost use Rattle.std.specs.FinSet.{contains};
 ghost use Rattle.std.specs.Result.{result_map_both};
 ghost use Rattle.wasi_guest.specs.FlagSets.{fdflag_bits};
 ghost use Rattle.wasi_host.specs.HostCall.{Append, Stat};
-ghost use Rattle.wasi_host.specs.Meaning.{Rose};
-ghost use Rattle.wasi_turns.specs.CallParts.{IsReplied, Knows, Makes, WantsNoMemory, is_failure, open_file_of};
-ghost use Rattle.wasi_turns.specs.CallTurn.{Causes};
-ghost use Rattle.wasi_turns.specs.Files.{base_in, file_in, host_advice, keeps_append, name_at, name_into, not_synchronized, or_refused, position_from, read_place_in, stream_refused};
-ghost use Rattle.wasi_turns.specs.Guest.{guest_slots};
-ghost use Rattle.wasi_turns.specs.Owners.{handles, Owned};
-ghost use Rattle.wasi_turns.specs.Parts.{permit};
-ghost use Rattle.wasi_turns.specs.Putting.{appended_in, count_in, put_call, put_end, put_in, put_request};
-ghost use Rattle.wasi_turns.specs.Quotas.{allowance};
-ghost use Rattle.wasi_turns.specs.Spending.{growth_from};
+ghost use Rattle.wasi_host.specs.HostLaws.{Rose};
+ghost use Rattle.wasi_p1_model.specs.CallParts.{IsReplied, Knows, Makes, WantsNoMemory, is_failure, open_file_of};
+ghost use Rattle.wasi_p1_model.specs.CallTurn.{Causes};
+ghost use Rattle.wasi_p1_model.specs.Files.{base_in, file_in, host_advice, keeps_append, name_at, name_into, not_synchronized, or_refused, position_from, read_place_in, stream_refused};
+ghost use Rattle.wasi_p1_model.specs.Guest.{guest_slots};
+ghost use Rattle.wasi_p1_model.specs.Owners.{handles, Owned};
+ghost use Rattle.wasi_p1_model.specs.Parts.{permit};
+ghost use Rattle.wasi_p1_model.specs.Putting.{appended_in, count_in, put_call, put_end, put_in, put_request};
+ghost use Rattle.wasi_p1_model.specs.Quotas.{allowance};
+ghost use Rattle.wasi_p1_model.specs.Spending.{growth_from};
 ghost use Rattle.wasi_fs.specs.Calls.{may_do};
 ghost use Rattle.wasi_fs.specs.declared.perms.Act.TheVariants.{Alter};
-ghost use Rattle.wasi_turns.specs.Request.{Direct, Behind};
-ghost use Rattle.wasi_turns.specs.Row.{give};
-ghost use Rattle.wasi_turns.specs.Services.{with_unit};
+ghost use Rattle.wasi_p1_model.specs.Request.{Direct, Behind};
+ghost use Rattle.wasi_p1_model.specs.Row.{give};
+ghost use Rattle.wasi_p1_model.specs.Services.{with_unit};
 ghost use Rattle.wasi_p1_parts.specs.Viewed.{descriptor_under};
 ghost use Rattle.wasi_p2_types.specs.Advices.{advice_named};
-ghost use Rattle.wasi_turns.specs.CallParts.{with_after};
+ghost use Rattle.wasi_p1_model.specs.CallParts.{with_after};
 ghost use Rattle.wasi_guest.specs.declared.errno.Errno.TheVariants as errnos;
-ghost use Rattle.wasi_turns.specs.declared.error.P1Error.TheVariants as errors;
-ghost use Rattle.wasi_turns.specs.declared.usage.FileUse.TheVariants.{ReadAt};
+ghost use Rattle.wasi_p1_model.specs.declared.error.P1Error.TheVariants as errors;
+ghost use Rattle.wasi_p1_model.specs.declared.usage.FileUse.TheVariants.{ReadAt};
 
 use crate::call_parts::{room_at, write_piece};
 use crate::descriptors::Descriptors;
@@ -32,8 +32,8 @@ use bitflags::Flags;
 use wasi_fs::{Act, Descriptor, File, FsPerms};
 use wasi_guest::{Advice, Errno, FdFlags, Whence, write_bytes};
 use wasi_host::{Handle, Host};
-use wasi_p2::types;
-use wasi_turns::{
+use wasi_p2_calls::types;
+use wasi_p1_model::{
     Allowance, FileEnd, FileModes, FileSlot, FileUse, Holdings, INVALID, P1Error, Put, Slot,
     Stream, bytes_at,
 };
@@ -60,7 +60,7 @@ fn stream_refusal(wanted: FileUse, stream: Stream) -> P1Error
 
 /// The file of a number: Badf where that isn't a file's, and Spipe of a standard stream where a place in a file is
 /// named that could be read or written there.
-#[tactic(auto, using(wasi_turns::proofs::SlotRules::slots))]
+#[tactic(auto, using(wasi_p1_model::proofs::SlotRules::slots))]
 pub fn file_at<H: Host>(
     host: &H,
     descriptors: &Descriptors,
@@ -119,7 +119,7 @@ fn base_of(position: u64, whence: Whence) -> Option<u64>
 }
 
 /// A position so far from another one: Inval where that is below 0, or 64 bits don't hold it.
-#[tactic(auto, unfolding(wasi_turns::specs::Files::position_from))]
+#[tactic(auto, unfolding(wasi_p1_model::specs::Files::position_from))]
 fn position_from(base: u64, offset: i64) -> Result<u64, P1Error>
     ensures row { result ≡ position_from base offset }
     ensures refusal { IfErr result (λ e. is_failure e ≡ false) }
@@ -376,7 +376,7 @@ pub fn view_advice(advice: Advice) -> types::Advice
 }
 
 /// Inval of a flag of integrity.
-#[tactic(auto, unfolding(wasi_turns::specs::Files::not_synchronized))]
+#[tactic(auto, unfolding(wasi_p1_model::specs::Files::not_synchronized))]
 pub fn not_synchronized(fdflags: FdFlags) -> Result<(), P1Error>
     ensures row { result ≡ not_synchronized (fdflag_bits fdflags) }
     ensures refusal { IfErr result (λ e. is_failure e ≡ false) }
@@ -392,7 +392,7 @@ pub fn not_synchronized(fdflags: FdFlags) -> Result<(), P1Error>
 
 /// Whether a file of these permissions may be used so: Perm where only additions are permitted, and what is written
 /// wouldn't go behind its last byte.
-#[tactic(auto, unfolding(wasi_turns::specs::Files::keeps_append))]
+#[tactic(auto, unfolding(wasi_p1_model::specs::Files::keeps_append))]
 pub fn keeps_append(perms: FsPerms, modes: FileModes) -> Result<(), P1Error>
     ensures row { result ≡ keeps_append perms modes }
     ensures refusal { IfErr result (λ e. is_failure e ≡ false) }
@@ -437,7 +437,7 @@ pub fn preopen_at<'h, H: Host>(
 
 /// Puts a name into a range of memory: Nametoolong where it is longer than the range may be, and trap Pointer where the
 /// memory doesn't hold it there.
-#[tactic(auto, unfolding(wasi_turns::specs::Files::name_into, wasi_turns::specs::Files::name_within))]
+#[tactic(auto, unfolding(wasi_p1_model::specs::Files::name_into, wasi_p1_model::specs::Files::name_within))]
 pub fn put_name(memory: &mut [u8], path: u32, path_len: u32, name: &str) -> Result<(), P1Error>
     ensures size { length memory.new ≡ length memory.old }
     ensures same { OnErr result (memory.new ≡ memory.old) }

@@ -1,12 +1,12 @@
 //! The record that tells of a node.
 ghost use Rattle.std.specs.Prelude.{◌≡◌, false, IfErr};
-ghost use Rattle.wasi_turns.specs.CallParts.{WantsNoMemory, is_failure};
+ghost use Rattle.wasi_p1_model.specs.CallParts.{WantsNoMemory, is_failure};
 ghost use Rattle.wasi_p1_parts.specs.ViewedStats.{filetype_named, viewed_filestat, wall_nanoseconds};
 
 use wasi_fs::{DescriptorStat, DescriptorType, MetadataHashValue};
 use wasi_guest::{Filestat, Filetype, WallDatetime};
-use wasi_p2::types;
-use wasi_turns::{P1Error, nanoseconds_of};
+use wasi_p2_calls::types;
+use wasi_p1_model::{P1Error, nanoseconds_of};
 
 /// What preview2 says of a node, by its two calls.
 #[derive(Clone, Copy, Debug, PartialEq, Eq)]

@@ -2,18 +2,18 @@
 ghost use Rattle.std.specs.Prelude.{◌≡◌, slice_get, IfOk, IfErr, None, Some};
 ghost use Rattle.wasi_fs.specs.Calls.{handle_of, meant_as, stats, NotMemory};
 ghost use Rattle.wasi_host.specs.HostCall.{Flags, Stat};
-ghost use Rattle.wasi_turns.specs.CallParts.{open_file_of};
-ghost use Rattle.wasi_turns.specs.CallTurn.{Causes};
-ghost use Rattle.wasi_turns.specs.Fdstats.{directory_fdstat, file_told};
-ghost use Rattle.wasi_turns.specs.Filestats.{filestat_in, stat_both, IsStated};
+ghost use Rattle.wasi_p1_model.specs.CallParts.{open_file_of};
+ghost use Rattle.wasi_p1_model.specs.CallTurn.{Causes};
+ghost use Rattle.wasi_p1_model.specs.Fdstats.{directory_fdstat, file_told};
+ghost use Rattle.wasi_p1_model.specs.Filestats.{filestat_in, stat_both, IsStated};
 ghost use Rattle.wasi_p1_parts.specs.Held.{HoldsHandles};
-ghost use Rattle.wasi_turns.specs.Owners.{handles};
-ghost use Rattle.wasi_turns.specs.Request.{Direct};
-ghost use Rattle.wasi_turns.specs.Row.{give};
+ghost use Rattle.wasi_p1_model.specs.Owners.{handles};
+ghost use Rattle.wasi_p1_model.specs.Request.{Direct};
+ghost use Rattle.wasi_p1_model.specs.Row.{give};
 ghost use Rattle.wasi_p1_parts.specs.Viewed.{descriptor_under, Lowered};
 ghost use Rattle.wasi_p1_parts.specs.ViewedStats.{viewed, LookMakes};
 ghost use Rattle.wasi_p2_types.specs.FsErrors.{FsCause};
-ghost use Rattle.wasi_p2.specs.Views.{Performs};
+ghost use Rattle.wasi_p2_calls.specs.Views.{Performs};
 
 use crate::descriptors::Descriptors;
 use crate::filestats::{ViewedStat, filetype_named};
@@ -22,8 +22,8 @@ use crate::view_parts::nodes::{FlagsOf, MetadataHashOf, StatOf, TypeOf};
 use wasi_fs::{Descriptor, Dir};
 use wasi_guest::{Fdstat, Filestat};
 use wasi_host::Host;
-use wasi_p2::{FsResult, WasiFilesystemCtx};
-use wasi_turns::{FileSlot, P1Error, directory_fdstat, file_fdstat};
+use wasi_p2_calls::{FsResult, WasiFilesystemCtx};
+use wasi_p1_model::{FileSlot, P1Error, directory_fdstat, file_fdstat};
 
 /// What is told of a descriptor's node: its two answers, which make one record.
 fn looked_at<H: Host>(

@@ -7,11 +7,11 @@ ghost use Rattle.wasi_host.specs.Lineage.{Traced, Only, Nothing};
 ghost use Rattle.wasi_p1_parts.specs.Held.{HoldsHandles};
 ghost use Rattle.wasi_p1_parts.specs.Viewed.{descriptor_under, LoweredTo};
 ghost use Rattle.wasi_p2_types.specs.FlagNames.{how_named};
-ghost use Rattle.wasi_turns.specs.CallParts.{is_failure};
-ghost use Rattle.wasi_turns.specs.CallTurn.{Causes};
-ghost use Rattle.wasi_turns.specs.Owners.{handles};
-ghost use Rattle.wasi_turns.specs.Quotas.{counted_making};
-ghost use Rattle.wasi_turns.specs.Spending.{check_to_make, may_make, on_outcome};
+ghost use Rattle.wasi_p1_model.specs.CallParts.{is_failure};
+ghost use Rattle.wasi_p1_model.specs.CallTurn.{Causes};
+ghost use Rattle.wasi_p1_model.specs.Owners.{handles};
+ghost use Rattle.wasi_p1_model.specs.Quotas.{counted_making};
+ghost use Rattle.wasi_p1_model.specs.Spending.{check_to_make, may_make, on_outcome};
 
 use crate::descriptors::Descriptors;
 use crate::view_parts::{PlaceCall, below, raised};
@@ -19,9 +19,9 @@ use wasi_fs::{Act, Descriptor, Dir, FsPerms};
 use wasi_guest::Errno;
 use wasi_host::Host;
 use wasi_p1_types::open_with::OpenWith;
-use wasi_p2::WasiFilesystemCtx;
+use wasi_p2_calls::WasiFilesystemCtx;
 use wasi_paths::has_root;
-use wasi_turns::{Holdings, P1Error};
+use wasi_p1_model::{Holdings, P1Error};
 
 /// Whether a directory may be made: Perm where making isn't permitted, and then Dquot where no making is left.
 #[tactic(auto, unfolding(wasi_fs::specs::Calls::may_do))]

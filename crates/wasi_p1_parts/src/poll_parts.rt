@@ -5,16 +5,16 @@ ghost use Rattle.std.specs.Result.{result_map_both};
 ghost use Rattle.std.specs.Option.{option_to_list};
 ghost use Rattle.wasi_guest.specs.Event.{event_bytes};
 ghost use Rattle.wasi_guest.specs.Range.{IsInMemory, with_bytes};
-ghost use Rattle.wasi_host.specs.Meaning.{Rose};
-ghost use Rattle.wasi_turns.specs.CallParts.{IsFromHost, IsReplied, Makes, is_failure, source_of, sink_of, OfSource};
-ghost use Rattle.wasi_turns.specs.CallTurn.{Causes};
-ghost use Rattle.wasi_turns.specs.Guest.{guest_slots};
-ghost use Rattle.wasi_turns.specs.Owners.{handles, Owned};
-ghost use Rattle.wasi_turns.specs.Polling.{OfReading, all_waited, awaited_by, comes_at, event_of, events, first_size, judged_in, lists_within, nodes_in, nodes_read, some_asked, waited_at, waited_by, waiting_for, waiting_to_read, waiting_to_write, with_clocks, with_events};
-ghost use Rattle.wasi_turns.specs.Request.{Sizes};
-ghost use Rattle.wasi_turns.specs.Row.{give};
+ghost use Rattle.wasi_host.specs.HostLaws.{Rose};
+ghost use Rattle.wasi_p1_model.specs.CallParts.{IsFromHost, IsReplied, Makes, is_failure, source_of, sink_of, OfSource};
+ghost use Rattle.wasi_p1_model.specs.CallTurn.{Causes};
+ghost use Rattle.wasi_p1_model.specs.Guest.{guest_slots};
+ghost use Rattle.wasi_p1_model.specs.Owners.{handles, Owned};
+ghost use Rattle.wasi_p1_model.specs.Polling.{OfReading, all_waited, awaited_by, comes_at, event_of, events, first_size, judged_in, lists_within, nodes_in, nodes_read, some_asked, waited_at, waited_by, waiting_for, waiting_to_read, waiting_to_write, with_clocks, with_events};
+ghost use Rattle.wasi_p1_model.specs.Request.{Sizes};
+ghost use Rattle.wasi_p1_model.specs.Row.{give};
 ghost use Rattle.wasi_guest.specs.declared.answer.Value.TheVariants.{Number};
-ghost use Rattle.wasi_turns.specs.declared.error.P1Error.TheVariants.{Memory};
+ghost use Rattle.wasi_p1_model.specs.declared.error.P1Error.TheVariants.{Memory};
 
 use crate::call_parts::{sink_at, source_at};
 use crate::descriptors::Descriptors;
@@ -23,13 +23,13 @@ use wasi_guest::{
     Errno, Event, Subscription, SubscriptionKind, TrapKind, Value, subscription_in, write_bytes,
 };
 use wasi_host::Host;
-use wasi_turns::{Awaited, Clocks, Holdings, INVALID, Judged, P1Error, Sink, Source, Waited};
+use wasi_p1_model::{Awaited, Clocks, Holdings, INVALID, Judged, P1Error, Sink, Source, Waited};
 
 /// How many bytes a subscription has in memory.
 const SUBSCRIPTION: u32 = Subscription::SIZE as u32;
 
 /// Inval of a poll of nothing.
-#[tactic(auto, unfolding(wasi_turns::specs::Polling::some_asked))]
+#[tactic(auto, unfolding(wasi_p1_model::specs::Polling::some_asked))]
 pub fn some_asked(count: u32) -> Result<(), P1Error>
     ensures row { result ≡ some_asked count }
     ensures refusal { IfErr result (λ e. is_failure e ≡ false) }
@@ -41,7 +41,7 @@ pub fn some_asked(count: u32) -> Result<(), P1Error>
 }
 
 /// Trap Pointer where so many subscriptions, or as many events, aren't at a multiple of 8, or leave the memory.
-#[tactic(auto, unfolding(wasi_turns::specs::Polling::lists_within))]
+#[tactic(auto, unfolding(wasi_p1_model::specs::Polling::lists_within))]
 pub fn lists_within(
     memory: &[u8],
     subscriptions: u32,
@@ -130,7 +130,7 @@ fn waiting_for<H: Host>(
 }
 
 /// The subscription at an address: as it can't be read, then as what it asks for is refused.
-#[tactic(auto, using(wasi_turns::proofs::Wanting::fault_never), unfolding(wasi_turns::specs::Polling::waited_at))]
+#[tactic(auto, using(wasi_p1_model::proofs::Wanting::fault_never), unfolding(wasi_p1_model::specs::Polling::waited_at))]
 fn waited_at<H: Host>(
     host: &H,
     descriptors: &Descriptors,
@@ -296,7 +296,7 @@ pub fn reads_files(waited: &[Waited]) -> bool
 }
 
 /// The size at a place, or 0 past the last.
-#[tactic(auto, using(wasi_turns::proofs::Telling::size_there, wasi_turns::proofs::Telling::size_past))]
+#[tactic(auto, using(wasi_p1_model::proofs::Telling::size_there, wasi_p1_model::proofs::Telling::size_past))]
 fn size_at(sizes: &[u64], place: usize) -> u64
     ensures { result ≡ first_size (drop place sizes.now) }
 {

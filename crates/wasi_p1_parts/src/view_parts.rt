@@ -9,11 +9,11 @@ ghost use Rattle.wasi_p1_parts.specs.Held.{HoldsHandles};
 ghost use Rattle.wasi_p1_types.specs.Items.{is_closed_item, NamesResource};
 ghost use Rattle.wasi_p1_parts.specs.Viewed.{descriptor_under, Lowered};
 ghost use Rattle.wasi_p2_types.specs.FsErrors.{FsCause};
-ghost use Rattle.wasi_p2.specs.Nodes.{AboutIt};
-ghost use Rattle.wasi_p2.specs.Places.{BelowIt};
-ghost use Rattle.wasi_p2.specs.Views.{files_of, FilesOwned};
-ghost use Rattle.wasi_turns.specs.Owners.{handles};
-ghost use Rattle.wasi_turns.specs.ViewErrors.{view_raised};
+ghost use Rattle.wasi_p2_calls.specs.Nodes.{AboutIt};
+ghost use Rattle.wasi_p2_calls.specs.Places.{BelowIt};
+ghost use Rattle.wasi_p2_calls.specs.Views.{files_of, FilesOwned};
+ghost use Rattle.wasi_p1_model.specs.Owners.{handles};
+ghost use Rattle.wasi_p1_model.specs.ViewErrors.{view_raised};
 
 pub mod closing;
 pub mod files;
@@ -26,9 +26,9 @@ use crate::descriptors::Descriptors;
 use wasi_fs::{Descriptor, Dir};
 use wasi_host::Host;
 use wasi_p1_types::items::{Item, item_under};
-use wasi_p2::{FsResult, WasiFilesystemCtx, WasiFilesystemCtxView};
+use wasi_p2_calls::{FsResult, WasiFilesystemCtx, WasiFilesystemCtxView};
 use wasi_streams::Resource;
-use wasi_turns::P1Error;
+use wasi_p1_model::P1Error;
 
 /// The resource that a live number names.
 #[tactic(auto, using(crate::proofs::Viewing::given_open))]

@@ -5,22 +5,22 @@ ghost use Rattle.std.specs.String.{string_bytes};
 ghost use Rattle.wasi_guest.specs.Range.{with_bytes, IsInMemory};
 ghost use Rattle.wasi_host.specs.Answer.{entry_of};
 ghost use Rattle.wasi_host.specs.Lineage.{Traced, Only, Nothing};
-ghost use Rattle.wasi_host.specs.Meaning.{HasCause};
+ghost use Rattle.wasi_host.specs.HostLaws.{HasCause};
 ghost use Rattle.wasi_host.specs.declared.file_type.FileType.TheVariants.{Directory};
 ghost use Rattle.wasi_resolve.specs.Resolved.{Resolved};
-ghost use Rattle.wasi_turns.specs.CallParts.{WantsNoMemory, is_failure, with_after};
-ghost use Rattle.wasi_turns.specs.EntriesSeen.{entry_seen, entries_seen, reads_from, numbered_behind, IsListed};
-ghost use Rattle.wasi_turns.specs.Listing.{dots, numbered_at, HasShortNames};
-ghost use Rattle.wasi_turns.specs.Pages.{dirent_of, record_of, page};
-ghost use Rattle.wasi_turns.specs.Parts.{text_to};
-ghost use Rattle.wasi_turns.specs.Request.{ListDirectory, meant_of};
+ghost use Rattle.wasi_p1_model.specs.CallParts.{WantsNoMemory, is_failure, with_after};
+ghost use Rattle.wasi_p1_model.specs.EntriesSeen.{entry_seen, entries_seen, reads_from, numbered_behind, IsListed};
+ghost use Rattle.wasi_p1_model.specs.Listing.{dots, numbered_at, HasShortNames};
+ghost use Rattle.wasi_p1_model.specs.Pages.{dirent_of, record_of, page};
+ghost use Rattle.wasi_p1_model.specs.Parts.{text_to};
+ghost use Rattle.wasi_p1_model.specs.Request.{ListDirectory, meant_of};
 
 use std::alloc::{AllocError, Global};
 use wasi_fs::{DescriptorType, Dir};
 use wasi_guest::{Dirent, write_bytes};
 use wasi_host::{DirEntry, FileType, Host, HostError};
 use wasi_paths::Name;
-use wasi_turns::{Entry, P1Error, bytes_at, filetype_of};
+use wasi_p1_model::{Entry, P1Error, bytes_at, filetype_of};
 
 /// A name under which a directory lists itself.
 fn dot(alloc: Global, name: &str, node: u64) -> Result<Entry, AllocError>

@@ -1,7 +1,7 @@
 //! Times that preview2 is given.
 ghost use Rattle.std.specs.Prelude.{◌≡◌, pos, ◌≤ℤ◌, Ok};
 ghost use Rattle.wasi_host.specs.declared.system_time.SystemTime.{SystemTime};
-ghost use Rattle.wasi_turns.specs.SinceEpoch.{IsSinceEpoch};
+ghost use Rattle.wasi_p1_model.specs.SinceEpoch.{IsSinceEpoch};
 ghost use Rattle.wasi_p2_types.specs.Moments.{time_at, time_wanted};
 
 use wasi_guest::WallDatetime;

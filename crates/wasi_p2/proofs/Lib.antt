@@ -1,8 +1,1 @@
-pub mod Asking
-pub mod Causes
-pub mod Closing
-pub mod Giving
-pub mod Keeping
-pub mod Making
-pub mod Owning
-pub mod Reading
+pub mod Naming

@@ -1,15 +1,10 @@
-//! Preview2's calls on a guest's files: each is a call of what its resource stands for.
+//! Those that lend a view of a guest's files, one or one of several, and preview2's calls on a view among several: each is
+//! the call of that view.
 #![tactic(auto)]
 
-mod calls;
-mod context;
-mod entries;
-mod found;
-mod preopens;
-mod read_result;
-pub mod types;
+mod named;
+mod views;
 
-pub use context::{Preopen, WasiFilesystemCtx, WasiFilesystemCtxView};
-pub use preopens::PreopenEntry;
-pub use read_result::ReadResult;
-pub use wasi_p2_types::{FsError, FsResult};
+pub use views::{
+    FilesystemPair, NamedId, WasiCtxNamedView, WasiFilesystemNamedView, WasiFilesystemView,
+};

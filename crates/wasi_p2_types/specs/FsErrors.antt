@@ -1,6 +1,6 @@
 -- The refusals of the crates below as those of a view's calls.
 use Rattle.std.specs.Prelude.{◌≡◌, ◌≤◌, Option, Some, None, Result, Ok, Err}
-use Rattle.wasi_host.specs.Meaning.{Rose, FaultCount}
+use Rattle.wasi_host.specs.HostLaws.{Rose, FaultCount}
 use Rattle.wasi_host.specs.declared.errors.HostError.{HostError}
 use Rattle.wasi_host.specs.declared.errors.HostError.TheVariants as hosts
 use Rattle.wasi_streams.specs.declared.errors.TableError.{TableError}

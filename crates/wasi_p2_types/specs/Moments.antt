@@ -3,7 +3,7 @@ use Rattle.std.specs.Prelude.{◌+◌, ◌/◌, ◌%◌, ◌^◌, nat_lt, if◌t
 use Rattle.std.proofs.Common.{lit<}
 use Rattle.std.proofs.Math.Nat.{mod-lt}
 use Rattle.wasi_host.specs.declared.system_time.SystemTime.{SystemTime}
-use Rattle.wasi_guest.specs.declared.services.WallDatetime.{WallDatetime}
+use Rattle.wasi_guest.specs.declared.guest_env.WallDatetime.{WallDatetime}
 use Rattle.wasi_p2_types.specs.declared.error_code.ErrorCode.{ErrorCode}
 use Rattle.wasi_p2_types.specs.declared.error_code.ErrorCode.TheVariants.{Overflow}
 use Rattle.wasi_p2_types.specs.declared.times.DatetimeError.{DatetimeError}

@@ -7,7 +7,7 @@ use Rattle.wasi_fs.specs.declared.descriptor_stat.DescriptorStat.{DescriptorStat
 use Rattle.wasi_fs.specs.declared.descriptor_stat.DescriptorType.{DescriptorType as LowerType}
 use Rattle.wasi_fs.specs.declared.descriptor_stat.DescriptorType.TheVariants as lower
 use Rattle.wasi_fs.specs.declared.metadata_hash.MetadataHashValue.{MetadataHashValue as LowerHash}
-use Rattle.wasi_guest.specs.declared.services.WallDatetime.{WallDatetime}
+use Rattle.wasi_guest.specs.declared.guest_env.WallDatetime.{WallDatetime}
 use Rattle.wasi_p2_types.specs.declared.descriptor_stat.DescriptorStat.{DescriptorStat}
 use Rattle.wasi_p2_types.specs.declared.descriptor_stat.DescriptorType.{DescriptorType}
 use Rattle.wasi_p2_types.specs.declared.descriptor_stat.DescriptorType.TheVariants as types

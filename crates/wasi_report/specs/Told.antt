@@ -8,7 +8,7 @@ use Rattle.wasi_guest.specs.declared.answer.Answer.{Answer}
 use Rattle.wasi_tree.specs.Given.{Given, GivenContent, file, directory, link, given_with}
 use Rattle.wasi_tree.specs.Viewed.{viewed_content}
 use Rattle.wasi_report.specs.Report.{list_value, answer_value, hex_value, put_all}
-use Rattle.wasi_report.specs.declared.told_nodes.LentNode.{LentNode}
+use Rattle.wasi_report.specs.declared.encode_nodes.LentNode.{LentNode}
 
 -- the tokens of a value
 abbrev pub told : Data → List Token

@@ -4,7 +4,7 @@ ghost use Rattle.wasi_report.specs.Audit.{audited, audited_preopen, audit_text, 
 ghost use Rattle.wasi_report.specs.AuditReadBack.{FitsAudit, FitsPreopen};
 ghost use Rattle.wasi_report.specs.Told.{told};
 
-use crate::told::{DigitRoom, Told, tell_list_at};
+use crate::encode::{DigitRoom, Told, tell_list_at};
 use json::Writer;
 use std::alloc::{AllocError, Allocator, Global};
 

@@ -5,9 +5,9 @@ mod audit;
 mod guests;
 mod laws;
 mod outcome;
-mod told;
-mod told_answers;
-mod told_nodes;
+mod encode;
+mod encode_answers;
+mod encode_nodes;
 mod trial;
 
 pub use audit::{PreopenNodes, audit_in};

@@ -6,9 +6,9 @@ ghost use Rattle.wasi_report.specs.ReadBack.{FitsAnswer, FitsNode, IsOrdered};
 ghost use Rattle.wasi_report.specs.Report.{reported, report_value, report_text, list_value, hex_value, node_value};
 ghost use Rattle.wasi_report.specs.Told.{outcome_told, told, told_at};
 
-use crate::told::{DigitRoom, tell_bytes, tell_list_at};
-use crate::told_answers::tell_answers;
-use crate::told_nodes::tell_node;
+use crate::encode::{DigitRoom, tell_bytes, tell_list_at};
+use crate::encode_answers::tell_answers;
+use crate::encode_nodes::tell_node;
 use json::Writer;
 use std::alloc::{AllocError, Allocator, Global};
 use wasi_guest::Answers;

@@ -6,7 +6,7 @@ ghost use Rattle.wasi_report.specs.Trial.{trial_by, trial_text, trial_value};
 ghost use Rattle.wasi_report.specs.TrialReadBack.{FitsTrial};
 
 use crate::outcome::{Outcome, tell_outcome, tell_tree};
-use crate::told::{DigitRoom, tell_list_at};
+use crate::encode::{DigitRoom, tell_list_at};
 use json::Writer;
 use std::alloc::{AllocError, Allocator, Global};
 use wasi_tree::MemTree;

@@ -8,13 +8,13 @@ use Rattle.wasi_host.specs.Tree.{Tree}
 use Rattle.wasi_host.specs.Steps.{◌>>=◌}
 use Rattle.wasi_host.specs.Answer.{metadata_of}
 use Rattle.wasi_host.specs.Lineage.{Traced, Only}
-use Rattle.wasi_host.specs.Meaning.{World, Handles, MeansErr}
+use Rattle.wasi_host.specs.HostLaws.{World, Handles, MeansErr}
 use Rattle.wasi_host.proofs.Tracing.{traced_given}
 use Rattle.wasi_host.specs.declared.errors.ErrorCode.{ErrorCode}
 use Rattle.wasi_host.specs.declared.errors.ErrorCode.TheVariants.{Io}
 use Rattle.wasi_host.specs.declared.errors.HostError.{HostError}
 use Rattle.wasi_host.specs.declared.errors.HostError.TheVariants.{Code, Memory}
-use Rattle.wasi_host.specs.declared.held.Held.{Held}
+use Rattle.wasi_host.specs.declared.open_handle.Held.{Held}
 use Rattle.wasi_host.specs.declared.lookup.Lookup.{Lookup}
 use Rattle.wasi_host.specs.declared.metadata.Metadata.{Metadata}
 use Rattle.wasi_host.specs.declared.open_options.FollowSymlinks.{FollowSymlinks}

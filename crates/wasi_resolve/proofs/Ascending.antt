@@ -4,14 +4,14 @@ use Rattle.std.specs.FinSet.{contains, remove}
 use Rattle.std.proofs.lemmas.List.Elements.{All-nil}
 use Rattle.wasi_host.specs.HostCall.{Access, Close}
 use Rattle.wasi_host.specs.Answer.{access_answer}
-use Rattle.wasi_host.specs.Meaning.{World, Handles, Told, MeansErr, hosted, answered}
+use Rattle.wasi_host.specs.HostLaws.{World, Handles, Told, MeansErr, hosted, answered}
 use Rattle.wasi_host.specs.declared.errors.ErrorCode.{ErrorCode}
 use Rattle.wasi_host.specs.declared.errors.ErrorCode.TheVariants.{Io, NotPermitted}
 use Rattle.wasi_host.specs.declared.errors.HostError.{HostError}
 use Rattle.wasi_host.specs.declared.errors.HostError.TheVariants.{Code}
 use Rattle.wasi_paths.specs.Parts.{Component, ParentDir}
 use Rattle.wasi_resolve.specs.Stack.{Stands, nodes_under}
-use Rattle.wasi_resolve.specs.Ways.{Begin, begin, origin, way}
+use Rattle.wasi_resolve.specs.WalkState.{Begin, begin, origin, way}
 use Rattle.wasi_resolve.specs.WalkSteps.{OnlyLooks, Walked, IsFault, IsRefused, GoesOn, Fails, AreReached}
 use Rattle.wasi_resolve.proofs.Calls.{call_ok, call_err, close_stays, looks_of, looks_then, looks_stay, same_live}
 use Rattle.wasi_resolve.proofs.Stacks.{first_live, popped_stands, was_live, nodes_push, nodes_kept}

@@ -21,8 +21,8 @@ use Rattle.wasi_host.specs.declared.errors.ErrorCode.TheVariants as refusals
 use Rattle.wasi_host.proofs.Changes.{node_at-past}
 use Rattle.wasi_resolve.specs.Walk.{Aim, Open, Outcome, Stop, Name, Dot, Position, Leg, Ended, Linked, leg, at, unless_refused, is_to_be_read, refused, Walk, ended, one_link_more, resume, walk_from, walk}
 use Rattle.wasi_resolve.specs.Paths.{Opening, opening_of, opening, Place, parent, part_text, place_at, place}
-use Rattle.wasi_resolve.specs.AtPlace.{PlaceCall, CreateDir, RemoveFile, RemoveDir, Symlink, ReadLink, SetTimes, call_at, place_for}
-use Rattle.wasi_resolve.specs.AtTwo.{TwoPlaceCall, HardLink, Rename, Places, call_at_two, places_in, places_for}
+use Rattle.wasi_resolve.specs.EntryOps.{PlaceCall, CreateDir, RemoveFile, RemoveDir, Symlink, ReadLink, SetTimes, call_at, place_for}
+use Rattle.wasi_resolve.specs.TwoPathOps.{TwoPlaceCall, HardLink, Rename, Places, call_at_two, places_in, places_for}
 use Rattle.wasi_resolve.proofs.TextNames.{HasName, components_named, parts_named, stripped_utf8}
 
 -- ---- the texts of links

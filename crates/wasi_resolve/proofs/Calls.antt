@@ -11,7 +11,7 @@ use Rattle.wasi_host.specs.HostCall.{HostCall, Close}
 use Rattle.wasi_host.specs.Answer.{HostAnswer, host_answer}
 use Rattle.wasi_host.specs.Step.{step, found_by, made_by, starts_of}
 use Rattle.wasi_host.specs.Steps.{◌>>=◌}
-use Rattle.wasi_host.specs.Meaning.{World, Handles, Told, Stepped, AfterErr, answered, Means, MeansErr}
+use Rattle.wasi_host.specs.HostLaws.{World, Handles, Told, Stepped, AfterErr, answered, Means, MeansErr}
 use Rattle.wasi_host.specs.declared.errors.ErrorCode.{ErrorCode}
 use Rattle.wasi_host.specs.declared.errors.ErrorCode.TheVariants.{Io}
 use Rattle.wasi_host.specs.declared.errors.HostError.{HostError}

@@ -1,6 +1,6 @@
 -- The cause of what two parts answer, one behind the other.
 use Rattle.std.proofs.Common.{◌≡◌, ◌≤◌, Result, Ok, Err, ◌∙◌, arith}
-use Rattle.wasi_host.specs.Meaning.{FaultCount, HasCause}
+use Rattle.wasi_host.specs.HostLaws.{FaultCount, HasCause}
 use Rattle.wasi_host.specs.declared.errors.ErrorCode.TheVariants.{Io}
 use Rattle.wasi_host.specs.declared.errors.HostError.{HostError}
 use Rattle.wasi_host.specs.declared.errors.HostError.TheVariants.{Code}

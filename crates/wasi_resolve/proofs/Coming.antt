@@ -1,7 +1,7 @@
 -- The whole walk: a link in each turn, and then its end.
 use Rattle.std.proofs.Common.{◌≡◌, ℕ, zero, suc, ◌+◌, ◌*◌, ◌≤◌, Bool, true, false, cond, ◌||◌, List, [], ◌∷◌, ◌++◌, length, Result, Err, refl, sym, ap, subst, ◌∙◌, arith}
 use Rattle.wasi_host.specs.Tree.{Tree}
-use Rattle.wasi_host.specs.Meaning.{World, Handles}
+use Rattle.wasi_host.specs.HostLaws.{World, Handles}
 use Rattle.wasi_host.specs.declared.errors.ErrorCode.TheVariants.{Loop, NoEntry}
 use Rattle.wasi_host.specs.declared.errors.HostError.{HostError}
 use Rattle.wasi_host.specs.declared.errors.HostError.TheVariants.{Code}
@@ -12,7 +12,7 @@ use Rattle.wasi_resolve.specs.Walk.{Aim, Outcome, Stop, Leg, Ended, Linked, adds
 use Rattle.wasi_resolve.specs.ByNodes.{leg_nodes, walk_nodes}
 use Rattle.wasi_resolve.specs.Resolved.{Resolved}
 use Rattle.wasi_resolve.specs.Stack.{nodes_under}
-use Rattle.wasi_resolve.specs.Ways.{Begin, begin, origin, Course, Way, way, way_nodes, leg_from}
+use Rattle.wasi_resolve.specs.WalkState.{Begin, begin, origin, Course, Way, way, way_nodes, leg_from}
 use Rattle.wasi_resolve.specs.WalkSteps.{Walked, ReachesLink, ReachFails, EndsPast, LinkPast, FailsPast, Comes, whole_walk, whole_from, meant_at, shown_found, taken_by, leg_looks}
 use Rattle.wasi_resolve.specs.declared.found.Found.{Found}
 use Rattle.wasi_resolve.proofs.Calls.{looks_none}

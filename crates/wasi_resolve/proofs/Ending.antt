@@ -11,20 +11,20 @@ use Rattle.wasi_host.specs.HostCall.{OpenAt, StatAt, Access, Stat}
 use Rattle.wasi_host.specs.Refusal.{refusal, holds}
 use Rattle.wasi_host.specs.Steps.{◌>>=◌}
 use Rattle.wasi_host.specs.Answer.{unless, reached, stat_at_answer, stat_answer, access_answer, metadata_of}
-use Rattle.wasi_host.specs.Meaning.{World, Handles, Told, MeansErr, hosted}
+use Rattle.wasi_host.specs.HostLaws.{World, Handles, Told, MeansErr, hosted}
 use Rattle.wasi_host.proofs.Chain.{free}
 use Rattle.wasi_host.specs.declared.errors.ErrorCode.{ErrorCode}
 use Rattle.wasi_host.specs.declared.errors.ErrorCode.TheVariants.{Io, IsDirectory, NotDirectory}
 use Rattle.wasi_host.specs.declared.errors.HostError.{HostError}
 use Rattle.wasi_host.specs.declared.errors.HostError.TheVariants.{Code, Memory}
-use Rattle.wasi_host.specs.declared.held.Held.{Held}
+use Rattle.wasi_host.specs.declared.open_handle.Held.{Held}
 use Rattle.wasi_host.specs.declared.metadata.Metadata.{Metadata}
 use Rattle.wasi_resolve.specs.Walk.{Open, Look, Name, Dot, last_options, is_to_be_read}
 use Rattle.wasi_resolve.specs.Meanings.{ends_by, opened_node}
 use Rattle.wasi_resolve.specs.Paths.{Opening, opened_by, step_of, behind_slash, looked_at}
 use Rattle.wasi_resolve.specs.Resolved.{Meant, Resolved, TreeAfter, call_meant}
 use Rattle.wasi_resolve.specs.Finding.{is_link_kind, is_directory_kind}
-use Rattle.wasi_resolve.specs.Ways.{Course}
+use Rattle.wasi_resolve.specs.WalkState.{Course}
 use Rattle.wasi_resolve.specs.WalkSteps.{OnlyLooks, IsFault, Enters, EndsUnread, EndsAtLink, EndsAtName, EndsInDirectory, open_meant, meant_at, Sight, HandleFor, Seen, shown_found}
 use Rattle.wasi_resolve.specs.declared.found.Found.TheVariants as found
 use Rattle.wasi_resolve.specs.declared.found.Reach.{Reach}

@@ -9,13 +9,13 @@ use Rattle.wasi_host.specs.Tree.{is_link}
 use Rattle.wasi_host.specs.HostCall.{OpenAt, StatAt}
 use Rattle.wasi_host.specs.Refusal.{refusal, holds}
 use Rattle.wasi_host.specs.Answer.{unless, reached, open_answer, stat_at_answer}
-use Rattle.wasi_host.specs.Meaning.{World, Handles, Told, MeansErr, AfterErr}
+use Rattle.wasi_host.specs.HostLaws.{World, Handles, Told, MeansErr, AfterErr}
 use Rattle.wasi_host.proofs.Chain.{free}
 use Rattle.wasi_host.specs.declared.errors.ErrorCode.{ErrorCode}
 use Rattle.wasi_host.specs.declared.errors.ErrorCode.TheVariants.{Io, Loop, NotDirectory}
 use Rattle.wasi_host.specs.declared.errors.HostError.{HostError}
 use Rattle.wasi_host.specs.declared.errors.HostError.TheVariants.{Code, Memory}
-use Rattle.wasi_host.specs.declared.held.Held.{Held}
+use Rattle.wasi_host.specs.declared.open_handle.Held.{Held}
 use Rattle.wasi_host.specs.declared.metadata.Metadata.{Metadata}
 use Rattle.wasi_resolve.specs.Walk.{is_link_code}
 use Rattle.wasi_resolve.specs.Resolved.{Resolved}

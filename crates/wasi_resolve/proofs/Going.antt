@@ -9,22 +9,22 @@ use Rattle.wasi_host.specs.HostCall.{OpenAt, ReadLinkAt}
 use Rattle.wasi_host.specs.Refusal.{refusal}
 use Rattle.wasi_host.specs.Answer.{reached, access_of, link_text, open_answer, unless}
 use Rattle.wasi_host.specs.Step.{open_step}
-use Rattle.wasi_host.specs.Meaning.{World, Handles, MeansErr}
+use Rattle.wasi_host.specs.HostLaws.{World, Handles, MeansErr}
 use Rattle.wasi_host.proofs.Chain.{free}
 use Rattle.wasi_host.specs.declared.errors.ErrorCode.TheVariants.{Io}
 use Rattle.wasi_host.specs.declared.errors.HostError.{HostError}
 use Rattle.wasi_host.specs.declared.errors.HostError.TheVariants.{Code, Memory}
-use Rattle.wasi_host.specs.declared.held.Held.{Held}
+use Rattle.wasi_host.specs.declared.open_handle.Held.{Held}
 use Rattle.wasi_paths.specs.Parts.{Component, Normal}
 use Rattle.wasi_resolve.specs.Walk.{Linked, middle_options}
 use Rattle.wasi_resolve.specs.ByNodes.{top, leg_nodes}
 use Rattle.wasi_resolve.specs.Left.{is_nil, parts_left}
 use Rattle.wasi_resolve.specs.Stack.{Stands, top_handle, nodes_under}
-use Rattle.wasi_resolve.specs.Ways.{Begin, begin, origin, Way, way, way_nodes}
+use Rattle.wasi_resolve.specs.WalkState.{Begin, begin, origin, Way, way, way_nodes}
 use Rattle.wasi_resolve.specs.WalkSteps.{OnlyLooks, Walked, SameWalk, IsFault, IsRefused, is_met_link, OpensUnread, MeetsLink, GoesOn, AtLink, Fails, StopsAt, AreReached}
 use Rattle.wasi_resolve.specs.declared.found.Stop.{Stop}
 use Rattle.wasi_resolve.specs.declared.found.Stop.TheVariants as stops
-use Rattle.wasi_resolve.specs.declared.left.PartLeft.{PartLeft}
+use Rattle.wasi_resolve.specs.declared.parts_left.PartLeft.{PartLeft}
 use Rattle.wasi_host.proofs.Touching.{reached_on}
 use Rattle.wasi_resolve.proofs.Calls.{looks_of, looks_then}
 use Rattle.wasi_resolve.proofs.Stacks.{first_live, top_node, nodes_push, nodes_kept}

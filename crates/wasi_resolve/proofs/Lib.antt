@@ -23,7 +23,7 @@ pub mod Passing
 pub mod Coming
 pub mod Answering
 pub mod Parenting
-pub mod AtPlaces
-pub mod AtTwoPlaces
+pub mod EntryOpLemmas
+pub mod TwoPathOpLemmas
 pub mod Listings
 pub mod Timing

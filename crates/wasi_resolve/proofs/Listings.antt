@@ -9,10 +9,10 @@ use Rattle.wasi_host.specs.Refusal.{refusal}
 use Rattle.wasi_host.specs.Answer.{Listed, unless, or_next, reached, open_answer, list_answer}
 use Rattle.wasi_host.specs.Step.{open_step}
 use Rattle.wasi_host.specs.Steps.{◌>>=◌}
-use Rattle.wasi_host.specs.Meaning.{World, Handles, Told}
+use Rattle.wasi_host.specs.HostLaws.{World, Handles, Told}
 use Rattle.wasi_host.specs.declared.errors.ErrorCode.{ErrorCode}
 use Rattle.wasi_host.specs.declared.errors.HostError.{HostError}
-use Rattle.wasi_host.specs.declared.held.Held.{Held}
+use Rattle.wasi_host.specs.declared.open_handle.Held.{Held}
 use Rattle.wasi_host.proofs.Touching.{at_root, open_ends}
 use Rattle.wasi_resolve.specs.Meanings.{listing_options, lists_at}
 use Rattle.wasi_resolve.specs.Resolved.{Meant, Resolved, call_meant}

@@ -8,7 +8,7 @@ use Rattle.wasi_host.specs.declared.errors.ErrorCode.{ErrorCode}
 use Rattle.wasi_host.specs.declared.errors.ErrorCode.TheVariants.{Loop, NoEntry, Access, NotPermitted}
 use Rattle.wasi_paths.specs.Parts.{Component, RootDir, CurDir, ParentDir, Normal, parts, trailing_slash, is_empty}
 use Rattle.wasi_resolve.specs.Walk.{Aim, Outcome, Stop, Name, Dot, Position, at, Leg, Ended, Linked, leg, is_to_be_read, refused, unless_refused, adds_slash, Walk, ended, one_link_more, resume, walk_from, walk}
-use Rattle.wasi_resolve.specs.Table.{Stage, stage, Move, Ends, Goes, unless_stopped, read_link, move, move_from, taken_after, Leads, ends, goes, WalksHaveOneEnd}
+use Rattle.wasi_resolve.specs.WalkMoves.{Stage, stage, Move, Ends, Goes, unless_stopped, read_link, move, move_from, taken_after, Leads, ends, goes, WalksHaveOneEnd}
 
 -- with so many links read before
 added : ℕ → Walk → Walk

@@ -8,12 +8,12 @@ use Rattle.wasi_host.specs.Answer.{unless, reached, access_of}
 use Rattle.wasi_host.specs.HostCall.{OpenAt}
 use Rattle.wasi_host.specs.Refusal.{refusal}
 use Rattle.wasi_host.specs.Steps.{◌>>=◌}
-use Rattle.wasi_host.specs.Meaning.{World, Handles, MeansErr}
+use Rattle.wasi_host.specs.HostLaws.{World, Handles, MeansErr}
 use Rattle.wasi_host.specs.declared.errors.ErrorCode.{ErrorCode}
 use Rattle.wasi_host.specs.declared.errors.ErrorCode.TheVariants.{IsDirectory, NoEntry}
 use Rattle.wasi_host.specs.declared.errors.HostError.{HostError}
 use Rattle.wasi_host.specs.declared.errors.HostError.TheVariants.{Code}
-use Rattle.wasi_host.specs.declared.held.Held.{Held}
+use Rattle.wasi_host.specs.declared.open_handle.Held.{Held}
 use Rattle.wasi_host.specs.declared.lookup.Lookup.{Lookup}
 use Rattle.wasi_paths.specs.Name.{name_bytes}
 use Rattle.wasi_paths.specs.Parts.{Component, split, is_empty}

@@ -5,7 +5,7 @@ use Rattle.std.proofs.lemmas.List.Elements.{All-nil}
 use Rattle.wasi_host.specs.HostCall.{ReadLinkAt}
 use Rattle.wasi_host.specs.Refusal.{refusal}
 use Rattle.wasi_host.specs.Answer.{link_text, link_answer, unless}
-use Rattle.wasi_host.specs.Meaning.{World, Handles, Told, MeansErr}
+use Rattle.wasi_host.specs.HostLaws.{World, Handles, Told, MeansErr}
 use Rattle.wasi_host.proofs.Chain.{free}
 use Rattle.wasi_host.specs.declared.errors.ErrorCode.TheVariants.{Io}
 use Rattle.wasi_host.specs.declared.errors.HostError.{HostError}
@@ -18,10 +18,10 @@ use Rattle.wasi_resolve.specs.ByNodes.{top}
 use Rattle.wasi_resolve.specs.Left.{parts_left, is_nil}
 use Rattle.wasi_resolve.specs.Stack.{nodes_under}
 use Rattle.wasi_resolve.specs.Finding.{FewUntil, FewReads}
-use Rattle.wasi_resolve.specs.Ways.{Begin, origin, Course, Way, way, leg_from}
+use Rattle.wasi_resolve.specs.WalkState.{Begin, origin, Course, Way, way, leg_from}
 use Rattle.wasi_resolve.specs.WalkSteps.{OnlyLooks, IsFault, ReachesEnd, ReachesLink, ReachFails, ReadsText, ReadFails, EndsPast, LinkPast, FailsPast, taken_by, leg_looks}
 use Rattle.wasi_resolve.specs.declared.found.Found.{Found}
-use Rattle.wasi_resolve.specs.declared.left.PartLeft.{PartLeft}
+use Rattle.wasi_resolve.specs.declared.parts_left.PartLeft.{PartLeft}
 use Rattle.wasi_resolve.proofs.Calls.{call_ok, call_err, looks_of, same_live}
 use Rattle.wasi_resolve.proofs.Putting.{length-parts}
 use Rattle.wasi_resolve.proofs.Going.{OnTop, node_is, looks_on, kept_on, walked_on, nil_left}

@@ -9,7 +9,7 @@ use Rattle.wasi_host.specs.Refusal.{refusal}
 use Rattle.wasi_host.specs.Answer.{reached, unless, access_of}
 use Rattle.wasi_host.specs.declared.errors.ErrorCode.{ErrorCode}
 use Rattle.wasi_host.specs.declared.errors.ErrorCode.TheVariants as codes
-use Rattle.wasi_host.specs.declared.held.Held.{Held}
+use Rattle.wasi_host.specs.declared.open_handle.Held.{Held}
 use Rattle.wasi_paths.specs.Parts.{Component, split}
 use Rattle.wasi_resolve.specs.Walk.{Open, Look, Outcome, Stop, Name, Dot, Walk, walk, last_options}
 use Rattle.wasi_host.specs.Steps.{◌>>=◌}

@@ -6,7 +6,7 @@ use Rattle.std.proofs.lemmas.List.{append-nil, reverse-append, length-reverse, l
 use Rattle.wasi_paths.specs.Parts.{Component, CurDir, components, trailing_dot, parts}
 use Rattle.wasi_paths.specs.TextLaws.{HasPlainName}
 use Rattle.wasi_resolve.specs.Left.{component_left, parts_left}
-use Rattle.wasi_resolve.specs.declared.left.PartLeft.{PartLeft}
+use Rattle.wasi_resolve.specs.declared.parts_left.PartLeft.{PartLeft}
 
 pub pushed_parts : (items : List PartLeft) (part : PartLeft)
     → parts_left (items ++ part ∷ []) ≡ component_left part ∷ parts_left items

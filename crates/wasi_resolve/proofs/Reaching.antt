@@ -5,7 +5,7 @@ use Rattle.wasi_host.specs.HostCall.{ReadLinkAt}
 use Rattle.wasi_host.specs.Refusal.{refusal}
 use Rattle.wasi_host.specs.Answer.{link_text}
 use Rattle.wasi_host.specs.Lineage.{Traced, Only, Nothing}
-use Rattle.wasi_host.specs.Meaning.{World, Handles, MeansErr}
+use Rattle.wasi_host.specs.HostLaws.{World, Handles, MeansErr}
 use Rattle.wasi_host.specs.declared.errors.ErrorCode.{ErrorCode}
 use Rattle.wasi_host.specs.declared.errors.HostError.{HostError}
 use Rattle.wasi_host.specs.declared.errors.HostError.TheVariants.{Code}
@@ -16,12 +16,12 @@ use Rattle.wasi_resolve.specs.ByNodes.{top, leg_nodes}
 use Rattle.wasi_resolve.specs.Resolved.{Resolved}
 use Rattle.wasi_resolve.specs.Stack.{Stands, Among, top_handle, nodes_under}
 use Rattle.wasi_resolve.specs.Finding.{StackTraced, handle_reached, LiveWith, StandsWith, IsGot, ReachTraced, FewReads, FewBefore, FewUntil}
-use Rattle.wasi_resolve.specs.Ways.{Begin, origin, Course, Way, way, way_nodes, leg_from}
+use Rattle.wasi_resolve.specs.WalkState.{Begin, origin, Course, Way, way, way_nodes, leg_from}
 use Rattle.wasi_resolve.specs.WalkSteps.{IsFault, OnlyLooks, GoesOn, AtLast, AtLink, Fails, EndsInDirectory, EndsUnread, EndsAtName, ReachesEnd, ReachesLink, ReachFails, Reaches, meant_at, shown_found, taken_by}
 use Rattle.wasi_resolve.specs.declared.found.Found.{Found}
 use Rattle.wasi_resolve.specs.declared.found.Reach.{Reach}
 use Rattle.wasi_resolve.specs.declared.found.Reach.TheVariants as reach
-use Rattle.wasi_resolve.specs.declared.left.PartLeft.{PartLeft}
+use Rattle.wasi_resolve.specs.declared.parts_left.PartLeft.{PartLeft}
 use Rattle.wasi_resolve.proofs.Calls.{resolved_err, resolved_then, err_means, fault_means}
 use Rattle.wasi_resolve.proofs.Stacks.{first_live, stands_same, stands_below}
 use Rattle.wasi_resolve.proofs.Lookups.{traced_top, traced_stays}

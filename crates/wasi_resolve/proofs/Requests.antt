@@ -7,7 +7,7 @@ use Rattle.wasi_host.specs.Tree.{Tree}
 use Rattle.wasi_host.specs.ValidTree.{Reached, root, held}
 use Rattle.wasi_host.specs.Agree.{IsClosed, AgreeOn, OrMade}
 use Rattle.wasi_host.specs.HostCall.{OpenAt, SetTimes as TimesSet}
-use Rattle.wasi_host.specs.declared.held.Held.{Held}
+use Rattle.wasi_host.specs.declared.open_handle.Held.{Held}
 use Rattle.wasi_host.specs.declared.system_time.SystemTime.{SystemTime}
 use Rattle.wasi_host.specs.Refusal.{refusal}
 use Rattle.wasi_host.specs.Step.{open_step, starts_of}
@@ -19,8 +19,8 @@ use Rattle.wasi_host.proofs.Leaving.{LeavesNear, Contains-here, stays_near, step
 use Rattle.wasi_host.proofs.Agreeing as host
 use Rattle.wasi_host.proofs.Agreeing.{one, unless_value, itself}
 use Rattle.wasi_resolve.specs.Laws.{GivesIn}
-use Rattle.wasi_resolve.specs.AtPlace.{PlaceCall, CreateDir, RemoveFile, RemoveDir, Symlink, ReadLink, SetTimes, call_at, unrooted, answer_in, place_text, place_for, step_in}
-use Rattle.wasi_resolve.specs.AtTwo.{TwoPlaceCall, HardLink, Rename, Places, text_for, asks_directory, places_in, places_for, call_at_two, answer_at_two, step_at_two}
+use Rattle.wasi_resolve.specs.EntryOps.{PlaceCall, CreateDir, RemoveFile, RemoveDir, Symlink, ReadLink, SetTimes, call_at, unrooted, answer_in, place_text, place_for, step_in}
+use Rattle.wasi_resolve.specs.TwoPathOps.{TwoPlaceCall, HardLink, Rename, Places, text_for, asks_directory, places_in, places_for, call_at_two, answer_at_two, step_at_two}
 use Rattle.wasi_resolve.specs.Paths.{Opening, Place, opening, step_of, looked, place, timed}
 use Rattle.wasi_resolve.specs.PathRequest.{PathRequest, OpenPath, LookPath, AtPlace, TimesPath, AtTwo, as_asked, PathReply, Opened, opened_at, answer_at, times_through, path_reply, path_after, path_starts, path_gives}
 use Rattle.wasi_resolve.proofs.WalkAgreeing.{from_one}

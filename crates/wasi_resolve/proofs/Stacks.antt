@@ -6,8 +6,8 @@ use Rattle.std.proofs.lemmas.List.{reverse-append}
 use Rattle.std.specs.FinSet.{contains, insert, remove, members, same_set, nat_cmp-IsAntisymmetric}
 use Rattle.std.specs.Cmp.{nat_cmp_total}
 use Rattle.std.proofs.lemmas.List.Elements.{Contains-push, Contains-append_left, Contains-append_right}
-use Rattle.wasi_host.specs.Meaning.{Handles}
-use Rattle.wasi_host.specs.declared.held.Held.{Held}
+use Rattle.wasi_host.specs.HostLaws.{Handles}
+use Rattle.wasi_host.specs.declared.open_handle.Held.{Held}
 use Rattle.wasi_host.proofs.Chain.{remove-insert}
 use Rattle.wasi_resolve.specs.ByNodes.{top}
 use Rattle.wasi_resolve.specs.Stack.{with_handles, AreFresh, Stands, top_handle, nodes_under, Among}

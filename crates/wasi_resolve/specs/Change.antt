@@ -1,7 +1,7 @@
 -- What one call of the host changes at a place, as contracts see it.
-use Rattle.wasi_resolve.specs.AtPlace.{PlaceCall, CreateDir, RemoveFile, RemoveDir, Symlink, SetTimes, PlaceAnswer}
-use Rattle.wasi_resolve.specs.declared.at_place.Change.{Change}
-use Rattle.wasi_resolve.specs.declared.at_place.Change.TheVariants as changes
+use Rattle.wasi_resolve.specs.EntryOps.{PlaceCall, CreateDir, RemoveFile, RemoveDir, Symlink, SetTimes, PlaceAnswer}
+use Rattle.wasi_resolve.specs.declared.entry_ops.Change.{Change}
+use Rattle.wasi_resolve.specs.declared.entry_ops.Change.TheVariants as changes
 
 abbrev pub change_call : Change → PlaceCall
 change_call changes.CreateDir = CreateDir

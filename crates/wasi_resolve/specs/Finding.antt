@@ -2,7 +2,7 @@
 use Rattle.std.specs.Prelude.{◌≡◌, ◌≤◌, ◌+◌, ℕ, Bool, true, false, List, length, Option, Some, None, Result, Ok, Err}
 use Rattle.std.specs.FinSet.{contains, insert}
 use Rattle.wasi_host.specs.Lineage.{Traced, Nothing}
-use Rattle.wasi_host.specs.Meaning.{Handles}
+use Rattle.wasi_host.specs.HostLaws.{Handles}
 use Rattle.wasi_host.specs.declared.errors.ErrorCode.TheVariants.{Loop, NotDirectory}
 use Rattle.wasi_host.specs.declared.errors.HostError.{HostError}
 use Rattle.wasi_host.specs.declared.errors.HostError.TheVariants.{Code, Memory}
@@ -13,7 +13,7 @@ use Rattle.wasi_resolve.specs.Walk as walk
 use Rattle.wasi_resolve.specs.Resolved.{last_got, links_read}
 use Rattle.wasi_resolve.specs.Meanings.{follows}
 use Rattle.wasi_resolve.specs.Stack.{Stands, Among}
-use Rattle.wasi_resolve.specs.Ways.{Course}
+use Rattle.wasi_resolve.specs.WalkState.{Course}
 use Rattle.wasi_resolve.specs.declared.found.Aim.{Aim}
 use Rattle.wasi_resolve.specs.declared.found.Aim.TheVariants as aims
 use Rattle.wasi_resolve.specs.declared.found.Found.{Found}
@@ -22,7 +22,7 @@ use Rattle.wasi_resolve.specs.declared.found.Reach.{Reach}
 use Rattle.wasi_resolve.specs.declared.found.Reach.TheVariants as reach
 use Rattle.wasi_resolve.specs.declared.found.Stop as stopping
 use Rattle.wasi_resolve.specs.declared.found.Stop.TheVariants as stops
-use Rattle.wasi_resolve.specs.declared.left.PartLeft.{PartLeft}
+use Rattle.wasi_resolve.specs.declared.parts_left.PartLeft.{PartLeft}
 
 -- ---- the aim
 

@@ -3,7 +3,7 @@ use Rattle.std.specs.Prelude.{ℕ, ◌≡◌, ◌≤◌, false, List, [], ◌∷
 use Rattle.wasi_host.specs.Options.{Options, creates}
 use Rattle.wasi_host.specs.Tree.{Tree}
 use Rattle.wasi_host.specs.ValidTree.{Reached}
-use Rattle.wasi_host.specs.declared.held.Held.{Held}
+use Rattle.wasi_host.specs.declared.open_handle.Held.{Held}
 use Rattle.wasi_host.specs.declared.errors.ErrorCode.{ErrorCode}
 use Rattle.wasi_resolve.specs.Walk.{Aim, Outcome, Stop, Name, Dot, Walk, walk}
 use Rattle.wasi_resolve.specs.Paths.{Opening, opening, opened, looked, Place, place, timed}

@@ -1,8 +1,8 @@
 -- The parts that are left, as contracts see them.
 use Rattle.std.specs.Prelude.{Bool, true, false, List, [], ◌∷◌, map, reverse}
 use Rattle.wasi_paths.specs.Parts.{Component, RootDir, CurDir, ParentDir, Normal}
-use Rattle.wasi_resolve.specs.declared.left.PartLeft.{PartLeft}
-use Rattle.wasi_resolve.specs.declared.left.PartLeft.TheVariants as left
+use Rattle.wasi_resolve.specs.declared.parts_left.PartLeft.{PartLeft}
+use Rattle.wasi_resolve.specs.declared.parts_left.PartLeft.TheVariants as left
 
 abbrev pub component_left : PartLeft → Component
 component_left left.Root = RootDir

@@ -1,5 +1,5 @@
 pub mod Walk
-pub mod Table
+pub mod WalkMoves
 pub mod Paths
 pub mod ByNodes
 pub mod Laws
@@ -8,12 +8,12 @@ pub mod Meanings
 pub mod PathRequest
 pub mod Left
 pub mod Stack
-pub mod Ways
+pub mod WalkState
 pub mod Finding
 pub mod WalkSteps
 pub mod Parents
-pub mod AtPlace
+pub mod EntryOps
 pub mod Change
-pub mod AtTwo
+pub mod TwoPathOps
 pub mod TwoParents
 pub mod Timed

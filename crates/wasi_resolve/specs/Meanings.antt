@@ -5,7 +5,7 @@ use Rattle.wasi_host.specs.Tree.{Tree}
 use Rattle.wasi_host.specs.Answer.{Listed, open_answer, list_answer, reached, metadata_of}
 use Rattle.wasi_host.specs.Steps.{◌>>=◌}
 use Rattle.wasi_host.specs.declared.errors.ErrorCode.{ErrorCode}
-use Rattle.wasi_host.specs.declared.held.Held.{Held}
+use Rattle.wasi_host.specs.declared.open_handle.Held.{Held}
 use Rattle.wasi_host.specs.declared.metadata.Metadata.{Metadata}
 use Rattle.wasi_host.specs.declared.open_options.FollowSymlinks.{FollowSymlinks}
 use Rattle.wasi_host.specs.declared.open_options.FollowSymlinks.TheVariants.{Yes, No}

@@ -9,11 +9,11 @@ use Rattle.wasi_host.specs.Answer.{unless, reached, access_of, metadata_of}
 use Rattle.wasi_host.specs.Steps.{◌>>=◌}
 use Rattle.wasi_host.specs.declared.errors.ErrorCode.{ErrorCode}
 use Rattle.wasi_host.specs.declared.errors.ErrorCode.TheVariants.{NotDirectory}
-use Rattle.wasi_host.specs.declared.held.Held.{Held}
+use Rattle.wasi_host.specs.declared.open_handle.Held.{Held}
 use Rattle.wasi_host.specs.declared.metadata.Metadata.{Metadata}
 use Rattle.wasi_host.specs.declared.system_time.SystemTime.{SystemTime}
-use Rattle.wasi_resolve.specs.AtPlace.{PlaceCall, SetTimes, PlaceAnswer, answer_in, place_for, step_in, ends_in}
-use Rattle.wasi_resolve.specs.AtTwo.{TwoPlaceCall, places_for, asks_directory, answer_at_two, step_at_two, ends_at_two}
+use Rattle.wasi_resolve.specs.EntryOps.{PlaceCall, SetTimes, PlaceAnswer, answer_in, place_for, step_in, ends_in}
+use Rattle.wasi_resolve.specs.TwoPathOps.{TwoPlaceCall, places_for, asks_directory, answer_at_two, step_at_two, ends_at_two}
 use Rattle.wasi_resolve.specs.Meanings.{ends_by, opened_node}
 use Rattle.wasi_resolve.specs.Paths.{Opening, opening, after_open, looked, timed}
 use Rattle.wasi_resolve.specs.Resolved.{Meant}

@@ -10,7 +10,7 @@ use Rattle.wasi_host.specs.Answer.{unless, reached}
 use Rattle.wasi_host.specs.Steps.{◌>>=◌}
 use Rattle.wasi_host.specs.declared.errors.ErrorCode.{ErrorCode}
 use Rattle.wasi_host.specs.declared.errors.ErrorCode.TheVariants.{Access, IsDirectory, NoEntry, NotDirectory, Unsupported}
-use Rattle.wasi_host.specs.declared.held.Held.{Held}
+use Rattle.wasi_host.specs.declared.open_handle.Held.{Held}
 use Rattle.wasi_paths.specs.Parts.{Component, RootDir, CurDir, ParentDir, Normal, split}
 use Rattle.wasi_resolve.specs.Walk.{Open, Look, Outcome, Stop, Name, Dot, walk, last_options}
 

@@ -6,7 +6,7 @@ use Rattle.wasi_host.specs.Agree.{Touches}
 use Rattle.wasi_host.specs.Answer.{HostAnswer, host_answer}
 use Rattle.wasi_host.specs.HostCall.{HostCall}
 use Rattle.wasi_host.specs.Step.{step, starts_of}
-use Rattle.wasi_host.specs.Meaning.{World, Handles, Means}
+use Rattle.wasi_host.specs.HostLaws.{World, Handles, Means}
 use Rattle.wasi_host.specs.declared.errors.ErrorCode.{ErrorCode}
 use Rattle.wasi_host.specs.declared.errors.ErrorCode.TheVariants.{Io}
 use Rattle.wasi_host.specs.declared.errors.HostError.{HostError}

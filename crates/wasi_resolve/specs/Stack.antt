@@ -1,8 +1,8 @@
 -- A stack of handles, the last one on top, over what was live before it.
 use Rattle.std.specs.Prelude.{◌≡◌, ◌⊎◌, ℕ, true, false, List, [], ◌∷◌, map, reverse, Contains}
 use Rattle.std.specs.FinSet.{contains, insert}
-use Rattle.wasi_host.specs.Meaning.{Handles}
-use Rattle.wasi_host.specs.declared.held.Held.{Held}
+use Rattle.wasi_host.specs.HostLaws.{Handles}
+use Rattle.wasi_host.specs.declared.open_handle.Held.{Held}
 use Rattle.wasi_resolve.specs.ByNodes.{top}
 
 -- live with these handles more

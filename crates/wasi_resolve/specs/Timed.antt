@@ -4,7 +4,7 @@ use Rattle.wasi_host.specs.Tree.{Tree}
 use Rattle.wasi_host.specs.declared.errors.ErrorCode.TheVariants.{Access, IsDirectory, Unsupported}
 use Rattle.wasi_host.specs.declared.errors.HostError.{HostError}
 use Rattle.wasi_host.specs.declared.errors.HostError.TheVariants.{Code, Memory}
-use Rattle.wasi_host.specs.declared.held.Held.{Held}
+use Rattle.wasi_host.specs.declared.open_handle.Held.{Held}
 use Rattle.wasi_resolve.specs.Paths.{opened, reading, or_else, access_unsupported, timed}
 use Rattle.wasi_resolve.specs.Resolved.{Meant}
 

@@ -2,14 +2,14 @@
 use Rattle.std.specs.Prelude.{ℕ, List, [], ◌∷◌, Result, Ok, Err}
 use Rattle.wasi_host.specs.Tree.{Tree}
 use Rattle.wasi_host.specs.Lineage.{Traced, OneOf, Nothing}
-use Rattle.wasi_host.specs.Meaning.{Handles}
+use Rattle.wasi_host.specs.HostLaws.{Handles}
 use Rattle.wasi_host.specs.declared.errors.HostError.{HostError}
-use Rattle.wasi_host.specs.declared.held.Held.{Held}
+use Rattle.wasi_host.specs.declared.open_handle.Held.{Held}
 use Rattle.wasi_host.specs.declared.lookup.Lookup.{Lookup}
-use Rattle.wasi_resolve.specs.AtTwo.{Places, places_in}
+use Rattle.wasi_resolve.specs.TwoPathOps.{Places, places_in}
 use Rattle.wasi_resolve.specs.Parents.{directory_of, released, shown_place}
 use Rattle.wasi_resolve.specs.Resolved.{Meant}
-use Rattle.wasi_resolve.specs.declared.at_two.TwoParents.{TwoParents}
+use Rattle.wasi_resolve.specs.declared.two_path_ops.TwoParents.{TwoParents}
 use Rattle.wasi_resolve.specs.declared.parent.MaybeOwned.{MaybeOwned}
 
 abbrev pub shown_places : (ℕ → Held) → TwoParents → Places

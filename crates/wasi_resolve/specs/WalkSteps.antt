@@ -12,12 +12,12 @@ use Rattle.wasi_host.specs.Answer as host
 use Rattle.wasi_host.specs.Answer.{reached, link_text, metadata_of}
 use Rattle.wasi_host.specs.Step.{open_step}
 use Rattle.wasi_host.specs.Steps.{◌>>=◌}
-use Rattle.wasi_host.specs.Meaning.{World, Handles}
+use Rattle.wasi_host.specs.HostLaws.{World, Handles}
 use Rattle.wasi_host.specs.declared.errors.ErrorCode.{ErrorCode}
 use Rattle.wasi_host.specs.declared.errors.ErrorCode.TheVariants.{Io}
 use Rattle.wasi_host.specs.declared.errors.HostError.{HostError}
 use Rattle.wasi_host.specs.declared.errors.HostError.TheVariants.{Code, Memory}
-use Rattle.wasi_host.specs.declared.held.Held.{Held}
+use Rattle.wasi_host.specs.declared.open_handle.Held.{Held}
 use Rattle.wasi_host.specs.declared.lookup.Lookup.{Lookup}
 use Rattle.wasi_host.specs.declared.metadata.Metadata.{Metadata}
 use Rattle.wasi_paths.specs.Parts as texts
@@ -28,7 +28,7 @@ use Rattle.wasi_resolve.specs.Paths.{Place, opening_of, opened_by, step_of, look
 use Rattle.wasi_resolve.specs.Meanings.{ends_by, opened_node}
 use Rattle.wasi_resolve.specs.Resolved.{Meant, Resolved}
 use Rattle.wasi_resolve.specs.Stack.{nodes_under}
-use Rattle.wasi_resolve.specs.Ways.{Begin, origin, Course, Way, way_nodes, leg_from}
+use Rattle.wasi_resolve.specs.WalkState.{Begin, origin, Course, Way, way_nodes, leg_from}
 use Rattle.wasi_resolve.specs.declared.found.Found.{Found}
 use Rattle.wasi_resolve.specs.declared.found.Found.TheVariants as found
 use Rattle.wasi_resolve.specs.declared.found.Reach.{Reach}

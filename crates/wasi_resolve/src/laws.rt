@@ -1,6 +1,6 @@
 //! Laws of walks, and of what paths mean.
 ghost use Rattle.wasi_resolve.specs.Laws.{WalksReadFewLinks, PathsStayInReach, PathsAgree};
-ghost use Rattle.wasi_resolve.specs.Table.{WalksHaveOneEnd};
+ghost use Rattle.wasi_resolve.specs.WalkMoves.{WalksHaveOneEnd};
 
 /// A walk reads at most 40 links, whatever the tree, and takes a part for each of them.
 pub fn walks_read_few_links()

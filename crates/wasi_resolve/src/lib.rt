@@ -1,23 +1,23 @@
 //! The walk along the parts of a path, which never leaves the directory that it starts from.
 #![tactic(auto)]
 
-mod at_place;
-mod at_two;
+mod entry_ops;
+mod two_path_ops;
 mod found;
 mod laws;
-mod left;
+mod parts_left;
 mod listing;
 mod name_left;
-mod names;
+mod name_lookup;
 mod parent;
 mod resolver;
 mod stack;
 mod times;
 mod walk;
-mod way;
+mod walk_state;
 
-pub use at_place::{create_dir, read_link, remove_dir, remove_file, set_times_nofollow, symlink};
-pub use at_two::{hard_link, rename};
+pub use entry_ops::{create_dir, read_link, remove_dir, remove_file, set_times_nofollow, symlink};
+pub use two_path_ops::{hard_link, rename};
 pub use laws::{paths_agree, paths_stay_in_reach, walks_have_one_end, walks_read_few_links};
 pub use listing::read_dir;
 pub use parent::{MaybeOwned, Parent, open_parent};

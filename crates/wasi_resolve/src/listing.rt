@@ -3,7 +3,7 @@ ghost use Rattle.std.specs.Prelude.{◌≡◌, ◌≤◌, ◌+◌, true, All, Is
 ghost use Rattle.std.specs.FinSet.{contains};
 ghost use Rattle.wasi_paths.specs.Text.{is_entry_name};
 ghost use Rattle.wasi_host.specs.Answer.{entry_of};
-ghost use Rattle.wasi_host.specs.Meaning.{HasCause};
+ghost use Rattle.wasi_host.specs.HostLaws.{HasCause};
 ghost use Rattle.wasi_host.specs.Lineage.{Traced, Only, Nothing};
 ghost use Rattle.wasi_resolve.specs.Meanings.{lists_at, listing_options};
 ghost use Rattle.wasi_resolve.specs.Resolved.{Resolved};

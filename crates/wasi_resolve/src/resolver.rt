@@ -1,7 +1,7 @@
 //! The calls of the resolver.
 ghost use Rattle.std.specs.Prelude.{◌≡◌, ◌≤◌, ◌+◌, ◌*◌, true, IsTrue, length};
 ghost use Rattle.std.specs.FinSet.{contains};
-ghost use Rattle.wasi_host.specs.Meaning.{HasCause, LiveGot};
+ghost use Rattle.wasi_host.specs.HostLaws.{HasCause, LiveGot};
 ghost use Rattle.wasi_host.specs.Lineage.{Traced, Only, Nothing};
 ghost use Rattle.wasi_resolve.specs.Walk.{Open, Look, walk, walk_looks};
 ghost use Rattle.wasi_resolve.specs.Paths.{directory_options};

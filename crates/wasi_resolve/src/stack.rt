@@ -1,9 +1,9 @@
 //! The stack of handles of the directories that a walk has gone down into, the last one on top.
 ghost use Rattle.std.specs.Prelude.{◌≡◌, ◌∷◌, IsTrue, List};
-ghost use Rattle.wasi_host.specs.Meaning.{HasCause, World};
+ghost use Rattle.wasi_host.specs.HostLaws.{HasCause, World};
 ghost use Rattle.wasi_paths.specs.Parts.{Component, ParentDir};
 ghost use Rattle.wasi_resolve.specs.Stack.{Stands, StillStands, top_handle};
-ghost use Rattle.wasi_resolve.specs.Ways.{begin, way};
+ghost use Rattle.wasi_resolve.specs.WalkState.{begin, way};
 ghost use Rattle.wasi_resolve.specs.Finding.{StackTraced};
 ghost use Rattle.wasi_resolve.specs.WalkSteps.{WorldStays, Walked, Leaves};
 

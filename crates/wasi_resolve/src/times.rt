@@ -1,7 +1,7 @@
 //! The call of the resolver that sets the times of what a path leads to.
 ghost use Rattle.std.specs.Prelude.{◌≡◌, ◌≤◌, ◌+◌, true, IsTrue, length};
 ghost use Rattle.std.specs.FinSet.{contains};
-ghost use Rattle.wasi_host.specs.Meaning.{HasCause, LiveGot};
+ghost use Rattle.wasi_host.specs.HostLaws.{HasCause, LiveGot};
 ghost use Rattle.wasi_host.specs.Lineage.{Traced, Only, Nothing};
 ghost use Rattle.wasi_resolve.specs.Walk.{Open, walk, walk_looks};
 ghost use Rattle.wasi_resolve.specs.Paths.{reading, writing};

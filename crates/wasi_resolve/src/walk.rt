@@ -1,24 +1,24 @@
 //! The walk along the parts of a path.
 ghost use Rattle.std.specs.Prelude.{◌≡◌, ◌∷◌, ◌≤◌, ◌+◌, ◌&&◌, ◌||◌, ℕ, true, IsTrue, List, length};
 ghost use Rattle.std.specs.FinSet.{contains};
-ghost use Rattle.wasi_host.specs.Meaning.{HasCause, World};
+ghost use Rattle.wasi_host.specs.HostLaws.{HasCause, World};
 ghost use Rattle.wasi_host.specs.Lineage.{Traced, Only, Nothing};
 ghost use Rattle.wasi_paths.specs.Parts.{Component, trailing_slash, is_empty};
 ghost use Rattle.wasi_resolve.specs.Walk.{walk, walk_looks};
 ghost use Rattle.wasi_resolve.specs.Left.{component_left, parts_left, is_nil};
 ghost use Rattle.wasi_resolve.specs.Stack.{Stands, StillStands, Among};
-ghost use Rattle.wasi_resolve.specs.Ways.{begin, way, way_of};
+ghost use Rattle.wasi_resolve.specs.WalkState.{begin, way, way_of};
 ghost use Rattle.wasi_resolve.specs.Resolved.{links_read, Resolved};
 ghost use Rattle.wasi_resolve.specs.Finding.{aim_follows, aim_of, course_of, LiveWith, IsGot, StandsWith, StackTraced, ReachTraced, IsLast, FewReads, ReadsBy, ReadsTo, FewUntil, FoundAs, FoundOf, handle_found, handle_reached};
 ghost use Rattle.wasi_resolve.specs.WalkSteps.{Walked, TakesPart, Stopped, EndsInDirectory, Reaches, ReadsLink, Comes, meant_at, shown_found};
 
 use crate::MAX_SYMLINK_EXPANSIONS;
 use crate::found::{Aim, Found, Reach, Stop};
-use crate::left::{PartLeft, put_parts};
+use crate::parts_left::{PartLeft, put_parts};
 use crate::name_left::NameLeft;
-use crate::names::{at_last, go_down};
+use crate::name_lookup::{at_last, go_down};
 use crate::stack::{close_all, leave, top_of};
-use crate::way::Way;
+use crate::walk_state::Way;
 use bumpalo::Bump;
 use std::alloc::Global;
 use wasi_host::{ErrorCode, Handle, Host, HostError};

@@ -13,16 +13,16 @@ use Rattle.wasi_audit.proofs.Membership.{first_stems-preopen, started-count}
 use Rattle.wasi_form.specs.Plan.{Plan, PlannedPreopen}
 use Rattle.wasi_form.specs.Within.{is_within_limits}
 use Rattle.wasi_form.proofs.Accepted.{limits_kept}
-use Rattle.wasi_host.specs.Meaning.{FaultCount}
+use Rattle.wasi_host.specs.HostLaws.{FaultCount}
 use Rattle.wasi_report.specs.Audit.{AuditedPreopen, audit_text, audited, audited_preopen}
 use Rattle.wasi_report.specs.declared.audit.PreopenNodes.{PreopenNodes}
 use Rattle.wasi_script.specs.Audited.{Audits, HasAudit, listed_preopens, names_given}
 use Rattle.wasi_script.specs.AuditedRun.{AuditedRun, Covers, StartsAudit}
 use Rattle.wasi_script.specs.Headline.{fueled_calls}
 use Rattle.wasi_script.specs.Through.{IsListed}
-use Rattle.wasi_start.specs.Start.{start, first_guest_slots, given_guest_slots}
-use Rattle.wasi_turns.specs.Guest.{State, GuestSlot, perms_in}
-use Rattle.wasi_turns.specs.Run.{Allows, named}
+use Rattle.wasi_setup.specs.Start.{start, first_guest_slots, given_guest_slots}
+use Rattle.wasi_p1_model.specs.Guest.{State, GuestSlot, perms_in}
+use Rattle.wasi_p1_model.specs.Run.{Allows, named}
 use Rattle.wasi_script.proofs.Headlines.{run_more}
 
 -- ---- the guest at the start

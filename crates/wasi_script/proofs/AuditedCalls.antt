@@ -3,24 +3,24 @@ use Rattle.std.proofs.Common.{ℕ, ◌≡◌, true, List, refl, ap, ◌∙◌, s
 use Rattle.std.specs.FinSet.{from_list}
 use Rattle.std.specs.Ordering.{nat_cmp}
 use Rattle.wasi_audit.specs.Audits.{Audited, noted}
-use Rattle.wasi_faults.specs.Faults.{Failing, counted}
+use Rattle.wasi_host_faults.specs.Faults.{Failing, counted}
 use Rattle.wasi_guest.specs.declared.answer.Answer.{Answer}
 use Rattle.wasi_guest.specs.declared.answer.Value.{Value}
 use Rattle.wasi_guest.specs.declared.call.Call.{Call}
-use Rattle.wasi_host.specs.Meaning.{World, FaultCount, Rose, forgotten, never_fails}
+use Rattle.wasi_host.specs.HostLaws.{World, FaultCount, Rose, forgotten, never_fails}
 use Rattle.wasi_host.specs.declared.lookup.Lookup.{Lookup}
 use Rattle.wasi_script.specs.AuditedRun.{AuditedTurn}
 use Rattle.wasi_script.specs.Through.{effect_of}
-use Rattle.wasi_start.specs.Start.{world_behind}
+use Rattle.wasi_setup.specs.Start.{world_behind}
 use Rattle.wasi_tree.specs.MemState.{MemState}
-use Rattle.wasi_turns.specs.CallTurn.{Causes, FollowsRow, Turns}
-use Rattle.wasi_turns.specs.Front.{with_fuel}
-use Rattle.wasi_turns.specs.Guest.{Guest, guest_by, guest_of}
-use Rattle.wasi_turns.specs.Near.{TouchesOnlyNear}
-use Rattle.wasi_turns.specs.Rows.{descriptors_named}
-use Rattle.wasi_turns.specs.Run.{answer_of}
-use Rattle.wasi_turns.specs.Slots.{View}
-use Rattle.wasi_turns.specs.declared.error.P1Error.{P1Error}
+use Rattle.wasi_p1_model.specs.CallTurn.{Causes, FollowsRow, Turns}
+use Rattle.wasi_p1_model.specs.Front.{with_fuel}
+use Rattle.wasi_p1_model.specs.Guest.{Guest, guest_by, guest_of}
+use Rattle.wasi_p1_model.specs.Near.{TouchesOnlyNear}
+use Rattle.wasi_p1_model.specs.Calls.{descriptors_named}
+use Rattle.wasi_p1_model.specs.Run.{answer_of}
+use Rattle.wasi_p1_model.specs.Slots.{View}
+use Rattle.wasi_p1_model.specs.declared.error.P1Error.{P1Error}
 
 abbrev faults_of : Failing MemState → FaultCount
 faults_of host = counted never_fails host.calls

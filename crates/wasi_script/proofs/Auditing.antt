@@ -6,26 +6,26 @@ use Rattle.std.specs.List.Sorted.{IsStrictlyIncreasing}
 use Rattle.std.specs.Ordering.{nat_cmp}
 use Rattle.std.proofs.lemmas.List.Elements.{All-weaker, Contains-append_cases, Contains-append_left, Contains-push}
 use Rattle.wasi_host.specs.Agree.{Touches}
-use Rattle.wasi_host.specs.Meaning.{World, FaultCount, Rose}
+use Rattle.wasi_host.specs.HostLaws.{World, FaultCount, Rose}
 use Rattle.wasi_host.specs.Tree.{Tree, Nodes}
 use Rattle.wasi_audit.specs.Audits.{Stems, Audited, first_stems, noted_lists, started}
 use Rattle.wasi_audit.proofs.Membership.{Contains-noted, length-noted_lists, noted-rising, started-count}
 use Rattle.wasi_guest.specs.declared.answer.Answer.{Answer}
-use Rattle.wasi_turns.specs.CallTurn.{Turns, in_world}
-use Rattle.wasi_turns.specs.DescriptorLaws.{FitsTable}
-use Rattle.wasi_turns.specs.Front.{FueledCall}
-use Rattle.wasi_turns.specs.Guest.{Guest, State}
-use Rattle.wasi_turns.specs.Reach.{Confined}
-use Rattle.wasi_turns.specs.Rows.{descriptors_named}
-use Rattle.wasi_turns.specs.Run.{Turned, Played, Faulted, Allows, DidRun, ends, ends_of, ios, named}
-use Rattle.wasi_turns.proofs.Confining.{turn_confines}
-use Rattle.wasi_turns.proofs.Runs.{SoFar, all_done, all_done_turns, ended, ended_turns, io_counted, nothing_yet, nothing_yet_turns, turn_ends, turn_of, turned, turned_on, turned_on_turns}
-use Rattle.wasi_turns.proofs.Stemming.{numbers_fit}
-use Rattle.wasi_start.proofs.Starts.{confined_at_start}
+use Rattle.wasi_p1_model.specs.CallTurn.{Turns, in_world}
+use Rattle.wasi_p1_model.specs.DescriptorLaws.{FitsTable}
+use Rattle.wasi_p1_model.specs.Front.{FueledCall}
+use Rattle.wasi_p1_model.specs.Guest.{Guest, State}
+use Rattle.wasi_p1_model.specs.Reach.{Confined}
+use Rattle.wasi_p1_model.specs.Calls.{descriptors_named}
+use Rattle.wasi_p1_model.specs.Run.{Turned, Played, Faulted, Allows, DidRun, ends, ends_of, ios, named}
+use Rattle.wasi_p1_model.proofs.Confining.{turn_confines}
+use Rattle.wasi_p1_model.proofs.Runs.{SoFar, all_done, all_done_turns, ended, ended_turns, io_counted, nothing_yet, nothing_yet_turns, turn_ends, turn_of, turned, turned_on, turned_on_turns}
+use Rattle.wasi_p1_model.proofs.Stemming.{numbers_fit}
+use Rattle.wasi_setup.proofs.Starts.{confined_at_start}
 use Rattle.wasi_script.specs.Through.{Stemmed, stems_behind, stemmed, GoesThrough, IsNearTurn, ListsThrough, IsListed}
 use Rattle.wasi_script.specs.AuditedRun.{AuditedTurn, AuditedRun, Covers, StartsAudit}
 use Rattle.wasi_script.proofs.StemLemmas.{stems_over, over_more, stemmed_more, covers_on, near_through}
-use Rattle.wasi_start.proofs.ListedNodes.{in_listed, in_list}
+use Rattle.wasi_setup.proofs.ListedNodes.{in_listed, in_list}
 use Rattle.wasi_script.proofs.ListLemmas.{listed_set, none_at, set_has, starts_empty, list_at, still_listed, newly_listed, listed_from}
 
 -- The calls so far were made and noted. So many directories were given, and so many descriptors may be live

@@ -9,27 +9,27 @@ use Rattle.std.specs.FinSet.{contains, from_list}
 use Rattle.std.proofs.lemmas.List.Elements.{All-weaker}
 use Rattle.wasi_host.specs.Tree.{Nodes}
 use Rattle.wasi_tree.specs.Given.{tree_of}
-use Rattle.wasi_faults.specs.Faults.{Calls, Failing, counted}
-use Rattle.wasi_host.specs.Meaning.{FaultCount, World, never_fails}
-use Rattle.wasi_faults.specs.declared.fault.Fault.{Fault}
-use Rattle.wasi_faults.proofs.Rising.{counts_few}
+use Rattle.wasi_host_faults.specs.Faults.{Calls, Failing, counted}
+use Rattle.wasi_host.specs.HostLaws.{FaultCount, World, never_fails}
+use Rattle.wasi_host_faults.specs.declared.fault.Fault.{Fault}
+use Rattle.wasi_host_faults.proofs.Rising.{counts_few}
 use Rattle.wasi_tree.specs.MemState.{MemState, world_of}
 use Rattle.wasi_script.specs.HasRun.{HasRun}
-use Rattle.wasi_start.specs.ReportAfter.{report_after}
+use Rattle.wasi_setup.specs.ReportAfter.{report_after}
 use Rattle.wasi_script.specs.Headline.{Reports, fueled_calls}
-use Rattle.wasi_turns.specs.Reach.{Confined}
+use Rattle.wasi_p1_model.specs.Reach.{Confined}
 use Rattle.wasi_report.specs.Report.{report_text}
 use Rattle.wasi_report.specs.ReadBack.{IsOrdered}
-use Rattle.wasi_turns.specs.Front.{FueledCall}
-use Rattle.wasi_turns.specs.Run.{Turned, Spends, Run, Allows, DidRun, ends, ios, named}
+use Rattle.wasi_p1_model.specs.Front.{FueledCall}
+use Rattle.wasi_p1_model.specs.Run.{Turned, Spends, Run, Allows, DidRun, ends, ios, named}
 use Rattle.wasi_form.specs.Plan.{Plan}
-use Rattle.wasi_turns.specs.Slots.{View}
-use Rattle.wasi_start.specs.Start.{seen_by, start, with_pieces, world_behind, IsBegun}
-use Rattle.wasi_turns.specs.Guest.{State, guest_by, state_of}
+use Rattle.wasi_p1_model.specs.Slots.{View}
+use Rattle.wasi_setup.specs.Start.{seen_by, start, with_pieces, world_behind, IsBegun}
+use Rattle.wasi_p1_model.specs.Guest.{State, guest_by, state_of}
 use Rattle.wasi_guest.specs.declared.answer.Answer.{Answer}
-use Rattle.wasi_turns.proofs.QuotaRuns.{run_counts, run_within}
+use Rattle.wasi_p1_model.proofs.QuotaRuns.{run_counts, run_within}
 use Rattle.wasi_script.proofs.KeptTrees.{starts_opened}
-use Rattle.wasi_start.proofs.ListedNodes.{in_listed, in_list}
+use Rattle.wasi_setup.proofs.ListedNodes.{in_listed, in_list}
 
 -- a run with so many faulted turns at most is one with more of them at most
 pub run_more : (calls : List FueledCall) (turns : List Turned) (j k : ℕ) (old new : State) → j ≤ k

@@ -19,19 +19,19 @@ use Rattle.wasi_form.specs.Within.{is_directory_given, is_within_limits}
 use Rattle.wasi_form.proofs.Accepted.{IsAccepted, accepted, limits_kept}
 use Rattle.wasi_tree.specs.Given.{Given, GivenContent, file, directory, link, content_from, content_given, given_of, node_from, nodes_from, tree_of}
 use Rattle.wasi_tree.proofs.FitValid.{fit_is_valid, next_is, node_is}
-use Rattle.wasi_turns.specs.QuotaLaws.{WritesAsOpened}
-use Rattle.wasi_turns.specs.AppendOnly.{AppendsAtEnd, HasStill, KeepsNode, MayAlterNothing, NodesAreThere}
-use Rattle.wasi_turns.specs.Guest.{GuestSlot, stream, file as open_file, node_in, perms_in}
-use Rattle.wasi_turns.specs.ReadOnly.{IsReadOnlyGuest}
-use Rattle.wasi_turns.specs.Stems.{HasPerms}
-use Rattle.wasi_turns.specs.declared.slots.Stream.{Stream}
-use Rattle.wasi_turns.specs.declared.slots.Stream.TheVariants.{Input, Output, Error}
-use Rattle.wasi_turns.proofs.Apart.{run_grows, run_keeps_apart}
-use Rattle.wasi_turns.proofs.Permitting.{run_leaves}
+use Rattle.wasi_p1_model.specs.QuotaLaws.{WritesAsOpened}
+use Rattle.wasi_p1_model.specs.AppendOnly.{AppendsAtEnd, HasStill, KeepsNode, MayAlterNothing, NodesAreThere}
+use Rattle.wasi_p1_model.specs.Guest.{GuestSlot, stream, file as open_file, node_in, perms_in}
+use Rattle.wasi_p1_model.specs.ReadOnly.{IsReadOnlyGuest}
+use Rattle.wasi_p1_model.specs.Stems.{HasPerms}
+use Rattle.wasi_p1_model.specs.declared.slots.Stream.{Stream}
+use Rattle.wasi_p1_model.specs.declared.slots.Stream.TheVariants.{Input, Output, Error}
+use Rattle.wasi_p1_model.proofs.Apart.{run_grows, run_keeps_apart}
+use Rattle.wasi_p1_model.proofs.Permitting.{run_leaves}
 use Rattle.wasi_script.specs.Due.{Due, the_usage, the_refusal, the_outcome, the_line, IsOwed, OfDue, Writes, KeepsTree}
-use Rattle.wasi_start.specs.ReportAfter.{report_after}
+use Rattle.wasi_setup.specs.ReportAfter.{report_after}
 use Rattle.wasi_script.specs.Headline.{Reports, GivesNoAltering, GivesReadOnly, IsStillTold, MayNotBeAltered, TellsKeptNodes, TellsOwnTree, TellsStill, fueled_calls, names_told, own_nodes, node_in_order}
-use Rattle.wasi_start.specs.Start.{start, first_guest_slots, given_guest_slot, given_guest_slots}
+use Rattle.wasi_setup.specs.Start.{start, first_guest_slots, given_guest_slot, given_guest_slots}
 use Rattle.wasi_script.specs.declared.status.Status.{Status}
 use Rattle.wasi_script.specs.declared.status.Status.TheVariants as statuses
 use Rattle.wasi_script.specs.declared.words.Task.{Task}

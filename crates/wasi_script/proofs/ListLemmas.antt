@@ -19,7 +19,7 @@ use Rattle.wasi_audit.specs.Audits.{Stems, is_named_from, noted_list, noted_list
 use Rattle.wasi_audit.proofs.Membership.{IsNoted, Contains-noted, get-noted_lists}
 use Rattle.wasi_report.specs.Audit.{audited_preopen}
 use Rattle.wasi_report.specs.declared.audit.PreopenNodes.{PreopenNodes}
-use Rattle.wasi_start.proofs.ListedNodes.{in_list, in_listed}
+use Rattle.wasi_setup.proofs.ListedNodes.{in_list, in_listed}
 use Rattle.wasi_script.specs.Audited.{listed_preopens}
 use Rattle.wasi_script.specs.Through.{IsListed}
 

@@ -5,11 +5,11 @@ use Rattle.std.proofs.lemmas.Bool.{true≢false, false_from_ne_true, cases_lt}
 use Rattle.wasi_host.specs.Tree.{Tree, next_of}
 use Rattle.wasi_tree.specs.Given.{given_of, tree_of}
 use Rattle.wasi_form.specs.Plan.{Plan}
-use Rattle.wasi_start.specs.Merged.{IsMergedTree}
-use Rattle.wasi_start.specs.Start.{start}
-use Rattle.wasi_start.proofs.ListedNodes.{in_listed}
-use Rattle.wasi_start.proofs.Merging.{run_over}
-use Rattle.wasi_start.proofs.ToldNodes.{none_told, told_at}
+use Rattle.wasi_setup.specs.Merged.{IsMergedTree}
+use Rattle.wasi_setup.specs.Start.{start}
+use Rattle.wasi_setup.proofs.ListedNodes.{in_listed}
+use Rattle.wasi_setup.proofs.Merging.{run_over}
+use Rattle.wasi_setup.proofs.ToldNodes.{none_told, told_at}
 use Rattle.wasi_script.specs.Headline.{Reports, fueled_calls, own_nodes}
 use Rattle.wasi_script.specs.Merged.{IsMerged}
 use Rattle.wasi_script.proofs.KeptTrees.{tree_again}

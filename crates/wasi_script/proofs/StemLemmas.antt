@@ -6,7 +6,7 @@ use Rattle.std.specs.List.{flat_map}
 use Rattle.std.proofs.lemmas.Option.{slice_get_within}
 use Rattle.std.proofs.lemmas.List.Elements.{Contains-append_cases}
 use Rattle.wasi_fs.specs.declared.perms.FsPerms.{FsPerms}
-use Rattle.wasi_host.specs.Meaning.{World}
+use Rattle.wasi_host.specs.HostLaws.{World}
 use Rattle.wasi_host.specs.Tree.{Tree, next_of}
 use Rattle.wasi_host.specs.ValidTree.{Reached, root, held}
 use Rattle.wasi_audit.specs.Audits.{Stems, is_named_from, stems_after}
@@ -18,22 +18,22 @@ use Rattle.wasi_guest.specs.declared.answer.Value.{Value}
 use Rattle.wasi_guest.specs.declared.answer.Value.TheVariants.{Number}
 use Rattle.wasi_guest.specs.declared.call.Call.{Call}
 use Rattle.wasi_guest.specs.declared.call.Call.TheVariants as calls
-use Rattle.wasi_turns.specs.CallTurn.{Turns, in_world}
-use Rattle.wasi_turns.specs.DescriptorLaws.{FitsTable}
-use Rattle.wasi_turns.specs.Front.{FueledCall, with_fuel}
-use Rattle.wasi_turns.specs.Guest.{Guest, State, node_in}
-use Rattle.wasi_turns.specs.Rows.{descriptors_named, turn}
-use Rattle.wasi_turns.specs.Run.{Turned, Played, Faulted, answer_of}
-use Rattle.wasi_turns.specs.Stems.{HasPerms, stems_from}
-use Rattle.wasi_turns.specs.declared.error.P1Error.{P1Error}
-use Rattle.wasi_turns.specs.declared.error.P1Error.TheVariants.{Errno, Trap, Exit, Memory}
-use Rattle.wasi_turns.proofs.Changing.{slot_perms}
-use Rattle.wasi_turns.proofs.Closing.{closes_number, renumbering_closes}
-use Rattle.wasi_turns.proofs.DescriptorLaws.{opens_the_largest_closed}
-use Rattle.wasi_turns.proofs.Near.{changes, leaves}
-use Rattle.wasi_turns.proofs.Numbers.{other_number, same_number}
-use Rattle.wasi_turns.proofs.Permitting.{turned_permitted}
-use Rattle.wasi_turns.proofs.Stemming.{turn_stems}
+use Rattle.wasi_p1_model.specs.CallTurn.{Turns, in_world}
+use Rattle.wasi_p1_model.specs.DescriptorLaws.{FitsTable}
+use Rattle.wasi_p1_model.specs.Front.{FueledCall, with_fuel}
+use Rattle.wasi_p1_model.specs.Guest.{Guest, State, node_in}
+use Rattle.wasi_p1_model.specs.Calls.{descriptors_named, turn}
+use Rattle.wasi_p1_model.specs.Run.{Turned, Played, Faulted, answer_of}
+use Rattle.wasi_p1_model.specs.Stems.{HasPerms, stems_from}
+use Rattle.wasi_p1_model.specs.declared.error.P1Error.{P1Error}
+use Rattle.wasi_p1_model.specs.declared.error.P1Error.TheVariants.{Errno, Trap, Exit, Memory}
+use Rattle.wasi_p1_model.proofs.Changing.{slot_perms}
+use Rattle.wasi_p1_model.proofs.Closing.{closes_number, renumbering_closes}
+use Rattle.wasi_p1_model.proofs.DescriptorLaws.{opens_the_largest_closed}
+use Rattle.wasi_p1_model.proofs.Near.{changes, leaves}
+use Rattle.wasi_p1_model.proofs.Numbers.{other_number, same_number}
+use Rattle.wasi_p1_model.proofs.Permitting.{turned_permitted}
+use Rattle.wasi_p1_model.proofs.Stemming.{turn_stems}
 use Rattle.wasi_script.specs.AuditedRun.{Covers, NumbersAreShort}
 use Rattle.wasi_script.specs.Through.{effect_of, IsShort, stems_behind, stemmed, GoesThrough, IsNearTurn}
 

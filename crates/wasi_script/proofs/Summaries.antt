@@ -11,14 +11,14 @@ use Rattle.std.proofs.lemmas.Slice.Zip.{length-zip, get_or-zip}
 use Rattle.wasi_guest.specs.declared.answer.Answer.{Answer}
 use Rattle.wasi_guest.specs.declared.call.Call.{Call}
 use Rattle.wasi_tree.specs.MemState.{MemState}
-use Rattle.wasi_turns.specs.Guest.{state_of}
-use Rattle.wasi_turns.specs.Run.{is_success}
+use Rattle.wasi_p1_model.specs.Guest.{state_of}
+use Rattle.wasi_p1_model.specs.Run.{is_success}
 use Rattle.wasi_form.specs.Plan.{Plan}
-use Rattle.wasi_gen.specs.GenScript.{gen_script}
+use Rattle.wasi_script_gen.specs.GenScript.{gen_script}
 use Rattle.wasi_script.specs.HasRun.{IsRanOf}
-use Rattle.wasi_start.specs.Start.{world_behind}
+use Rattle.wasi_setup.specs.Start.{world_behind}
 use Rattle.wasi_script.specs.Summary.{bytes_in_answer, bytes_answered, summary_line, Summarizes}
-use Rattle.wasi_script.specs.declared.ran.Ran.{Ran}
+use Rattle.wasi_script.specs.declared.run.Ran.{Ran}
 
 -- the bytes that the first calls have read
 abbrev pub read_so_far : List Call → List Answer → ℕ → ℕ

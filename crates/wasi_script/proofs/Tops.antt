@@ -2,14 +2,14 @@
 use Rattle.std.proofs.Common.{ℕ, ◌+◌, ◌<◌, ◌≤◌, ◌≡◌, List, [], length, replicate, take}
 use Rattle.std.proofs.Common.{◌⊎◌, inl, inr, refl, sym, ◌∙◌, subst, arith, Result, Err}
 use Rattle.std.proofs.lemmas.List.{drop_all, length-replicate, length-take, take-append-drop}
-use Rattle.wasi_ends.specs.Ends.{ReadAll, ReadFront}
+use Rattle.wasi_io.specs.Ends.{ReadAll, ReadFront}
 use Rattle.wasi_form.specs.Plan.{Plan}
 use Rattle.wasi_form.specs.Verdict.{Reads, most_script, IsVerdict}
-use Rattle.wasi_ends.specs.declared.reading.Unfinished.{Unfinished}
-use Rattle.wasi_ends.specs.declared.reading.Unfinished.TheVariants as errors
-use Rattle.wasi_form.specs.declared.verdict.Refusal.{Refusal}
-use Rattle.wasi_form.specs.declared.verdict.ScriptError.{ScriptError}
-use Rattle.wasi_form.specs.declared.verdict.ScriptError.TheVariants as scripts
+use Rattle.wasi_io.specs.declared.reading.Unfinished.{Unfinished}
+use Rattle.wasi_io.specs.declared.reading.Unfinished.TheVariants as errors
+use Rattle.wasi_form.specs.declared.script_reader.Refusal.{Refusal}
+use Rattle.wasi_form.specs.declared.script_reader.ScriptError.{ScriptError}
+use Rattle.wasi_form.specs.declared.script_reader.ScriptError.TheVariants as scripts
 use Rattle.wasi_form.proofs.Accepted.{too_many, refused_before}
 use Rattle.wasi_script.specs.Exit.{unfinished_status, script_status}
 use Rattle.wasi_script.specs.Due.{Due, the_usage, the_refusal, the_outcome, the_line, EndsGenerated, IsOwed, OfDue, left_unread, LeavesBytes, KeepsSink, NotRead, RefusesSome}

@@ -12,20 +12,20 @@ use Rattle.wasi_form.specs.Plan.{Plan}
 use Rattle.wasi_report.specs.Report.{Report, report_text, reported as report_of}
 use Rattle.wasi_report.specs.Trial.{trial_by, trial_text}
 use Rattle.wasi_report.specs.TrialReadBack.{FitsTrial}
-use Rattle.wasi_faults.specs.Faults.{Failing}
+use Rattle.wasi_host_faults.specs.Faults.{Failing}
 use Rattle.wasi_tree.specs.MemState.{MemState}
-use Rattle.wasi_turns.specs.Guest.{State, state_of}
-use Rattle.wasi_turns.specs.Run.{Turned}
-use Rattle.wasi_start.specs.Start.{world_behind}
-use Rattle.wasi_start.specs.ReportAfter.{report_after}
+use Rattle.wasi_p1_model.specs.Guest.{State, state_of}
+use Rattle.wasi_p1_model.specs.Run.{Turned}
+use Rattle.wasi_setup.specs.Start.{world_behind}
+use Rattle.wasi_setup.specs.ReportAfter.{report_after}
 use Rattle.wasi_script.specs.HasRun.{IsRanOf, IsToldOf}
 use Rattle.wasi_script.specs.Headline.{own_nodes}
 use Rattle.wasi_script.specs.Tried.{TellsTrial, Tries}
-use Rattle.wasi_script.specs.declared.ran.RunEnd.{RunEnd}
-use Rattle.wasi_script.specs.declared.ran.Ran.{Ran}
+use Rattle.wasi_script.specs.declared.run.RunEnd.{RunEnd}
+use Rattle.wasi_script.specs.declared.run.Ran.{Ran}
 use Rattle.wasi_script.proofs.Headlines.{reported}
 use Rattle.wasi_script.proofs.KeptTrees.{tree_again}
-use Rattle.wasi_start.proofs.ListedNodes.{in_listed}
+use Rattle.wasi_setup.proofs.ListedNodes.{in_listed}
 use Rattle.wasi_script.proofs.Merging.{reports_merged, reports_over}
 
 -- over a tree of nodes on which no step has worked, that very tree

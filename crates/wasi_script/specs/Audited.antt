@@ -9,10 +9,10 @@ use Rattle.wasi_report.specs.Audit.{AuditedPreopen, audit_text}
 use Rattle.wasi_script.specs.Headline.{fueled_calls}
 use Rattle.wasi_script.specs.Through.{IsListed, ListsThrough, stemmed}
 use Rattle.wasi_script.specs.declared.audited.ScriptAudit.{ScriptAudit}
-use Rattle.wasi_start.specs.Start.{start}
-use Rattle.wasi_turns.specs.Guest.{State}
-use Rattle.wasi_turns.specs.Reach.{InReach}
-use Rattle.wasi_turns.specs.Run.{Turned, Run, answers_of, ios, named}
+use Rattle.wasi_setup.specs.Start.{start}
+use Rattle.wasi_p1_model.specs.Guest.{State}
+use Rattle.wasi_p1_model.specs.Reach.{InReach}
+use Rattle.wasi_p1_model.specs.Run.{Turned, Run, answers_of, ios, named}
 
 -- the names of the directories that the guest is given
 abbrev pub names_given : Plan → List (List ℕ)

@@ -7,17 +7,17 @@ use Rattle.wasi_audit.specs.Audits.{Stems, Audited, first_stems, noted, started}
 use Rattle.wasi_fs.specs.declared.perms.FsPerms.{FsPerms}
 use Rattle.wasi_guest.specs.declared.answer.Answer.{Answer}
 use Rattle.wasi_guest.specs.declared.answer.Value.{Value}
-use Rattle.wasi_host.specs.Meaning.{World, FaultCount, Rose, forgotten}
-use Rattle.wasi_turns.specs.CallTurn.{Causes, Turns}
-use Rattle.wasi_turns.specs.DescriptorLaws.{FitsTable}
-use Rattle.wasi_turns.specs.Front.{FueledCall}
-use Rattle.wasi_turns.specs.Guest.{Guest, State}
-use Rattle.wasi_turns.specs.Near.{TouchesOnlyNear}
-use Rattle.wasi_turns.specs.Reach.{InReach}
-use Rattle.wasi_turns.specs.Rows.{descriptors_named}
-use Rattle.wasi_turns.specs.Run.{Turned, Run, Allows, answer_of, answers_of, ios, named}
-use Rattle.wasi_turns.specs.Stems.{HasPerms}
-use Rattle.wasi_turns.specs.declared.error.P1Error.{P1Error}
+use Rattle.wasi_host.specs.HostLaws.{World, FaultCount, Rose, forgotten}
+use Rattle.wasi_p1_model.specs.CallTurn.{Causes, Turns}
+use Rattle.wasi_p1_model.specs.DescriptorLaws.{FitsTable}
+use Rattle.wasi_p1_model.specs.Front.{FueledCall}
+use Rattle.wasi_p1_model.specs.Guest.{Guest, State}
+use Rattle.wasi_p1_model.specs.Near.{TouchesOnlyNear}
+use Rattle.wasi_p1_model.specs.Reach.{InReach}
+use Rattle.wasi_p1_model.specs.Calls.{descriptors_named}
+use Rattle.wasi_p1_model.specs.Run.{Turned, Run, Allows, answer_of, answers_of, ios, named}
+use Rattle.wasi_p1_model.specs.Stems.{HasPerms}
+use Rattle.wasi_p1_model.specs.declared.error.P1Error.{P1Error}
 use Rattle.wasi_script.specs.Through.{effect_of, stemmed, ListsThrough, IsListed}
 
 -- each directory or file of a guest stems from one of the directories that it was given, of which there are so many

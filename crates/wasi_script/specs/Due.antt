@@ -1,6 +1,6 @@
 -- What the program has to write, and what stands after it, by its status.
 use Rattle.std.specs.Prelude.{◌≡◌, ℕ, ◌+◌, ◌++◌, List, [], ◌∷◌, drop, codes, Result, Ok, Err, ⊤}
-use Rattle.wasi_ends.specs.Ends.{ReadFront, TookFront}
+use Rattle.wasi_io.specs.Ends.{ReadFront, TookFront}
 use Rattle.wasi_script.specs.Audited.{Audits}
 use Rattle.wasi_script.specs.Headline.{Reports, GivesReadOnly, TellsKeptNodes, TellsOwnTree}
 use Rattle.wasi_script.specs.Summary.{Summarizes}
@@ -11,8 +11,8 @@ use Rattle.wasi_script.specs.declared.words.ScriptTask.{ScriptTask}
 use Rattle.wasi_script.specs.declared.words.ScriptTask.TheVariants.{Run, Audit, Trial}
 use Rattle.wasi_form.specs.Plan.{Plan, plan}
 use Rattle.wasi_form.specs.Verdict.{most_script, IsVerdict}
-use Rattle.wasi_form.specs.declared.verdict.Refusal.{Refusal}
-use Rattle.wasi_form.specs.declared.verdict.Refusal.TheVariants.{Long, Json, Shape, Tree, Limit}
+use Rattle.wasi_form.specs.declared.script_reader.Refusal.{Refusal}
+use Rattle.wasi_form.specs.declared.script_reader.Refusal.TheVariants.{Long, Json, Shape, Tree, Limit}
 use Rattle.wasi_form.specs.declared.script.Script.{Script}
 use Rattle.wasi_script.specs.declared.status.Status.{Status}
 use Rattle.wasi_script.specs.declared.status.Status.TheVariants as statuses

@@ -1,12 +1,12 @@
 -- The statuses of the program.
 use Rattle.std.specs.Prelude.{ℕ, List, codes, Option, Some, None}
-use Rattle.wasi_ends.specs.declared.reading.Unfinished.{Unfinished}
-use Rattle.wasi_ends.specs.declared.reading.Unfinished.TheVariants.{Fault, Memory}
-use Rattle.wasi_ends.specs.declared.reading.Unfinished.TheVariants as unfinished
-use Rattle.wasi_form.specs.declared.verdict.Refusal.{Refusal}
-use Rattle.wasi_form.specs.declared.verdict.Refusal.TheVariants.{Long, Json, Shape, Tree, Limit}
-use Rattle.wasi_form.specs.declared.verdict.ScriptError.{ScriptError}
-use Rattle.wasi_form.specs.declared.verdict.ScriptError.TheVariants as scripts
+use Rattle.wasi_io.specs.declared.reading.Unfinished.{Unfinished}
+use Rattle.wasi_io.specs.declared.reading.Unfinished.TheVariants.{Fault, Memory}
+use Rattle.wasi_io.specs.declared.reading.Unfinished.TheVariants as unfinished
+use Rattle.wasi_form.specs.declared.script_reader.Refusal.{Refusal}
+use Rattle.wasi_form.specs.declared.script_reader.Refusal.TheVariants.{Long, Json, Shape, Tree, Limit}
+use Rattle.wasi_form.specs.declared.script_reader.ScriptError.{ScriptError}
+use Rattle.wasi_form.specs.declared.script_reader.ScriptError.TheVariants as scripts
 use Rattle.wasi_script.specs.declared.status.Status.{Status}
 use Rattle.wasi_script.specs.declared.status.Status.TheVariants.{Done, Usage, Refused, ReadFault, WriteFault, NoMemory}
 

@@ -5,16 +5,16 @@ use Rattle.std.specs.List.Sorted.{IsStrictlySortedBy}
 use Rattle.std.specs.Ordering.{nat_cmp}
 use Rattle.wasi_host.specs.Tree.{Nodes}
 use Rattle.wasi_tree.specs.MemState.{MemState}
-use Rattle.wasi_turns.specs.Guest.{State, state_of}
-use Rattle.wasi_turns.specs.Reach.{Confined}
-use Rattle.wasi_turns.specs.Run.{Turned, Run, answers_of, ios, named}
+use Rattle.wasi_p1_model.specs.Guest.{State, state_of}
+use Rattle.wasi_p1_model.specs.Reach.{Confined}
+use Rattle.wasi_p1_model.specs.Run.{Turned, Run, answers_of, ios, named}
 use Rattle.wasi_guest.specs.declared.answer.Answer.{Answer}
 use Rattle.wasi_form.specs.Plan.{Plan}
 use Rattle.wasi_script.specs.Headline.{fueled_calls}
-use Rattle.wasi_start.specs.ReportAfter.{bytes_shown}
-use Rattle.wasi_start.specs.Start.{seen_by, start, world_behind}
-use Rattle.wasi_script.specs.declared.ran.RunEnd.{RunEnd}
-use Rattle.wasi_script.specs.declared.ran.Ran.{Ran}
+use Rattle.wasi_setup.specs.ReportAfter.{bytes_shown}
+use Rattle.wasi_setup.specs.Start.{seen_by, start, world_behind}
+use Rattle.wasi_script.specs.declared.run.RunEnd.{RunEnd}
+use Rattle.wasi_script.specs.declared.run.Ran.{Ran}
 
 -- A run of a plan's calls from its start came to a state with these answers, and touched these nodes. At most as many
 -- turns are faulted, and at most as many answers are `io`, as the plan lists faults. Each node at which a path of a call

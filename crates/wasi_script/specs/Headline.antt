@@ -8,17 +8,17 @@ use Rattle.wasi_tree.specs.Given.{Given, GivenContent, file, directory, link}
 use Rattle.wasi_fs.specs.Perms.{permits}
 use Rattle.wasi_fs.specs.declared.perms.Act.TheVariants.{Alter}
 use Rattle.wasi_fs.specs.declared.perms.FsPerms.TheVariants.{ReadOnly, ReadWrite}
-use Rattle.wasi_turns.specs.AppendOnly.{AreApart, ReachedUnder}
-use Rattle.wasi_turns.specs.Front.{FueledCall, with_fuel}
-use Rattle.wasi_turns.specs.Reach.{InReach}
+use Rattle.wasi_p1_model.specs.AppendOnly.{AreApart, ReachedUnder}
+use Rattle.wasi_p1_model.specs.Front.{FueledCall, with_fuel}
+use Rattle.wasi_p1_model.specs.Reach.{InReach}
 use Rattle.wasi_report.specs.Report.{Report, report_text}
 use Rattle.wasi_report.specs.ReadBack.{IsOrdered}
-use Rattle.wasi_turns.specs.QuotaLaws.{CountsUse, StaysWithinQuotas}
-use Rattle.wasi_turns.specs.Run.{Turned, Run, answers_of, ios, named}
+use Rattle.wasi_p1_model.specs.QuotaLaws.{CountsUse, StaysWithinQuotas}
+use Rattle.wasi_p1_model.specs.Run.{Turned, Run, answers_of, ios, named}
 use Rattle.wasi_form.specs.Plan.{Plan}
-use Rattle.wasi_start.specs.ReportAfter.{report_after}
-use Rattle.wasi_start.specs.Start.{start}
-use Rattle.wasi_turns.specs.Guest.{State}
+use Rattle.wasi_setup.specs.ReportAfter.{report_after}
+use Rattle.wasi_setup.specs.Start.{start}
+use Rattle.wasi_p1_model.specs.Guest.{State}
 
 -- a plan's calls, each with all the fuel that the plan has for one
 abbrev pub fueled_calls : Plan → List FueledCall

@@ -7,11 +7,11 @@ use Rattle.wasi_guest.specs.declared.answer.Value.{Value}
 use Rattle.wasi_guest.specs.declared.answer.Value.TheVariants.{Number}
 use Rattle.wasi_guest.specs.declared.call.Call.{Call}
 use Rattle.wasi_guest.specs.declared.call.Call.TheVariants as calls
-use Rattle.wasi_turns.specs.Guest.{State}
-use Rattle.wasi_turns.specs.Run.{Turned, Run, answers_of, is_success}
-use Rattle.wasi_gen.specs.GenScript.{gen_script}
+use Rattle.wasi_p1_model.specs.Guest.{State}
+use Rattle.wasi_p1_model.specs.Run.{Turned, Run, answers_of, is_success}
+use Rattle.wasi_script_gen.specs.GenScript.{gen_script}
 use Rattle.wasi_script.specs.Headline.{fueled_calls}
-use Rattle.wasi_start.specs.Start.{start}
+use Rattle.wasi_setup.specs.Start.{start}
 
 abbrev pub number_in : Value → ℕ
 number_in (Number count) = count

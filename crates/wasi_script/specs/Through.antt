@@ -9,9 +9,9 @@ use Rattle.wasi_guest.specs.declared.answer.Answer.TheVariants as answers
 use Rattle.wasi_guest.specs.declared.answer.Value.TheVariants.{Number}
 use Rattle.wasi_guest.specs.declared.call.Call.{Call}
 use Rattle.wasi_guest.specs.declared.call.Call.TheVariants as calls
-use Rattle.wasi_turns.specs.Near.{IsNearCall}
-use Rattle.wasi_turns.specs.Rows.{descriptors_named}
-use Rattle.wasi_turns.specs.Run.{Turned, ends_of}
+use Rattle.wasi_p1_model.specs.Near.{IsNearCall}
+use Rattle.wasi_p1_model.specs.Calls.{descriptors_named}
+use Rattle.wasi_p1_model.specs.Run.{Turned, ends_of}
 
 -- What an answer changes in what the numbers stem from: what was opened stems from what the directory that it was opened
 -- through stems from, a number that was closed from none, and a descriptor takes its stem along to another number

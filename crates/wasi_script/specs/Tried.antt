@@ -10,9 +10,9 @@ use Rattle.wasi_report.specs.TrialReadBack.{FitsTrial}
 use Rattle.wasi_tree.specs.Given.{tree_of}
 use Rattle.wasi_script.specs.Headline.{Reports, own_nodes}
 use Rattle.wasi_script.specs.Merged.{IsMerged}
-use Rattle.wasi_start.specs.Merged.{IsMergedTree}
-use Rattle.wasi_script.specs.declared.ran.RunEnd.{RunEnd}
-use Rattle.wasi_start.specs.ReportAfter.{report_after}
+use Rattle.wasi_setup.specs.Merged.{IsMergedTree}
+use Rattle.wasi_script.specs.declared.run.RunEnd.{RunEnd}
+use Rattle.wasi_setup.specs.ReportAfter.{report_after}
 use Rattle.wasi_tree.specs.MemState.{MemState}
 
 -- the script's own tree, these numbers of nodes, and the report of a run

@@ -3,25 +3,25 @@
 ghost use Rattle.std.specs.Prelude.{◌≡◌, ◌<◌, ◌^◌, ◌↔◌, ℕ, length, map, Contains, IfOk};
 ghost use Rattle.std.specs.List.Sorted.{IsStrictlyIncreasing};
 ghost use Rattle.std.specs.String.{string_bytes};
-ghost use Rattle.wasi_faults.specs.Faults.{counted};
+ghost use Rattle.wasi_host_faults.specs.Faults.{counted};
 ghost use Rattle.wasi_form.specs.Plan.{plan, planned_preopen};
-ghost use Rattle.wasi_host.specs.Meaning.{never_fails};
+ghost use Rattle.wasi_host.specs.HostLaws.{never_fails};
 ghost use Rattle.wasi_report.specs.Audit.{audited_preopen};
 ghost use Rattle.wasi_script.specs.Audited.{Audits, IsAuditOf, listed_preopens};
 ghost use Rattle.wasi_script.specs.AuditedRun.{AuditedTurn, AuditedRun, NumbersAreShort, StartsAudit};
 ghost use Rattle.wasi_script.specs.Through.{IsListed, IsShort, effect_of};
-ghost use Rattle.wasi_start.specs.Start.{world_behind, CanRun};
-ghost use Rattle.wasi_turns.specs.Front.{with_fuel};
-ghost use Rattle.wasi_turns.specs.Guest.{guest_of, state_of};
+ghost use Rattle.wasi_setup.specs.Start.{world_behind, CanRun};
+ghost use Rattle.wasi_p1_model.specs.Front.{with_fuel};
+ghost use Rattle.wasi_p1_model.specs.Guest.{guest_of, state_of};
 
 use std::alloc::{AllocError, Global};
 use wasi_audit::{Audit, AuditEffect};
-use wasi_faults::FailAt;
+use wasi_host_faults::FailAt;
 use wasi_form::{Script, ScriptPreopen};
 use wasi_guest::{Answer, Call, GuestMemory, Value};
 use wasi_p1::{WasiP1Ctx, answer_of, call, ends_run, named};
 use wasi_report::{PreopenNodes, audit_in};
-use wasi_start::{Beginning, begin};
+use wasi_setup::{Beginning, begin};
 use wasi_tree::MemTree;
 
 /// The audit of a script whose calls were made, and the names of the directories that the guest was given, in order.

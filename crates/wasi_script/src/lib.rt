@@ -3,14 +3,14 @@
 #![tactic(auto)]
 
 mod audited;
-mod ran;
+mod run;
 mod status;
 mod summary;
-mod top;
+mod program;
 mod trial;
 mod words;
 
 pub use status::Status;
-pub use top::run_script;
-pub use wasi_ends::words_after_name;
+pub use program::run_script;
+pub use wasi_io::words_after_name;
 pub use words::{ScriptTask, Task, task_of};

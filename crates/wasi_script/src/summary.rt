@@ -1,12 +1,12 @@
 //! The line that is written of the script of a number.
 ghost use Rattle.std.specs.Prelude.{◌≡◌, ◌<◌, ◌≤◌, count_by, IfOk};
 ghost use Rattle.std.specs.String.{string_bytes};
-ghost use Rattle.wasi_turns.specs.Run.{is_success};
+ghost use Rattle.wasi_p1_model.specs.Run.{is_success};
 ghost use Rattle.wasi_script.specs.Summary as specs;
 
-use crate::ran::run;
+use crate::run::run;
 use std::alloc::{AllocError, Global};
-use wasi_gen::gen_script;
+use wasi_script_gen::gen_script;
 use wasi_guest::{Answer, Answers, Call, Value};
 
 fn is_success(answer: Answer) -> bool

@@ -2,9 +2,9 @@
 ghost use Rattle.std.specs.Prelude.{IfOk};
 ghost use Rattle.wasi_form.specs.Plan.{plan};
 ghost use Rattle.wasi_script.specs.Tried.{TellsTrial, Tries};
-ghost use Rattle.wasi_start.specs.Start.{CanRun};
+ghost use Rattle.wasi_setup.specs.Start.{CanRun};
 
-use crate::ran::{RunEnd, end_of, run_over};
+use crate::run::{RunEnd, end_of, run_over};
 use std::alloc::{AllocError, Allocator, Global};
 use wasi_form::Script;
 use wasi_overlay::Overlay;

@@ -2,7 +2,7 @@
 use Rattle.std.specs.Prelude.{◌≡◌, ◌⊎◌, ℕ, ◌^◌, ◌<◌, ◌≤◌, min, Bool, IsTrue, List, length, Result, Ok, Err, IfOk, OnOk}
 use Rattle.std.specs.declared.alloc.AllocError.{AllocError}
 use Rattle.wasi_host.specs.HostCall.{Pread}
-use Rattle.wasi_host.specs.Meaning.{World, Handles, HasCause, Told, hosted, FaultCount}
+use Rattle.wasi_host.specs.HostLaws.{World, Handles, HasCause, Told, hosted, FaultCount}
 use Rattle.wasi_host.specs.declared.lookup.Lookup.{Lookup}
 use Rattle.wasi_streams.specs.Input.{ReadReply, InputRow, known, read_then, InputAnswer}
 use Rattle.wasi_streams.specs.declared.input.ReadState.{ReadState}

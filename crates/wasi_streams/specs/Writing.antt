@@ -1,7 +1,7 @@
 -- What a call of an output stream does over a host.
 use Rattle.std.specs.Prelude.{◌≡◌, ℕ, ◌+◌, ◌^◌, ◌<◌, ◌≤◌, Bool, IsTrue, List, length, drop, Result, Ok, Err, IfOk, OnOk}
 use Rattle.wasi_host.specs.HostCall as calls
-use Rattle.wasi_host.specs.Meaning.{HasCause, Rose, Told}
+use Rattle.wasi_host.specs.HostLaws.{HasCause, Rose, Told}
 use Rattle.wasi_host.specs.declared.errors.ErrorCode.TheVariants.{Io}
 use Rattle.wasi_host.specs.declared.errors.HostError.{HostError}
 use Rattle.wasi_host.specs.declared.errors.HostError.TheVariants.{Code, Memory as Wanted}

@@ -3,7 +3,7 @@ ghost use Rattle.std.specs.Prelude.{◌≡◌, ◌+◌, ◌⊎◌, true, IsTrue,
 ghost use Rattle.std.specs.Result.{result_map_both};
 ghost use Rattle.std.specs.FinSet.{contains, remove};
 ghost use Rattle.wasi_host.specs.HostCall.{Dup, Close};
-ghost use Rattle.wasi_host.specs.Meaning.{HasCause, LiveGot, LoggedGot, Told, answered};
+ghost use Rattle.wasi_host.specs.HostLaws.{HasCause, LiveGot, LoggedGot, Told, answered};
 ghost use Rattle.wasi_streams.specs.Input.{ReadReply, performed, taken, wanted, waits, ready_row, blocking_read_row, moved_by};
 ghost use Rattle.wasi_streams.specs.Reading.{host_seen, HasRead, GivesAs, FollowsRead, ready_of};
 

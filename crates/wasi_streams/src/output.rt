@@ -3,7 +3,7 @@ ghost use Rattle.std.specs.Prelude.{◌≡◌, ◌<◌, ◌^◌, true, IsTrue, I
 ghost use Rattle.std.specs.Result.{result_map_both};
 ghost use Rattle.std.specs.FinSet.{contains, remove};
 ghost use Rattle.wasi_host.specs.HostCall.{Dup, Close};
-ghost use Rattle.wasi_host.specs.Meaning.{HasCause, LiveGot, LoggedGot, Told, answered};
+ghost use Rattle.wasi_host.specs.HostLaws.{HasCause, LiveGot, LoggedGot, Told, answered};
 ghost use Rattle.wasi_streams.specs.Output.{stands_after, write_made, write_row, flush_row, check_write_row, ready_write_row, blocking_write_row};
 ghost use Rattle.wasi_streams.specs.Reading.{host_seen, ready_of};
 ghost use Rattle.wasi_streams.specs.Writing.{behind, stopped, IsInside, Puts, WritesAll, FollowsWrite};

@@ -9,7 +9,7 @@ use Rattle.wasi_tree.specs.declared.node.NewEntry.{NewEntry}
 use Rattle.wasi_tree.specs.declared.node.NewNode.{NewNode}
 use Rattle.wasi_tree.specs.Given.{Given, pair_of, given, given_content, given_entries, entry_count}
 use Rattle.wasi_tree.specs.GivenTests.{numbers_from}
-use Rattle.wasi_tree.specs.Fit.{name_counts}
+use Rattle.wasi_tree.specs.WellFormed.{name_counts}
 use Rattle.wasi_tree.specs.FitTests.{entry_numbers, content_numbers, all_numbers, AreCounted}
 
 -- how often a number stands among entries, and among those of all nodes

@@ -9,12 +9,12 @@ use Rattle.wasi_host.specs.Tree.{Tree, Node, Nodes, Names, Content, node_at, nex
 use Rattle.wasi_host.specs.Step.{with_nodes, with_content, with_entry, without_entry, content_changed, name_lost, name_moved_onto}
 use Rattle.wasi_host.specs.declared.limits.Limits.{Limits}
 use Rattle.wasi_host.proofs.Changes.{directory_within, next_of-changed, node_at-other, node_at-same}
-use Rattle.wasi_names.specs.NameRows.{AllNames, Key}
-use Rattle.wasi_names.proofs.NamesLemmas.{get-names_at, insert-remove}
+use Rattle.wasi_tree_index.specs.NameRows.{AllNames, Key}
+use Rattle.wasi_tree_index.proofs.NamesLemmas.{get-names_at, insert-remove}
 use Rattle.wasi_tree.specs.Move.{IsExchange, IsMove, found_lost}
 use Rattle.wasi_tree.specs.Sound.{NodesStay}
 use Rattle.wasi_tree.specs.StoredTree.{stored_tree, IsStored}
-use Rattle.wasi_tree.specs.declared.row.Row.{Row}
+use Rattle.wasi_tree.specs.declared.inode.Row.{Row}
 use Rattle.wasi_tree.proofs.MoveLemmas.{moved_as, names_apart}
 use Rattle.wasi_tree.proofs.RowLemmas.{IsIn, names_here, tree_named, tree_unnamed, stored_named, stored_unnamed}
 use Rattle.wasi_tree.proofs.SoundLemmas.{stays_changed, no_file}

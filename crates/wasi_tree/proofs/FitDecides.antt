@@ -10,9 +10,9 @@ use Rattle.wasi_host.specs.declared.limits.Limits.{Limits}
 use Rattle.wasi_tree.specs.declared.node.NewNode.{NewNode}
 use Rattle.wasi_tree.specs.Given.{given, Given, GivenContent, file, directory, link, entry_count}
 use Rattle.wasi_tree.specs.GivenTests.{numbers_from, are_distinct, starts_with_directory}
-use Rattle.wasi_tree.specs.Fit.{is_fit_file, is_fit_text, is_fit_entry, IsFound, HasPlace, IsFitContent, IsFit, KeepsRules, AreFit, IsLowestUnfit, name_counts}
+use Rattle.wasi_tree.specs.WellFormed.{is_fit_file, is_fit_text, is_fit_entry, IsFound, HasPlace, IsFitContent, IsFit, KeepsRules, AreFit, IsLowestUnfit, name_counts}
 use Rattle.wasi_tree.specs.FitTests.{TellFound, has_place, is_fit_content, is_fit}
-use Rattle.wasi_tree.specs.declared.fit.Place.{Place}
+use Rattle.wasi_tree.specs.declared.well_formed.Place.{Place}
 use Rattle.wasi_tree.proofs.NewTreeLemmas.{length-numbers, value_at}
 
 -- what is known of a number is so

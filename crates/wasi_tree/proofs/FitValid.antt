@@ -19,7 +19,7 @@ use Rattle.wasi_host.specs.declared.limits.Limits.{Limits}
 use Rattle.wasi_host.specs.Numbers.{largest_file, longest_link}
 use Rattle.wasi_tree.specs.Given.{Given, GivenContent, file, directory, link, given_entries, entry_count, content_from, node_from, nodes_from, tree_of}
 use Rattle.wasi_tree.specs.GivenTests.{is_dir_content, are_distinct, starts_with_directory}
-use Rattle.wasi_tree.specs.Fit.{is_fit_entry, IsFound, at_zero, by_entry, entries_held, HasPlace, IsFitContent, AreFit}
+use Rattle.wasi_tree.specs.WellFormed.{is_fit_entry, IsFound, at_zero, by_entry, entries_held, HasPlace, IsFitContent, AreFit}
 use Rattle.wasi_tree.proofs.CountLemmas.{times-numbers}
 use Rattle.wasi_tree.proofs.GivenNames.{texts, names_from, times-from, All-from, find_held}
 use Rattle.wasi_tree.proofs.NewTreeLemmas.{length-nodes_from}

@@ -11,7 +11,7 @@ use Rattle.std.proofs.lemmas.Option.{slice_get_within, slice_get_read, slice_get
 use Rattle.wasi_tree.specs.declared.node.NewEntry.{NewEntry}
 use Rattle.wasi_tree.specs.declared.node.NewNode.{NewNode}
 use Rattle.wasi_tree.specs.Given.{Given, pair_of, given, given_content, given_entries}
-use Rattle.wasi_tree.specs.Fit.{IsFound, at_zero, by_entry, entries_at, entries_held}
+use Rattle.wasi_tree.specs.WellFormed.{IsFound, at_zero, by_entry, entries_at, entries_held}
 use Rattle.wasi_tree.specs.FitTests.{entry_numbers, IsMarked, AreMarked, TellFound}
 use Rattle.wasi_tree.proofs.CountLemmas.{entry_numbers-take}
 

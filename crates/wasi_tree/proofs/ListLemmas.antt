@@ -8,7 +8,7 @@ use Rattle.wasi_host.specs.Tree.{Tree, Node, Names, node_at, names_of, is_direct
 use Rattle.wasi_host.specs.HostCall.{ListDir}
 use Rattle.wasi_host.specs.Refusal.{refusal, can_read}
 use Rattle.wasi_host.specs.Answer.{Listed, listed, listing, list_answer, unless}
-use Rattle.wasi_host.specs.declared.held.Held.{Held}
+use Rattle.wasi_host.specs.declared.open_handle.Held.{Held}
 use Rattle.wasi_host.proofs.EntryLemmas.{get_entry}
 use Rattle.wasi_tree.specs.Sound.{IsSoundNode}
 

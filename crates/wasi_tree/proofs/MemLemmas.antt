@@ -7,13 +7,13 @@ use Rattle.wasi_host.specs.Tree.{Tree, is_directory, node_at, next_of, child, ho
 use Rattle.wasi_host.specs.HostCall.{HostCall, OpenAt, StatAt, ReadLinkAt, MakeDirAt, SymlinkAt, LinkAt, RenameAt, UnlinkAt, RemoveDirAt, TimesAt, Access, Stat, SetTimes, Pread, Pwrite, Append, SetSize, Sync, Advise, Flags, ListDir, Dup, Close}
 use Rattle.wasi_host.specs.Refusal.{refusal, first_row, naming_rows, loop_rows, moving_rows, renaming_rows}
 use Rattle.wasi_host.specs.Answer.{HostAnswer}
-use Rattle.wasi_host.specs.Fates.{Fated}
-use Rattle.wasi_host.specs.Meaning.{AllHeld, IsHeld, HasCause, never_fails}
+use Rattle.wasi_host.specs.FurtherLaws.{Fated}
+use Rattle.wasi_host.specs.HostLaws.{AllHeld, IsHeld, HasCause, never_fails}
 use Rattle.wasi_host.specs.declared.errors.ErrorCode.TheVariants.{Io}
 use Rattle.wasi_host.specs.declared.errors.HostError.{HostError}
 use Rattle.wasi_host.specs.declared.errors.HostError.TheVariants.{Code, Memory}
-use Rattle.wasi_host.specs.declared.fate.Fate.TheVariants.{Passes}
-use Rattle.wasi_host.specs.declared.held.AccessMode.TheVariants.{PathOnly}
+use Rattle.wasi_host.specs.declared.injected_fault.Fate.TheVariants.{Passes}
+use Rattle.wasi_host.specs.declared.open_handle.AccessMode.TheVariants.{PathOnly}
 use Rattle.wasi_host.proofs.Changes.{directory_within}
 use Rattle.wasi_host.proofs.Refusals.{refusal_of, part_refuses}
 use Rattle.wasi_tree.specs.MemState.{HeldMap, MemState, live_of, held_in, world_of}

@@ -15,7 +15,7 @@ use Rattle.wasi_host.proofs.EntryLemmas.{nat_eq-refl}
 use Rattle.wasi_tree.specs.ParentOf.{named_at}
 use Rattle.wasi_tree.specs.Move.{IsMove, found_lost}
 use Rattle.wasi_tree.proofs.TextEntries.{same_name}
-use Rattle.wasi_names.proofs.NamesLemmas.{same_names}
+use Rattle.wasi_tree_index.proofs.NamesLemmas.{same_names}
 
 -- ---- names
 

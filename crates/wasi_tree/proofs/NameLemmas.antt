@@ -9,7 +9,7 @@ use Rattle.std.specs.FinMap.{entries, from_sorted, empty_of_len, len-entries, en
 use Rattle.wasi_host.specs.Tree.{Names, Content, File, Directory, Link, names_of, is_directory}
 use Rattle.wasi_tree.specs.StoredTree.{with_first}
 use Rattle.wasi_tree.proofs.TextEntries.{same_name}
-use Rattle.wasi_names.proofs.NamesLemmas.{same_names}
+use Rattle.wasi_tree_index.proofs.NamesLemmas.{same_names}
 
 pub get-no_names : (name : List ℕ) → get {X = ℕ} (from_entries {R = slice_cmp nat_cmp} []) name ≡ None
 get-no_names name = get-empty (slice_cmp nat_cmp) name

@@ -8,12 +8,12 @@ use Rattle.std.specs.FinMap.{get, insert, remove, empty, get-empty}
 use Rattle.wasi_host.specs.Tree.{Node, Content, File, Directory, Link, Names, names_of, is_directory, is_gone}
 use Rattle.wasi_host.specs.Step.{with_name, without_name, other_bytes, one_name_more, name_lost}
 use Rattle.wasi_host.proofs.Leaving.{each_kind}
-use Rattle.wasi_names.specs.NameRows.{AllNames, key_cmp, names_at}
-use Rattle.wasi_names.proofs.NamesLemmas.{get-names_at, names_at-insert, names_at-remove, names_at-insert_other, names_at-remove_other, same_names}
+use Rattle.wasi_tree_index.specs.NameRows.{AllNames, key_cmp, names_at}
+use Rattle.wasi_tree_index.proofs.NamesLemmas.{get-names_at, names_at-insert, names_at-remove, names_at-insert_other, names_at-remove_other, same_names}
 use Rattle.wasi_tree.specs.StoredTree.{stored_node, stored_content, with_names, named_content, named_from, AreBelow, OtherNamesStay, with_first}
-use Rattle.wasi_tree.specs.declared.row.Row.{Row}
-use Rattle.wasi_tree.specs.declared.row.RowContent.{RowContent}
-use Rattle.wasi_tree.specs.declared.row.RowContent.TheVariants as rows
+use Rattle.wasi_tree.specs.declared.inode.Row.{Row}
+use Rattle.wasi_tree.specs.declared.inode.RowContent.{RowContent}
+use Rattle.wasi_tree.specs.declared.inode.RowContent.TheVariants as rows
 
 -- what is said of a content without a look at the names of a directory
 pub said_of-named : {B : Type 0} (f : Content → B)

@@ -14,7 +14,7 @@ use Rattle.wasi_host.proofs.Changes.{changed, directory_within, node_at-changed,
 use Rattle.wasi_host.proofs.Leaving.{no_name}
 use Rattle.wasi_host.proofs.EntryLemmas.{find_in, unnamed, once, times-removed, nat_eq-refl}
 use Rattle.wasi_tree.specs.Given.{Given, GivenContent, file, directory, link, given_entries, content_from, tree_of}
-use Rattle.wasi_tree.specs.Fit.{entries_held, IsFitContent, AreFit}
+use Rattle.wasi_tree.specs.WellFormed.{entries_held, IsFitContent, AreFit}
 use Rattle.wasi_tree.specs.ParentOf.{named_at, numbers_at, AreParents, TellParents}
 use Rattle.wasi_tree.proofs.FitValid.{node_is, next_is, names_given, given_names, name_at, all_distinct, count_is}
 use Rattle.wasi_tree.proofs.FoundLemmas.{entry_of}

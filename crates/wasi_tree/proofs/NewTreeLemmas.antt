@@ -16,11 +16,11 @@ use Rattle.wasi_host.specs.declared.limits.Limits.{Limits}
 use Rattle.wasi_host.specs.Numbers.{longest_link}
 use Rattle.wasi_tree.specs.Given.{Given, GivenContent, file, directory, link, entry_count, content_from, node_from, nodes_from, tree_of}
 use Rattle.wasi_tree.specs.GivenTests.{numbers_from}
-use Rattle.wasi_tree.specs.Fit.{is_fit_entry, IsFitContent, IsFit, AreFit, name_counts}
-use Rattle.wasi_names.specs.NameRows.{AllNames, names_at}
+use Rattle.wasi_tree.specs.WellFormed.{is_fit_entry, IsFitContent, IsFit, AreFit, name_counts}
+use Rattle.wasi_tree_index.specs.NameRows.{AllNames, names_at}
 use Rattle.wasi_tree.specs.StoredTree.{stored_node, stored_tree, with_names, named_from, AreBelow, OtherNamesStay, IsStored}
 use Rattle.wasi_tree.specs.Sound.{IsSoundNode, IsSoundText}
-use Rattle.wasi_tree.specs.declared.row.Row.{Row}
+use Rattle.wasi_tree.specs.declared.inode.Row.{Row}
 use Rattle.wasi_host.proofs.EntryLemmas.{unnamed}
 use Rattle.wasi_tree.proofs.TextEntries.{same_name}
 use Rattle.wasi_tree.proofs.NamedLemmas.{named-others, named_push, length-named, none_below, apart_from}

@@ -12,12 +12,12 @@ use Rattle.wasi_host.specs.Step.{with_nodes, with_content, with_entry, without_e
 use Rattle.wasi_host.specs.declared.limits.Limits.{Limits}
 use Rattle.wasi_host.proofs.Changes.{changed, directory_within}
 use Rattle.wasi_paths.specs.Text.{is_entry_name}
-use Rattle.wasi_names.specs.NameRows.{AllNames, names_at}
-use Rattle.wasi_names.proofs.NamesLemmas.{names_at-insert_other}
+use Rattle.wasi_tree_index.specs.NameRows.{AllNames, names_at}
+use Rattle.wasi_tree_index.proofs.NamesLemmas.{names_at-insert_other}
 use Rattle.wasi_tree.specs.StoredTree.{stored_content, stored_node, stored_tree, with_names, named_content, named_from, AreBelow, IsStored}
 use Rattle.wasi_tree.specs.Sound.{IsSound, IsSoundNode}
-use Rattle.wasi_tree.specs.declared.row.Row.{Row}
-use Rattle.wasi_tree.specs.declared.row.RowContent.{RowContent}
+use Rattle.wasi_tree.specs.declared.inode.Row.{Row}
+use Rattle.wasi_tree.specs.declared.inode.RowContent.{RowContent}
 use Rattle.wasi_tree.proofs.NamedLemmas.{said_of-named, named_row, length-named, named_node, named_put, named_push, named_more, named_less, below-insert, below-remove, below_more, apart_from}
 use Rattle.wasi_tree.proofs.SoundLemmas.{seen, sound_changed, sound_put, sound_named, sound_taken, sound_made}
 

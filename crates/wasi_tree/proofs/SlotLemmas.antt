@@ -8,8 +8,8 @@ use Rattle.std.specs.FinSet.{contains, empty, insert, remove, members, contains-
 use Rattle.std.specs.Cmp.{nat_cmp_total}
 use Rattle.slab.specs.Slab.{Slab, Updates}
 use Rattle.wasi_host.specs.Tree.{Tree}
-use Rattle.wasi_host.specs.Meaning.{IsHeld}
-use Rattle.wasi_host.specs.declared.held.Held.{Held}
+use Rattle.wasi_host.specs.HostLaws.{IsHeld}
+use Rattle.wasi_host.specs.declared.open_handle.Held.{Held}
 use Rattle.wasi_tree.specs.MemState.{HeldMap, live_of, held_in, or_nothing}
 use Rattle.wasi_tree.specs.LiveSlots.{handles_from, handles_in}
 use Rattle.wasi_tree.specs.Sound.{HoldsNodes}

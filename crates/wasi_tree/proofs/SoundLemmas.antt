@@ -11,7 +11,7 @@ use Rattle.wasi_paths.specs.Text.{is_entry_name}
 use Rattle.wasi_tree.proofs.NameLemmas.{get-no_names}
 use Rattle.wasi_tree.proofs.ParentLemmas.{with_name_cases}
 use Rattle.wasi_tree.specs.Sound.{IsSound, IsSoundNode, IsSoundText, NodesStay}
-use Rattle.wasi_names.proofs.NamesLemmas.{same_names}
+use Rattle.wasi_tree_index.proofs.NamesLemmas.{same_names}
 
 -- what is sound of a content: its names, which only a directory has, and the text of a link
 abbrev pub Seen : Type 0

@@ -8,9 +8,9 @@ use Rattle.wasi_host.specs.HostCall.{OpenAt, Stat, SetTimes}
 use Rattle.wasi_host.specs.Refusal.{refusal, can_write}
 use Rattle.wasi_host.specs.Step.{new_file, is_cut, file_cut, file_made, opened_step, open_step, found_under, with_nodes, times_set}
 use Rattle.wasi_host.specs.Answer.{access_of, unless, reached, or_next, metadata_of}
-use Rattle.wasi_host.specs.Meaning.{IsHeld}
-use Rattle.wasi_host.specs.declared.held.AccessMode.TheVariants.{Read, Write, ReadWrite, PathOnly}
-use Rattle.wasi_host.specs.declared.held.Held.{Held}
+use Rattle.wasi_host.specs.HostLaws.{IsHeld}
+use Rattle.wasi_host.specs.declared.open_handle.AccessMode.TheVariants.{Read, Write, ReadWrite, PathOnly}
+use Rattle.wasi_host.specs.declared.open_handle.Held.{Held}
 use Rattle.wasi_host.specs.declared.metadata.Metadata.{Metadata}
 use Rattle.wasi_host.specs.declared.system_time.SystemTime.{SystemTime}
 use Rattle.wasi_host.proofs.Changes.{node_at-made, next_of-made, directory_within}

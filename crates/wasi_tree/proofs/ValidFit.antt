@@ -23,7 +23,7 @@ use Rattle.wasi_host.specs.declared.limits.TheConstants.{FILE_MAX, LINK_MAX}
 use Rattle.wasi_host.proofs.EntryLemmas.{times, numbers, find_in, entries-no_names, both_hold}
 use Rattle.wasi_tree.specs.Given.{Given, given_entries, entry_count, content_from, node_from, nodes_from, tree_of, content_given, given_of}
 use Rattle.wasi_tree.specs.GivenTests.{is_dir_content, are_distinct, starts_with_directory}
-use Rattle.wasi_tree.specs.Fit.{is_fit_entry, entries_held, entries_at, IsFound, at_zero, by_entry, HasPlace, IsFitContent, IsFit, AreFit}
+use Rattle.wasi_tree.specs.WellFormed.{is_fit_entry, entries_held, entries_at, IsFound, at_zero, by_entry, HasPlace, IsFitContent, IsFit, AreFit}
 use Rattle.wasi_tree.proofs.CountLemmas.{times-numbers}
 use Rattle.wasi_tree.proofs.GivenNames.{texts}
 

@@ -6,8 +6,8 @@ use Rattle.wasi_host.specs.declared.limits.Limits.{Limits}
 use Rattle.wasi_tree.specs.declared.node.NewEntry.{NewEntry}
 use Rattle.wasi_tree.specs.Given.{Given, GivenContent, file, directory, link, pair_of, given_entries}
 use Rattle.wasi_tree.specs.GivenTests.{are_distinct}
-use Rattle.wasi_tree.specs.Fit.{is_fit_file, is_fit_entry, is_fit_text, IsFound}
-use Rattle.wasi_tree.specs.declared.fit.Place.{Place}
+use Rattle.wasi_tree.specs.WellFormed.{is_fit_file, is_fit_entry, is_fit_text, IsFound}
+use Rattle.wasi_tree.specs.declared.well_formed.Place.{Place}
 
 -- the numbers of entries
 abbrev pub entry_numbers : List NewEntry → List ℕ

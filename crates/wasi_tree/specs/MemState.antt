@@ -6,11 +6,11 @@ use Rattle.std.specs.FinMap as maps
 use Rattle.std.specs.FinSet.{from_list}
 use Rattle.wasi_host.specs.Tree.{Tree, Nodes}
 use Rattle.wasi_host.specs.TreeCode.{tree_code, nodes_code}
-use Rattle.wasi_host.specs.Meaning.{World, Handles}
-use Rattle.wasi_host.specs.contracts.held.Held as held
+use Rattle.wasi_host.specs.HostLaws.{World, Handles}
+use Rattle.wasi_host.specs.contracts.open_handle.Held as held
 use Rattle.wasi_host.specs.contracts.lookup.Lookup as lookup
-use Rattle.wasi_host.specs.declared.held.AccessMode.TheVariants.{PathOnly}
-use Rattle.wasi_host.specs.declared.held.Held.{Held}
+use Rattle.wasi_host.specs.declared.open_handle.AccessMode.TheVariants.{PathOnly}
+use Rattle.wasi_host.specs.declared.open_handle.Held.{Held}
 use Rattle.wasi_host.specs.declared.lookup.Lookup.{Lookup}
 
 -- the live handles by their numbers, each with what it stands for

@@ -3,7 +3,7 @@ use Rattle.std.specs.Prelude.{◌≡◌, ◌⊎◌, ℕ, zero, suc, ◌<◌, Boo
 use Rattle.std.specs.FinMap as maps
 use Rattle.wasi_host.specs.Tree.{Tree, node_at, next_of, names_of, is_directory}
 use Rattle.wasi_tree.specs.Given.{Given}
-use Rattle.wasi_tree.specs.Fit.{entries_at}
+use Rattle.wasi_tree.specs.WellFormed.{entries_at}
 
 -- the directory of a node; none of a number out of range
 abbrev pub parent_of : List (Option ℕ) → ℕ → Option ℕ

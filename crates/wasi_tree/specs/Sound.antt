@@ -4,7 +4,7 @@ use Rattle.std.specs.FinMap as maps
 use Rattle.std.specs.FinSet.{contains}
 use Rattle.wasi_paths.specs.Text.{is_entry_name}
 use Rattle.wasi_host.specs.Tree.{Tree, Node, node_at, next_of, names_of, text_of, is_file, is_link}
-use Rattle.wasi_host.specs.Meaning.{IsHeld}
+use Rattle.wasi_host.specs.HostLaws.{IsHeld}
 use Rattle.wasi_host.specs.Numbers.{longest_link}
 use Rattle.wasi_tree.specs.MemState.{HeldMap, live_of, held_in}
 

@@ -4,11 +4,11 @@ use Rattle.std.specs.String.{string_bytes}
 use Rattle.std.specs.FinMap as maps
 use Rattle.wasi_host.specs.Tree.{Tree, Node, Content, File, Directory, Link, Names, Nodes}
 use Rattle.wasi_host.specs.declared.limits.Limits.{Limits}
-use Rattle.wasi_names.specs.NameRows.{AllNames, names_at}
+use Rattle.wasi_tree_index.specs.NameRows.{AllNames, names_at}
 use Rattle.wasi_tree.specs.Sound.{IsSound}
-use Rattle.wasi_tree.specs.declared.row.Row.{Row}
-use Rattle.wasi_tree.specs.declared.row.RowContent.{RowContent}
-use Rattle.wasi_tree.specs.declared.row.RowContent.TheVariants as rows
+use Rattle.wasi_tree.specs.declared.inode.Row.{Row}
+use Rattle.wasi_tree.specs.declared.inode.RowContent.{RowContent}
+use Rattle.wasi_tree.specs.declared.inode.RowContent.TheVariants as rows
 
 -- what a row says of its node: all but the names of a directory
 abbrev pub stored_content : RowContent → Content

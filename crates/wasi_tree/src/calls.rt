@@ -8,7 +8,7 @@ ghost use Rattle.wasi_paths.specs.Text.{is_entry_name};
 ghost use Rattle.wasi_host.specs.Tree.{next_of, node_at};
 ghost use Rattle.wasi_host.specs.Answer.{entry_of};
 ghost use Rattle.wasi_host.specs.HostCall.{OpenAt, StatAt, ReadLinkAt, MakeDirAt, SymlinkAt, LinkAt, UnlinkAt, RemoveDirAt, TimesAt, Access, Stat, SetTimes, Pread, Pwrite, Append, SetSize, Sync, Advise, Flags, RenameAt, ListDir};
-ghost use Rattle.wasi_host.specs.Meaning.{IsHeld, hosted, answered};
+ghost use Rattle.wasi_host.specs.HostLaws.{IsHeld, hosted, answered};
 ghost use Rattle.wasi_host.specs.Refusal.{refusal, refused_with};
 ghost use Rattle.wasi_host.specs.Step.{file_cut, found_under, is_cut, times_step, with_nodes};
 ghost use Rattle.wasi_host.specs.Time.{HasTimes};
@@ -24,7 +24,7 @@ use crate::refusals::{
     access_of, list_of, node_to_link, node_to_remove, node_to_unlink, node_under, refuse_make_dir,
     refuse_open, refuse_symlink, stat_of, text_under,
 };
-use crate::row::Row;
+use crate::inode::Row;
 use std::alloc::{AllocError, Global};
 use wasi_host::{
     Advice, DirEntry, ErrorCode, Held, HostError, Metadata, OpenOptions, SyncFlags, SystemTime,

@@ -3,26 +3,26 @@ ghost use Rattle.std.specs.Prelude.{◌≡◌, ◌<◌, ◌≤◌, ℕ, true, le
 ghost use Rattle.std.specs.FinMap as maps;
 ghost use Rattle.std.specs.FinSet.{empty};
 ghost use Rattle.wasi_host.specs.Tree.{next_of, node_at, names_of, is_directory};
-ghost use Rattle.wasi_names.specs.NameRows.{names_at};
+ghost use Rattle.wasi_tree_index.specs.NameRows.{names_at};
 ghost use Rattle.wasi_tree.specs.Given.{tree_of};
 ghost use Rattle.wasi_tree.specs.ParentOf.{AreParents, parent_of};
 ghost use Rattle.wasi_tree.specs.Sound.{IsSoundNode};
 ghost use Rattle.wasi_tree.specs.StoredTree.{stored_tree, IsStored};
 ghost use Rattle.wasi_tree.specs.Viewed.{Views};
 
-use crate::fit_nodes::FitNodes;
+use crate::well_formed_nodes::FitNodes;
 use crate::looked::Looked;
 use crate::marks::Marks;
 use crate::node::{NewNode, NodeView};
 use crate::node_store::NodeStore;
 use crate::parents::Parents;
-use crate::row::Row;
+use crate::inode::Row;
 use crate::store::Store;
 use crate::way::TellsParents;
 use std::alloc::{AllocError, Global};
 use std::marker::Model;
 use wasi_host::{Bits, DirEntry, Limits, Metadata, SystemTime};
-use wasi_names::{Near, Rows, Run};
+use wasi_tree_index::{Near, Rows, Run};
 use wasi_paths::Name;
 
 /// The nodes of a tree with the parents of its directories, and which of them calls have touched. Contracts see all three.

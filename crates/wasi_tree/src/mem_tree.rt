@@ -7,21 +7,21 @@ ghost use Rattle.std.specs.Option.{option_map};
 ghost use Rattle.wasi_host.specs.Tree.{next_of, node_at, names_of};
 ghost use Rattle.wasi_host.specs.ValidTree.{AreLimits};
 ghost use Rattle.wasi_tree.specs.Given.{given, tree_of};
-ghost use Rattle.wasi_tree.specs.Fit.{AreFit, IsTreeCause};
+ghost use Rattle.wasi_tree.specs.WellFormed.{AreFit, IsTreeCause};
 ghost use Rattle.wasi_tree.specs.Changed.{changed};
 ghost use Rattle.wasi_tree.specs.Viewed.{Views};
 ghost use Rattle.wasi_tree.specs.MemState.{live_of};
 
 use crate::change::TreeChange;
 use crate::errors::TreeError;
-use crate::fit_nodes::FitNodes;
+use crate::well_formed_nodes::FitNodes;
 use crate::mem_store::MemStore;
 use crate::node::{EntryView, NewNode, NodeView};
 use crate::node_store::NodeStore;
 use crate::tree_host::TreeHost;
 use std::alloc::{AllocError, Global};
 use wasi_host::Limits;
-use wasi_names::Run;
+use wasi_tree_index::Run;
 
 /// A tree of files in memory, as a host.
 pub type MemTree = TreeHost<MemStore>;

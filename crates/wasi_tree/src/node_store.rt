@@ -23,7 +23,7 @@ ghost use Rattle.wasi_tree.specs.TouchedTree.{Touched, Grows, with_touched, with
 
 use crate::looked::Looked;
 use crate::node::NewNode;
-use crate::row::Row;
+use crate::inode::Row;
 use std::alloc::{AllocError, Global};
 use wasi_host::{Bits, DirEntry, Limits, Metadata, SystemTime};
 use wasi_paths::Name;

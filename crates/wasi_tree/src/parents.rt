@@ -5,7 +5,7 @@ ghost use Rattle.wasi_tree.specs.Given.{given};
 ghost use Rattle.wasi_tree.specs.FitTests.{entry_numbers};
 ghost use Rattle.wasi_tree.specs.ParentOf.{is_on_way, without_parent, ArePut, TellParents};
 
-use crate::fit::entries_of;
+use crate::well_formed::entries_of;
 use crate::node::{NewEntry, NewNode};
 use crate::way::{TellsParents, is_below};
 use std::alloc::{AllocError, Global};

@@ -8,22 +8,22 @@ ghost use Rattle.wasi_host.specs.Step.{file_cut, node_made, bytes_put, size_set,
 ghost use Rattle.wasi_host.specs.Answer.{metadata_of, kind_of, entry_of, listed};
 ghost use Rattle.wasi_host.specs.Numbers.{largest_file};
 ghost use Rattle.wasi_tree.specs.Given.{given, given_of, nodes_from, tree_of};
-ghost use Rattle.wasi_tree.specs.Fit.{name_counts};
+ghost use Rattle.wasi_tree.specs.WellFormed.{name_counts};
 ghost use Rattle.wasi_tree.specs.Viewed.{Views};
 ghost use Rattle.wasi_tree.specs.Sound.{NodesStay, IsSoundText};
 ghost use Rattle.std.specs.FinSet.{empty};
 ghost use Rattle.wasi_tree.specs.StoredTree.{stored_node, stored_tree, named_from, AreBelow, IsStored};
 ghost use Rattle.std.specs.FinMap as maps;
-ghost use Rattle.wasi_names.specs.NameRows.{names_at};
+ghost use Rattle.wasi_tree_index.specs.NameRows.{names_at};
 
-use crate::fit_nodes::FitNodes;
+use crate::well_formed_nodes::FitNodes;
 use crate::marks::Marks;
 use crate::node::{NewNode, NodeView};
-use crate::row::Row;
+use crate::inode::Row;
 use std::alloc::{AllocError, Global};
 use std::marker::Model;
 use wasi_host::{Bits, DirEntry, FileType, Limits, Metadata, SystemTime};
-use wasi_names::{Near, Rows, Run};
+use wasi_tree_index::{Near, Rows, Run};
 use wasi_paths::Name;
 
 /// The nodes of a tree, with the names of its directories, its limits and the nodes that steps have worked on. Contracts

@@ -5,8 +5,8 @@ ghost use Rattle.std.specs.List.Sorted.{IsStrictlySortedBy};
 ghost use Rattle.std.specs.FinSet.{contains, insert, empty, from_list};
 ghost use Rattle.wasi_host.specs.Tree.{node_at, is_directory};
 ghost use Rattle.wasi_tree.specs.Given.{given, given_of};
-ghost use Rattle.wasi_host.specs.declared.fate.Fate.TheVariants.{Passes};
-ghost use Rattle.wasi_host.specs.Meaning.{both_looked, one_looked, never_fails};
+ghost use Rattle.wasi_host.specs.declared.injected_fault.Fate.TheVariants.{Passes};
+ghost use Rattle.wasi_host.specs.HostLaws.{both_looked, one_looked, never_fails};
 ghost use Rattle.wasi_tree.specs.MemState.{live_of, held_in, world_of};
 
 use crate::calls;

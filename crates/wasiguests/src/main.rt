@@ -5,7 +5,7 @@
 use std::env;
 use std::io::ErrorKind;
 use std::process::ExitCode;
-use wasi_ends::{StdinSource, StdoutSink, words_after_name};
+use wasi_io::{StdinSource, StdoutSink, words_after_name};
 use wasi_guests::{GuestStatus, run_guest_script};
 
 // The words after the program's name; none where one of them isn't a text.

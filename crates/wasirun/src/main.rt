@@ -4,7 +4,7 @@
 use std::env;
 use std::io::ErrorKind;
 use std::process::ExitCode;
-use wasi_ends::{StdinSource, StdoutSink};
+use wasi_io::{StdinSource, StdoutSink};
 use wasi_script::{Status, run_script, words_after_name};
 
 // The words after the program's name; none where one of them isn't a text.

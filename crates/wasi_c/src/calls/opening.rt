@@ -4,9 +4,9 @@ ghost use Rattle.wasi_guest.specs.declared.call.Call.TheVariants as calls;
 ghost use Rattle.wasi_c.specs.Told.{first_at, TellsCall};
 
 use crate::handle::SandboxHandle;
-use crate::told::{call_in, first_at};
+use crate::answer::{call_in, first_at};
 use std::alloc::Global;
-use wasi_embed::Call;
+use wasi_sandbox::Call;
 
 /// Opens a path under a new descriptor.
 #[unsafe(no_mangle)]

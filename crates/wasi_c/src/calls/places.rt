@@ -4,9 +4,9 @@ ghost use Rattle.wasi_guest.specs.declared.call.Call.TheVariants as calls;
 ghost use Rattle.wasi_c.specs.Told.{first_at, nowhere, TellsCall};
 
 use crate::handle::SandboxHandle;
-use crate::told::{NOWHERE, call_in, first_at};
+use crate::answer::{NOWHERE, call_in, first_at};
 use std::alloc::Global;
-use wasi_embed::Call;
+use wasi_sandbox::Call;
 
 /// Makes a directory.
 #[unsafe(no_mangle)]

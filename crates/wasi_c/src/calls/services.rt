@@ -4,9 +4,9 @@ ghost use Rattle.wasi_guest.specs.declared.call.Call.TheVariants as calls;
 ghost use Rattle.wasi_c.specs.Told.{places_of_two, first_at, nowhere, TellsCall};
 
 use crate::handle::SandboxHandle;
-use crate::told::{NOWHERE, call_in, first_at};
+use crate::answer::{NOWHERE, call_in, first_at};
 use std::alloc::Global;
-use wasi_embed::{Call, Places};
+use wasi_sandbox::{Call, Places};
 
 /// Writes a pointer to each argument of the guest, and their texts, each with a 0 behind it.
 #[unsafe(no_mangle)]

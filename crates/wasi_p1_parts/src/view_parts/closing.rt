@@ -2,16 +2,16 @@
 ghost use Rattle.std.specs.Prelude.{◌≡◌, ◌+◌, false, IsTrue, Some};
 ghost use Rattle.std.specs.FinMap.{get};
 ghost use Rattle.wasi_fs.specs.declared.descriptor.Descriptor.{Descriptor};
-ghost use Rattle.wasi_turns.specs.CallParts.{Rests};
+ghost use Rattle.wasi_p1_model.specs.CallParts.{Rests};
 ghost use Rattle.wasi_p1_types.specs.Items.{is_closed_item, slot_in, without_item, IsOfKind};
-ghost use Rattle.wasi_turns.specs.Owners.{handle_in, without};
-ghost use Rattle.wasi_p2.specs.Drops.{Closes};
-ghost use Rattle.wasi_p2.specs.Resources.{AreOwned};
-ghost use Rattle.wasi_p2.specs.Views.{files_of};
+ghost use Rattle.wasi_p1_model.specs.Owners.{handle_in, without};
+ghost use Rattle.wasi_p2_calls.specs.Drops.{Closes};
+ghost use Rattle.wasi_p2_calls.specs.Resources.{AreOwned};
+ghost use Rattle.wasi_p2_calls.specs.Views.{files_of};
 
 use wasi_host::Host;
 use wasi_p1_types::items::Item;
-use wasi_p2::{WasiFilesystemCtx, WasiFilesystemCtxView};
+use wasi_p2_calls::{WasiFilesystemCtx, WasiFilesystemCtxView};
 use wasi_streams::{Entry, Resource, ResourceTable};
 
 /// Takes the entry of a directory or file out of the table, and closes its handle.

@@ -11,23 +11,23 @@ ghost use Rattle.wasi_p1_parts.specs.Held.{HoldsHandles};
 ghost use Rattle.wasi_p1_parts.specs.Viewed.{descriptor_under, Lowered};
 ghost use Rattle.wasi_p2_types.specs.Advices.{advice_named};
 ghost use Rattle.wasi_p2_types.specs.FsErrors.{FsCause};
-ghost use Rattle.wasi_p2.specs.Views.{files_of, AsksHost, FilesOwned, Performs};
+ghost use Rattle.wasi_p2_calls.specs.Views.{files_of, AsksHost, FilesOwned, Performs};
 ghost use Rattle.wasi_streams.specs.declared.entry.Entry.TheVariants.{Descriptor as AnOpened};
-ghost use Rattle.wasi_host.specs.Meaning.{Rose};
-ghost use Rattle.wasi_turns.specs.CallParts.{IsReplied, Makes};
-ghost use Rattle.wasi_turns.specs.CallTurn.{Causes};
-ghost use Rattle.wasi_turns.specs.Owners.{handles};
-ghost use Rattle.wasi_turns.specs.Request.{Direct};
-ghost use Rattle.wasi_turns.specs.Row.{give};
+ghost use Rattle.wasi_host.specs.HostLaws.{Rose};
+ghost use Rattle.wasi_p1_model.specs.CallParts.{IsReplied, Makes};
+ghost use Rattle.wasi_p1_model.specs.CallTurn.{Causes};
+ghost use Rattle.wasi_p1_model.specs.Owners.{handles};
+ghost use Rattle.wasi_p1_model.specs.Request.{Direct};
+ghost use Rattle.wasi_p1_model.specs.Row.{give};
 
 use crate::descriptors::Descriptors;
 use crate::view_parts::{raised, resource_under};
 use wasi_fs::{Descriptor, File};
 use wasi_host::Host;
-use wasi_p2::types::Advice;
-use wasi_p2::{FsResult, WasiFilesystemCtx, WasiFilesystemCtxView};
+use wasi_p2_calls::types::Advice;
+use wasi_p2_calls::{FsResult, WasiFilesystemCtx, WasiFilesystemCtxView};
 use wasi_streams::Resource;
-use wasi_turns::P1Error;
+use wasi_p1_model::P1Error;
 
 /// A call of a view about a file, which looks up no name of one.
 pub trait FileCall<H: Host> {

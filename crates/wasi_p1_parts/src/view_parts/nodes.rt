@@ -5,18 +5,18 @@ ghost use Rattle.wasi_fs.specs.DescriptorStat.{descriptor_stat, IsStat};
 ghost use Rattle.wasi_fs.specs.MetadataHash.{metadata_hash, IsHash};
 ghost use Rattle.wasi_fs.specs.OpenFlags.{descriptor_flag_bits};
 ghost use Rattle.wasi_fs.specs.declared.perms.Act.TheVariants.{Alter};
-ghost use Rattle.wasi_turns.specs.SinceEpoch.{AreSinceEpoch};
+ghost use Rattle.wasi_p1_model.specs.SinceEpoch.{AreSinceEpoch};
 ghost use Rattle.wasi_p2_types.specs.FlagNames.{descriptor_flags_told};
 ghost use Rattle.wasi_p2_types.specs.Stats.{hash_named, stat_named, type_named};
-ghost use Rattle.wasi_p2.specs.Views.{Performs};
+ghost use Rattle.wasi_p2_calls.specs.Views.{Performs};
 
 use crate::view_parts::NodeCall;
 use wasi_host::Host;
 use wasi_p1_types::new_times::timestamp_of;
-use wasi_p2::types::{DescriptorFlags, DescriptorStat, DescriptorType, MetadataHashValue};
-use wasi_p2::{FsResult, WasiFilesystemCtxView};
+use wasi_p2_calls::types::{DescriptorFlags, DescriptorStat, DescriptorType, MetadataHashValue};
+use wasi_p2_calls::{FsResult, WasiFilesystemCtxView};
 use wasi_streams::Resource;
-use wasi_turns::NewTimes;
+use wasi_p1_model::NewTimes;
 
 /// Sets the times of a node, of which none may be before the epoch.
 #[derive(Clone, Copy)]

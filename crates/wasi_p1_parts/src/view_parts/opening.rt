@@ -3,21 +3,21 @@ ghost use Rattle.std.specs.Prelude.{◌≡◌, ◌<◌, ◌≤◌, ◌+◌, Some
 ghost use Rattle.std.specs.FinMap.{get, len};
 ghost use Rattle.wasi_fs.specs.declared.descriptor.Descriptor.{Descriptor as Opened};
 ghost use Rattle.wasi_p1_types.specs.Items.{resource_in, slot_in, Admitted, IsOfKind};
-ghost use Rattle.wasi_turns.specs.Slots.{slot_of};
+ghost use Rattle.wasi_p1_model.specs.Slots.{slot_of};
 ghost use Rattle.wasi_p1_parts.specs.Viewed.{Opens};
 ghost use Rattle.wasi_p2_types.specs.FsErrors.{FsCause};
 ghost use Rattle.wasi_p2_types.specs.FlagNames.{how_named};
-ghost use Rattle.wasi_p2.specs.Opens.{OpensAt};
-ghost use Rattle.wasi_p2.specs.Resources.{AreOwned};
-ghost use Rattle.wasi_p2.specs.Views.{files_of};
+ghost use Rattle.wasi_p2_calls.specs.Opens.{OpensAt};
+ghost use Rattle.wasi_p2_calls.specs.Resources.{AreOwned};
+ghost use Rattle.wasi_p2_calls.specs.Views.{files_of};
 
 use wasi_fs::{Descriptor, Dir};
 use wasi_host::Host;
 use wasi_p1_types::items::Item;
 use wasi_p1_types::open_with::OpenWith;
-use wasi_p2::{FsResult, WasiFilesystemCtx, WasiFilesystemCtxView};
+use wasi_p2_calls::{FsResult, WasiFilesystemCtx, WasiFilesystemCtxView};
 use wasi_streams::{Entry, Resource, ResourceTable};
-use wasi_turns::FileModes;
+use wasi_p1_model::FileModes;
 
 /// Opens a path below the directory of a resource.
 fn open_at<H: Host>(

@@ -5,21 +5,21 @@ ghost use Rattle.wasi_fs.specs.Calls.{looks, may_do, may_link, meant_as, sets_ti
 ghost use Rattle.wasi_fs.specs.DescriptorStat.{descriptor_stat, IsStat};
 ghost use Rattle.wasi_fs.specs.MetadataHash.{metadata_hash, IsHash};
 ghost use Rattle.wasi_fs.specs.declared.perms.Act.TheVariants.{Make, Alter};
-ghost use Rattle.wasi_turns.specs.SinceEpoch.{AreSinceEpoch};
+ghost use Rattle.wasi_p1_model.specs.SinceEpoch.{AreSinceEpoch};
 ghost use Rattle.wasi_p2_types.specs.FlagNames.{path_flags_named};
-ghost use Rattle.wasi_p2.specs.Places.{IsReadText};
+ghost use Rattle.wasi_p2_calls.specs.Places.{IsReadText};
 ghost use Rattle.wasi_p2_types.specs.Stats.{hash_named, stat_named};
-ghost use Rattle.wasi_p2.specs.Views.{Performs};
-ghost use Rattle.wasi_resolve.specs.AtPlace.{CreateDir, ReadLink, RemoveDir, RemoveFile, Symlink};
+ghost use Rattle.wasi_p2_calls.specs.Views.{Performs};
+ghost use Rattle.wasi_resolve.specs.EntryOps.{CreateDir, ReadLink, RemoveDir, RemoveFile, Symlink};
 ghost use Rattle.wasi_resolve.specs.PathRequest.{AtPlace, meant_by};
 
 use crate::view_parts::PlaceCall;
 use wasi_host::Host;
 use wasi_p1_types::new_times::timestamp_of;
-use wasi_p2::types::{DescriptorStat, MetadataHashValue, PathFlags};
-use wasi_p2::{FsResult, WasiFilesystemCtxView};
+use wasi_p2_calls::types::{DescriptorStat, MetadataHashValue, PathFlags};
+use wasi_p2_calls::{FsResult, WasiFilesystemCtxView};
 use wasi_streams::Resource;
-use wasi_turns::NewTimes;
+use wasi_p1_model::NewTimes;
 
 /// Makes an empty directory.
 #[derive(Clone, Copy)]

@@ -6,21 +6,21 @@ ghost use Rattle.wasi_fs.specs.declared.descriptor.Dir.{Dir as Directory};
 ghost use Rattle.wasi_host.specs.Lineage.{Traced, OneOf, Nothing};
 ghost use Rattle.wasi_host.specs.declared.errors.HostError.{HostError};
 ghost use Rattle.wasi_p1_parts.specs.Held.{HoldsHandles};
-ghost use Rattle.wasi_turns.specs.Owners.{handles};
+ghost use Rattle.wasi_p1_model.specs.Owners.{handles};
 ghost use Rattle.wasi_p1_parts.specs.Viewed.{descriptor_under, Lowered};
 ghost use Rattle.wasi_p2_types.specs.FlagNames.{path_flags_named};
 ghost use Rattle.wasi_p2_types.specs.FsErrors.{FsCause};
-ghost use Rattle.wasi_p2.specs.Resources.{both_found, directory_at};
-ghost use Rattle.wasi_p2.specs.Views.{files_of, CallsOn, FilesOwned, LooksFromBoth, Performs};
-ghost use Rattle.wasi_resolve.specs.AtTwo.{HardLink, Rename};
+ghost use Rattle.wasi_p2_calls.specs.Resources.{both_found, directory_at};
+ghost use Rattle.wasi_p2_calls.specs.Views.{files_of, CallsOn, FilesOwned, LooksFromBoth, Performs};
+ghost use Rattle.wasi_resolve.specs.TwoPathOps.{HardLink, Rename};
 ghost use Rattle.wasi_resolve.specs.PathRequest.{AtTwo, meant_by};
 
 use crate::descriptors::Descriptors;
 use crate::view_parts::resource_under;
 use wasi_fs::{Descriptor, Dir};
 use wasi_host::Host;
-use wasi_p2::types::PathFlags;
-use wasi_p2::{FsResult, WasiFilesystemCtx, WasiFilesystemCtxView};
+use wasi_p2_calls::types::PathFlags;
+use wasi_p2_calls::{FsResult, WasiFilesystemCtx, WasiFilesystemCtxView};
 use wasi_streams::Resource;
 
 /// A call of a view at a path below one directory and at a path below another, which may be the same one.

@@ -1,5 +1,5 @@
 use Rattle.wasi_c.specs.Told.{started_over, not_started_over}
-use Rattle.wasi_embed.specs.declared.error.StartError.TheVariants as starts
+use Rattle.wasi_sandbox.specs.declared.error.StartError.TheVariants as starts
 use Rattle.wasi_c.proofs.life.wasi_c_start_over.Goals as goal
 
 pub returns-in-Err-clause-told : goal.returns-in-Err-clause-told

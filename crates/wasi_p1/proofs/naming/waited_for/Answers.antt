@@ -1,7 +1,7 @@
 use Rattle.std.proofs.Common.{◌+◌, ◌*◌, ◌++◌, ◌≡◌, refl, arith}
 use Rattle.std.proofs.lemmas.List.{append-nil}
 use Rattle.wasi_guest.specs.Subscription.{subscription_in}
-use Rattle.wasi_turns.specs.Subscriptions.{named_in}
+use Rattle.wasi_p1_model.specs.Subscriptions.{named_in}
 use Rattle.wasi_p1.proofs.Subscribed.{one_named, all_named}
 use Rattle.wasi_p1.proofs.naming.waited_for.Goals.{in-Some+in_ok-push, in_default}
 use Rattle.wasi_p1.proofs.naming.waited_for.Goals as goal

@@ -1,7 +1,7 @@
-use Rattle.wasi_turns.proofs.Apart.{turn_appends}
-use Rattle.wasi_turns.proofs.ErrorNumbers.{turn_errnos}
-use Rattle.wasi_turns.proofs.Permitting.{turn_adds}
-use Rattle.wasi_turns.proofs.Unchanged.{leaves_all}
+use Rattle.wasi_p1_model.proofs.Apart.{turn_appends}
+use Rattle.wasi_p1_model.proofs.ErrorNumbers.{turn_errnos}
+use Rattle.wasi_p1_model.proofs.Permitting.{turn_adds}
+use Rattle.wasi_p1_model.proofs.Unchanged.{leaves_all}
 use Rattle.wasi_p1.proofs.Spending.{turn_writes}
 use Rattle.wasi_p1.proofs.run.call.Goals as goal
 

@@ -2,18 +2,18 @@ use Rattle.std.proofs.Common.{map, ◌∙◌, inl, arith, sym, refl, length, dro
 use Rattle.std.proofs.lemmas.List.{take_all, take_more, length-map}
 use Rattle.std.proofs.lemmas.List.Elements.{Contains-get_or}
 use Rattle.std.proofs.lemmas.Option.{slice_get-get_or}
-use Rattle.wasi_turns.specs.Front.{with_fuel}
+use Rattle.wasi_p1_model.specs.Front.{with_fuel}
 use Rattle.wasi_guest.specs.declared.call.Call.TheVariants.{ArgsGet}
 use Rattle.wasi_host.proofs.Tracing.{traced_none}
-use Rattle.wasi_turns.proofs.CallTracing.{traced_on}
-use Rattle.wasi_turns.proofs.InReach.{did_same}
-use Rattle.wasi_turns.proofs.InTurn.{none_done, done, done_on, done_last, none_until, done_until, all_calls, stay_on}
-use Rattle.wasi_turns.proofs.Runs.{nothing_yet, io_counted, turned_on, stood, stood_first, ended, all_done, wanted_memory, may_want_at, call_at, calls_at}
-use Rattle.wasi_turns.proofs.RunAnswers.{goes_on-push, each_answered, last_answered}
-use Rattle.wasi_turns.proofs.Confining.{turn_confines}
-use Rattle.wasi_turns.proofs.ErrorNumbers.{did_errnos}
-use Rattle.wasi_turns.proofs.Staying.{all_stay}
-use Rattle.wasi_turns.proofs.Validity.{turn_valid}
+use Rattle.wasi_p1_model.proofs.CallTracing.{traced_on}
+use Rattle.wasi_p1_model.proofs.InReach.{did_same}
+use Rattle.wasi_p1_model.proofs.InTurn.{none_done, done, done_on, done_last, none_until, done_until, all_calls, stay_on}
+use Rattle.wasi_p1_model.proofs.Runs.{nothing_yet, io_counted, turned_on, stood, stood_first, ended, all_done, wanted_memory, may_want_at, call_at, calls_at}
+use Rattle.wasi_p1_model.proofs.RunAnswers.{goes_on-push, each_answered, last_answered}
+use Rattle.wasi_p1_model.proofs.Confining.{turn_confines}
+use Rattle.wasi_p1_model.proofs.ErrorNumbers.{did_errnos}
+use Rattle.wasi_p1_model.proofs.Staying.{all_stay}
+use Rattle.wasi_p1_model.proofs.Validity.{turn_valid}
 use Rattle.wasi_p1.proofs.Spending.{did_keep, stood_keep}
 use Rattle.wasi_p1.proofs.run.run_calls.Goals as goal
 

@@ -1,15 +1,15 @@
-use Rattle.wasi_turns.specs.Front.{with_fuel}
+use Rattle.wasi_p1_model.specs.Front.{with_fuel}
 use Rattle.std.proofs.Common.{map, take, length, ◌+◌, ◌≤◌, ◌≡◌}
 use Rattle.std.specs.Prelude.{IsTrue}
-use Rattle.wasi_turns.specs.Guest.{State, state_of}
-use Rattle.wasi_turns.specs.Reach.{Confined, StaysTouched}
-use Rattle.wasi_turns.specs.Run.{ios, Allows, GoOn}
-use Rattle.wasi_turns.specs.CallTurn.{OthersStay}
-use Rattle.wasi_turns.specs.InTurn.{SlotsOfRun}
-use Rattle.wasi_turns.specs.Owners.{RunTraced}
-use Rattle.wasi_turns.specs.Validity.{IsValidState}
-use Rattle.wasi_turns.proofs.Runs.{SoFar}
-use Rattle.wasi_turns.proofs.InTurn.{DoneSoFar}
+use Rattle.wasi_p1_model.specs.Guest.{State, state_of}
+use Rattle.wasi_p1_model.specs.Reach.{Confined, StaysTouched}
+use Rattle.wasi_p1_model.specs.Run.{ios, Allows, GoOn}
+use Rattle.wasi_p1_model.specs.CallTurn.{OthersStay}
+use Rattle.wasi_p1_model.specs.InTurn.{SlotsOfRun}
+use Rattle.wasi_p1_model.specs.Owners.{RunTraced}
+use Rattle.wasi_p1_model.specs.Validity.{IsValidState}
+use Rattle.wasi_p1_model.proofs.Runs.{SoFar}
+use Rattle.wasi_p1_model.proofs.InTurn.{DoneSoFar}
 use Rattle.wasi_p1.proofs.run.run_calls.Given as goal
 
 abbrev pub invariant-loop-one : goal.invariant-loop-one

@@ -1,8 +1,8 @@
 use Rattle.std.proofs.lemmas.Option.{get_or_from_slice_get}
-use Rattle.wasi_turns.specs.declared.slots.Slot.TheVariants.{Closed}
-use Rattle.wasi_turns.proofs.Owning.{owns_closed}
-use Rattle.wasi_turns.proofs.CallTracing.{traced_closed}
-use Rattle.wasi_turns.proofs.GuestSlots.{closed_stays}
+use Rattle.wasi_p1_model.specs.declared.slots.Slot.TheVariants.{Closed}
+use Rattle.wasi_p1_model.proofs.Owning.{owns_closed}
+use Rattle.wasi_p1_model.proofs.CallTracing.{traced_closed}
+use Rattle.wasi_p1_model.proofs.GuestSlots.{closed_stays}
 use Rattle.wasi_p1_parts.proofs.call_parts.close_slot.Goals as goal
 
 pub returns-clause-owns : goal.returns-clause-owns

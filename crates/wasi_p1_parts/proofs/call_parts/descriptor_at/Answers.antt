@@ -1,7 +1,7 @@
 use Rattle.std.proofs.Common.{Some, ap, sym, ◌∙◌}
-use Rattle.wasi_turns.specs.Owners.{handle_in}
-use Rattle.wasi_turns.proofs.Counting.{handle_at}
-use Rattle.wasi_turns.proofs.Owning.{owned_live}
+use Rattle.wasi_p1_model.specs.Owners.{handle_in}
+use Rattle.wasi_p1_model.proofs.Counting.{handle_at}
+use Rattle.wasi_p1_model.proofs.Owning.{owned_live}
 use Rattle.wasi_p1_parts.proofs.call_parts.descriptor_at.Goals as goal
 
 pub returns-in-Directory-clause-live : goal.returns-in-Directory-clause-live

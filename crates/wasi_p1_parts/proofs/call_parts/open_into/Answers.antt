@@ -1,13 +1,13 @@
 use Rattle.std.proofs.Common.{inl, refl, ap, Err}
 use Rattle.wasi_fs.specs.Calls.{opened_of}
-use Rattle.wasi_turns.proofs.Below.{refused_by}
-use Rattle.wasi_turns.proofs.CallTracing.{traced_new, traced_refused}
-use Rattle.wasi_turns.proofs.OpeningInto.{got_slot, opened_asked, unopened_stays}
+use Rattle.wasi_p1_model.proofs.Below.{refused_by}
+use Rattle.wasi_p1_model.proofs.CallTracing.{traced_new, traced_refused}
+use Rattle.wasi_p1_model.proofs.OpeningInto.{got_slot, opened_asked, unopened_stays}
 use Rattle.wasi_p1_parts.proofs.OpeningThrough.{open_refusal}
-use Rattle.wasi_turns.proofs.Owning.{owns_new}
-use Rattle.wasi_turns.proofs.GuestSlots.{opened_numbered, guest_slots_stay}
-use Rattle.wasi_turns.proofs.Resolving.{resolved_ok, resolved_err}
-use Rattle.wasi_turns.proofs.Staying.{new_stays}
+use Rattle.wasi_p1_model.proofs.Owning.{owns_new}
+use Rattle.wasi_p1_model.proofs.GuestSlots.{opened_numbered, guest_slots_stay}
+use Rattle.wasi_p1_model.proofs.Resolving.{resolved_ok, resolved_err}
+use Rattle.wasi_p1_model.proofs.Staying.{new_stays}
 use Rattle.wasi_p1_parts.proofs.Viewing.{refusal_is}
 use Rattle.wasi_p1_parts.proofs.call_parts.open_into.Goals as goal
 

@@ -1,4 +1,4 @@
-use Rattle.wasi_turns.proofs.Owning.{put_file}
+use Rattle.wasi_p1_model.proofs.Owning.{put_file}
 use Rattle.wasi_p1_parts.proofs.call_parts.put_back.Goals as goal
 
 pub returns-clause-handles : goal.returns-clause-handles

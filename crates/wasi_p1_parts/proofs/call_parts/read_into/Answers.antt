@@ -3,7 +3,7 @@ use Rattle.std.proofs.lemmas.Grind.{common_steps}
 use Rattle.std.proofs.lemmas.Result.{err_from_is_err_and}
 use Rattle.wasi_guest.proofs.Ranges.{length_part, part_same, part_written}
 use Rattle.wasi_host.specs.declared.errors.HostError.TheVariants.{Code}
-use Rattle.wasi_turns.proofs.Reading.{read_ok, read_err, read_front}
+use Rattle.wasi_p1_model.proofs.Reading.{read_ok, read_err, read_front}
 use Rattle.wasi_p1_parts.proofs.call_parts.read_into.Goals as goal
 
 pub returns-in_err-count-clause-front : goal.returns-in_err-count-clause-front

@@ -1,7 +1,7 @@
 use Rattle.std.proofs.Common.{sym}
 use Rattle.std.proofs.lemmas.Option.{get_or_from_slice_get, slice_get_within}
-use Rattle.wasi_turns.specs.declared.slots.Slot.TheVariants.{Closed}
-use Rattle.wasi_turns.proofs.Renumbering.{are_two, renumbered_itself, owns_renumbered, traced_renumbered, renumbered_stays}
+use Rattle.wasi_p1_model.specs.declared.slots.Slot.TheVariants.{Closed}
+use Rattle.wasi_p1_model.proofs.Renumbering.{are_two, renumbered_itself, owns_renumbered, traced_renumbered, renumbered_stays}
 use Rattle.wasi_p1_parts.proofs.call_parts.renumber_slot.Goals as goal
 
 pub returns-then-from-to-clause-slots : goal.returns-then-from-to-clause-slots

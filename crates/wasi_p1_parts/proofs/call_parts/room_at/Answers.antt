@@ -1,6 +1,6 @@
 use Rattle.std.proofs.Common.{refl, sym, ◌∙◌}
-use Rattle.wasi_turns.specs.Parts.{room_for}
-use Rattle.wasi_turns.proofs.GuestSlots.{live_guests}
+use Rattle.wasi_p1_model.specs.Parts.{room_for}
+use Rattle.wasi_p1_model.proofs.GuestSlots.{live_guests}
 use Rattle.wasi_p1_parts.proofs.call_parts.room_at.Goals as goal
 
 pub returns-then-not-fits-clause-row : goal.returns-then-not-fits-clause-row

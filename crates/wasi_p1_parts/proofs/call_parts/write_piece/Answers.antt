@@ -2,7 +2,7 @@ use Rattle.std.proofs.Common.{inl, refl}
 use Rattle.std.proofs.lemmas.Result.{err_from_is_err_and}
 use Rattle.wasi_host.specs.declared.errors.ErrorCode.TheVariants.{Io}
 use Rattle.wasi_host.specs.declared.errors.HostError.TheVariants.{Code}
-use Rattle.wasi_turns.proofs.Reading.{told_ok, told_err}
+use Rattle.wasi_p1_model.proofs.Reading.{told_ok, told_err}
 use Rattle.wasi_p1_parts.proofs.call_parts.write_piece.Goals as goal
 
 pub returns-in_err-count-clause-told : goal.returns-in_err-count-clause-told

@@ -1,6 +1,6 @@
 use Rattle.std.proofs.Common.{ap, sym, ◌∙◌}
-use Rattle.wasi_turns.specs.Owners.{handle_in}
-use Rattle.wasi_turns.proofs.Owning.{owned_live}
+use Rattle.wasi_p1_model.specs.Owners.{handle_in}
+use Rattle.wasi_p1_model.proofs.Owning.{owned_live}
 use Rattle.wasi_p1_parts.proofs.file_parts.file_at.Goals as goal
 
 pub returns-in-File-clause-live : goal.returns-in-File-clause-live

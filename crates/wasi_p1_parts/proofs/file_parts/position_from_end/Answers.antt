@@ -2,7 +2,7 @@ use Rattle.std.proofs.Common.{inl, inr, sym}
 use Rattle.std.proofs.lemmas.Int.{to_z-of_z}
 use Rattle.std.proofs.lemmas.Result.{err_from_is_err_and}
 use Rattle.wasi_host.specs.declared.errors.HostError.TheVariants.{Code}
-use Rattle.wasi_turns.proofs.Reading.{told_ok, told_err, told_refused}
+use Rattle.wasi_p1_model.proofs.Reading.{told_ok, told_err, told_refused}
 use Rattle.wasi_p1_parts.proofs.file_parts.position_from_end.Goals as goal
 
 pub returns-in_err-metadata-clause-front : goal.returns-in_err-metadata-clause-front

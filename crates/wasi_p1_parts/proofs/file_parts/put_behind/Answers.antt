@@ -1,7 +1,7 @@
 use Rattle.std.proofs.Common.{◌≡◌, inl, arith, refl}
 use Rattle.std.proofs.lemmas.Result.{err_from_is_err_and}
 use Rattle.wasi_host.specs.declared.errors.HostError.TheVariants.{Code}
-use Rattle.wasi_turns.proofs.Appending.{behind_err, behind_ok, behind_unseen}
+use Rattle.wasi_p1_model.proofs.Appending.{behind_err, behind_ok, behind_unseen}
 use Rattle.wasi_p1_parts.proofs.file_parts.put_behind.Goals as goal
 
 pub returns-in_err-count-clause-told : goal.returns-in_err-count-clause-told

@@ -1,7 +1,7 @@
 use Rattle.std.proofs.Common.{ℕ, ◌+◌, ◌≡◌, inl, inr, Err, Ok, refl}
 use Rattle.std.proofs.lemmas.Result.{err_from_is_err_and}
-use Rattle.wasi_turns.specs.declared.usage.Put.{Put}
-use Rattle.wasi_turns.proofs.Reading.{makes_made}
+use Rattle.wasi_p1_model.specs.declared.usage.Put.{Put}
+use Rattle.wasi_p1_model.proofs.Reading.{makes_made}
 use Rattle.wasi_p1_parts.proofs.file_parts.put_next.Goals as goal
 
 pub returns-then-modes-clause-front : goal.returns-then-modes-clause-front

@@ -1,6 +1,6 @@
 use Rattle.std.proofs.Common.{Err, Ok, inl, refl, ap, sym}
 use Rattle.wasi_fs.specs.declared.descriptor.Descriptor.TheVariants.{Dir}
-use Rattle.wasi_turns.proofs.LookingAt.{flags_err, flags_ok}
+use Rattle.wasi_p1_model.proofs.LookingAt.{flags_err, flags_ok}
 use Rattle.wasi_p1_parts.proofs.ViewedStats.{look_refused}
 use Rattle.wasi_p1_parts.proofs.Viewing.{lowered_err, lowered_shown}
 use Rattle.wasi_p1_parts.proofs.look_parts.dir_fdstat.Goals as goal

@@ -1,9 +1,9 @@
 use Rattle.std.proofs.Common.{Ok}
 use Rattle.wasi_fs.specs.DescriptorStat.{descriptor_stat}
 use Rattle.wasi_fs.specs.MetadataHash.{metadata_hash}
-use Rattle.wasi_turns.specs.Filestats.{stat_both}
-use Rattle.wasi_turns.proofs.LookingAt.{both_seen, seen_looks, seen_through, unseen}
-use Rattle.wasi_turns.proofs.Stating.{stated}
+use Rattle.wasi_p1_model.specs.Filestats.{stat_both}
+use Rattle.wasi_p1_model.proofs.LookingAt.{both_seen, seen_looks, seen_through, unseen}
+use Rattle.wasi_p1_model.proofs.Stating.{stated}
 use Rattle.wasi_p1_parts.proofs.Viewing.{lowered_again, lowered_err, lowered_shown, stands_live}
 use Rattle.wasi_p1_parts.proofs.look_parts.looked_at.Goals as goal
 

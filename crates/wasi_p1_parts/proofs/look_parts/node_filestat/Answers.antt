@@ -1,8 +1,8 @@
 use Rattle.std.proofs.Common.{Err, inl, inr, refl, ap}
 use Rattle.std.proofs.lemmas.Result.{err_from_is_err_and}
-use Rattle.wasi_turns.specs.Filestats.{stat_both}
-use Rattle.wasi_turns.proofs.LookingAt.{seen_err, seen_ok}
-use Rattle.wasi_turns.proofs.Stating.{stated_again, stated_reply}
+use Rattle.wasi_p1_model.specs.Filestats.{stat_both}
+use Rattle.wasi_p1_model.proofs.LookingAt.{seen_err, seen_ok}
+use Rattle.wasi_p1_model.proofs.Stating.{stated_again, stated_reply}
 use Rattle.wasi_p1_parts.proofs.ViewedStats.{look_refused, shown_row}
 use Rattle.wasi_p1_parts.proofs.Viewing.{lowered_err, lowered_shown}
 use Rattle.wasi_p1_parts.proofs.look_parts.node_filestat.Goals as goal

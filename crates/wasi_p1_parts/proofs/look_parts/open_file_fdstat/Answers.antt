@@ -2,9 +2,9 @@ use Rattle.std.proofs.Common.{Err, Ok, inl, refl, ap, sym, ◌∙◌, arith}
 use Rattle.wasi_fs.specs.DescriptorStat.{descriptor_type}
 use Rattle.wasi_fs.specs.declared.descriptor.Descriptor.TheVariants.{File}
 use Rattle.wasi_host.specs.declared.metadata.Metadata.{Metadata}
-use Rattle.wasi_turns.specs.Fdstats.{file_fdstat}
-use Rattle.wasi_turns.specs.Row.{give}
-use Rattle.wasi_turns.proofs.LookingAt.{flags_looks, seen_err, seen_ok, seen_through, typed_reply, unflagged}
+use Rattle.wasi_p1_model.specs.Fdstats.{file_fdstat}
+use Rattle.wasi_p1_model.specs.Row.{give}
+use Rattle.wasi_p1_model.proofs.LookingAt.{flags_looks, seen_err, seen_ok, seen_through, typed_reply, unflagged}
 use Rattle.wasi_p1_parts.proofs.ViewedStats.{look_refused, told_fdstat}
 use Rattle.wasi_p1_parts.proofs.Viewing.{lowered_err, lowered_shown, stands_live}
 use Rattle.wasi_p1_parts.proofs.look_parts.open_file_fdstat.Goals as goal

@@ -2,8 +2,8 @@ use Rattle.std.proofs.Common.{◌≡◌, true, arith, inr, length-append, refl}
 use Rattle.std.specs.FinSet.{contains}
 use Rattle.std.proofs.lemmas.List.Elements.{All-nil, All-push}
 use Rattle.std.proofs.lemmas.Result.{err_from_is_err_and}
-use Rattle.wasi_turns.specs.Polling.{OfReading}
-use Rattle.wasi_turns.proofs.Judging.{none_kept, one_kept, all_kept, first_refused}
+use Rattle.wasi_p1_model.specs.Polling.{OfReading}
+use Rattle.wasi_p1_model.proofs.Judging.{none_kept, one_kept, all_kept, first_refused}
 use Rattle.wasi_p1_parts.proofs.poll_parts.all_waited.Goals as goal
 
 pub loop-i-init : goal.loop-i-init

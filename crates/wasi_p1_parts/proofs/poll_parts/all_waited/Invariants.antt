@@ -1,9 +1,9 @@
 use Rattle.std.proofs.Common.{true, length, ◌+◌, ◌*◌, ◌^◌, ◌<◌, ◌≡◌}
 use Rattle.std.specs.Prelude.{All}
 use Rattle.std.specs.FinSet.{contains}
-use Rattle.wasi_turns.specs.Guest.{guest_slots}
-use Rattle.wasi_turns.specs.Polling.{OfReading, all_waited}
-use Rattle.wasi_turns.proofs.Judging.{Left, kept_with}
+use Rattle.wasi_p1_model.specs.Guest.{guest_slots}
+use Rattle.wasi_p1_model.specs.Polling.{OfReading, all_waited}
+use Rattle.wasi_p1_model.proofs.Judging.{Left, kept_with}
 use Rattle.wasi_p1_parts.proofs.poll_parts.all_waited.Given as goal
 
 -- with what is left they are all

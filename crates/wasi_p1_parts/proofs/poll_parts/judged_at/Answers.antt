@@ -1,6 +1,6 @@
 use Rattle.std.proofs.Common.{arith}
 use Rattle.std.proofs.lemmas.Result.{err_from_is_err_and}
-use Rattle.wasi_turns.proofs.Judging.{none_judged, one_judged, all_judged, first_refused}
+use Rattle.wasi_p1_model.proofs.Judging.{none_judged, one_judged, all_judged, first_refused}
 use Rattle.wasi_p1_parts.proofs.poll_parts.judged_at.Goals as goal
 
 pub loop-i-init : goal.loop-i-init

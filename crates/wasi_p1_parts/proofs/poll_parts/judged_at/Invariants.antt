@@ -1,7 +1,7 @@
 use Rattle.std.proofs.Common.{◌+◌, ◌-◌, ◌*◌, ◌^◌, ◌<◌, ◌≤◌}
-use Rattle.wasi_turns.specs.Guest.{guest_slots}
-use Rattle.wasi_turns.specs.Polling.{judged_in, judged_with}
-use Rattle.wasi_turns.proofs.Judging.{Left}
+use Rattle.wasi_p1_model.specs.Guest.{guest_slots}
+use Rattle.wasi_p1_model.specs.Polling.{judged_in, judged_with}
+use Rattle.wasi_p1_model.proofs.Judging.{Left}
 use Rattle.wasi_p1_parts.proofs.poll_parts.judged_at.Given as goal
 
 -- with what is left it is what all come to

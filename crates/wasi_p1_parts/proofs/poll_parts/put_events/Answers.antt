@@ -1,5 +1,5 @@
 use Rattle.std.proofs.Common.{◌+◌}
-use Rattle.wasi_turns.proofs.Telling.{one_put, all_counted, all_put}
+use Rattle.wasi_p1_model.proofs.Telling.{one_put, all_counted, all_put}
 use Rattle.wasi_p1_parts.proofs.poll_parts.put_events.Goals as goal
 
 pub loop-item-preserved : goal.loop-item-preserved

@@ -1,4 +1,4 @@
-use Rattle.wasi_turns.proofs.Telling.{Put}
+use Rattle.wasi_p1_model.proofs.Telling.{Put}
 use Rattle.wasi_p1_parts.proofs.poll_parts.put_events.Given as goal
 
 -- what was written so far, and what is left

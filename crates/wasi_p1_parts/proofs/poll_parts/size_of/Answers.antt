@@ -1,6 +1,6 @@
 use Rattle.std.proofs.lemmas.Result.{err_from_is_err_and}
 use Rattle.wasi_host.specs.declared.errors.HostError.TheVariants.{Code}
-use Rattle.wasi_turns.proofs.Sizing.{size_ok, size_err}
+use Rattle.wasi_p1_model.proofs.Sizing.{size_ok, size_err}
 use Rattle.wasi_p1_parts.proofs.poll_parts.size_of.Goals as goal
 
 pub returns-in_err-metadata-in-FileToRead-clause-from : goal.returns-in_err-metadata-in-FileToRead-clause-from

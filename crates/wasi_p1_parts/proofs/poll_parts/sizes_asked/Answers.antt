@@ -1,5 +1,5 @@
 use Rattle.std.proofs.Common.{arith}
-use Rattle.wasi_turns.proofs.Telling.{sizes_more, sizes_none}
+use Rattle.wasi_p1_model.proofs.Telling.{sizes_more, sizes_none}
 use Rattle.wasi_p1_parts.proofs.poll_parts.sizes_asked.Goals as goal
 
 pub loop-item-preserved : goal.loop-item-preserved

@@ -1,5 +1,5 @@
 use Rattle.std.proofs.Common.{◌≡◌, ◌≤◌, ◌+◌, length, drop}
-use Rattle.wasi_turns.specs.Polling.{nodes_read}
+use Rattle.wasi_p1_model.specs.Polling.{nodes_read}
 use Rattle.wasi_p1_parts.proofs.poll_parts.sizes_asked.Given as goal
 
 -- those so far, with those that are left

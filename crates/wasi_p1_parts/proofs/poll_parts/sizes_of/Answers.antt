@@ -1,7 +1,7 @@
 use Rattle.std.proofs.Common.{◌∙◌, inl, refl, arith}
 use Rattle.std.proofs.lemmas.Result.{err_from_is_err_and}
 use Rattle.wasi_host.specs.declared.errors.HostError.TheVariants.{Memory}
-use Rattle.wasi_turns.proofs.Sizing.{none_sized, one_sized_more, one_unsized, all_sized, makes_none}
+use Rattle.wasi_p1_model.proofs.Sizing.{none_sized, one_sized_more, one_unsized, all_sized, makes_none}
 use Rattle.wasi_p1_parts.proofs.poll_parts.sizes_of.Goals as goal
 
 pub loop-item-init : goal.loop-item-init

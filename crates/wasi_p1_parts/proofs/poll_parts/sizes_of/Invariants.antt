@@ -1,6 +1,6 @@
 use Rattle.std.proofs.Common.{◌≡◌, ◌≤◌}
 use Rattle.std.specs.Prelude.{IsTrue}
-use Rattle.wasi_turns.proofs.Sizing.{SizedSo}
+use Rattle.wasi_p1_model.proofs.Sizing.{SizedSo}
 use Rattle.wasi_p1_parts.proofs.poll_parts.sizes_of.Given as goal
 
 -- the sizes so far, with those that are left

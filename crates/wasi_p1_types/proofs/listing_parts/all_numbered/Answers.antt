@@ -7,8 +7,8 @@ use Rattle.std.proofs.lemmas.Result.{err_from_is_err_and}
 use Rattle.wasi_host.specs.Answer.{entry_of}
 use Rattle.wasi_host.specs.declared.dir_entry.DirEntry.{DirEntry}
 use Rattle.wasi_host.proofs.Tracing.{traced_twice}
-use Rattle.wasi_turns.specs.EntriesSeen.{entry_seen, IsListed}
-use Rattle.wasi_turns.proofs.Listings.{one_looked, entry_is_short, listed_at, not_looked, short_more}
+use Rattle.wasi_p1_model.specs.EntriesSeen.{entry_seen, IsListed}
+use Rattle.wasi_p1_model.proofs.Listings.{one_looked, entry_is_short, listed_at, not_looked, short_more}
 use Rattle.wasi_p1_types.proofs.listing_parts.all_numbered.Goals as goal
 
 pub returns-in_err-entry-clause-lineage : goal.returns-in_err-entry-clause-lineage

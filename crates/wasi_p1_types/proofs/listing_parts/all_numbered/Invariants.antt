@@ -3,9 +3,9 @@ use Rattle.std.specs.Prelude.{IsTrue}
 use Rattle.std.specs.Vec.Iter.{into_iter_items}
 use Rattle.wasi_host.specs.Answer.{entry_of}
 use Rattle.wasi_host.specs.Lineage.{Traced, Only, Nothing}
-use Rattle.wasi_turns.specs.EntriesSeen.{entries_seen}
-use Rattle.wasi_turns.specs.Listing.{HasShortNames}
-use Rattle.wasi_turns.proofs.Listings.{SoFar}
+use Rattle.wasi_p1_model.specs.EntriesSeen.{entries_seen}
+use Rattle.wasi_p1_model.specs.Listing.{HasShortNames}
+use Rattle.wasi_p1_model.proofs.Listings.{SoFar}
 use Rattle.wasi_p1_types.proofs.listing_parts.all_numbered.Given as goal
 
 -- the names so far were looked at, and nothing else was done

@@ -2,7 +2,7 @@ use Rattle.std.proofs.Common.{◌∙◌}
 use Rattle.std.proofs.lemmas.Result.{err_from_is_err_and}
 use Rattle.wasi_host.specs.declared.errors.HostError.TheVariants.{Code}
 use Rattle.wasi_host.proofs.Tracing.{traced_twice}
-use Rattle.wasi_turns.proofs.Listings.{all_listed, not_listed, not_seen, is_listed}
+use Rattle.wasi_p1_model.proofs.Listings.{all_listed, not_listed, not_seen, is_listed}
 use Rattle.wasi_p1_types.proofs.listing_parts.listing_of.Goals as goal
 
 pub all_numbered-requires-clause-listed : goal.all_numbered-requires-clause-listed

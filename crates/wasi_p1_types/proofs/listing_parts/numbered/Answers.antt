@@ -4,8 +4,8 @@ use Rattle.std.proofs.lemmas.Result.{err_from_is_err_and}
 use Rattle.wasi_host.specs.declared.lookup.LookKind.TheVariants as kinds
 use Rattle.wasi_host.specs.declared.metadata.Metadata.{Metadata}
 use Rattle.wasi_host.proofs.Tracing.{traced_call}
-use Rattle.wasi_turns.proofs.Listings.{entry_is_plain}
-use Rattle.wasi_turns.proofs.PlainLook.{not_numbered, numbered_so}
+use Rattle.wasi_p1_model.proofs.Listings.{entry_is_plain}
+use Rattle.wasi_p1_model.proofs.PlainLook.{not_numbered, numbered_so}
 use Rattle.wasi_p1_types.proofs.listing_parts.numbered.Goals as goal
 
 pub returns-in_err-metadata-clause-lineage : goal.returns-in_err-metadata-clause-lineage

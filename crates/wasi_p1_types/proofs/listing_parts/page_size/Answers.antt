@@ -1,7 +1,7 @@
 use Rattle.std.proofs.Common.{◌∙◌, ap, length, arith, length-take}
-use Rattle.wasi_turns.specs.EntriesSeen.{entries_seen}
-use Rattle.wasi_turns.specs.Pages.{records_after}
-use Rattle.wasi_turns.proofs.Paging.{short_name, room_after}
+use Rattle.wasi_p1_model.specs.EntriesSeen.{entries_seen}
+use Rattle.wasi_p1_model.specs.Pages.{records_after}
+use Rattle.wasi_p1_model.proofs.Paging.{short_name, room_after}
 use Rattle.wasi_p1_types.proofs.listing_parts.page_size.Goals as goal
 
 pub overflow_cast-as_str : goal.overflow_cast-as_str

@@ -1,6 +1,6 @@
 use Rattle.std.proofs.Common.{length, ◌-◌, ◌≤◌, ◌≡◌}
-use Rattle.wasi_turns.specs.EntriesSeen.{entries_seen}
-use Rattle.wasi_turns.specs.Pages.{records_after}
+use Rattle.wasi_p1_model.specs.EntriesSeen.{entries_seen}
+use Rattle.wasi_p1_model.specs.Pages.{records_after}
 use Rattle.wasi_p1_types.proofs.listing_parts.page_size.Given as goal
 
 -- what the records from here on leave of the room is what all of them leave of the buffer

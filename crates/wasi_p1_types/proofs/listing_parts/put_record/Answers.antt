@@ -1,9 +1,9 @@
 use Rattle.std.proofs.Common.{◌∙◌, ap}
 use Rattle.std.specs.String.{string_bytes}
 use Rattle.wasi_guest.specs.Dirent.{dirent_bytes}
-use Rattle.wasi_turns.specs.EntriesSeen.{entry_seen}
-use Rattle.wasi_turns.specs.Pages.{dirent_of, record_of}
-use Rattle.wasi_turns.proofs.Paging.{front_length, front_written}
+use Rattle.wasi_p1_model.specs.EntriesSeen.{entry_seen}
+use Rattle.wasi_p1_model.specs.Pages.{dirent_of, record_of}
+use Rattle.wasi_p1_model.proofs.Paging.{front_length, front_written}
 use Rattle.wasi_p1_types.proofs.listing_parts.put_record.Goals as goal
 
 pub returns-clause-count : goal.returns-clause-count

@@ -1,9 +1,9 @@
 use Rattle.std.proofs.Common.{◌+◌, ◌≤◌, ◌∙◌, List, ℕ, length, take, ap, sym, arith, length-take}
 use Rattle.wasi_guest.specs.Range.{with_bytes}
 use Rattle.wasi_guest.proofs.Ranges.{with_no_bytes}
-use Rattle.wasi_turns.specs.EntriesSeen.{entry_seen, entries_seen}
-use Rattle.wasi_turns.specs.Pages.{record_of, records_after, page}
-use Rattle.wasi_turns.proofs.Paging.{short_name, records_left, none_left, front_written}
+use Rattle.wasi_p1_model.specs.EntriesSeen.{entry_seen, entries_seen}
+use Rattle.wasi_p1_model.specs.Pages.{record_of, records_after, page}
+use Rattle.wasi_p1_model.proofs.Paging.{short_name, records_left, none_left, front_written}
 use Rattle.wasi_p1_types.proofs.listing_parts.put_records.Goals as goal
 
 pub put_record-n-requires-clause-short : goal.put_record-n-requires-clause-short

@@ -1,7 +1,7 @@
 use Rattle.std.proofs.Common.{length, ◌+◌, ◌≤◌, ◌≡◌}
 use Rattle.wasi_guest.specs.Range.{with_bytes}
-use Rattle.wasi_turns.specs.EntriesSeen.{entries_seen}
-use Rattle.wasi_turns.specs.Pages.{page}
+use Rattle.wasi_p1_model.specs.EntriesSeen.{entries_seen}
+use Rattle.wasi_p1_model.specs.Pages.{page}
 use Rattle.wasi_p1_types.proofs.listing_parts.put_records.Given as goal
 
 -- the records from here on, onto what was written so far, give the whole

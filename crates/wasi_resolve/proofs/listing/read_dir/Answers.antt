@@ -2,7 +2,7 @@ use Rattle.std.proofs.Common.{inr}
 use Rattle.wasi_host.proofs.Tracing.{traced_same, traced_call, traced_got, traced_kept, traced_last}
 use Rattle.wasi_host.specs.Lineage.{Only}
 use Rattle.wasi_host.specs.declared.lookup.LookKind.TheVariants.{Open, List as Listed}
-use Rattle.wasi_resolve.proofs.AtPlaces.{got_closed}
+use Rattle.wasi_resolve.proofs.EntryOpLemmas.{got_closed}
 use Rattle.wasi_resolve.proofs.Listings.{not_opened, is_listed}
 use Rattle.wasi_resolve.proofs.listing.read_dir.Goals as goal
 

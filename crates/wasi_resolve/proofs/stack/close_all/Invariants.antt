@@ -1,5 +1,5 @@
 use Rattle.std.proofs.Common.{◌≡◌, vec_len, IsTrue}
-use Rattle.wasi_host.specs.Meaning.{Handles}
+use Rattle.wasi_host.specs.HostLaws.{Handles}
 use Rattle.wasi_resolve.specs.Stack.{Stands}
 use Rattle.wasi_resolve.specs.WalkSteps.{WorldStays}
 use Rattle.wasi_resolve.proofs.stack.close_all.Given as goal

@@ -1,6 +1,6 @@
 use Rattle.std.proofs.Common.{Ok, Err}
 use Rattle.wasi_host.specs.declared.errors.HostError.TheVariants.{Code}
-use Rattle.wasi_resolve.proofs.AtPlaces.{got_closed}
+use Rattle.wasi_resolve.proofs.EntryOpLemmas.{got_closed}
 use Rattle.wasi_resolve.proofs.Timing.{not_timed, is_timed}
 use Rattle.wasi_resolve.proofs.times.set_times.Goals as goal
 

@@ -1,9 +1,9 @@
 use Rattle.std.proofs.Common.{◌≡◌, ◌≤◌, ◌+◌, ◌-◌, IsTrue}
-use Rattle.wasi_host.specs.Meaning.{Handles, World}
+use Rattle.wasi_host.specs.HostLaws.{Handles, World}
 use Rattle.wasi_resolve.specs.Finding.{course_of, StackTraced}
 use Rattle.wasi_resolve.specs.Resolved.{links_read}
 use Rattle.wasi_resolve.specs.Stack.{Stands, StillStands}
-use Rattle.wasi_resolve.specs.Ways.{begin, way_of}
+use Rattle.wasi_resolve.specs.WalkState.{begin, way_of}
 use Rattle.wasi_resolve.specs.WalkSteps.{Walked}
 use Rattle.wasi_resolve.proofs.Coming.{SoFar}
 use Rattle.wasi_resolve.proofs.walk.along.Given as goal

@@ -3,7 +3,7 @@ use Rattle.std.specs.Prelude.{◌==◌}
 use Rattle.std.proofs.lemmas.Result.{err_from_is_err_and}
 use Rattle.wasi_host.proofs.Tracing.{traced_none, traced_then}
 use Rattle.wasi_resolve.specs.Left.{parts_left}
-use Rattle.wasi_resolve.specs.Ways.{way}
+use Rattle.wasi_resolve.specs.WalkState.{way}
 use Rattle.wasi_resolve.proofs.Legs.{same_here}
 use Rattle.wasi_resolve.proofs.Putting.{popped_parts}
 use Rattle.wasi_resolve.proofs.Going.{goes_then, fails_then, stops_then, goes_dot, nil_left}

@@ -1,8 +1,8 @@
 use Rattle.std.proofs.Common.{◌≡◌, ◌≤◌, vec_len, IsTrue}
-use Rattle.wasi_host.specs.Meaning.{Handles, World}
+use Rattle.wasi_host.specs.HostLaws.{Handles, World}
 use Rattle.wasi_resolve.specs.Finding.{StackTraced, FewUntil}
 use Rattle.wasi_resolve.specs.Stack.{Stands, StillStands}
-use Rattle.wasi_resolve.specs.Ways.{begin, way_of}
+use Rattle.wasi_resolve.specs.WalkState.{begin, way_of}
 use Rattle.wasi_resolve.specs.WalkSteps.{Walked, GoesOn}
 use Rattle.wasi_resolve.proofs.walk.leg.Given as goal
 

@@ -2,7 +2,7 @@ use Rattle.std.proofs.Common.{◌∙◌, ap, length, refl}
 use Rattle.std.specs.Prelude.{◌==◌}
 use Rattle.std.proofs.lemmas.Result.{err_from_is_err_and}
 use Rattle.wasi_resolve.proofs.Passing.{read_fails, reads_now, reads_wants}
-use Rattle.wasi_host.specs.Meaning.{one_looked}
+use Rattle.wasi_host.specs.HostLaws.{one_looked}
 use Rattle.wasi_host.specs.declared.lookup.LookKind.TheVariants.{ReadLink}
 use Rattle.wasi_resolve.proofs.Counting.{few_err, few_piece}
 use Rattle.wasi_resolve.proofs.walk.read_link.Goals as goal

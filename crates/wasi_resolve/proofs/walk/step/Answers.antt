@@ -1,6 +1,6 @@
 use Rattle.std.proofs.Common.{◌∙◌, ◌∷◌, inr}
 use Rattle.wasi_paths.specs.Parts.{RootDir, Normal}
-use Rattle.wasi_resolve.specs.Ways.{begin, way}
+use Rattle.wasi_resolve.specs.WalkState.{begin, way}
 use Rattle.wasi_resolve.specs.WalkSteps.{TakesPart}
 use Rattle.wasi_resolve.proofs.Going.{when_more, nil_is}
 use Rattle.wasi_resolve.proofs.Legs.{root_refused, dot_same, same_here}

@@ -1,7 +1,7 @@
 use Rattle.std.proofs.Common.{arith, length, ◌≡◌}
-use Rattle.wasi_faults.specs.Faults.{counted}
+use Rattle.wasi_host_faults.specs.Faults.{counted}
 use Rattle.wasi_form.specs.Plan.{plan}
-use Rattle.wasi_host.specs.Meaning.{never_fails}
+use Rattle.wasi_host.specs.HostLaws.{never_fails}
 use Rattle.wasi_script.proofs.AuditTexts.{few_given, has_audit, names_count, starts_audit}
 use Rattle.wasi_script.proofs.Headlines.{begun_at, few_listed}
 use Rattle.wasi_script.proofs.audited.audit.Goals as goal

@@ -1,6 +1,6 @@
 use Rattle.wasi_form.specs.Plan.{plan}
 use Rattle.wasi_form.proofs.Accepted.{limits_kept}
-use Rattle.wasi_start.proofs.Starts.{within_on}
+use Rattle.wasi_setup.proofs.Starts.{within_on}
 use Rattle.wasi_script.proofs.Trials.{overlaid_is, tries}
 use Rattle.wasi_script.proofs.trial.trial_of.Goals as goal
 

@@ -27,7 +27,7 @@ use denote.Triple.Spec.{triple_of}
 use denote.Triple.Table.{entered}
 use denote.Triple.Walked.{says, Stays, stay_dropped, walk_of, ends_at, Goes-dropped, walk_Meets}
 use Rattle.std.specs.Prelude.{◌≡◌, Some, None, IsSome}
-use Rattle.wasi_embed.specs.contracts.base.Base as Inner
+use Rattle.wasi_sandbox.specs.contracts.base.Base as Inner
 use Rattle.wasi_c.specs.Held.{HeldBase, lent_by}
 use Rattle.wasi_c.specs.contracts.base.BaseHandle as Handle
 use Rattle.wasi_c.specs.contracts.base.BaseHandle.base as F

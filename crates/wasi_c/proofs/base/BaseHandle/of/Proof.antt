@@ -32,8 +32,8 @@ use denote.Triple.Spec.{Meets, triple_of}
 use denote.Triple.Table.{entered}
 use denote.Triple.Walked.{says, Stays, stay_none_ref, walk_of, ends_at, walked, Goes-none_ref, walk_Meets}
 use Rattle.std.specs.Prelude.{Some}
-use Rattle.wasi_embed.specs.contracts.base.Base as Inner
-use Rattle.wasi_embed.proofs.base.Base.TheLaws as inner
+use Rattle.wasi_sandbox.specs.contracts.base.Base as Inner
+use Rattle.wasi_sandbox.proofs.base.Base.TheLaws as inner
 use Rattle.wasi_c.specs.contracts.base.BaseHandle as Handle
 use Rattle.wasi_c.specs.contracts.base.BaseHandle.of as F
 use Rattle.wasi_c.specs.contracts.base.BaseHandle.of.Key.{name as #self}

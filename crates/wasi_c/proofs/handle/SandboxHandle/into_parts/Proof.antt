@@ -26,7 +26,7 @@ use Rattle.std.proofs.BoxSteps.Form.{D, B, word, box_typed}
 use Rattle.std.proofs.BoxSteps.Steps.{box_out, box_in}
 use Rattle.std.specs.Prelude.{◌≡◌, Some, None, IsSome}
 use Rattle.wasi_c.specs.Held.{Held}
-use Rattle.wasi_embed.specs.contracts.any.AnySandbox as Inner
+use Rattle.wasi_sandbox.specs.contracts.any.AnySandbox as Inner
 use Rattle.wasi_c.specs.contracts.handle.SandboxHandle as Handle
 use Rattle.wasi_c.proofs.AsBox.{E, FromHandle as From}
 use Rattle.wasi_c.specs.contracts.handle.SandboxHandle.into_parts as F

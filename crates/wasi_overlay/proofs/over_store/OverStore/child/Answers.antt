@@ -2,7 +2,7 @@ use Rattle.std.proofs.Common.{◌≡◌, ◌∙◌, ◌<◌, IfSome, refl, sym, 
 use Rattle.std.specs.FinMap.{get}
 use Rattle.wasi_paths.specs.Name.{name_bytes}
 use Rattle.wasi_host.specs.Tree.{node_at, names_of, next_of, is_directory}
-use Rattle.wasi_names.proofs.NamesLemmas.{get-names_at}
+use Rattle.wasi_tree_index.proofs.NamesLemmas.{get-names_at}
 use Rattle.wasi_tree.proofs.StoreLemmas.{child_is, child_below, no_child}
 use Rattle.wasi_overlay.specs.OverStore.{parts_of, tree_over}
 use Rattle.wasi_overlay.proofs.TreeOver.{names_over, over_says}

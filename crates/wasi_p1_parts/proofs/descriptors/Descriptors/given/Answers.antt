@@ -1,6 +1,6 @@
 use Rattle.std.proofs.Common.{arith, refl, take, ◌∙◌}
 use Rattle.std.proofs.lemmas.List.{take_more, length-take, length-take-le}
-use Rattle.wasi_turns.proofs.Numbers.{given_more, first_live}
+use Rattle.wasi_p1_model.proofs.Numbers.{given_more, first_live}
 use Rattle.wasi_p1_parts.proofs.descriptors.Descriptors.given.Goals as goal
 
 pub add-requires : goal.add-requires

@@ -1,5 +1,5 @@
 use Rattle.std.proofs.Common.{take, ◌≡◌}
-use Rattle.wasi_turns.specs.Slots.{first_slots}
+use Rattle.wasi_p1_model.specs.Slots.{first_slots}
 use Rattle.wasi_p1_parts.proofs.descriptors.Descriptors.given.Given as goal
 
 -- the directories so far stand behind the streams

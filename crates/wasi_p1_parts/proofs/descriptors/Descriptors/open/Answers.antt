@@ -1,6 +1,6 @@
 use Rattle.std.proofs.Common.{arith}
 use Rattle.wasi_p1_parts.proofs.Naming.{entry_count}
-use Rattle.wasi_turns.proofs.OpeningInto.{slot_in_use}
+use Rattle.wasi_p1_model.proofs.OpeningInto.{slot_in_use}
 use Rattle.wasi_p1_parts.proofs.Viewing.{open_under, entry_under, kept_owned}
 use Rattle.wasi_p1_parts.proofs.descriptors.Descriptors.open.Goals as goal
 

@@ -1,6 +1,6 @@
 use Rattle.std.proofs.Common.{arith}
 use Rattle.wasi_p1_parts.proofs.Exchanging.{are_live, swapped_kept, swapped_within, swapped_first, swapped_live, swapped_slots, swapped_then_closed}
-use Rattle.wasi_turns.proofs.Renumbering.{owned_swapped}
+use Rattle.wasi_p1_model.proofs.Renumbering.{owned_swapped}
 use Rattle.wasi_p1_parts.proofs.Tabled.{is_given}
 use Rattle.wasi_p1_parts.proofs.descriptors.Descriptors.renumber.Goals as goal
 

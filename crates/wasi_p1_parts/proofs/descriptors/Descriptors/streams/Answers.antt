@@ -1,5 +1,5 @@
 use Rattle.std.proofs.Common.{arith, refl}
-use Rattle.wasi_turns.specs.Numbering.{with_new, live_count}
+use Rattle.wasi_p1_model.specs.Numbering.{with_new, live_count}
 use Rattle.wasi_p1_parts.proofs.descriptors.Descriptors.streams.Goals as goal
 
 pub add-requires : goal.add-requires

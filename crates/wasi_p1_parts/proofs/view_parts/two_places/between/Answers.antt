@@ -1,5 +1,5 @@
 use Rattle.std.proofs.Common.{ap, rules}
-use Rattle.wasi_p2.specs.Resources.{entry_handle}
+use Rattle.wasi_p2_calls.specs.Resources.{entry_handle}
 use Rattle.wasi_p1_parts.proofs.Viewing.{directories_stand, entry_under, kept_owned, lowered, open_under, traced_either}
 use Rattle.wasi_p1_parts.proofs.view_parts.two_places.between.Goals as goal
 

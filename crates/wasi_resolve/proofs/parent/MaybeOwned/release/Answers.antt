@@ -1,4 +1,4 @@
-use Rattle.wasi_resolve.proofs.AtPlaces.{closed_stays}
+use Rattle.wasi_resolve.proofs.EntryOpLemmas.{closed_stays}
 use Rattle.wasi_resolve.proofs.parent.MaybeOwned.release.Goals as goal
 
 pub returns-in-Owned-clause-told : goal.returns-in-Owned-clause-told

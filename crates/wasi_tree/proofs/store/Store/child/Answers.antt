@@ -2,7 +2,7 @@ use Rattle.std.proofs.Common.{◌≡◌, ◌∙◌, ◌<◌, IfSome, sym, subst}
 use Rattle.std.specs.FinMap.{get}
 use Rattle.wasi_paths.specs.Name.{name_bytes}
 use Rattle.wasi_host.specs.Tree.{node_at, names_of, next_of}
-use Rattle.wasi_names.proofs.NamesLemmas.{get-names_at}
+use Rattle.wasi_tree_index.proofs.NamesLemmas.{get-names_at}
 use Rattle.wasi_tree.proofs.RowLemmas.{IsIn, names_here, sound_at}
 use Rattle.wasi_tree.proofs.StoreLemmas.{child_is, child_below}
 use Rattle.wasi_tree.proofs.store.Store.child.Goals as goal

@@ -1,5 +1,5 @@
 use Rattle.std.proofs.Common.{sym, subst, arith}
-use Rattle.wasi_names.specs.NameRows.{names_at}
+use Rattle.wasi_tree_index.specs.NameRows.{names_at}
 use Rattle.wasi_tree.specs.Viewed.{Views}
 use Rattle.wasi_tree.proofs.RowLemmas.{IsRow, row_node, row_within}
 use Rattle.wasi_tree.proofs.store.Store.node.Goals as goal

@@ -1,0 +1,61 @@
+//! Calls of an input stream.
+ghost use Rattle.std.specs.Prelude.{◌≡◌, true};
+ghost use Rattle.std.specs.FinSet.{contains};
+
+use crate::along::{Calls, along};
+use bytes::Bytes;
+use std::alloc::{AllocError, Global};
+use wasi_fs::File;
+use wasi_host::Host;
+use wasi_streams::{FileInputStream, StreamError};
+use test_support::{Asked, Told, number, refused, told, unknown};
+
+/// `OFFSET: CALL; CALL ..`: the answers of calls of a stream from this offset on.
+#[tactic(auto, using(wasi_host::proofs::Chain::live_rules))]
+pub fn input_line<H: Host>(host: &mut H, file: &File, asked: &Asked<'_>) -> Told
+    requires { contains (H.live host.old) file.now.file ≡ true }
+{
+    let (offset, calls) = asked.rest.split_once(": ").unwrap_or((asked.rest, ""));
+    match FileInputStream::new(asked.alloc, host, file, number(offset)) {
+        Ok(stream) => along(host, stream, asked.alloc, calls),
+        Err(error) => refused(asked.alloc, error),
+    }
+}
+
+impl<H: Host> Calls<H> for FileInputStream {
+    ghost handle = { λ s. s.file };
+
+    fn call(&mut self, host: &mut H, asked: &Asked<'_>) -> Told {
+        let alloc = asked.alloc;
+        let size = number(asked.rest) as usize;
+        match asked.what {
+            "read" => told_bytes(alloc, self.read(size)),
+            "blocking_read" => told_bytes(alloc, self.blocking_read(host, size)),
+            "ready" => {
+                self.ready(host)?;
+                String::from_str(alloc, "ok")
+            }
+            "cancel" => {
+                self.cancel();
+                String::from_str(alloc, "ok")
+            }
+            _ => unknown(alloc),
+        }
+    }
+
+    fn end(self, host: &mut H) {
+        self.close(host)
+    }
+}
+
+/// The text of what was read, or why nothing is given.
+fn told_bytes(alloc: Global, read: Result<Bytes, StreamError>) -> Told {
+    match read {
+        Ok(bytes) => told(
+            alloc,
+            &str::from_utf8(bytes.as_slice()).unwrap_or("no text"),
+        ),
+        Err(StreamError::Memory) => Err(AllocError),
+        Err(error) => told(alloc, &error),
+    }
+}

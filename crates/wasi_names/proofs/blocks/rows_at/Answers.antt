@@ -1,8 +1,0 @@
-use Rattle.std.proofs.Common.{◌∙◌, sym, ap, map}
-use Rattle.wasi_names.specs.NameRows.{row_entry}
-use Rattle.wasi_names.proofs.BlockLemmas.{at_block}
-use Rattle.wasi_names.proofs.blocks.rows_at.Goals as goal
-
-pub returns : goal.returns
-returns c = ap (map row_entry) c.as_slice.ensures.value
-    ∙ sym (at_block c.args.blocks.now.items c.args.k c.index.result.now c.requires c.index.ensures)

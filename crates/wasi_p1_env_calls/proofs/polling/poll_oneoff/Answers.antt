@@ -1,0 +1,133 @@
+use Rattle.std.proofs.Common.{◌∙◌, inl, inr, map, refl, sym}
+use Rattle.wasi_guest.specs.declared.call.Call.TheVariants.{PollOneoff}
+use Rattle.wasi_p1_model.specs.Polling.{waited_by}
+use Rattle.wasi_p1_model.specs.Request.{Sizes}
+use Rattle.wasi_p1_model.specs.Row.{give}
+use Rattle.wasi_p1_model.specs.Calls.Polling.{poll_oneoff, tell_ready}
+use Rattle.wasi_p1_model.proofs.Judging.{judged_err, judged_ok}
+use Rattle.wasi_p1_model.proofs.Staying.{all_stay}
+use Rattle.wasi_p1_model.proofs.Taking.{answered, makes_err, makes_ok, on_err, refused_at, unchanged, wanted_late}
+use Rattle.wasi_p1_model.proofs.Telling.{events_by}
+use Rattle.wasi_p1_model.proofs.Waiting.{wanted_front, answer_front, ask_front, none_of, some_of}
+use Rattle.wasi_p1_env_calls.proofs.polling.poll_oneoff.Goals as goal
+
+pub returns-in_err-judged-clause-turn : goal.returns-in_err-judged-clause-turn
+unfolding poll_oneoff
+returns-in_err-judged-clause-turn g c =
+    rw (← c.context.view_is) (on_err c.from_residual-in_err-judged.ensures.1 (refused_at refl
+    (rw (
+      ← c.in_ok-some_asked.ensures.row,
+      ← c.in_ok-charge.ensures.row,
+      ← c.in_ok-charge-2.ensures.row,
+      ← c.in_ok-lists_within.ensures.row,
+      ← judged_err _ c.in_err-judged.ensures.row,
+    ) refl)))
+
+pub returns-in_err-room_at-clause-turn : goal.returns-in_err-room_at-clause-turn
+unfolding poll_oneoff
+returns-in_err-room_at-clause-turn g c =
+    let (ws, are, is) = judged_ok _ c.in_ok-judged.ensures.row in
+    rw (← c.context.view_is) (on_err c.from_residual-in_err-room_at.ensures.1 (refused_at refl
+    (rw (
+      ← c.in_ok-some_asked.ensures.row,
+      ← c.in_ok-charge.ensures.row,
+      ← c.in_ok-charge-2.ensures.row,
+      ← c.in_ok-lists_within.ensures.row,
+      ← are,
+      ← (rw is at c.in_err-room_at.ensures.row),
+    ) refl)))
+
+pub returns-in_err-clocks-clause-turn : goal.returns-in_err-clocks-clause-turn
+unfolding poll_oneoff
+returns-in_err-clocks-clause-turn g c =
+    let (ws, are, is) = judged_ok _ c.in_ok-judged.ensures.row in
+    rw (← c.context.view_is) (on_err c.from_residual-in_err-clocks.ensures.1 (refused_at refl
+    (rw (
+      ← c.in_ok-some_asked.ensures.row,
+      ← c.in_ok-charge.ensures.row,
+      ← c.in_ok-charge-2.ensures.row,
+      ← c.in_ok-lists_within.ensures.row,
+      ← are,
+      ← (rw is at c.in_ok-room_at.ensures.row),
+      ← (rw is at c.in_err-clocks.ensures.row),
+    ) refl)))
+
+pub returns-in_err-waited-clause-turn : goal.returns-in_err-waited-clause-turn
+returns-in_err-waited-clause-turn g c =
+    let (ws, are, is) = judged_ok _ c.in_ok-judged.ensures.row in
+    let (program, front) = wanted_front ws (record {
+      asked = c.in_ok-some_asked.ensures.row;
+      mid = _;
+      first = c.in_ok-charge.ensures.row;
+      second = c.in_ok-charge-2.ensures.row;
+      lists = c.in_ok-lists_within.ensures.row;
+      judges = c.in_ok-judged.ensures.row;
+      room = c.in_ok-room_at.ensures.row;
+      later = c.in_ok-clocks.ensures.row;
+    }) are in
+    rw (← c.context.view_is) (on_err c.from_residual-in_err-waited.ensures.1 (elim c.in_err-waited.ensures.wants [
+      | inl memory ↦ rw memory (wanted_late {call = PollOneoff _ _ _} program refl front)
+      | inr refused ↦ absurd (let wrong = refused ∙ sym are in cc)
+    ]))
+
+pub returns-then-not-reads_files-clause-turn : goal.returns-then-not-reads_files-clause-turn
+returns-then-not-reads_files-clause-turn g c =
+    let given = c.tell_events.ensures in
+    rw (← c.context.view_is) (answered
+    (rw (given.count, given.written, given.clocks, c.deref-then-not-reads_files.ensures.value) (answer_front (g.H.Host.world c.context.inside.fs.host).held c.in_ok-waited.waited.items
+    (record {
+      asked = c.in_ok-some_asked.ensures.row;
+      mid = _;
+      first = c.in_ok-charge.ensures.row;
+      second = c.in_ok-charge-2.ensures.row;
+      lists = c.in_ok-lists_within.ensures.row;
+      judges = c.in_ok-judged.ensures.row;
+      room = c.in_ok-room_at.ensures.row;
+      later = c.in_ok-clocks.ensures.row;
+    }) (sym c.in_ok-waited.ensures.row) (none_of (rw c.deref.ensures.value at c.reads_files.ensures) c.if-not-reads_files.true)))
+    given.size (all_stay refl) (record { failed = refl; looked = refl })
+    (λ told. record { tree = refl; touched = refl; slots = refl }))
+
+pub returns-in_err-sizes-clause-turn : goal.returns-in_err-sizes-clause-turn
+returns-in_err-sizes-clause-turn g c =
+    rw (← c.context.view_is) (on_err c.from_residual-in_err-sizes.ensures.1 (makes_err {r = Sizes _} (λ sizes. give sizes)
+    (tell_ready c.args.events (map (waited_by (g.H.Host.world c.context.inside.fs.host).held) c.deref-2.result.now) c.in_ok-clocks.clocks) (ask_front (g.H.Host.world c.context.inside.fs.host).held c.deref-2.result.now
+    (record {
+      asked = c.in_ok-some_asked.ensures.row;
+      mid = _;
+      first = c.in_ok-charge.ensures.row;
+      second = c.in_ok-charge-2.ensures.row;
+      lists = c.in_ok-lists_within.ensures.row;
+      judges = c.in_ok-judged.ensures.row;
+      room = c.in_ok-room_at.ensures.row;
+      later = c.in_ok-clocks.ensures.row;
+    }) (rw c.deref-2.ensures.value (sym c.in_ok-waited.ensures.row)) (rw c.deref-2.ensures.value (some_of (rw c.deref.ensures.value at c.reads_files.ensures) c.if-not-reads_files.false)))
+    c.context.invariant.owned c.in_err-sizes.ensures.front (λ _. refl) refl unchanged
+    c.in_err-sizes.ensures.told))
+
+pub returns-clause-turn : goal.returns-clause-turn
+returns-clause-turn g c =
+    let given = c.tell_events-2.ensures in
+    rw (← c.context.view_is) (makes_ok {r = Sizes _} (λ sizes. give sizes)
+    (tell_ready c.args.events (map (waited_by (g.H.Host.world c.context.inside.fs.host).held) c.deref-2.result.now) c.in_ok-clocks.clocks) (ask_front (g.H.Host.world c.context.inside.fs.host).held c.deref-2.result.now
+    (record {
+      asked = c.in_ok-some_asked.ensures.row;
+      mid = _;
+      first = c.in_ok-charge.ensures.row;
+      second = c.in_ok-charge-2.ensures.row;
+      lists = c.in_ok-lists_within.ensures.row;
+      judges = c.in_ok-judged.ensures.row;
+      room = c.in_ok-room_at.ensures.row;
+      later = c.in_ok-clocks.ensures.row;
+    }) (rw c.deref-2.ensures.value (sym c.in_ok-waited.ensures.row)) (rw c.deref-2.ensures.value (some_of (rw c.deref.ensures.value at c.reads_files.ensures) c.if-not-reads_files.false)))
+    c.context.invariant.owned given.size c.in_ok-sizes.ensures.front
+    (rw (
+      given.count,
+      given.written,
+      given.clocks,
+      c.deref-3.ensures.value,
+      c.deref-4.ensures.value,
+      c.deref-2.ensures.value,
+      events_by (g.H.Host.world c.context.inside.fs.host).held
+          c.in_ok-clocks.clocks.monotonic c.in_ok-waited.waited.items c.in_ok-sizes.sizes.items,
+    ) refl) refl c.in_ok-sizes.ensures.told)

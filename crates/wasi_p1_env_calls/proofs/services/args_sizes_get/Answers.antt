@@ -1,0 +1,10 @@
+use Rattle.std.proofs.Common.{refl}
+use Rattle.wasi_p1_model.specs.Calls.Services.{args_sizes_get}
+use Rattle.wasi_p1_model.proofs.Taking.{refused, on_err}
+use Rattle.wasi_p1_env_calls.proofs.services.args_sizes_get.Goals as goal
+
+pub returns-in_err-args_sizes-clause-turn : goal.returns-in_err-args_sizes-clause-turn
+unfolding args_sizes_get
+returns-in_err-args_sizes-clause-turn g c =
+    rw (← c.context.view_is) (on_err c.from_residual.ensures.1 (refused refl (rw (← c.in_err-args_sizes.ensures.row)
+    refl)))

@@ -1,0 +1,10 @@
+use Rattle.std.proofs.Common.{refl}
+use Rattle.wasi_p1_model.specs.Calls.Services.{clock_res_get}
+use Rattle.wasi_p1_model.proofs.Taking.{refused, on_err}
+use Rattle.wasi_p1_env_calls.proofs.services.clock_res_get.Goals as goal
+
+pub returns-in_err-clock_res-clause-turn : goal.returns-in_err-clock_res-clause-turn
+unfolding clock_res_get
+returns-in_err-clock_res-clause-turn g c =
+    rw (← c.context.view_is) (on_err c.from_residual.ensures.1 (refused refl (rw (← c.in_err-clock_res.ensures.row)
+    refl)))

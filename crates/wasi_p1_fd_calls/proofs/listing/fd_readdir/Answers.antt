@@ -1,0 +1,63 @@
+use Rattle.std.proofs.Common.{◌≡◌, inl, inr, Err, refl, sym, ap}
+use Rattle.wasi_p1_model.specs.EntriesSeen.{entries_seen}
+use Rattle.wasi_p1_model.specs.Pages.{page}
+use Rattle.wasi_p1_model.specs.Parts.{text_to}
+use Rattle.wasi_p1_model.specs.Request.{ListDirectory}
+use Rattle.wasi_p1_model.specs.Calls.Listing.{fd_readdir}
+use Rattle.wasi_p1_model.proofs.Resolving.{resolved_ok, resolved_err}
+use Rattle.wasi_p1_model.proofs.RowEnds.{with_text}
+use Rattle.wasi_p1_model.proofs.Taking.{makes_err, makes_ok, on_err, refused_at, unchanged}
+use Rattle.wasi_p1_fd_calls.proofs.listing.fd_readdir.Goals as goal
+
+pub returns-in_err-room_at-clause-turn : goal.returns-in_err-room_at-clause-turn
+unfolding fd_readdir
+returns-in_err-room_at-clause-turn g c =
+    rw (← c.context.view_is) (on_err c.from_residual-in_err-room_at.ensures.1 (refused_at refl
+    (rw (← c.in_ok-dir.ensures.row, ← c.in_err-room_at.ensures.row) refl)))
+
+pub returns-in_err-entries-clause-turn : goal.returns-in_err-entries-clause-turn
+unfolding fd_readdir
+returns-in_err-entries-clause-turn g c =
+    let given = c.in_err-entries.ensures in
+    rw (← c.context.view_is) (on_err c.from_residual-in_err-entries.ensures.1 (makes_err {r = ListDirectory _}
+    (λ listing. text_to c.args.memory.now c.args.buf (page listing c.args.cookie c.args.buf_len)) with_text
+    (rw (← c.in_ok-dir.ensures.row, ← c.in_ok-room_at.ensures.row) refl) c.context.invariant.owned (inl (_, refl)) (λ _. refl) refl unchanged
+    (λ told. record {
+      keeps = (given.told told).keeps;
+      does = inl (resolved_err {r = ListDirectory _} _ (λ is. given.cause.io (ap Err is)) (given.told told));
+    })))
+
+pub returns-in_err-count-clause-turn : goal.returns-in_err-count-clause-turn
+unfolding fd_readdir
+returns-in_err-count-clause-turn g c =
+    let given = c.in_ok-entries.ensures in
+    let put = c.in_err-count.ensures in
+    let listing = entries_seen c.in_ok-entries.entries.items in
+    let same : c.as_slice.result.now ≡ c.in_ok-entries.entries.items = c.as_slice.ensures.value in
+    let row = rw same at (sym put.row) in
+    rw (← c.context.view_is) (on_err c.from_residual-in_err-count.ensures.1 (makes_err {r = ListDirectory _}
+    (λ listing. text_to c.args.memory.now c.args.buf (page listing c.args.cookie c.args.buf_len)) with_text
+    (rw (← c.in_ok-dir.ensures.row, ← c.in_ok-room_at.ensures.row) refl) c.context.invariant.owned
+    (inr (listing, given.short, row)) (λ is. absurd (put.never_wants is)) refl
+    (record { slots = refl; table_max = refl; holdings = refl; memory = put.same })
+    (λ told. record {
+      keeps = (given.told told).keeps;
+      does = inr (listing, resolved_ok {r = ListDirectory _} (given.told told), row);
+    })))
+
+pub returns-clause-turn : goal.returns-clause-turn
+unfolding fd_readdir
+returns-clause-turn g c =
+    let given = c.in_ok-entries.ensures in
+    let put = c.in_ok-count.ensures in
+    let listing = entries_seen c.in_ok-entries.entries.items in
+    let same : c.as_slice.result.now ≡ c.in_ok-entries.entries.items = c.as_slice.ensures.value in
+    let row = rw same at (sym put.row) in
+    rw (← c.context.view_is) (makes_ok {r = ListDirectory _}
+    (λ listing. text_to c.args.memory.now c.args.buf (page listing c.args.cookie c.args.buf_len)) with_text
+    (rw (← c.in_ok-dir.ensures.row, ← c.in_ok-room_at.ensures.row) refl) c.context.invariant.owned put.size
+    (listing, given.short, row) refl refl
+    (λ told. record {
+      keeps = (given.told told).keeps;
+      does = (listing, resolved_ok {r = ListDirectory _} (given.told told), row);
+    }))

@@ -1,0 +1,207 @@
+//! The calls on a descriptor itself.
+ghost use Rattle.wasi_guest.specs.declared.call.Call.TheVariants.{FdClose, FdFdstatGet, FdFdstatSetFlags, FdFdstatSetRights, FdFilestatGet, FdPrestatDirName, FdPrestatGet, FdRenumber};
+ghost use Rattle.wasi_p1_model.specs.Method.{StaysInBounds, DoesItsRow};
+
+use wasi_fs::Descriptor;
+use wasi_guest::{Errno, Value};
+use wasi_host::Host;
+use wasi_p1_state::P1State;
+use wasi_p1_parts::call_parts::{close_slot, descriptor_at, live_at, put_back, renumber_slot};
+use wasi_p1_parts::file_parts::{file_at, keeps_append, not_synchronized, preopen_at, put_name};
+use wasi_p1_parts::look_parts::{dir_fdstat, node_filestat, open_file_fdstat};
+use wasi_p1_types::open_with::file_modes;
+use wasi_p1_model::{
+    DirectorySlot, FileSlot, FileUse, P1Error, Slot, fdflags_of, preopen_fdstat, rights_of,
+    stream_fdstat, stream_filestat,
+};
+
+/// The number becomes closed, and what it stood for is closed. Refusal: Badf where the number isn't live. It takes
+/// no memory.
+#[tactic(auto, using(wasi_p1_model::proofs::Taking::refusals, wasi_p1_model::proofs::CallTracing::traced_free), unfolding(wasi_p1_model::specs::Calls::Descriptors::fd_close))]
+pub fn fd_close<H: Host>(
+    context: &mut P1State<H>,
+    memory: &mut [u8],
+    fd: u32,
+) -> Result<Value, P1Error>
+    ensures bounds { StaysInBounds H.Host context.old context.new memory.old (FdClose fd) result }
+    ensures turn { DoesItsRow H.Host context.old context.new memory.old memory.new (FdClose fd) result }
+{
+    let slot = live_at(&context.fs.host, &context.descriptors, fd)?;
+    close_slot(&mut context.fs, &mut context.descriptors, fd, slot);
+    Ok(Value::Unit)
+}
+
+/// Tells of a descriptor: its type, its flags (append and nonblock of a file), and its rights, for it and for what
+/// is opened below it. A standard stream's type is unknown; it can be read, or written. A directory that the guest
+/// was given has rights of its own, and every other directory others. A file has all, but those to read where it
+/// wasn't opened for reading and that to write where not for writing. Refusal: Badf where the number isn't live. No
+/// host refuses it. It takes no memory.
+#[tactic(auto, using(wasi_p1_model::proofs::Taking::refusals, wasi_p1_model::proofs::Taking::answered_at_once), unfolding(wasi_p1_model::specs::Calls::Descriptors::fd_fdstat_get))]
+pub fn fd_fdstat_get<H: Host>(
+    context: &mut P1State<H>,
+    memory: &mut [u8],
+    fd: u32,
+) -> Result<Value, P1Error>
+    ensures bounds { StaysInBounds H.Host context.old context.new memory.old (FdFdstatGet fd) result }
+    ensures turn { DoesItsRow H.Host context.old context.new memory.old memory.new (FdFdstatGet fd) result }
+{
+    let slot = live_at(&context.fs.host, &context.descriptors, fd)?;
+    match slot {
+        Slot::Stream(stream) => Ok(Value::Fdstat(stream_fdstat(stream))),
+        Slot::Directory(DirectorySlot { dir, preopen }) => {
+            if preopen.is_some() {
+                return Ok(Value::Fdstat(preopen_fdstat()));
+            }
+            let fdstat = dir_fdstat(&mut context.fs, &mut context.descriptors, fd, dir)?;
+            Ok(Value::Fdstat(fdstat))
+        }
+        Slot::File(file) => {
+            let fdstat = open_file_fdstat(&mut context.fs, &mut context.descriptors, fd, file)?;
+            Ok(Value::Fdstat(fdstat))
+        }
+        Slot::Closed => Err(P1Error::Errno(Errno::Badf)),
+    }
+}
+
+/// Sets how a file's descriptor is used: whether what it writes goes behind the file's last byte, and nonblock, by
+/// which nothing changes. Refusals, in this order: Inval where a flag is none of preview1's; Badf where the number
+/// isn't a file's; Inval of dsync, rsync and sync; Perm where append is taken from a file under append-only
+/// permissions. It takes no memory.
+#[tactic(auto, using(wasi_p1_model::proofs::Taking::refusals), unfolding(wasi_p1_model::specs::Calls::Descriptors::fd_fdstat_set_flags))]
+pub fn fd_fdstat_set_flags<H: Host>(
+    context: &mut P1State<H>,
+    memory: &mut [u8],
+    fd: u32,
+    flags: u32,
+) -> Result<Value, P1Error>
+    ensures bounds { StaysInBounds H.Host context.old context.new memory.old (FdFdstatSetFlags fd flags) result }
+    ensures turn { DoesItsRow H.Host context.old context.new memory.old memory.new (FdFdstatSetFlags fd flags) result }
+{
+    let fdflags = fdflags_of(flags)?;
+    let FileSlot { file, position, .. } = file_at(
+        &context.fs.host,
+        &context.descriptors,
+        fd,
+        FileUse::Itself,
+    )?;
+    not_synchronized(fdflags)?;
+    let modes = file_modes(fdflags);
+    keeps_append(file.perms, modes)?;
+    put_back(&mut context.descriptors, fd, file, position, modes);
+    Ok(Value::Unit)
+}
+
+/// A descriptor's rights can't be set. Refusals, in this order: Inval where a bit is no right of preview1; Badf where
+/// the number is no directory's or file's; Notsup. It takes no memory.
+#[tactic(auto, using(wasi_p1_model::proofs::Taking::refusals), unfolding(wasi_p1_model::specs::Calls::Descriptors::fd_fdstat_set_rights))]
+pub fn fd_fdstat_set_rights<H: Host>(
+    context: &mut P1State<H>,
+    memory: &mut [u8],
+    fd: u32,
+    base: u64,
+    inheriting: u64,
+) -> Result<Value, P1Error>
+    ensures bounds { StaysInBounds H.Host context.old context.new memory.old (FdFdstatSetRights fd base inheriting) result }
+    ensures turn { DoesItsRow H.Host context.old context.new memory.old memory.new (FdFdstatSetRights fd base inheriting)
+        result }
+{
+    rights_of(base)?;
+    rights_of(inheriting)?;
+    descriptor_at(&context.fs.host, &context.descriptors, fd)?;
+    Err(P1Error::Errno(Errno::Notsup))
+}
+
+/// Tells of what a descriptor stands for; of a standard stream nothing, by zeros. Refusals, in this order: Badf where
+/// the number isn't live; Overflow of a time that 64 bits of nanoseconds don't hold. No host refuses it, where
+/// POSIX's `fstat` may. It takes no memory.
+#[tactic(auto, using(wasi_p1_model::proofs::Taking::refusals, wasi_p1_model::proofs::Taking::answered_at_once), unfolding(wasi_p1_model::specs::Calls::Descriptors::fd_filestat_get))]
+pub fn fd_filestat_get<H: Host>(
+    context: &mut P1State<H>,
+    memory: &mut [u8],
+    fd: u32,
+) -> Result<Value, P1Error>
+    ensures bounds { StaysInBounds H.Host context.old context.new memory.old (FdFilestatGet fd) result }
+    ensures turn { DoesItsRow H.Host context.old context.new memory.old memory.new (FdFilestatGet fd) result }
+{
+    let slot = live_at(&context.fs.host, &context.descriptors, fd)?;
+    match slot {
+        Slot::Stream(_) => Ok(Value::Filestat(stream_filestat())),
+        Slot::Directory(DirectorySlot { dir, .. }) => {
+            let dir = Descriptor::Dir(dir);
+            let filestat = node_filestat(&mut context.fs, &mut context.descriptors, fd, &dir)?;
+            Ok(Value::Filestat(filestat))
+        }
+        Slot::File(FileSlot { file, .. }) => {
+            let file = Descriptor::File(file);
+            let filestat = node_filestat(&mut context.fs, &mut context.descriptors, fd, &file)?;
+            Ok(Value::Filestat(filestat))
+        }
+        Slot::Closed => Err(P1Error::Errno(Errno::Badf)),
+    }
+}
+
+/// How many bytes the name of a directory has that the guest was given. Refusal: Badf of every other number. It
+/// takes no memory.
+#[tactic(auto, using(wasi_p1_model::proofs::Taking::refusals), unfolding(wasi_p1_model::specs::Calls::Descriptors::fd_prestat_get))]
+pub fn fd_prestat_get<H: Host>(
+    context: &mut P1State<H>,
+    memory: &mut [u8],
+    fd: u32,
+) -> Result<Value, P1Error>
+    ensures bounds { StaysInBounds H.Host context.old context.new memory.old (FdPrestatGet fd) result }
+    ensures turn { DoesItsRow H.Host context.old context.new memory.old memory.new (FdPrestatGet fd) result }
+{
+    let name = preopen_at(
+        &context.fs.host,
+        &context.descriptors,
+        &context.holdings,
+        fd,
+        Errno::Badf,
+    )?;
+    Ok(Value::Number(name.len() as u64))
+}
+
+/// Puts the name of a directory that the guest was given into a range of memory, which may have more bytes. Refusals,
+/// in this order: Badf where the number isn't live, Notdir where the guest wasn't given it; Nametoolong where the
+/// name has more bytes than the range; trap Pointer where the memory doesn't hold it there.
+#[tactic(auto, using(wasi_p1_model::proofs::Taking::refusals), unfolding(wasi_p1_model::specs::Calls::Descriptors::fd_prestat_dir_name))]
+pub fn fd_prestat_dir_name<H: Host>(
+    context: &mut P1State<H>,
+    memory: &mut [u8],
+    fd: u32,
+    path: u32,
+    path_len: u32,
+) -> Result<Value, P1Error>
+    ensures bounds { StaysInBounds H.Host context.old context.new memory.old (FdPrestatDirName fd path path_len) result }
+    ensures turn { DoesItsRow H.Host context.old context.new memory.old memory.new (FdPrestatDirName fd path path_len)
+        result }
+{
+    live_at(&context.fs.host, &context.descriptors, fd)?;
+    let name = preopen_at(
+        &context.fs.host,
+        &context.descriptors,
+        &context.holdings,
+        fd,
+        Errno::Notdir,
+    )?;
+    put_name(memory, path, path_len, name)?;
+    Ok(Value::Unit)
+}
+
+/// What `to` stood for is closed, what stands under `from` gets its number, and `from` becomes closed; where the two
+/// are one number nothing changes. Refusal: Badf where one of them isn't live. It takes no memory.
+#[tactic(auto, using(wasi_p1_model::proofs::Taking::refusals, wasi_p1_model::proofs::CallTracing::traced_free), unfolding(wasi_p1_model::specs::Calls::Descriptors::fd_renumber))]
+pub fn fd_renumber<H: Host>(
+    context: &mut P1State<H>,
+    memory: &mut [u8],
+    from: u32,
+    to: u32,
+) -> Result<Value, P1Error>
+    ensures bounds { StaysInBounds H.Host context.old context.new memory.old (FdRenumber from to) result }
+    ensures turn { DoesItsRow H.Host context.old context.new memory.old memory.new (FdRenumber from to) result }
+{
+    live_at(&context.fs.host, &context.descriptors, from)?;
+    let slot = live_at(&context.fs.host, &context.descriptors, to)?;
+    renumber_slot(&mut context.fs, &mut context.descriptors, from, to, slot);
+    Ok(Value::Unit)
+}

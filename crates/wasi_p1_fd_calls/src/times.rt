@@ -1,0 +1,40 @@
+//! The calls that set times.
+ghost use Rattle.wasi_guest.specs.declared.call.Call.TheVariants.{FdFilestatSetTimes};
+ghost use Rattle.wasi_p1_model.specs.Method.{StaysInBounds, DoesItsRow};
+
+use wasi_guest::Value;
+use wasi_host::Host;
+use wasi_p1_state::P1State;
+use wasi_p1_parts::call_parts::descriptor_at;
+use wasi_p1_parts::view_parts::about;
+use wasi_p1_parts::view_parts::nodes::SetTimesOf;
+use wasi_p1_model::{NewTimes, P1Error};
+
+/// Sets the times of the node of a descriptor, as `path_filestat_set_times` does. It takes no memory. Refusals, in
+/// this order: those of its flags and times, as there; Badf where the number isn't a directory's or file's; Perm
+/// unless its permissions are read-write. No host refuses it further, where POSIX's `futimens` may.
+#[tactic(auto, using(wasi_p1_model::proofs::Taking::refusals), unfolding(wasi_p1_model::specs::Calls::Times::fd_filestat_set_times))]
+pub fn fd_filestat_set_times<H: Host>(
+    context: &mut P1State<H>,
+    memory: &mut [u8],
+    fd: u32,
+    atim: u64,
+    mtim: u64,
+    fst_flags: u32,
+) -> Result<Value, P1Error>
+    ensures bounds { StaysInBounds H.Host context.old context.new memory.old
+        (FdFilestatSetTimes fd atim mtim fst_flags) result }
+    ensures turn { DoesItsRow H.Host context.old context.new memory.old memory.new
+        (FdFilestatSetTimes fd atim mtim fst_flags) result }
+{
+    let times = NewTimes::of(context.holdings.wall(), atim, mtim, fst_flags)?;
+    let descriptor = descriptor_at(&context.fs.host, &context.descriptors, fd)?;
+    about(
+        &mut context.fs,
+        &mut context.descriptors,
+        fd,
+        &descriptor,
+        SetTimesOf { times },
+    )?;
+    Ok(Value::Unit)
+}

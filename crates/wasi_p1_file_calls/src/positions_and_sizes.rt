@@ -1,0 +1,185 @@
+//! The calls on a file's position, on its size, and on how it is stored.
+ghost use Rattle.wasi_guest.specs.declared.call.Call.TheVariants.{FdAdvise, FdAllocate, FdDatasync, FdFilestatSetSize, FdSeek, FdSync, FdTell};
+ghost use Rattle.wasi_p1_model.specs.Method.{StaysInBounds, DoesItsRow};
+
+use wasi_guest::{Errno, Value};
+use wasi_host::Host;
+use wasi_p1_state::P1State;
+use wasi_p1_parts::call_parts::put_back;
+use wasi_p1_parts::file_parts::{check_alter, check_growth, file_at, position_sought, view_advice};
+use wasi_p1_parts::view_parts::files::{AdviseOf, SyncDataOf, SyncOf, about_file, set_size};
+use wasi_p1_model::{FileEnd, FileSlot, FileUse, P1Error, advice_of, whence_of};
+
+/// Tells the host how `len` bytes of a file from `offset` on will be used, of which nothing changes. Refusals, in
+/// this order: Inval where the advice is none of preview1's; Badf where the number isn't a file's. No host refuses
+/// it, where POSIX's `posix_fadvise` may. It takes no memory.
+#[tactic(auto, using(wasi_p1_model::proofs::Taking::refusals), unfolding(wasi_p1_model::specs::Calls::PositionsAndSizes::fd_advise))]
+pub fn fd_advise<H: Host>(
+    context: &mut P1State<H>,
+    memory: &mut [u8],
+    fd: u32,
+    offset: u64,
+    len: u64,
+    advice: u32,
+) -> Result<Value, P1Error>
+    ensures bounds { StaysInBounds H.Host context.old context.new memory.old (FdAdvise fd offset len advice) result }
+    ensures turn { DoesItsRow H.Host context.old context.new memory.old memory.new (FdAdvise fd offset len advice) result }
+{
+    let how = advice_of(advice)?;
+    let slot = file_at(&context.fs.host, &context.descriptors, fd, FileUse::Itself)?;
+    about_file(
+        &mut context.fs,
+        &mut context.descriptors,
+        fd,
+        &slot.file,
+        AdviseOf {
+            offset,
+            len,
+            advice: view_advice(how),
+        },
+    )?;
+    Ok(Value::Unit)
+}
+
+/// Is refused, as the crate does: Badf where the number isn't a file's, and Notsup of a file.
+#[tactic(auto, using(wasi_p1_model::proofs::Taking::refusals), unfolding(wasi_p1_model::specs::Calls::PositionsAndSizes::fd_allocate))]
+pub fn fd_allocate<H: Host>(
+    context: &mut P1State<H>,
+    memory: &mut [u8],
+    fd: u32,
+    offset: u64,
+    len: u64,
+) -> Result<Value, P1Error>
+    ensures bounds { StaysInBounds H.Host context.old context.new memory.old (FdAllocate fd offset len) result }
+    ensures turn { DoesItsRow H.Host context.old context.new memory.old memory.new (FdAllocate fd offset len) result }
+{
+    file_at(&context.fs.host, &context.descriptors, fd, FileUse::Itself)?;
+    Err(P1Error::Errno(Errno::Notsup))
+}
+
+/// Waits until a file's bytes are stored. Refusal: Badf where the number isn't a file's. No host refuses it, where
+/// POSIX's `fdatasync` may. It takes no memory.
+#[tactic(auto, using(wasi_p1_model::proofs::Taking::refusals), unfolding(wasi_p1_model::specs::Calls::PositionsAndSizes::fd_datasync))]
+pub fn fd_datasync<H: Host>(
+    context: &mut P1State<H>,
+    memory: &mut [u8],
+    fd: u32,
+) -> Result<Value, P1Error>
+    ensures bounds { StaysInBounds H.Host context.old context.new memory.old (FdDatasync fd) result }
+    ensures turn { DoesItsRow H.Host context.old context.new memory.old memory.new (FdDatasync fd) result }
+{
+    let slot = file_at(&context.fs.host, &context.descriptors, fd, FileUse::Itself)?;
+    about_file(
+        &mut context.fs,
+        &mut context.descriptors,
+        fd,
+        &slot.file,
+        SyncDataOf,
+    )?;
+    Ok(Value::Unit)
+}
+
+/// Waits until a file's bytes are stored, and what is said of it. Refusal: Badf where the number isn't a file's. No
+/// host refuses it, where POSIX's `fsync` may. It takes no memory.
+#[tactic(auto, using(wasi_p1_model::proofs::Taking::refusals), unfolding(wasi_p1_model::specs::Calls::PositionsAndSizes::fd_sync))]
+pub fn fd_sync<H: Host>(
+    context: &mut P1State<H>,
+    memory: &mut [u8],
+    fd: u32,
+) -> Result<Value, P1Error>
+    ensures bounds { StaysInBounds H.Host context.old context.new memory.old (FdSync fd) result }
+    ensures turn { DoesItsRow H.Host context.old context.new memory.old memory.new (FdSync fd) result }
+{
+    let slot = file_at(&context.fs.host, &context.descriptors, fd, FileUse::Itself)?;
+    about_file(
+        &mut context.fs,
+        &mut context.descriptors,
+        fd,
+        &slot.file,
+        SyncOf,
+    )?;
+    Ok(Value::Unit)
+}
+
+/// Cuts a file to `size` bytes, or fills it up to them with zeros; its position stays. Refusals, in this order: Badf
+/// where the number isn't a file's; Perm unless its permissions are read-write; Dquot where a bound on grown bytes would
+/// be passed, for which the host is asked for the file's size; then the host's, which are those of
+/// POSIX's `ftruncate`: Inval where the file isn't open for writing, and of a size of 2^63 or more, and Fbig of more
+/// than 2^30 bytes. An answer counts the bytes by which the file grew, and so may a failure of the host; a smaller size
+/// gives none back.
+#[tactic(auto, using(wasi_p1_model::proofs::Taking::refusals), unfolding(wasi_p1_model::specs::Calls::PositionsAndSizes::fd_filestat_set_size))]
+pub fn fd_filestat_set_size<H: Host>(
+    context: &mut P1State<H>,
+    memory: &mut [u8],
+    fd: u32,
+    size: u64,
+) -> Result<Value, P1Error>
+    ensures bounds { StaysInBounds H.Host context.old context.new memory.old (FdFilestatSetSize fd size) result }
+    ensures turn { DoesItsRow H.Host context.old context.new memory.old memory.new (FdFilestatSetSize fd size) result }
+{
+    let slot = file_at(&context.fs.host, &context.descriptors, fd, FileUse::Itself)?;
+    check_alter(slot.file.perms)?;
+    let end = FileEnd::At(size as u128);
+    let growth = check_growth(&mut context.fs.host, &context.holdings, &slot.file, end)?;
+    let set = set_size(
+        &mut context.fs,
+        &mut context.descriptors,
+        fd,
+        &slot.file,
+        size,
+    );
+    context.holdings.count_growth(growth, &set);
+    set?;
+    Ok(Value::Unit)
+}
+
+/// Puts a file's position `offset` bytes from its start, from where it is, or from the file's end, as `whence` says,
+/// and answers it. It may be past the end. Refusals, in this order: Inval where `whence` is none of preview1's;
+/// Spipe of a standard stream, and Badf where the number else isn't a file's; Inval where the position would be
+/// below 0, or 64 bits don't hold it, as POSIX's `lseek` refuses them. It takes no memory.
+#[tactic(auto, using(wasi_p1_model::proofs::Taking::refusals), unfolding(wasi_p1_model::specs::Calls::PositionsAndSizes::fd_seek))]
+pub fn fd_seek<H: Host>(
+    context: &mut P1State<H>,
+    memory: &mut [u8],
+    fd: u32,
+    offset: i64,
+    whence: u32,
+) -> Result<Value, P1Error>
+    ensures bounds { StaysInBounds H.Host context.old context.new memory.old (FdSeek fd offset whence) result }
+    ensures turn { DoesItsRow H.Host context.old context.new memory.old memory.new (FdSeek fd offset whence) result }
+{
+    let place = whence_of(whence)?;
+    let FileSlot {
+        file,
+        position,
+        modes,
+    } = file_at(
+        &context.fs.host,
+        &context.descriptors,
+        fd,
+        FileUse::Position,
+    )?;
+    let position = position_sought(&mut context.fs.host, file.file, position, place, offset)?;
+    put_back(&mut context.descriptors, fd, file, position, modes);
+    Ok(Value::Number(position))
+}
+
+/// A file's position. Refusals: Spipe of a standard stream, and Badf where the number else isn't a file's. It takes
+/// no memory.
+#[tactic(auto, using(wasi_p1_model::proofs::Taking::refusals), unfolding(wasi_p1_model::specs::Calls::PositionsAndSizes::fd_tell))]
+pub fn fd_tell<H: Host>(
+    context: &mut P1State<H>,
+    memory: &mut [u8],
+    fd: u32,
+) -> Result<Value, P1Error>
+    ensures bounds { StaysInBounds H.Host context.old context.new memory.old (FdTell fd) result }
+    ensures turn { DoesItsRow H.Host context.old context.new memory.old memory.new (FdTell fd) result }
+{
+    let slot = file_at(
+        &context.fs.host,
+        &context.descriptors,
+        fd,
+        FileUse::Position,
+    )?;
+    Ok(Value::Number(slot.position))
+}

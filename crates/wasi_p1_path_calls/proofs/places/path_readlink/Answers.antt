@@ -1,0 +1,42 @@
+use Rattle.std.proofs.Common.{◌≡◌, refl, sym, take}
+use Rattle.std.specs.String.{string_bytes}
+use Rattle.wasi_resolve.specs.EntryOps.{ReadLink}
+use Rattle.wasi_resolve.specs.PathRequest.{AtPlace}
+use Rattle.wasi_p1_model.specs.Parts.{text_to}
+use Rattle.wasi_p1_model.proofs.RowEnds.{with_text}
+use Rattle.wasi_p1_model.proofs.Below.{found_err, found_refused, found_ok}
+use Rattle.wasi_p1_model.specs.Calls.Places.{path_readlink}
+use Rattle.wasi_p1_model.proofs.Taking.{unchanged, on_err}
+use Rattle.wasi_p1_parts.proofs.Viewing.{lowered_err, lowered_ok, on_refusal}
+use Rattle.wasi_p1_path_calls.proofs.places.path_readlink.Goals as goal
+
+pub returns-in_err-link-clause-turn : goal.returns-in_err-link-clause-turn
+unfolding path_readlink
+returns-in_err-link-clause-turn g c =
+    let given = c.in_err-link.ensures in
+    let lower = lowered_err _ given.cause given.did in
+    rw (given.same, ← c.context.view_is) (on_refusal lower c.from_residual-in_err-link.ensures.1 (found_err {p = AtPlace _ _ ReadLink} (λ link. text_to c.args.memory.now c.args.buf (take c.args.buf_len link)) with_text
+    (rw (← c.in_ok-dir.ensures.row, ← c.in_ok-text.ensures.row) refl) c.context.invariant.owned _ lower.cause refl
+    refl unchanged (λ told. lower.did.1.does told refl)))
+
+pub returns-in_err-count-clause-turn : goal.returns-in_err-count-clause-turn
+unfolding path_readlink
+returns-in_err-count-clause-turn g c =
+    let given = c.in_ok-link.ensures in
+    let lower = lowered_ok _ given.did in
+    let same : c.as_bytes.result.now ≡ string_bytes c.in_ok-link.link = c.as_bytes.ensures.value in
+    rw (given.same, ← c.context.view_is) (on_err c.from_residual-in_err-count.ensures.1 (found_refused {p = AtPlace _ _ ReadLink} (λ link. text_to c.args.memory.now c.args.buf (take c.args.buf_len link)) with_text
+    (rw (← c.in_ok-dir.ensures.row, ← c.in_ok-text.ensures.row) refl) c.context.invariant.owned
+    (lower.0.some, lower.0.most, lower.0.unrooted) (λ told. lower.1.does told refl) (rw same at (sym c.in_err-count.ensures.row)) refl
+    (record { slots = refl; table_max = refl; holdings = refl; memory = c.in_err-count.ensures.same })))
+
+pub returns-clause-turn : goal.returns-clause-turn
+unfolding path_readlink
+returns-clause-turn g c =
+    let given = c.in_ok-link.ensures in
+    let lower = lowered_ok _ given.did in
+    let same : c.as_bytes.result.now ≡ string_bytes c.in_ok-link.link = c.as_bytes.ensures.value in
+    rw (given.same, ← c.context.view_is) (found_ok {p = AtPlace _ _ ReadLink} (λ link. text_to c.args.memory.now c.args.buf (take c.args.buf_len link)) with_text
+    (rw (← c.in_ok-dir.ensures.row, ← c.in_ok-text.ensures.row) refl) c.context.invariant.owned
+    (lower.0.some, lower.0.most, lower.0.unrooted) (λ told. lower.1.does told refl) (rw same at (sym c.in_ok-count.ensures.row))
+    c.in_ok-count.ensures.size refl refl)

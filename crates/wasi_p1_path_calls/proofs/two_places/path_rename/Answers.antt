@@ -1,0 +1,33 @@
+use Rattle.std.proofs.Common.{refl, rules}
+use Rattle.wasi_resolve.specs.TwoPathOps.{Rename}
+use Rattle.wasi_resolve.specs.PathRequest.{AtTwo}
+use Rattle.wasi_p1_model.proofs.Below.{done_err, done_ok}
+use Rattle.wasi_p1_model.specs.Calls.TwoPlaces.{path_rename}
+use Rattle.wasi_p1_model.proofs.Taking.{refusals}
+use Rattle.wasi_p1_parts.proofs.Viewing.{lowered_err, lowered_ok, on_refusal}
+use Rattle.wasi_p1_path_calls.proofs.two_places.path_rename.Goals as goal
+
+pub returns-in_err-between-clause-turn : goal.returns-in_err-between-clause-turn
+unfolding path_rename
+returns-in_err-between-clause-turn g c =
+    let given = c.in_err-between.ensures in
+    let lower = lowered_err _ given.cause given.did in
+    rw (given.same, ← c.context.view_is) (on_refusal lower c.from_residual-in_err-between.ensures.1 (done_err (AtTwo _ _ _ _ Rename)
+    (rw (← c.in_ok-old.ensures.row, ← c.in_ok-new.ensures.row, ← c.in_ok-old_text.ensures.row, ← c.in_ok-new_text.ensures.row) refl) c.context.invariant.owned _ lower.cause lower.did.permit refl refl lower.did.does))
+
+pub returns-clause-turn : goal.returns-clause-turn
+unfolding path_rename
+returns-clause-turn g c =
+    let given = c.in_ok-between.ensures in
+    let lower = lowered_ok _ given.did in
+    rw (given.same, ← c.context.view_is) (done_ok (AtTwo _ _ _ _ Rename)
+    (rw (← c.in_ok-old.ensures.row, ← c.in_ok-new.ensures.row, ← c.in_ok-old_text.ensures.row, ← c.in_ok-new_text.ensures.row) refl) c.context.invariant.owned
+    tt lower.permit lower.does)
+
+pub returns-in_err-new_text-clause-turn : goal.returns-in_err-new_text-clause-turn
+unfolding path_rename
+returns-in_err-new_text-clause-turn g c = rw (← c.context.view_is) (search (rules, refusals))
+
+pub returns-in_err-old_text-clause-turn : goal.returns-in_err-old_text-clause-turn
+unfolding path_rename
+returns-in_err-old_text-clause-turn g c = rw (← c.context.view_is) (search (rules, refusals))

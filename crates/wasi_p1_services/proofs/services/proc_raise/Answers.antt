@@ -1,9 +1,0 @@
-use Rattle.std.proofs.Common.{refl}
-use Rattle.wasi_turns.specs.Rows.Services.{proc_raise}
-use Rattle.wasi_turns.proofs.Taking.{refused, on_err}
-use Rattle.wasi_p1_services.proofs.services.proc_raise.Goals as goal
-
-pub returns-in_err-known_signal-clause-turn : goal.returns-in_err-known_signal-clause-turn
-unfolding proc_raise
-returns-in_err-known_signal-clause-turn g c =
-    on_err c.from_residual.ensures.1 (refused refl (rw (← c.in_err-known_signal.ensures.row) refl))

@@ -1,5 +1,0 @@
-use Rattle.std.proofs.Common.{length}
-use Rattle.wasi_p2.proofs.preopens.+give_each.Given as goal
-
-abbrev pub decreases-give_each : goal.decreases-give_each
-decreases-give_each g l = length l.preopens.now

@@ -1,0 +1,10 @@
+pub mod Directories
+pub mod Drops
+pub mod FileBytes
+pub mod Nodes
+pub mod Opens
+pub mod Places
+pub mod Resources
+pub mod Rooms
+pub mod Timed
+pub mod Views

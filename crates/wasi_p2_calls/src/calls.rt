@@ -1,0 +1,10 @@
+//! The calls of a view, by family.
+
+mod directories;
+mod dropping;
+mod error_codes;
+mod descriptor_ops;
+mod opening;
+mod path_ops;
+mod reading_and_writing;
+mod two_path_ops;

@@ -1,4 +1,0 @@
-use Rattle.wasi_resolve.proofs.at_place.create_dir.Goals as goal
-
-pub returns-clause-told : goal.returns-clause-told
-returns-clause-told g c told = rw c.strip_dir_suffix.ensures.text at (c.change_at.ensures.told told)

@@ -1,7 +1,0 @@
-use Rattle.wasi_resolve.proofs.AtTwoPlaces.{both_stay}
-use Rattle.wasi_resolve.proofs.at_two.release_both.Goals as goal
-
-pub returns-clause-told : goal.returns-clause-told
-returns-clause-told g c told =
-    both_stay _ c.args.first c.args.second c.release.ensures.live (c.release.ensures.told told)
-    (c.release-2.ensures.told told)

@@ -1,0 +1,34 @@
+use Rattle.std.proofs.Common.{arith, refl}
+use Rattle.wasi_host.proofs.Tracing.{traced_two}
+use Rattle.wasi_host.specs.declared.lookup.LookKind.TheVariants.{Rename as Renamed}
+use Rattle.wasi_resolve.specs.TwoPathOps.{Rename, asks_directory}
+use Rattle.wasi_resolve.proofs.TwoPathOpLemmas.{both_done, done_at_two, traced_at_two, two_reads}
+use Rattle.wasi_resolve.proofs.two_path_ops.rename.Goals as goal
+
+pub returns-clause-lineage : goal.returns-clause-lineage
+returns-clause-lineage g c =
+    traced_at_two c.in-Ok.ensures.lineage (rw (c.handle.ensures.handle, c.handle-2.ensures.handle) at
+    (traced_two Renamed c.handle.result c.handle-2.result c.rename_at-moved.result c.rename_at-moved.ensures.logged))
+    c.release_both.ensures.logged
+
+pub returns-clause-links : goal.returns-clause-links
+returns-clause-links g c =
+    let reads = two_reads Renamed _ _ c.rename_at-moved.result refl c.rename_at-moved.ensures.logged c.release_both.ensures.logged in
+    omega (arith, c.in-Ok.ensures.links, reads.links)
+
+pub returns-clause-told : goal.returns-clause-told
+returns-clause-told g c told =
+    let asks = asks_directory c.args.old_path.now c.args.new_path.now in
+    done_at_two _ _ _ _ c.in-Ok.both
+    (rw (c.strip_dir_suffix.ensures.text, c.strip_dir_suffix-2.ensures.text) at (c.in-Ok.ensures.told told)) Rename asks
+    c.in-Ok.ensures.closes
+    (both_done Rename asks _ c.rename_at-moved.result c.rename_at-moved.ensures.live
+    (rw (c.handle.ensures.handle, c.handle-2.ensures.handle, c.asks_directory-requires_dir.ensures) at
+    (c.rename_at-moved.ensures.told told)))
+    (rw c.rename_at-moved.ensures.live at (c.release_both.ensures.told told))
+
+pub returns-clause-bound : goal.returns-clause-bound
+returns-clause-bound g c told =
+    let reads = two_reads Renamed _ _ c.rename_at-moved.result refl c.rename_at-moved.ensures.logged c.release_both.ensures.logged in
+    let few = rw (c.strip_dir_suffix.ensures.text, c.strip_dir_suffix-2.ensures.text) at (c.in-Ok.ensures.bound told) in
+    omega (arith, few, reads.calls)

@@ -1,9 +1,0 @@
-use Rattle.wasi_form.proofs.Accepted.{accepted}
-use Rattle.wasi_run_rows.proofs.begun.Begun.of.Goals as goal
-
-pub begin-requires : goal.begin-requires
-begin-requires c = record {
-  within = (accepted c.in-Ok.ensures.verdict).within;
-  rising = c.in-Ok.ensures.rising;
-  quota = c.in-Ok.ensures.quota;
-}

@@ -1,0 +1,26 @@
+//! A guest's calls inside another program, as an engine of WebAssembly: a sandbox is begun by the text of a script that
+//! has no calls, each call works on the memory that the program lends it, and the report tells how the sandbox stands. Many
+//! sandboxes may stand over one tree, each with its own changes.
+#![tactic(auto)]
+
+mod any;
+mod base;
+mod error;
+mod records;
+mod sandbox;
+mod result_layout;
+mod starting;
+mod tree;
+
+pub use any::AnySandbox;
+pub use base::Base;
+pub use error::StartError;
+pub use records::{fdstat_bytes, filestat_bytes, prestat_bytes};
+pub use sandbox::Sandbox;
+pub use result_layout::{Places, Shape};
+pub use starting::{start, start_over};
+pub use tree::SandboxTree;
+pub use wasi_guest::QuotaUsed;
+pub use wasi_overlay::Overlay;
+pub use wasi_p1::{Call, Errno, P1Error, TrapKind, Value};
+pub use wasi_tree::MemTree;

@@ -1,8 +1,0 @@
-use Rattle.wasi_script.specs.Due.{whole, in_part}
-use Rattle.wasi_script.proofs.top.written.Goals as goal
-
-pub returns-then-write_all-clause-written : goal.returns-then-write_all-clause-written
-returns-then-write_all-clause-written g c = whole (λ told. c.if-write_all.ensures.all told)
-
-pub returns-else-write_all-clause-written : goal.returns-else-write_all-clause-written
-returns-else-write_all-clause-written g c = in_part c.if-write_all.ensures.cause (λ told. c.if-write_all.ensures.front told)

@@ -1,6 +1,0 @@
-use Rattle.std.proofs.Common.{◌≡◌, map, take}
-use Rattle.wasi_start.specs.ReportAfter.{bytes_shown}
-use Rattle.wasi_start.proofs.start.shown.Given as goal
-
-abbrev pub invariant-loop-range : goal.invariant-loop-range
-invariant-loop-range l = map (λ bytes. bytes.items) l.list.items ≡ map (bytes_shown l.memory) (take l.range-index l.ranges)

@@ -1,7 +1,0 @@
-use Rattle.std.proofs.Common.{ℕ, ◌<◌, map}
-use Rattle.wasi_tree.specs.Given.{given}
-use Rattle.wasi_tree.specs.Fit.{KeepsRules}
-use Rattle.wasi_tree.proofs.fit.check_nodes.Given as goal
-
-abbrev pub invariant-loop-i : goal.invariant-loop-i
-invariant-loop-i l = (k : ℕ) → k < l.i → KeepsRules l.limits (map given l.nodes) k

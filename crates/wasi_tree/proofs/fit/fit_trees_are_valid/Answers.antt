@@ -1,5 +1,0 @@
-use Rattle.wasi_tree.proofs.FitValid.{fit_is_valid}
-use Rattle.wasi_tree.proofs.fit.fit_trees_are_valid.Goals as goal
-
-pub returns : goal.returns
-returns c = record { valid = fit_is_valid }

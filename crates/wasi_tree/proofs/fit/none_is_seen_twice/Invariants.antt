@@ -1,5 +1,0 @@
-use Rattle.wasi_tree.proofs.DistinctLemmas.{IsSeen}
-use Rattle.wasi_tree.proofs.fit.none_is_seen_twice.Given as goal
-
-abbrev pub invariant-loop-entry : goal.invariant-loop-entry
-invariant-loop-entry l = IsSeen l.seen l.entries l.entry-index

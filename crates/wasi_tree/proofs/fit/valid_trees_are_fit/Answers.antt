@@ -1,5 +1,0 @@
-use Rattle.wasi_tree.proofs.ValidFit.{nodes_fit, tree_again}
-use Rattle.wasi_tree.proofs.fit.valid_trees_are_fit.Goals as goal
-
-pub returns : goal.returns
-returns c = record { fit = nodes_fit; again = tree_again }

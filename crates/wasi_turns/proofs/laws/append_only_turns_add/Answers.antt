@@ -1,5 +1,0 @@
-use Rattle.wasi_turns.proofs.Permitting.{turned_adds}
-use Rattle.wasi_turns.proofs.laws.append_only_turns_add.Goals as goal
-
-pub returns : goal.returns
-returns c = record { add = turned_adds }

@@ -1,5 +1,0 @@
-use Rattle.wasi_turns.proofs.Owning.{live_stays}
-use Rattle.wasi_turns.proofs.laws.live_handles_stay.Goals as goal
-
-pub returns : goal.returns
-returns c = record { stay = live_stays }

@@ -1,8 +1,0 @@
-use Rattle.wasi_turns.proofs.Completing.{turn_completes}
-use Rattle.wasi_turns.proofs.laws.methods_are_complete.Goals as goal
-
-pub returns : goal.returns
-returns g c = record {
-  complete = λ old new before after call result does told never valid.
-      turn_completes result (does.turn told) does.wants never valid;
-}

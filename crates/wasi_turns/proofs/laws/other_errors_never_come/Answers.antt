@@ -1,5 +1,0 @@
-use Rattle.wasi_turns.proofs.ErrorNumbers.{run_errnos}
-use Rattle.wasi_turns.proofs.laws.other_errors_never_come.Goals as goal
-
-pub returns : goal.returns
-returns c = record { errnos = λ k old new calls turns run. run_errnos calls turns k old new run }

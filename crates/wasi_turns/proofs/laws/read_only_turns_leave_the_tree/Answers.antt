@@ -1,5 +1,0 @@
-use Rattle.wasi_turns.proofs.Permitting.{turned_permits}
-use Rattle.wasi_turns.proofs.laws.read_only_turns_leave_the_tree.Goals as goal
-
-pub returns : goal.returns
-returns c = record { leave = turned_permits }

@@ -1,5 +1,0 @@
-use Rattle.wasi_turns.proofs.Validity.{run_valid}
-use Rattle.wasi_turns.proofs.laws.runs_stay_valid.Goals as goal
-
-pub returns : goal.returns
-returns c = record { valid = run_valid }

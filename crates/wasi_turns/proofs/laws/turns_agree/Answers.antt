@@ -1,6 +1,0 @@
-use Rattle.wasi_turns.proofs.Alike.{turn_alike}
-use Rattle.wasi_turns.proofs.InReach.{alike_in_reach}
-use Rattle.wasi_turns.proofs.laws.turns_agree.Goals as goal
-
-pub returns : goal.returns
-returns c = record { agree = λ s s' call agrees. turn_alike (alike_in_reach agrees) call }

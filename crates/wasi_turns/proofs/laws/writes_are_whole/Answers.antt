@@ -1,5 +1,0 @@
-use Rattle.wasi_turns.proofs.Writing.{writes_whole}
-use Rattle.wasi_turns.proofs.laws.writes_are_whole.Goals as goal
-
-pub returns : goal.returns
-returns c = record { whole = writes_whole }
