@@ -5,7 +5,7 @@ use wasi_host_faults::Fault;
 use wasi_fs::FsPerms;
 use wasi_guest::{Call, Quota, Services};
 use wasi_host::Limits;
-use wasi_tree::{FitNodes, NewNode};
+use wasi_tree::{WellFormedNodes, NewNode};
 
 /// A directory that the guest is given: its node's number, the name under which the guest knows it, and what may be
 /// done below it.
@@ -57,7 +57,7 @@ pub struct Session {
 /// The nodes of a tree of files and how large it may grow, and what is run on it.
 #[derive(Drop)]
 pub struct Script {
-    pub nodes: FitNodes,
+    pub nodes: WellFormedNodes,
     pub session: Session,
 }
 
@@ -73,7 +73,7 @@ pub struct Draft {
 /// of each turn the guest that has it, by its place among them. None of the calls that their host makes is let fail.
 #[derive(Drop)]
 pub struct GuestScript {
-    pub nodes: FitNodes,
+    pub nodes: WellFormedNodes,
     pub guests: Vec<Session>,
     pub schedule: Vec<u32>,
 }

@@ -22,7 +22,7 @@ use std::alloc::{AllocError, Allocator, Global};
 use thiserror::Error;
 use wasi_io::MOST_BYTES;
 use wasi_host::Limits;
-use wasi_tree::{FitNodes, NewNode, TreeError};
+use wasi_tree::{WellFormedNodes, NewNode, TreeError};
 
 // How deep lists and objects nest in a script.
 const DEPTH: usize = 127;
@@ -152,10 +152,10 @@ pub fn read_guest_script<A: Allocator + Copy>(
 }
 
 // The nodes, where a tree can be made of them.
-fn fit_nodes(alloc: Global, nodes: Vec<NewNode>, limits: Limits) -> Result<FitNodes, ScriptError>
+fn fit_nodes(alloc: Global, nodes: Vec<NewNode>, limits: Limits) -> Result<WellFormedNodes, ScriptError>
     ensures { IsTestOf (record { nodes = map given nodes.items; limits = limits }) result }
 {
-    match FitNodes::new(alloc, nodes, limits) {
+    match WellFormedNodes::new(alloc, nodes, limits) {
         Ok(nodes) => Ok(nodes),
         Err(TreeError::Invalid(_)) => Err(ScriptError::Refused(Refusal::Tree)),
         Err(TreeError::Memory) => Err(ScriptError::Memory),

@@ -18,7 +18,7 @@ use Rattle.wasi_host.specs.declared.errors.ErrorCode.{ErrorCode}
 use Rattle.wasi_host.specs.declared.errors.ErrorCode.TheVariants.{Io, NotDirectory}
 use Rattle.wasi_host.specs.declared.errors.HostError.{HostError}
 use Rattle.wasi_host.specs.declared.errors.HostError.TheVariants.{Code, Memory}
-use Rattle.wasi_host.specs.declared.open_handle.Held.{Held}
+use Rattle.wasi_host.specs.declared.open_handle.OpenHandle.{OpenHandle}
 use Rattle.wasi_host.specs.declared.metadata.Metadata.{Metadata}
 use Rattle.wasi_host.proofs.Chain.{remove-insert}
 use Rattle.wasi_host.proofs.Touching.{touches_with, no_ends}
@@ -48,11 +48,11 @@ abbrev stepped : Tree → ℕ → List ℕ → OpenHow → Tree
 stepped t s text how = after_open t s text (options_of how) how.follow
 
 -- what was opened, of what its handle stands for in the tree after it
-abbrev opened_in : Tree → Held → Opened
+abbrev opened_in : Tree → OpenHandle → Opened
 opened_in t held = record { held = held; is_dir = is_directory (node_at t held.node).content }
 
 -- what the resolver means
-abbrev resolver_opens : Tree → ℕ → List ℕ → OpenHow → Meant Held
+abbrev resolver_opens : Tree → ℕ → List ℕ → OpenHow → Meant OpenHandle
 resolver_opens t s text how = record {
   starts = s ∷ [];
   answer = opened t s text (options_of how) how.follow;
@@ -67,7 +67,7 @@ follows_again false = refl
 resolver_is : (t : Tree) (s : ℕ) (text : List ℕ) (how : OpenHow)
     → opens_at t s text (options_of how) ≡ resolver_opens t s text how
 resolver_is t s text how =
-    ap (λ b. let m : Meant Held = record {
+    ap (λ b. let m : Meant OpenHandle = record {
       starts = s ∷ [];
       answer = opened t s text (options_of how) b;
       stepped = after_open t s text (options_of how) b;
@@ -81,7 +81,7 @@ found_is t s text how = by (opening t s text (options_of how) how.follow)
   where
     at : (e : Opening) (refused : Option ErrorCode)
         → unless refused (opened_at t e.directory e.name e.options)
-        ≡ (unless refused (let h : Held = record { node = reached t e.directory e.name; mode = access_of e.options } in
+        ≡ (unless refused (let h : OpenHandle = record { node = reached t e.directory e.name; mode = access_of e.options } in
         h) >>= (λ held. Ok (opened_in (step_of t (Ok e)) held)))
     at e None = refl
     at e (Some code) = refl
@@ -155,7 +155,7 @@ not_opened {live} {w} {v} {s} text how perms e may did = record {
     same : Resolved {A = ℕ} live w v (resolver_opens w.tree s text how) v.held (Err e)
     same = subst (λ m. Resolved {A = ℕ} live w v m v.held (Err e)) (resolver_is w.tree s text how) did
 
-    answers : (m : Result Held ErrorCode) → is_ok m ≡ true
+    answers : (m : Result OpenHandle ErrorCode) → is_ok m ≡ true
         → is_ok (m >>= (λ held. Ok (opened_in (stepped w.tree s text how) held))) ≡ true
     answers (Ok held) some = refl
     answers (Err code) none = none

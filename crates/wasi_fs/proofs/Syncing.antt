@@ -10,7 +10,7 @@ use Rattle.wasi_host.specs.Steps.{◌>>=◌}
 use Rattle.wasi_host.specs.HostLaws.{World, Handles, Told}
 use Rattle.wasi_host.specs.declared.errors.ErrorCode.{ErrorCode}
 use Rattle.wasi_host.specs.declared.errors.HostError.{HostError}
-use Rattle.wasi_host.specs.declared.open_handle.Held.{Held}
+use Rattle.wasi_host.specs.declared.open_handle.OpenHandle.{OpenHandle}
 use Rattle.wasi_host.specs.ValidTree.{Reached}
 use Rattle.wasi_host.proofs.Agreeing.{itself}
 use Rattle.wasi_host.proofs.Touching.{at_root}
@@ -27,12 +27,12 @@ use Rattle.wasi_fs.specs.Calls.{syncs_directory}
 use Rattle.wasi_fs.proofs.Once.{once}
 
 -- what is stored through what was opened, if it was
-abbrev stores : Tree → ℕ → Result Held ErrorCode → Meant (Unit {0})
+abbrev stores : Tree → ℕ → Result OpenHandle ErrorCode → Meant (Unit {0})
 stores t d held = record {
   starts = d ∷ [];
   answer = held >>= (λ h. Ok tt);
   stepped = t;
-  ends = ends_by (λ (h : Held). h.node) held;
+  ends = ends_by (λ (h : OpenHandle). h.node) held;
 }
 
 module _ {first : Handles} {w v : World} (d : ℕ) where
@@ -58,7 +58,7 @@ module _ {first : Handles} {w v : World} (d : ℕ) where
       let n = (v.held h).node in
       let looks = only_looks (Ok h) opens in
       let near : Reached w.tree (d ∷ []) n =
-      subst (GivesIn (Reached w.tree (d ∷ [])) (λ (held : Held). held.node)) opens.answer
+      subst (GivesIn (Reached w.tree (d ∷ [])) (λ (held : OpenHandle). held.node)) opens.answer
       (paths.opened_seen (reached_closed w.tree (d ∷ [])) itself d (codes ".") reading true refl (at_root w.tree d)) in
       let there : Resolved first w u (stores v.tree d (Ok (v.held h))) (λ unit. unit) r =
       resolved_then looks near (still_live first h got) refl (once (Sync n) n r (Contains-push [] n) same stored) in

@@ -5,17 +5,17 @@ use Rattle.wasi_paths.specs.Parts.{has_root}
 use Rattle.wasi_host.specs.Agree.{Touches}
 use Rattle.wasi_host.specs.Tree.{Tree}
 use Rattle.wasi_host.specs.HostCall.{HostCall, Sync, Flags}
-use Rattle.wasi_host.specs.Refusal.{first_row}
+use Rattle.wasi_host.specs.Refusal.{first_rule}
 use Rattle.wasi_host.specs.Answer.{HostAnswer, stat_answer}
 use Rattle.wasi_host.specs.Step.{times_set}
 use Rattle.wasi_host.specs.Steps.{◌>>=◌}
-use Rattle.wasi_host.specs.Lineage.{Traced, Only, Nothing}
+use Rattle.wasi_host.specs.Lineage.{HasProvenance, Only, Nothing}
 use Rattle.wasi_host.specs.HostLaws.{World, Handles, Means}
 use Rattle.wasi_host.specs.declared.errors.ErrorCode.{ErrorCode}
 use Rattle.wasi_host.specs.declared.errors.ErrorCode.TheVariants.{Invalid, NotPermitted}
 use Rattle.wasi_host.specs.declared.errors.HostError.{HostError}
 use Rattle.wasi_host.specs.declared.errors.HostError.TheVariants.{Code, Memory}
-use Rattle.wasi_host.specs.declared.open_handle.Held.{Held}
+use Rattle.wasi_host.specs.declared.open_handle.OpenHandle.{OpenHandle}
 use Rattle.wasi_host.specs.declared.lookup.Lookup.{Lookup}
 use Rattle.wasi_host.specs.declared.metadata.Metadata.{Metadata}
 use Rattle.wasi_host.specs.declared.sync_flags.SyncFlags.{SyncFlags}
@@ -44,16 +44,16 @@ use Rattle.wasi_fs.specs.declared.perms.FsPerms.{FsPerms}
 
 -- an act that isn't permitted is refused
 unfoldable pub may_do : FsPerms → Act → Option ErrorCode
-may_do perms act = first_row ((not (permits perms act), NotPermitted) ∷ [])
+may_do perms act = first_rule ((not (permits perms act), NotPermitted) ∷ [])
 
 -- a link is made where making is permitted, and none anywhere whose text has a root
 unfoldable pub may_link : FsPerms → List ℕ → Option ErrorCode
-may_link perms target = first_row ((not (permits perms Make), NotPermitted) ∷ (has_root target, NotPermitted) ∷ [])
+may_link perms target = first_rule ((not (permits perms Make), NotPermitted) ∷ (has_root target, NotPermitted) ∷ [])
 
 -- a node gets a further name only where making is permitted in both directories, and under the same permissions; a link
 -- isn't followed
 unfoldable pub may_add_name : FsPerms → FsPerms → Bool → Option ErrorCode
-may_add_name old new follow = first_row (
+may_add_name old new follow = first_rule (
     (not (permits old Make), NotPermitted) ∷
     (not (permits new Make), NotPermitted) ∷
     (follow, Invalid) ∷
@@ -62,7 +62,7 @@ may_add_name old new follow = first_row (
 
 -- a name moves only where altering is permitted in both, and under the same permissions
 unfoldable pub may_rename : FsPerms → FsPerms → Option ErrorCode
-may_rename old new = first_row (
+may_rename old new = first_rule (
     (not (permits old Alter), NotPermitted) ∷
     (not (permits new Alter), NotPermitted) ∷
     (differ old new, NotPermitted) ∷
@@ -92,7 +92,7 @@ open_mode_of (descriptors.File file) = file.open_mode
 open_mode_of (descriptors.Dir dir) = dir.open_mode
 
 -- what was opened: what the handle stands for, and whether it is a directory
-abbrev pub opened_of : (ℕ → Held) → Descriptor → Opened
+abbrev pub opened_of : (ℕ → OpenHandle) → Descriptor → Opened
 opened_of held (descriptors.File file) = record { held = held file.file; is_dir = false }
 opened_of held (descriptors.Dir dir) = record { held = held dir.dir; is_dir = true }
 
@@ -157,7 +157,7 @@ syncs_directory t d = record {
 }
 
 -- what a descriptor stands for is stored
-abbrev pub syncs : Tree → (ℕ → Held) → Descriptor → Meant (Unit {0})
+abbrev pub syncs : Tree → (ℕ → OpenHandle) → Descriptor → Meant (Unit {0})
 syncs t held (descriptors.File file) = asks_at t (Sync (held file.file).node) (held file.file).node
 syncs t held (descriptors.Dir dir) = syncs_directory t (held dir.dir).node
 
@@ -169,7 +169,7 @@ NeedsNone (descriptors.Dir dir) result = Unit {0}
 -- of a file no name is looked up; of a directory what is looked up begins from it
 abbrev pub LooksAnew : Descriptor → List Lookup → List Lookup → Type 0
 LooksAnew (descriptors.File file) old new = new ≡ old
-LooksAnew (descriptors.Dir dir) old new = Traced (Only dir.dir) Nothing Nothing old new
+LooksAnew (descriptors.Dir dir) old new = HasProvenance (Only dir.dir) Nothing Nothing old new
 
 -- Whether two nodes are one: the tree stays, no node but these two is touched, and both where it is answered; and the
 -- handles that are live stand for what they stood for

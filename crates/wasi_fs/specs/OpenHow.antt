@@ -1,7 +1,7 @@
 -- How a path is opened: what the flags of an open ask for.
 use Rattle.std.specs.Prelude.{ℕ, Bool, true, false, not, ◌&&◌, ◌||◌, List, [], ◌∷◌, Option}
 use Rattle.wasi_host.specs.Options.{Options, no_options}
-use Rattle.wasi_host.specs.Refusal.{first_row}
+use Rattle.wasi_host.specs.Refusal.{first_rule}
 use Rattle.wasi_host.specs.declared.errors.ErrorCode.{ErrorCode}
 use Rattle.wasi_host.specs.declared.errors.ErrorCode.TheVariants as codes
 use Rattle.wasi_host.specs.declared.open_options.FollowSymlinks.{FollowSymlinks}
@@ -69,7 +69,7 @@ open_rows how perms =
 
 -- the code of the first of these rows that holds
 unfoldable pub may_open : OpenHow → FsPerms → Option ErrorCode
-may_open how perms = first_row (open_rows how perms)
+may_open how perms = first_rule (open_rows how perms)
 
 abbrev pub follow_of : Bool → FollowSymlinks
 follow_of true = Yes

@@ -5,10 +5,10 @@ ghost use Rattle.std.specs.FinSet.{contains};
 ghost use Rattle.std.specs.String.{string_bytes};
 ghost use Rattle.wasi_paths.specs.Parts.{has_root};
 ghost use Rattle.wasi_host.specs.HostLaws.{HasCause};
-ghost use Rattle.wasi_host.specs.Lineage.{Traced, Only, Nothing};
+ghost use Rattle.wasi_host.specs.Lineage.{HasProvenance, Only, Nothing};
 ghost use Rattle.wasi_host.specs.Numbers.{longest_link};
 ghost use Rattle.wasi_host.specs.declared.errors.ErrorCode.TheVariants as codes;
-ghost use Rattle.wasi_host.specs.declared.open_handle.Held.{Held};
+ghost use Rattle.wasi_host.specs.declared.open_handle.OpenHandle.{OpenHandle};
 ghost use Rattle.wasi_resolve.specs.EntryOps.{CreateDir, RemoveFile, RemoveDir, Symlink, ReadLink};
 ghost use Rattle.wasi_resolve.specs.Finding.{is_directory_kind};
 ghost use Rattle.wasi_resolve.specs.PathRequest.{AtPlace, as_asked, meant_by};
@@ -51,7 +51,7 @@ impl Dir {
         requires live { contains (H.live host.old) self.now.dir ≡ true }
         ensures cause { HasCause (H.faults host.old) (H.faults host.new) result }
         ensures live { LiveOpened (H.live host.old) result (H.live host.new) }
-        ensures lineage { Traced (Only self.now.dir) Nothing (GotOpened result) (H.lookups host.old) (H.lookups host.new) }
+        ensures lineage { HasProvenance (Only self.now.dir) Nothing (GotOpened result) (H.lookups host.old) (H.lookups host.new) }
         ensures perms { IfOk result (λ descriptor. perms_of descriptor ≡ self.now.perms) }
         ensures mode { IfOk result (λ descriptor. open_mode_of descriptor ≡ mode_of (how_of path_flags oflags flags)) }
         ensures kind { IfOk result (IsAsked (how_of path_flags oflags flags).directory) }
@@ -78,7 +78,7 @@ impl Dir {
         requires live { contains (H.live host.old) self.now.dir ≡ true }
         ensures cause { HasCause (H.faults host.old) (H.faults host.new) result }
         ensures live { H.live host.new ≡ H.live host.old }
-        ensures lineage { Traced (Only self.now.dir) Nothing Nothing (H.lookups host.old) (H.lookups host.new) }
+        ensures lineage { HasProvenance (Only self.now.dir) Nothing Nothing (H.lookups host.old) (H.lookups host.new) }
         ensures permit { Refuses (may_do self.now.perms Make) result host.old host.new }
         ensures told { IsTrue H.told → may_do self.now.perms Make ≡ None
             → Resolved (H.live host.old) (H.world host.old) (H.world host.new)
@@ -100,7 +100,7 @@ impl Dir {
         requires live { contains (H.live host.old) self.now.dir ≡ true }
         ensures cause { HasCause (H.faults host.old) (H.faults host.new) result }
         ensures live { H.live host.new ≡ H.live host.old }
-        ensures lineage { Traced (Only self.now.dir) Nothing Nothing (H.lookups host.old) (H.lookups host.new) }
+        ensures lineage { HasProvenance (Only self.now.dir) Nothing Nothing (H.lookups host.old) (H.lookups host.new) }
         ensures permit { Refuses (may_do self.now.perms Alter) result host.old host.new }
         ensures told { IsTrue H.told → may_do self.now.perms Alter ≡ None
             → Resolved (H.live host.old) (H.world host.old) (H.world host.new)
@@ -122,7 +122,7 @@ impl Dir {
         requires live { contains (H.live host.old) self.now.dir ≡ true }
         ensures cause { HasCause (H.faults host.old) (H.faults host.new) result }
         ensures live { H.live host.new ≡ H.live host.old }
-        ensures lineage { Traced (Only self.now.dir) Nothing Nothing (H.lookups host.old) (H.lookups host.new) }
+        ensures lineage { HasProvenance (Only self.now.dir) Nothing Nothing (H.lookups host.old) (H.lookups host.new) }
         ensures permit { Refuses (may_do self.now.perms Alter) result host.old host.new }
         ensures told { IsTrue H.told → may_do self.now.perms Alter ≡ None
             → Resolved (H.live host.old) (H.world host.old) (H.world host.new)
@@ -146,7 +146,7 @@ impl Dir {
         requires live { contains (H.live host.old) self.now.dir ≡ true }
         ensures cause { HasCause (H.faults host.old) (H.faults host.new) result }
         ensures live { H.live host.new ≡ H.live host.old }
-        ensures lineage { Traced (Only self.now.dir) Nothing Nothing (H.lookups host.old) (H.lookups host.new) }
+        ensures lineage { HasProvenance (Only self.now.dir) Nothing Nothing (H.lookups host.old) (H.lookups host.new) }
         ensures permit { Refuses (may_link self.now.perms src_path.now) result host.old host.new }
         ensures told { IsTrue H.told → may_link self.now.perms src_path.now ≡ None
             → Resolved (H.live host.old) (H.world host.old) (H.world host.new)
@@ -169,7 +169,7 @@ impl Dir {
         requires live { contains (H.live host.old) self.now.dir ≡ true }
         ensures cause { HasCause (H.faults host.old) (H.faults host.new) result }
         ensures live { H.live host.new ≡ H.live host.old }
-        ensures lineage { Traced (Only self.now.dir) Nothing Nothing (H.lookups host.old) (H.lookups host.new) }
+        ensures lineage { HasProvenance (Only self.now.dir) Nothing Nothing (H.lookups host.old) (H.lookups host.new) }
         ensures some { IfOk result (λ text. 0 < length (string_bytes text)) }
         ensures most { IfOk result (λ text. length (string_bytes text) ≤ longest_link) }
         ensures unrooted { IfOk result (λ text. has_root (string_bytes text) ≡ false) }
@@ -192,7 +192,7 @@ impl Dir {
         requires live { contains (H.live host.old) self.now.dir ≡ true }
         ensures cause { HasCause (H.faults host.old) (H.faults host.new) result }
         ensures live { H.live host.new ≡ H.live host.old }
-        ensures lineage { Traced (Only self.now.dir) Nothing Nothing (H.lookups host.old) (H.lookups host.new) }
+        ensures lineage { HasProvenance (Only self.now.dir) Nothing Nothing (H.lookups host.old) (H.lookups host.new) }
         ensures of { IfOk result IsStat }
         ensures told { IsTrue H.told → Resolved (H.live host.old) (H.world host.old) (H.world host.new)
             (meant_as descriptor_stat (meant_by (H.world host.old).tree
@@ -215,7 +215,7 @@ impl Dir {
         requires live { contains (H.live host.old) self.now.dir ≡ true }
         ensures cause { HasCause (H.faults host.old) (H.faults host.new) result }
         ensures live { H.live host.new ≡ H.live host.old }
-        ensures lineage { Traced (Only self.now.dir) Nothing Nothing (H.lookups host.old) (H.lookups host.new) }
+        ensures lineage { HasProvenance (Only self.now.dir) Nothing Nothing (H.lookups host.old) (H.lookups host.new) }
         ensures of { IfOk result IsHash }
         ensures told { IsTrue H.told → Resolved (H.live host.old) (H.world host.old) (H.world host.new)
             (meant_as metadata_hash (meant_by (H.world host.old).tree
@@ -237,7 +237,7 @@ impl Dir {
         requires live { contains (H.live host.old) self.now.dir ≡ true }
         ensures cause { HasCause (H.faults host.old) (H.faults host.new) result }
         ensures live { H.live host.new ≡ H.live host.old }
-        ensures lineage { Traced (Only self.now.dir) Nothing Nothing (H.lookups host.old) (H.lookups host.new) }
+        ensures lineage { HasProvenance (Only self.now.dir) Nothing Nothing (H.lookups host.old) (H.lookups host.new) }
         ensures told { IsTrue H.told → Resolved (H.live host.old) (H.world host.old) (H.world host.new)
             (meant_by (H.world host.old).tree
             (looks ((H.world host.old).held self.now.dir).node path.now path_flags))
@@ -261,7 +261,7 @@ impl Dir {
         requires may { may_open how self.now.perms ≡ None }
         ensures cause { HasCause (H.faults host.old) (H.faults host.new) result }
         ensures live { LiveOpened (H.live host.old) result (H.live host.new) }
-        ensures lineage { Traced (Only self.now.dir) Nothing (GotOpened result) (H.lookups host.old) (H.lookups host.new) }
+        ensures lineage { HasProvenance (Only self.now.dir) Nothing (GotOpened result) (H.lookups host.old) (H.lookups host.new) }
         ensures perms { IfOk result (λ descriptor. perms_of descriptor ≡ self.now.perms) }
         ensures mode { IfOk result (λ descriptor. open_mode_of descriptor ≡ mode_of how) }
         ensures kind { IfOk result (IsAsked how.directory) }
@@ -299,7 +299,7 @@ impl Dir {
         ensures mode { IfOk result (λ descriptor. open_mode_of descriptor ≡ mode_of how) }
         ensures kind { IfOk result (IsAsked how.directory) }
         ensures refusal { IfErr result (λ code. code ≡ codes.NotDirectory) }
-        ensures asked { (held : ℕ → Held) → result_map_both (opened_of held) (λ code. code) result
+        ensures asked { (held : ℕ → OpenHandle) → result_map_both (opened_of held) (λ code. code) result
             ≡ as_asked how.directory (record { held = held handle; is_dir = is_directory_kind kind }) }
     {
         if kind == FileType::Directory {

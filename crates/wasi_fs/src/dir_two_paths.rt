@@ -2,7 +2,7 @@
 ghost use Rattle.std.specs.Prelude.{◌≡◌, true, IsTrue, None};
 ghost use Rattle.std.specs.FinSet.{contains};
 ghost use Rattle.wasi_host.specs.HostLaws.{HasCause};
-ghost use Rattle.wasi_host.specs.Lineage.{Traced, OneOf, Nothing};
+ghost use Rattle.wasi_host.specs.Lineage.{HasProvenance, OneOf, Nothing};
 ghost use Rattle.wasi_resolve.specs.TwoPathOps.{HardLink, Rename};
 ghost use Rattle.wasi_resolve.specs.PathRequest.{AtTwo, meant_by};
 ghost use Rattle.wasi_resolve.specs.Resolved.{Resolved};
@@ -34,7 +34,7 @@ impl Dir {
         requires new_live { contains (H.live host.old) new_dir.now.dir ≡ true }
         ensures cause { HasCause (H.faults host.old) (H.faults host.new) result }
         ensures live { H.live host.new ≡ H.live host.old }
-        ensures lineage { Traced (OneOf self.now.dir new_dir.now.dir) Nothing Nothing (H.lookups host.old)
+        ensures lineage { HasProvenance (OneOf self.now.dir new_dir.now.dir) Nothing Nothing (H.lookups host.old)
             (H.lookups host.new) }
         ensures permit { Refuses (may_add_name self.now.perms new_dir.now.perms (is_followed old_path_flags)) result
             host.old host.new }
@@ -65,7 +65,7 @@ impl Dir {
         requires new_live { contains (H.live host.old) new_dir.now.dir ≡ true }
         ensures cause { HasCause (H.faults host.old) (H.faults host.new) result }
         ensures live { H.live host.new ≡ H.live host.old }
-        ensures lineage { Traced (OneOf self.now.dir new_dir.now.dir) Nothing Nothing (H.lookups host.old)
+        ensures lineage { HasProvenance (OneOf self.now.dir new_dir.now.dir) Nothing Nothing (H.lookups host.old)
             (H.lookups host.new) }
         ensures permit { Refuses (may_rename self.now.perms new_dir.now.perms) result host.old host.new }
         ensures told { IsTrue H.told → may_rename self.now.perms new_dir.now.perms ≡ None

@@ -3,7 +3,7 @@ ghost use Rattle.std.specs.Prelude.{◌≡◌, true, IsTrue, IfErr};
 ghost use Rattle.std.specs.FinSet.{contains};
 ghost use Rattle.wasi_host.specs.HostCall.{Sync};
 ghost use Rattle.wasi_host.specs.HostLaws.{HasCause};
-ghost use Rattle.wasi_host.specs.Lineage.{Traced, Only, Nothing};
+ghost use Rattle.wasi_host.specs.Lineage.{HasProvenance, Only, Nothing};
 ghost use Rattle.wasi_resolve.specs.Resolved.{Resolved};
 ghost use Rattle.wasi_fs.specs.Calls.{asks_at, handle_of, syncs, syncs_directory, LooksAnew, NeedsNone, NotMemory};
 
@@ -66,7 +66,7 @@ fn sync_directory<H: Host>(alloc: Global, host: &mut H, directory: Handle) -> Re
     requires live { contains (H.live host.old) directory ≡ true }
     ensures cause { HasCause (H.faults host.old) (H.faults host.new) result }
     ensures live { H.live host.new ≡ H.live host.old }
-    ensures lineage { Traced (Only directory) Nothing Nothing (H.lookups host.old) (H.lookups host.new) }
+    ensures lineage { HasProvenance (Only directory) Nothing Nothing (H.lookups host.old) (H.lookups host.new) }
     ensures told { IsTrue H.told → Resolved (H.live host.old) (H.world host.old) (H.world host.new)
         (syncs_directory (H.world host.old).tree ((H.world host.old).held directory).node) (λ unit. unit) result }
 {

@@ -2,7 +2,7 @@
 ghost use Rattle.std.specs.Prelude.{◌≡◌, true, IsTrue, IfErr, None};
 ghost use Rattle.std.specs.FinSet.{contains};
 ghost use Rattle.wasi_host.specs.HostLaws.{HasCause};
-ghost use Rattle.wasi_host.specs.Lineage.{Traced, Only, Nothing};
+ghost use Rattle.wasi_host.specs.Lineage.{HasProvenance, Only, Nothing};
 ghost use Rattle.wasi_resolve.specs.PathRequest.{meant_by};
 ghost use Rattle.wasi_resolve.specs.Resolved.{Resolved};
 ghost use Rattle.wasi_fs.specs.Calls.{may_do, handle_of, perms_of, sets, sets_times, NotMemory, Refuses};
@@ -67,7 +67,7 @@ impl Dir {
         requires live { contains (H.live host.old) self.now.dir ≡ true }
         ensures cause { HasCause (H.faults host.old) (H.faults host.new) result }
         ensures live { H.live host.new ≡ H.live host.old }
-        ensures lineage { Traced (Only self.now.dir) Nothing Nothing (H.lookups host.old) (H.lookups host.new) }
+        ensures lineage { HasProvenance (Only self.now.dir) Nothing Nothing (H.lookups host.old) (H.lookups host.new) }
         ensures permit { Refuses (may_do self.now.perms Alter) result host.old host.new }
         ensures told { IsTrue H.told → may_do self.now.perms Alter ≡ None
             → Resolved (H.live host.old) (H.world host.old) (H.world host.new)

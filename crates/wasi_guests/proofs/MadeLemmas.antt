@@ -6,7 +6,7 @@ use Rattle.std.proofs.lemmas.Bool.Decides.{nat_tests}
 use Rattle.std.proofs.lemmas.List.{length-append, map-append}
 use Rattle.std.proofs.lemmas.List.Sums.{sum_by-cons, sum_by_push}
 use Rattle.std.proofs.lemmas.Option.{slice_get_past}
-use Rattle.wasi_p1_model.specs.Run.{Turned}
+use Rattle.wasi_p1_model.specs.Trace.{TraceStep}
 use Rattle.wasi_guests.specs.Alone.{turns_of}
 use Rattle.wasi_guests.specs.Between.{AreNumbered}
 use Rattle.wasi_guests.specs.Joint.{MadeNode, made_after, made_before, made_in_turn, numbers_from}
@@ -84,7 +84,7 @@ taken_on guest first taken schedule = elim (cases_eq guest first) [
 ]
 
 -- the nodes that one turn more of a guest made stand behind the others
-pub made_push : (turns : ℕ → List Turned) (guest : ℕ) (taken : ℕ → ℕ) (schedule : List ℕ)
+pub made_push : (turns : ℕ → List TraceStep) (guest : ℕ) (taken : ℕ → ℕ) (schedule : List ℕ)
     → made_after turns taken (schedule ++ guest ∷ [])
     ≡ made_after turns taken schedule
     ++ map (λ n. (guest, n)) (made_in_turn (slice_get (turns guest) (taken guest + turns_of guest schedule)))
@@ -100,7 +100,7 @@ made_push turns guest taken (first ∷ schedule) =
     (made_after turns (one_more first taken) schedule) _)
 
 -- the turns that were taken made the same, whatever turns there are behind them
-pub made_same : (turns others : ℕ → List Turned) (taken : ℕ → ℕ) (schedule : List ℕ)
+pub made_same : (turns others : ℕ → List TraceStep) (taken : ℕ → ℕ) (schedule : List ℕ)
     → ((i j : ℕ) → j < taken i + turns_of i schedule → slice_get (others i) j ≡ slice_get (turns i) j)
     → made_after others taken schedule ≡ made_after turns taken schedule
 made_same turns others taken [] same = refl

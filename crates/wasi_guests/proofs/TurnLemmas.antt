@@ -12,7 +12,7 @@ use Rattle.wasi_setup.specs.Start.{world_behind}
 use Rattle.wasi_p1_model.specs.Front.{FueledCall, with_fuel}
 use Rattle.wasi_p1_model.specs.Guest.{State, state_of}
 use Rattle.wasi_p1_model.specs.Reach.{Confined}
-use Rattle.wasi_p1_model.specs.Run.{Turned, Played, Run, answers_of, ends}
+use Rattle.wasi_p1_model.specs.Trace.{TraceStep, Played, Trace, answers_of, ends}
 use Rattle.wasi_p1_model.proofs.Confining.{turn_confines}
 use Rattle.wasi_p1_model.proofs.Runs.{turn_of, turned}
 use Rattle.wasi_guests.specs.Alone.{AloneRun, IsAlone, Starting}
@@ -87,7 +87,7 @@ module _ {g : Starting} {t : ℕ} {alone : AloneRun} {old new : GuestRun} (was :
   abbrev there : State
   there = state_of world_behind new.context new.memory
 
-  abbrev one : Turned
+  abbrev one : TraceStep
   one = turned here call made.answer there
 
   abbrev after : AloneRun
@@ -108,18 +108,18 @@ module _ {g : Starting} {t : ℕ} {alone : AloneRun} {old new : GuestRun} (was :
 
   answers : new.answers.answers ≡ answers_of (alone.turns ++ one ∷ [])
   answers = made.more ∙ ap (λ l. l ++ made.answer ∷ []) was.answers
-      ∙ sym (map-append (λ (t : Turned). t.answer) alone.turns (one ∷ []))
+      ∙ sym (map-append (λ (t : TraceStep). t.answer) alone.turns (one ∷ []))
 
   calls_same : map (with_fuel new.fuel) new.calls.items ≡ g.calls
   calls_same = rw (made.fuel, made.calls) was.calls
 
   -- it goes on from the run so far by this turn, whatever comes behind it
-  on : (more : List FueledCall) (rest : List Turned) (last : State) → ends made.answer ≡ false → Run 0 there more rest last
-      → Run 0 alone.last (call ∷ more) (one ∷ rest) last
+  on : (more : List FueledCall) (rest : List TraceStep) (last : State) → ends made.answer ≡ false → Trace 0 there more rest last
+      → Trace 0 alone.last (call ∷ more) (one ∷ rest) last
   on more rest last goes run = (0, was.state, refl, inl (played, refl), rw goes run)
 
   -- or ends with it
-  last_on : (more : List FueledCall) → ends made.answer ≡ true → Run 0 alone.last (call ∷ more) (one ∷ []) there
+  last_on : (more : List FueledCall) → ends made.answer ≡ true → Trace 0 alone.last (call ∷ more) (one ∷ []) there
   last_on more stops = (0, was.state, refl, inl (played, refl), rw stops (refl, refl))
 
   module _ (going : IsGoing g t alone old) where
@@ -202,7 +202,7 @@ all_made : {g : Starting} {t : ℕ} {alone : AloneRun} {old : GuestRun} → IsAt
     → length old.calls.items ≤ old.next → (u : ℕ) → suc t ≤ u → IsAlone g u alone
 all_made {g} {t} {alone} {old} was going over u more =
     let many : length g.calls ≤ t = omega (arith, going.next, ap length was.calls, length-map old.calls.items (with_fuel old.fuel)) in
-    let run : Run 0 g.state (take t g.calls ++ []) (alone.turns ++ []) alone.last = going.on [] [] alone.last refl in
+    let run : Trace 0 g.state (take t g.calls ++ []) (alone.turns ++ []) alone.last = going.on [] [] alone.last refl in
     rw (take_all u g.calls (omega arith)) (rw (append-nil, append-nil, take_all t g.calls many) at run)
 
 pub goes_on : {g : Starting} {t : ℕ} {alone : AloneRun} {old new : GuestRun} → IsAt g t alone old → HasRoom old

@@ -8,7 +8,7 @@ use Rattle.wasi_form.specs.Plan.{planned_preopen}
 use Rattle.wasi_setup.specs.Start.{begun}
 use Rattle.wasi_p1_model.specs.Front.{FueledCall, with_fuel}
 use Rattle.wasi_p1_model.specs.Guest.{State}
-use Rattle.wasi_p1_model.specs.Run.{Turned, Run, answers_of}
+use Rattle.wasi_p1_model.specs.Trace.{TraceStep, Trace, answers_of}
 use Rattle.wasi_guests.specs.declared.plan.GuestEnd.{GuestEnd}
 use Rattle.wasi_guests.specs.declared.plan.GuestPlan.{GuestPlan}
 
@@ -19,19 +19,19 @@ pub record Starting : Type 0 where
 
 -- turns, and the state after them
 pub record AloneRun : Type 0 where
-  pub turns : List Turned
+  pub turns : List TraceStep
   pub last : State
 
 -- the run, without faults, of the first calls of a guest, so many of them, from its own start
 abbrev pub IsAlone : Starting → ℕ → AloneRun → Type 0
-IsAlone g t run = Run 0 g.state (take t g.calls) run.turns run.last
+IsAlone g t run = Trace 0 g.state (take t g.calls) run.turns run.last
 
 -- the turns of a guest, by its place among others; none past the last
-abbrev pub turns_in : Option AloneRun → List Turned
+abbrev pub turns_in : Option AloneRun → List TraceStep
 turns_in None = []
 turns_in (Some run) = run.turns
 
-abbrev pub turns_at : List AloneRun → ℕ → List Turned
+abbrev pub turns_at : List AloneRun → ℕ → List TraceStep
 turns_at alone guest = turns_in (slice_get alone guest)
 
 -- how many nodes a run made over a tree

@@ -11,11 +11,11 @@ use Rattle.wasi_overlay.specs.Overlay.{WorksOnTouched}
 use Rattle.wasi_setup.specs.Start.{world_behind}
 use Rattle.wasi_tree.specs.Given.{Given, given_of}
 use Rattle.wasi_tree.specs.MemState.{MemState}
-use Rattle.wasi_p1_model.specs.CallTurn.{Causes, TakesTurn}
+use Rattle.wasi_p1_model.specs.CallTransition.{Causes, Transitions}
 use Rattle.wasi_p1_model.specs.Front.{FueledCall, with_fuel}
 use Rattle.wasi_p1_model.specs.Guest.{State, state_of}
 use Rattle.wasi_p1_model.specs.Reach.{Confined}
-use Rattle.wasi_p1_model.specs.Run.{Turned, Run, answer_of, answers_of, ends}
+use Rattle.wasi_p1_model.specs.Trace.{TraceStep, Trace, answer_of, answers_of, ends}
 use Rattle.wasi_p1_model.specs.Slots.{View}
 use Rattle.wasi_p1_model.specs.declared.error.P1Error.{P1Error}
 use Rattle.wasi_guests.specs.Alone.{AloneRun, End, IsAlone, Starting, made_by, starting, turns_at, turns_of}
@@ -40,7 +40,7 @@ pub record MadeCall (old new : GuestRun) : Type 0 where
   pub answer : Answer
   pub answers : answer_of result ≡ Some answer
   pub cause : Causes (faults_of old.context) (faults_of new.context) result
-  pub turn : TakesTurn world_behind (Rose (faults_of old.context) (faults_of new.context)) old.context new.context old.memory
+  pub turn : Transitions world_behind (Rose (faults_of old.context) (faults_of new.context)) old.context new.context old.memory
       new.memory (with_fuel old.fuel call) result
   pub more : new.answers.answers ≡ old.answers.answers ++ answer ∷ []
   pub next : new.next ≡ (if ends answer then length old.calls.items else suc old.next)
@@ -114,8 +114,8 @@ pub record NotesTurn (start guest : ℕ) (old new : GuestRun) (was is : List Mad
 pub record IsGoing (g : Starting) (t : ℕ) (alone : AloneRun) (run : GuestRun) : Type 0 where
   pub next : run.next ≡ t
   pub within : t ≤ length g.calls
-  pub on : (more : List FueledCall) (rest : List Turned) (last : State) → Run 0 alone.last more rest last
-      → Run 0 g.state (take t g.calls ++ more) (alone.turns ++ rest) last
+  pub on : (more : List FueledCall) (rest : List TraceStep) (last : State) → Trace 0 alone.last more rest last
+      → Trace 0 g.state (take t g.calls ++ more) (alone.turns ++ rest) last
   pub each : length alone.turns ≡ t
 
 -- the guest's calls are at an end, however many turns it has

@@ -2,7 +2,7 @@
 use Rattle.std.specs.Prelude.{ℕ, zero, suc, ◌+◌, ◌-◌, ◌==◌, ◌&&◌, List, [], ◌∷◌, ◌++◌, map, Option, Some, None, option_map, unwrap_or, slice_get, if◌then◌else◌}
 use Rattle.wasi_host.specs.Tree.{Tree, next_of}
 use Rattle.wasi_tree.specs.Given.{Given, GivenContent, file, directory, link}
-use Rattle.wasi_p1_model.specs.Run.{Turned}
+use Rattle.wasi_p1_model.specs.Trace.{TraceStep}
 
 -- a node that a guest made: the guest, and the number that the node has for the guest alone
 abbrev pub MadeNode : Type 0
@@ -14,19 +14,19 @@ numbers_from n zero = []
 numbers_from n (suc count) = n ∷ numbers_from (suc n) count
 
 -- the nodes that a turn made, none where there was no turn
-abbrev pub made_in_turn : Option Turned → List ℕ
+abbrev pub made_in_turn : Option TraceStep → List ℕ
 made_in_turn None = []
 made_in_turn (Some t) = numbers_from (next_of t.before.tree) (next_of t.after.tree - next_of t.before.tree)
 
 -- the nodes that the turns of a schedule made, in order, where of each guest so many turns were taken before
-abbrev pub made_after : (ℕ → List Turned) → (ℕ → ℕ) → List ℕ → List MadeNode
+abbrev pub made_after : (ℕ → List TraceStep) → (ℕ → ℕ) → List ℕ → List MadeNode
 made_after turns taken [] = []
 made_after turns taken (guest ∷ schedule) =
     map (λ n. (guest, n)) (made_in_turn (slice_get (turns guest) (taken guest)))
     ++ made_after turns (λ i. if i == guest then suc (taken i) else taken i) schedule
 
 -- the nodes that the turns of a schedule made, in order
-abbrev pub made_in : (ℕ → List Turned) → List ℕ → List MadeNode
+abbrev pub made_in : (ℕ → List TraceStep) → List ℕ → List MadeNode
 made_in turns schedule = made_after turns (λ _. 0) schedule
 
 -- how many nodes were made before one, if it was made

@@ -3,7 +3,7 @@ ghost use Rattle.std.specs.Prelude.{◌≡◌, ◌+◌, ◌++◌, ◌∷◌, ◌
 ghost use Rattle.wasi_host.specs.Tree.{next_of};
 ghost use Rattle.wasi_tree.specs.Given.{given, given_content, pair_of};
 ghost use Rattle.wasi_report.specs.ReadBack.{HasRisingNames};
-ghost use Rattle.wasi_p1_model.specs.Run.{ends};
+ghost use Rattle.wasi_p1_model.specs.Trace.{ends};
 ghost use Rattle.wasi_guests.specs.Alone.{ended};
 ghost use Rattle.wasi_guests.specs.AsIfAlone.{MayBegin};
 ghost use Rattle.wasi_guests.specs.Between.{HasRoom, IsBegunOn, TakesItsTurn, end_of, joint_given, joint_in, tree_of};

@@ -6,7 +6,7 @@ ghost use Rattle.wasi_guests.specs.declared.holders.Holders.TheVariants.{Several
 
 use crate::holders::Holders;
 use std::alloc::{AllocError, Global};
-use wasi_tree_index::Run;
+use wasi_tree_index::EntryCursor;
 use wasi_tree::MemTree;
 
 /// A walk over a tree from the directories of all guests at once. The names of a directory are gone over at most twice:
@@ -78,7 +78,7 @@ impl Walk {
     }
 
     /// These guests hold the node of each of these names.
-    fn find_names(&mut self, mut names: Run<'_>, holders: Holders) -> Result<(), AllocError>
+    fn find_names(&mut self, mut names: EntryCursor<'_>, holders: Holders) -> Result<(), AllocError>
         requires { All (λ e. e.1 < length self.old.holders.items) names }
         ensures { OnOk result (AreFound (map (λ e. e.1) names.entry) holders self.old self.new) }
     {

@@ -2,35 +2,35 @@
 use Rattle.std.proofs.Common.{◌≡◌, ◌⊎◌, inl, inr, Bool, true, false, List, [], ◌∷◌, ◌++◌, Option, Some, None, Ok, Err, refl, sym, ap, ◌∙◌}
 use Rattle.wasi_host.specs.Tree.{Tree}
 use Rattle.wasi_host.specs.HostCall.{HostCall, OpenAt, StatAt, ReadLinkAt, MakeDirAt, SymlinkAt, LinkAt, RenameAt, UnlinkAt, RemoveDirAt, TimesAt, Access, Stat, SetTimes, Pread, Pwrite, Append, SetSize, Sync, Advise, Flags, ListDir, Dup, Close}
-use Rattle.wasi_host.specs.Refusal.{refusal, first_row}
+use Rattle.wasi_host.specs.Refusal.{refusal, first_rule}
 use Rattle.wasi_host.specs.Answer.{HostAnswer, unless, host_answer}
 use Rattle.wasi_host.specs.declared.errors.ErrorCode.{ErrorCode}
 
 -- ---- rows before others
 
 -- where no row holds, none of either part does
-pub none_refuses : (rows others : List (Bool × ErrorCode)) → first_row (rows ++ others) ≡ None
-    → (first_row rows ≡ None) × (first_row others ≡ None)
+pub none_refuses : (rows others : List (Bool × ErrorCode)) → first_rule (rows ++ others) ≡ None
+    → (first_rule rows ≡ None) × (first_rule others ≡ None)
 none_refuses [] others none = (refl, none)
 none_refuses ((true, code) ∷ rows) others none = absurd (cc)
 none_refuses ((false, code) ∷ rows) others none = none_refuses rows others none
 
 -- a code is that of a row of one part
-pub part_refuses : (rows others : List (Bool × ErrorCode)) {code : ErrorCode} → first_row (rows ++ others) ≡ Some code
-    → (first_row rows ≡ Some code) ⊎ (first_row others ≡ Some code)
+pub part_refuses : (rows others : List (Bool × ErrorCode)) {code : ErrorCode} → first_rule (rows ++ others) ≡ Some code
+    → (first_rule rows ≡ Some code) ⊎ (first_rule others ≡ Some code)
 part_refuses [] others is = inr is
 part_refuses ((true, code) ∷ rows) others is = inl is
 part_refuses ((false, code) ∷ rows) others is = part_refuses rows others is
 
 -- the first part's code is that of both
-pub refused_before : (rows more : List (Bool × ErrorCode)) {code : ErrorCode} → first_row rows ≡ Some code
-    → first_row (rows ++ more) ≡ Some code
+pub refused_before : (rows more : List (Bool × ErrorCode)) {code : ErrorCode} → first_rule rows ≡ Some code
+    → first_rule (rows ++ more) ≡ Some code
 refused_before [] more is = absurd (cc)
 refused_before ((true, code) ∷ rows) more is = is
 refused_before ((false, code) ∷ rows) more is = refused_before rows more is
 
-pub left_behind : (rows more : List (Bool × ErrorCode)) → first_row rows ≡ None
-    → first_row (rows ++ more) ≡ first_row more
+pub left_behind : (rows more : List (Bool × ErrorCode)) → first_rule rows ≡ None
+    → first_rule (rows ++ more) ≡ first_rule more
 left_behind [] more none = refl
 left_behind ((true, code) ∷ rows) more some = absurd (cc)
 left_behind ((false, code) ∷ rows) more none = left_behind rows more none

@@ -2,7 +2,7 @@
 use Rattle.std.proofs.Common.{◌≡◌, ◌⊎◌, inl, inr, ℕ, List, [], ◌∷◌, ◌++◌, Option, Some, None, Result, Ok, Err, refl, sym, ap, ◌∙◌, append_assoc}
 use Rattle.std.proofs.lemmas.List.{append-nil}
 use Rattle.wasi_host.specs.HostLaws.{Handles, Logged, LoggedErr, MaybeLogged, LoggedGotErr, MaybeLoggedGot, one_looked, both_looked}
-use Rattle.wasi_host.specs.Lineage.{OrGot, OrGotIn, HasLineage, Traced, Only, OneOf, Nothing}
+use Rattle.wasi_host.specs.Lineage.{OrGot, OrGotIn, HasLineage, HasProvenance, Only, OneOf, Nothing}
 use Rattle.wasi_host.specs.declared.errors.ErrorCode.TheVariants.{Io}
 use Rattle.wasi_host.specs.declared.errors.HostError.{HostError}
 use Rattle.wasi_host.specs.declared.errors.HostError.TheVariants.{Code, Memory}
@@ -49,7 +49,7 @@ got_in-append A (x ∷ xs) ys h has = got_in-append (OrGot A x.got) xs ys h has
 -- a piece from handles that are kept, behind another
 pub traced_then : {Given Given' Kept Mid Kept' : ℕ → Type 0} {a b c : List Lookup} → ((h : ℕ) → Kept h → Given h)
     → ((h : ℕ) → Given' h → Mid h)
-    → Traced Given Kept Mid a b → Traced Given' Mid Kept' b c → Traced Given Kept Kept' a c
+    → HasProvenance Given Kept Mid a b → HasProvenance Given' Mid Kept' b c → HasProvenance Given Kept Kept' a c
 traced_then {Given} {Given'} {Kept} {Mid} {Kept'} {a} {b} {c} own from first second = record {
   piece = first.piece ++ second.piece;
   adds = second.adds ∙ ap (λ l. l ++ second.piece) first.adds ∙ append_assoc a first.piece second.piece;
@@ -61,23 +61,23 @@ traced_then {Given} {Given'} {Kept} {Mid} {Kept'} {a} {b} {c} own from first sec
 -- ---- one call
 
 pub traced_none : (Given Kept Kept' : ℕ → Type 0) (old new : List Lookup) → new ≡ old → ((h : ℕ) → Kept' h → Kept h)
-    → Traced Given Kept Kept' old new
+    → HasProvenance Given Kept Kept' old new
 traced_none Given Kept Kept' old new same less = record { piece = []; adds = same ∙ sym (append-nil old); lineage = tt; ends = less }
 
 traced_one : (Given Kept Kept' : ℕ → Type 0) (old new : List Lookup) (entry : Lookup) → Given entry.from
-    → new ≡ old ++ entry ∷ [] → ((h : ℕ) → Kept' h → OrGot Kept entry.got h) → Traced Given Kept Kept' old new
+    → new ≡ old ++ entry ∷ [] → ((h : ℕ) → Kept' h → OrGot Kept entry.got h) → HasProvenance Given Kept Kept' old new
 traced_one Given Kept Kept' old new entry is adds ends = record { piece = entry ∷ []; adds = adds; lineage = (is, tt); ends = ends }
 
 -- a call that got a handle
 pub traced_got : (old new : List Lookup) (kind : LookKind) (from h : ℕ)
     → new ≡ old ++ record { kind = kind; from = from; got = Some h } ∷ []
-    → Traced (Only from) Nothing (Only h) old new
+    → HasProvenance (Only from) Nothing (Only h) old new
 traced_got old new kind from h adds =
     traced_one (Only from) Nothing (Only h) old new (record { kind = kind; from = from; got = Some h }) refl adds (λ q is. inr is)
 
 -- a call that was to get a handle, and failed
 maybe_traced_got : (live : Handles) (old new : List Lookup) (kind : LookKind) (from : ℕ)
-    → MaybeLoggedGot live old kind from new → Traced (Only from) Nothing Nothing old new
+    → MaybeLoggedGot live old kind from new → HasProvenance (Only from) Nothing Nothing old new
 maybe_traced_got live old new kind from logged = elim logged [
   | inl same ↦ traced_none (Only from) Nothing Nothing old new same (λ q none. none)
   | inr adds ↦ traced_one (Only from) Nothing Nothing old new (record { kind = kind; from = from; got = adds.got }) refl
@@ -85,7 +85,7 @@ maybe_traced_got live old new kind from logged = elim logged [
 ]
 
 pub traced_got_err : (live : Handles) (old new : List Lookup) (kind : LookKind) (from : ℕ) (e : HostError)
-    → LoggedGotErr live old kind from e new → Traced (Only from) Nothing Nothing old new
+    → LoggedGotErr live old kind from e new → HasProvenance (Only from) Nothing Nothing old new
 traced_got_err live old new kind from Memory logged = maybe_traced_got live old new kind from logged
 traced_got_err live old new kind from (Code Io) logged = maybe_traced_got live old new kind from logged
 traced_got_err live old new kind from (Code code) logged =
@@ -93,53 +93,53 @@ traced_got_err live old new kind from (Code code) logged =
 
 -- a call that gets no handle
 traced_piece : {Given : ℕ → Type 0} {old new : List Lookup} (piece : List Lookup) → HasLineage Given piece
-    → new ≡ old ++ piece → Traced Given Nothing Nothing old new
+    → new ≡ old ++ piece → HasProvenance Given Nothing Nothing old new
 traced_piece piece has adds = record { piece = piece; adds = adds; lineage = has; ends = λ h none. absurd none }
 
 maybe_traced : {Given : ℕ → Type 0} {old new : List Lookup} (piece : List Lookup) → HasLineage Given piece
-    → MaybeLogged old piece new → Traced Given Nothing Nothing old new
+    → MaybeLogged old piece new → HasProvenance Given Nothing Nothing old new
 maybe_traced {Given} {old} {new} piece has logged = elim logged [
   | inl same ↦ traced_none Given Nothing Nothing old new same (λ q none. none)
   | inr adds ↦ traced_piece piece has adds
 ]
 
 traced_err : {Given : ℕ → Type 0} {old new : List Lookup} (piece : List Lookup) → HasLineage Given piece
-    → (e : HostError) → LoggedErr old piece e new → Traced Given Nothing Nothing old new
+    → (e : HostError) → LoggedErr old piece e new → HasProvenance Given Nothing Nothing old new
 traced_err piece has Memory logged = maybe_traced piece has logged
 traced_err piece has (Code Io) logged = maybe_traced piece has logged
 traced_err piece has (Code code) logged = traced_piece piece has logged
 
 traced_logged : {A : Type 0} {Given : ℕ → Type 0} {old new : List Lookup} (piece : List Lookup) → HasLineage Given piece
-    → (r : Result A HostError) → Logged old piece r new → Traced Given Nothing Nothing old new
+    → (r : Result A HostError) → Logged old piece r new → HasProvenance Given Nothing Nothing old new
 traced_logged piece has (Ok a) logged = traced_piece piece has logged
 traced_logged piece has (Err e) logged = traced_err piece has e logged
 
 -- a call at one handle
 pub traced_call : {A : Type 0} {old new : List Lookup} (kind : LookKind) (from : ℕ) (r : Result A HostError)
-    → Logged old (one_looked kind from) r new → Traced (Only from) Nothing Nothing old new
+    → Logged old (one_looked kind from) r new → HasProvenance (Only from) Nothing Nothing old new
 traced_call kind from r logged = traced_logged (one_looked kind from) (refl, tt) r logged
 
 -- a call with two names
 pub traced_two : {A : Type 0} {before now : List Lookup} (kind : LookKind) (old new : ℕ) (r : Result A HostError)
-    → Logged before (both_looked kind old new) r now → Traced (OneOf old new) Nothing Nothing before now
+    → Logged before (both_looked kind old new) r now → HasProvenance (OneOf old new) Nothing Nothing before now
 traced_two kind old new r logged = traced_logged (both_looked kind old new) (inl refl, (inr refl, tt)) r logged
 
 -- ---- the same in other words
 
 -- calls that add none before or after
 pub traced_same : {Given Kept Kept' : ℕ → Type 0} {old new : List Lookup} (now : List Lookup) → now ≡ new
-    → Traced Given Kept Kept' old new → Traced Given Kept Kept' old now
+    → HasProvenance Given Kept Kept' old new → HasProvenance Given Kept Kept' old now
 traced_same now same traced = record { piece = traced.piece; adds = same ∙ traced.adds; lineage = traced.lineage; ends = traced.ends }
 
 -- other handles are given
 pub traced_given : {Given Kept Kept' : ℕ → Type 0} {old new : List Lookup} (Given' : ℕ → Type 0)
-    → ((h : ℕ) → Given h → Given' h) → Traced Given Kept Kept' old new → Traced Given' Kept Kept' old new
+    → ((h : ℕ) → Given h → Given' h) → HasProvenance Given Kept Kept' old new → HasProvenance Given' Kept Kept' old new
 traced_given {Given} Given' more traced =
     record { piece = traced.piece; adds = traced.adds; lineage = lineage_more Given Given' more traced.piece traced.lineage; ends = traced.ends }
 
 -- other handles are kept: each was kept, or is one that the piece got
 pub traced_kept : {Given Made : ℕ → Type 0} {old new : List Lookup} (Kept Kept' : ℕ → Type 0)
-    → ((h : ℕ) → Kept' h → Kept h ⊎ Made h) → Traced Given Nothing Made old new → Traced Given Kept Kept' old new
+    → ((h : ℕ) → Kept' h → Kept h ⊎ Made h) → HasProvenance Given Nothing Made old new → HasProvenance Given Kept Kept' old new
 traced_kept Kept Kept' each traced = record {
   piece = traced.piece;
   adds = traced.adds;
@@ -150,7 +150,7 @@ traced_kept Kept Kept' each traced = record {
 
 -- a last part, after which no handle is kept but what it made
 pub traced_last : {Given Given' Mid Made : ℕ → Type 0} {a b c : List Lookup} → ((h : ℕ) → Given' h → Mid h)
-    → Traced Given Given Mid a b → Traced Given' Nothing Made b c → Traced Given Nothing Made a c
+    → HasProvenance Given Given Mid a b → HasProvenance Given' Nothing Made b c → HasProvenance Given Nothing Made a c
 traced_last {Given} {Given'} {a = a} from first second = record {
   piece = first.piece ++ second.piece;
   adds = second.adds ∙ ap (λ l. l ++ second.piece) first.adds ∙ append_assoc a first.piece second.piece;
@@ -163,13 +163,13 @@ traced_last {Given} {Given'} {a = a} from first second = record {
 }
 
 -- no handle is kept afterwards
-pub traced_less : {Given Kept Kept' : ℕ → Type 0} {old new : List Lookup} → Traced Given Kept Kept' old new
-    → Traced Given Nothing Nothing old new
+pub traced_less : {Given Kept Kept' : ℕ → Type 0} {old new : List Lookup} → HasProvenance Given Kept Kept' old new
+    → HasProvenance Given Nothing Nothing old new
 traced_less traced =
     record { piece = traced.piece; adds = traced.adds; lineage = traced.lineage; ends = λ h none. absurd none }
 
 -- a second call from the same handle, the first of which made nothing
-pub traced_twice : {from : ℕ} {Made : ℕ → Type 0} {a b c : List Lookup} → Traced (Only from) Nothing Nothing a b
-    → Traced (Only from) Nothing Made b c → Traced (Only from) Nothing Made a c
+pub traced_twice : {from : ℕ} {Made : ℕ → Type 0} {a b c : List Lookup} → HasProvenance (Only from) Nothing Nothing a b
+    → HasProvenance (Only from) Nothing Made b c → HasProvenance (Only from) Nothing Made a c
 traced_twice {from} first second =
     traced_last (λ h is. is) (traced_kept (Only from) (Only from) (λ h is. inl is) first) second

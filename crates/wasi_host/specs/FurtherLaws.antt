@@ -9,14 +9,14 @@ use Rattle.wasi_host.specs.declared.errors.ErrorCode.{ErrorCode}
 use Rattle.wasi_host.specs.declared.errors.ErrorCode.TheVariants.{Io}
 use Rattle.wasi_host.specs.declared.errors.HostError.{HostError}
 use Rattle.wasi_host.specs.declared.errors.HostError.TheVariants.{Code, Memory}
-use Rattle.wasi_host.specs.declared.injected_fault.Fate.{Fate}
-use Rattle.wasi_host.specs.declared.injected_fault.Fate.TheVariants.{Passes, FailsBefore, FailsAfter}
+use Rattle.wasi_host.specs.declared.injected_fault.InjectedFault.{InjectedFault}
+use Rattle.wasi_host.specs.declared.injected_fault.InjectedFault.TheVariants.{Passes, FailsBefore, FailsAfter}
 
 -- what becomes of the calls to come but `dup` and `close`, the next one at 0
 abbrev pub Fates : Type 0
-Fates = ℕ → Fate
+Fates = ℕ → InjectedFault
 
-abbrev pub is_failing : Fate → Bool
+abbrev pub is_failing : InjectedFault → Bool
 is_failing Passes = false
 is_failing FailsBefore = true
 is_failing FailsAfter = true
@@ -29,7 +29,7 @@ has_failed (Err (Code Io)) = true
 has_failed (Err (Code code)) = false
 
 -- one call of a host that tells what becomes of its calls: `Io` is answered exactly where it fails
-pub record Fated {A : Type 0} (old new : Fates) (result : Result A HostError) : Type 0 where
+pub record FollowsPlan {A : Type 0} (old new : Fates) (result : Result A HostError) : Type 0 where
   pub failed : has_failed result ≡ is_failing (old 0)
   pub later : (n : ℕ) → new n ≡ old (n + 1)
 
@@ -66,7 +66,7 @@ MayTakeEffect call w v = TakesEffect call w v ⊎ AfterErr w call Memory v
 
 -- What a call leaves that fails by itself: all as it was, where it wasn't made; what the call does that was asked for,
 -- where it was made and its answer lost
-abbrev pub Leaves : Fate → World → Tree → World → (World → World → Type 0) → Type 0
+abbrev pub Leaves : InjectedFault → World → Tree → World → (World → World → Type 0) → Type 0
 Leaves Passes left found after Effect = Unit {0}
 Leaves FailsBefore left found after Effect = after ≡ left
 Leaves FailsAfter left found after Effect = Effect (changed_to found left) after

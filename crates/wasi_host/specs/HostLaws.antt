@@ -7,7 +7,7 @@ use Rattle.wasi_host.specs.HostCall.{HostCall}
 use Rattle.wasi_host.specs.Refusal.{refusal, can_write}
 use Rattle.wasi_host.specs.Answer.{HostAnswer, host_answer}
 use Rattle.wasi_host.specs.Step.{step, found_by, made_by, with_nodes}
-use Rattle.wasi_host.specs.declared.open_handle.Held.{Held}
+use Rattle.wasi_host.specs.declared.open_handle.OpenHandle.{OpenHandle}
 use Rattle.wasi_host.specs.declared.lookup.Lookup.{Lookup}
 use Rattle.wasi_host.specs.declared.lookup.LookKind.{LookKind}
 use Rattle.wasi_host.specs.declared.errors.ErrorCode.{ErrorCode}
@@ -22,7 +22,7 @@ Handles = FinSet nat_cmp
 -- what a told host tells: its tree, what each live handle stands for, and the touched nodes
 pub record World : Type 0 where
   pub tree : Tree
-  pub held : ℕ → Held
+  pub held : ℕ → OpenHandle
   pub touched : Nodes
 
 -- the world with no node touched
@@ -146,7 +146,7 @@ abbrev pub Keeps : Handles → Handles → World → World → Type 0
 Keeps old new w v = (h : ℕ) → contains old h ≡ true → contains new h ≡ true → v.held h ≡ w.held h
 
 -- a handle's node is a node of the tree, and a file where the handle was opened for writing
-pub record IsHeld (t : Tree) (held : Held) : Type 0 where
+pub record IsHeld (t : Tree) (held : OpenHandle) : Type 0 where
   pub within : held.node < next_of t
   pub writes_file : can_write held.mode ≡ true → is_file (node_at t held.node).content ≡ true
 

@@ -19,7 +19,7 @@ HasLineage Known (entry ∷ rest) = Known entry.from × HasLineage (OrGot Known 
 
 -- The look-ups have grown by a piece whose lineage are the given handles; and who keeps a handle afterwards kept it
 -- before, or a look-up of the piece got it
-pub record Traced (Given Kept Kept' : ℕ → Type 0) (old new : List Lookup) : Type 0 where
+pub record HasProvenance (Given Kept Kept' : ℕ → Type 0) (old new : List Lookup) : Type 0 where
   pub piece : List Lookup
   pub adds : new ≡ old ++ piece
   pub lineage : HasLineage Given piece

@@ -8,7 +8,7 @@ ghost use Rattle.wasi_paths.specs.Text.{is_entry_name};
 ghost use Rattle.wasi_host.specs.HostCall.{OpenAt, StatAt, ReadLinkAt, MakeDirAt, SymlinkAt, LinkAt, RenameAt, UnlinkAt, RemoveDirAt, TimesAt, Access, Stat, SetTimes, Pread, Pwrite, Append, SetSize, Sync, Advise, Flags, ListDir, Dup, Close};
 ghost use Rattle.wasi_host.specs.Answer.{entry_of};
 ghost use Rattle.wasi_host.specs.HostLaws.{World, AllHeld, FaultCount, HasCause, Rose, LiveGot, Told, Logged, LoggedGot, one_looked, both_looked, hosted, answered};
-ghost use Rattle.wasi_host.specs.FurtherLaws.{Fated, Fates, Finds, Follow, Others, Leaves, TakesEffect, MayTakeEffect};
+ghost use Rattle.wasi_host.specs.FurtherLaws.{FollowsPlan, Fates, Finds, Follow, Others, Leaves, TakesEffect, MayTakeEffect};
 ghost use Rattle.wasi_host.specs.Numbers.{longest_link};
 ghost use Rattle.wasi_host.specs.Tree.{Tree};
 ghost use Rattle.wasi_host.specs.declared.lookup.Lookup.{Lookup};
@@ -93,7 +93,7 @@ pub trait Host {
         ensures told { IsTrue told → Told (live self.old) (live self.new) (world self.old) (world self.new)
             (OpenAt ((world self.old).held start).node (name_bytes name.entry) options.now)
             (world self.new).held result }
-        ensures fails { IsTrue tells_fails → Fated (fails self.old) (fails self.new) result }
+        ensures fails { IsTrue tells_fails → FollowsPlan (fails self.old) (fails self.new) result }
         ensures others { IsTrue tells_found → Follow (others self.old) (others self.new) }
         ensures found { IsTrue tells_found → Finds (live self.old) (live self.new) (left self.old) (found self.old) (left self.new)
             (OpenAt ((left self.old).held start).node (name_bytes name.entry) options.now)
@@ -112,7 +112,7 @@ pub trait Host {
         ensures told { IsTrue told → Told (live self.old) (live self.new) (world self.old) (world self.new)
             (StatAt ((world self.old).held start).node (name_bytes name.entry))
             (λ metadata. metadata) result }
-        ensures fails { IsTrue tells_fails → Fated (fails self.old) (fails self.new) result }
+        ensures fails { IsTrue tells_fails → FollowsPlan (fails self.old) (fails self.new) result }
         ensures others { IsTrue tells_found → Follow (others self.old) (others self.new) }
         ensures found { IsTrue tells_found → Finds (live self.old) (live self.new) (left self.old) (found self.old) (left self.new)
             (StatAt ((left self.old).held start).node (name_bytes name.entry))
@@ -137,7 +137,7 @@ pub trait Host {
         ensures told { IsTrue told → Told (live self.old) (live self.new) (world self.old) (world self.new)
             (ReadLinkAt ((world self.old).held start).node (name_bytes name.entry))
             (λ text. string_bytes text) result }
-        ensures fails { IsTrue tells_fails → Fated (fails self.old) (fails self.new) result }
+        ensures fails { IsTrue tells_fails → FollowsPlan (fails self.old) (fails self.new) result }
         ensures others { IsTrue tells_found → Follow (others self.old) (others self.new) }
         ensures found { IsTrue tells_found → Finds (live self.old) (live self.new) (left self.old) (found self.old) (left self.new)
             (ReadLinkAt ((left self.old).held start).node (name_bytes name.entry))
@@ -156,7 +156,7 @@ pub trait Host {
         ensures told { IsTrue told → Told (live self.old) (live self.new) (world self.old) (world self.new)
             (MakeDirAt ((world self.old).held start).node (name_bytes name.entry))
             (λ unit. unit) result }
-        ensures fails { IsTrue tells_fails → Fated (fails self.old) (fails self.new) result }
+        ensures fails { IsTrue tells_fails → FollowsPlan (fails self.old) (fails self.new) result }
         ensures others { IsTrue tells_found → Follow (others self.old) (others self.new) }
         ensures found { IsTrue tells_found → Finds (live self.old) (live self.new) (left self.old) (found self.old) (left self.new)
             (MakeDirAt ((left self.old).held start).node (name_bytes name.entry))
@@ -175,7 +175,7 @@ pub trait Host {
         ensures told { IsTrue told → Told (live self.old) (live self.new) (world self.old) (world self.new)
             (SymlinkAt target.now ((world self.old).held start).node (name_bytes name.entry))
             (λ unit. unit) result }
-        ensures fails { IsTrue tells_fails → Fated (fails self.old) (fails self.new) result }
+        ensures fails { IsTrue tells_fails → FollowsPlan (fails self.old) (fails self.new) result }
         ensures others { IsTrue tells_found → Follow (others self.old) (others self.new) }
         ensures found { IsTrue tells_found → Finds (live self.old) (live self.new) (left self.old) (found self.old) (left self.new)
             (SymlinkAt target.now ((left self.old).held start).node (name_bytes name.entry))
@@ -202,7 +202,7 @@ pub trait Host {
             (LinkAt ((world self.old).held old).node (name_bytes old_name.entry)
             ((world self.old).held new).node (name_bytes new_name.entry))
             (λ unit. unit) result }
-        ensures fails { IsTrue tells_fails → Fated (fails self.old) (fails self.new) result }
+        ensures fails { IsTrue tells_fails → FollowsPlan (fails self.old) (fails self.new) result }
         ensures others { IsTrue tells_found → Follow (others self.old) (others self.new) }
         ensures found { IsTrue tells_found → Finds (live self.old) (live self.new) (left self.old) (found self.old) (left self.new)
             (LinkAt ((left self.old).held old).node (name_bytes old_name.entry)
@@ -235,7 +235,7 @@ pub trait Host {
             (RenameAt ((world self.old).held old).node (name_bytes old_name.entry)
             ((world self.old).held new).node (name_bytes new_name.entry) requires_dir)
             (λ unit. unit) result }
-        ensures fails { IsTrue tells_fails → Fated (fails self.old) (fails self.new) result }
+        ensures fails { IsTrue tells_fails → FollowsPlan (fails self.old) (fails self.new) result }
         ensures others { IsTrue tells_found → Follow (others self.old) (others self.new) }
         ensures found { IsTrue tells_found → Finds (live self.old) (live self.new) (left self.old) (found self.old) (left self.new)
             (RenameAt ((left self.old).held old).node (name_bytes old_name.entry)
@@ -256,7 +256,7 @@ pub trait Host {
         ensures told { IsTrue told → Told (live self.old) (live self.new) (world self.old) (world self.new)
             (UnlinkAt ((world self.old).held start).node (name_bytes name.entry))
             (λ unit. unit) result }
-        ensures fails { IsTrue tells_fails → Fated (fails self.old) (fails self.new) result }
+        ensures fails { IsTrue tells_fails → FollowsPlan (fails self.old) (fails self.new) result }
         ensures others { IsTrue tells_found → Follow (others self.old) (others self.new) }
         ensures found { IsTrue tells_found → Finds (live self.old) (live self.new) (left self.old) (found self.old) (left self.new)
             (UnlinkAt ((left self.old).held start).node (name_bytes name.entry))
@@ -276,7 +276,7 @@ pub trait Host {
         ensures told { IsTrue told → Told (live self.old) (live self.new) (world self.old) (world self.new)
             (RemoveDirAt ((world self.old).held start).node (name_bytes name.entry))
             (λ unit. unit) result }
-        ensures fails { IsTrue tells_fails → Fated (fails self.old) (fails self.new) result }
+        ensures fails { IsTrue tells_fails → FollowsPlan (fails self.old) (fails self.new) result }
         ensures others { IsTrue tells_found → Follow (others self.old) (others self.new) }
         ensures found { IsTrue tells_found → Finds (live self.old) (live self.new) (left self.old) (found self.old) (left self.new)
             (RemoveDirAt ((left self.old).held start).node (name_bytes name.entry))
@@ -301,7 +301,7 @@ pub trait Host {
         ensures told { IsTrue told → Told (live self.old) (live self.new) (world self.old) (world self.new)
             (TimesAt ((world self.old).held start).node (name_bytes name.entry) atime mtime)
             (λ unit. unit) result }
-        ensures fails { IsTrue tells_fails → Fated (fails self.old) (fails self.new) result }
+        ensures fails { IsTrue tells_fails → FollowsPlan (fails self.old) (fails self.new) result }
         ensures others { IsTrue tells_found → Follow (others self.old) (others self.new) }
         ensures found { IsTrue tells_found → Finds (live self.old) (live self.new) (left self.old) (found self.old) (left self.new)
             (TimesAt ((left self.old).held start).node (name_bytes name.entry) atime mtime)
@@ -322,7 +322,7 @@ pub trait Host {
         ensures told { IsTrue told → Told (live self.old) (live self.new) (world self.old) (world self.new)
             (ListDir ((world self.old).held directory))
             (λ entries. map entry_of entries.items) result }
-        ensures fails { IsTrue tells_fails → Fated (fails self.old) (fails self.new) result }
+        ensures fails { IsTrue tells_fails → FollowsPlan (fails self.old) (fails self.new) result }
         ensures others { IsTrue tells_found → Follow (others self.old) (others self.new) }
         ensures found { IsTrue tells_found → Finds (live self.old) (live self.new) (left self.old) (found self.old) (left self.new)
             (ListDir ((left self.old).held directory))
@@ -353,7 +353,7 @@ pub trait Host {
         ensures told { IsTrue told → Told (live self.old) (live self.new) (world self.old) (world self.new)
             (Access ((world self.old).held directory).node)
             (λ unit. unit) (hosted result) }
-        ensures fails { IsTrue tells_fails → Fated (fails self.old) (fails self.new) (hosted result) }
+        ensures fails { IsTrue tells_fails → FollowsPlan (fails self.old) (fails self.new) (hosted result) }
         ensures others { IsTrue tells_found → Follow (others self.old) (others self.new) }
         ensures found { IsTrue tells_found → Finds (live self.old) (live self.new) (left self.old) (found self.old) (left self.new)
             (Access ((left self.old).held directory).node)
@@ -371,7 +371,7 @@ pub trait Host {
         ensures told { IsTrue told → Told (live self.old) (live self.new) (world self.old) (world self.new)
             (Stat ((world self.old).held handle).node)
             (λ metadata. metadata) (hosted result) }
-        ensures fails { IsTrue tells_fails → Fated (fails self.old) (fails self.new) (hosted result) }
+        ensures fails { IsTrue tells_fails → FollowsPlan (fails self.old) (fails self.new) (hosted result) }
         ensures others { IsTrue tells_found → Follow (others self.old) (others self.new) }
         ensures found { IsTrue tells_found → Finds (live self.old) (live self.new) (left self.old) (found self.old) (left self.new)
             (Stat ((left self.old).held handle).node)
@@ -393,7 +393,7 @@ pub trait Host {
         ensures told { IsTrue told → Told (live self.old) (live self.new) (world self.old) (world self.new)
             (SetTimes ((world self.old).held handle).node atime mtime)
             (λ unit. unit) (hosted result) }
-        ensures fails { IsTrue tells_fails → Fated (fails self.old) (fails self.new) (hosted result) }
+        ensures fails { IsTrue tells_fails → FollowsPlan (fails self.old) (fails self.new) (hosted result) }
         ensures others { IsTrue tells_found → Follow (others self.old) (others self.new) }
         ensures found { IsTrue tells_found → Finds (live self.old) (live self.new) (left self.old) (found self.old) (left self.new)
             (SetTimes ((left self.old).held handle).node atime mtime)
@@ -416,7 +416,7 @@ pub trait Host {
         ensures told { IsTrue told → Told (live self.old) (live self.new) (world self.old) (world self.new)
             (Pread ((world self.old).held file) offset (length buf.old))
             (λ n. take n buf.new) (hosted result) }
-        ensures fails { IsTrue tells_fails → Fated (fails self.old) (fails self.new) (hosted result) }
+        ensures fails { IsTrue tells_fails → FollowsPlan (fails self.old) (fails self.new) (hosted result) }
         ensures others { IsTrue tells_found → Follow (others self.old) (others self.new) }
         ensures found { IsTrue tells_found → Finds (live self.old) (live self.new) (left self.old) (found self.old) (left self.new)
             (Pread ((left self.old).held file) offset (length buf.old))
@@ -439,7 +439,7 @@ pub trait Host {
         ensures told { IsTrue told → Told (live self.old) (live self.new) (world self.old) (world self.new)
             (Pwrite ((world self.old).held file) offset piece.now)
             (λ n. n) result }
-        ensures fails { IsTrue tells_fails → Fated (fails self.old) (fails self.new) result }
+        ensures fails { IsTrue tells_fails → FollowsPlan (fails self.old) (fails self.new) result }
         ensures others { IsTrue tells_found → Follow (others self.old) (others self.new) }
         ensures found { IsTrue tells_found → Finds (live self.old) (live self.new) (left self.old) (found self.old) (left self.new)
             (Pwrite ((left self.old).held file) offset piece.now)
@@ -461,7 +461,7 @@ pub trait Host {
         ensures told { IsTrue told → Told (live self.old) (live self.new) (world self.old) (world self.new)
             (Append ((world self.old).held file) piece.now)
             (λ n. n) result }
-        ensures fails { IsTrue tells_fails → Fated (fails self.old) (fails self.new) result }
+        ensures fails { IsTrue tells_fails → FollowsPlan (fails self.old) (fails self.new) result }
         ensures others { IsTrue tells_found → Follow (others self.old) (others self.new) }
         ensures found { IsTrue tells_found → Finds (live self.old) (live self.new) (left self.old) (found self.old) (left self.new)
             (Append ((left self.old).held file) piece.now)
@@ -479,7 +479,7 @@ pub trait Host {
         ensures told { IsTrue told → Told (live self.old) (live self.new) (world self.old) (world self.new)
             (SetSize ((world self.old).held file) size)
             (λ unit. unit) result }
-        ensures fails { IsTrue tells_fails → Fated (fails self.old) (fails self.new) result }
+        ensures fails { IsTrue tells_fails → FollowsPlan (fails self.old) (fails self.new) result }
         ensures others { IsTrue tells_found → Follow (others self.old) (others self.new) }
         ensures found { IsTrue tells_found → Finds (live self.old) (live self.new) (left self.old) (found self.old) (left self.new)
             (SetSize ((left self.old).held file) size)
@@ -497,7 +497,7 @@ pub trait Host {
         ensures told { IsTrue told → Told (live self.old) (live self.new) (world self.old) (world self.new)
             (Sync ((world self.old).held handle).node)
             (λ unit. unit) (hosted result) }
-        ensures fails { IsTrue tells_fails → Fated (fails self.old) (fails self.new) (hosted result) }
+        ensures fails { IsTrue tells_fails → FollowsPlan (fails self.old) (fails self.new) (hosted result) }
         ensures others { IsTrue tells_found → Follow (others self.old) (others self.new) }
         ensures found { IsTrue tells_found → Finds (live self.old) (live self.new) (left self.old) (found self.old) (left self.new)
             (Sync ((left self.old).held handle).node)
@@ -521,7 +521,7 @@ pub trait Host {
         ensures told { IsTrue told → Told (live self.old) (live self.new) (world self.old) (world self.new)
             (Advise ((world self.old).held file).node offset len advice)
             (λ unit. unit) (hosted result) }
-        ensures fails { IsTrue tells_fails → Fated (fails self.old) (fails self.new) (hosted result) }
+        ensures fails { IsTrue tells_fails → FollowsPlan (fails self.old) (fails self.new) (hosted result) }
         ensures others { IsTrue tells_found → Follow (others self.old) (others self.new) }
         ensures found { IsTrue tells_found → Finds (live self.old) (live self.new) (left self.old) (found self.old) (left self.new)
             (Advise ((left self.old).held file).node offset len advice)
@@ -539,7 +539,7 @@ pub trait Host {
         ensures told { IsTrue told → Told (live self.old) (live self.new) (world self.old) (world self.new)
             (Flags ((world self.old).held handle).node)
             (λ flags. flags) (hosted result) }
-        ensures fails { IsTrue tells_fails → Fated (fails self.old) (fails self.new) (hosted result) }
+        ensures fails { IsTrue tells_fails → FollowsPlan (fails self.old) (fails self.new) (hosted result) }
         ensures others { IsTrue tells_found → Follow (others self.old) (others self.new) }
         ensures found { IsTrue tells_found → Finds (live self.old) (live self.new) (left self.old) (found self.old) (left self.new)
             (Flags ((left self.old).held handle).node)

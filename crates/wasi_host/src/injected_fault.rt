@@ -2,7 +2,7 @@
 
 /// What becomes of a host's call.
 #[derive(Clone, Copy, Debug, PartialEq, Eq)]
-pub enum Fate {
+pub enum InjectedFault {
     /// It doesn't fail by itself.
     Passes,
     /// It isn't made.

@@ -36,7 +36,7 @@ impl AccessMode {
 
 /// What a live handle stands for: a node, by its number, and what it was opened for.
 #[derive(Clone, Copy, Debug, PartialEq, Eq)]
-pub struct Held {
+pub struct OpenHandle {
     pub node: u64,
     pub mode: AccessMode,
 }

@@ -2,7 +2,7 @@
 use Rattle.std.proofs.Common.{arith, ◌≡◌, ◌∙◌, inl, inr, refl, ap, sym, subst, ℕ, zero, suc, ◌+◌, Bool, true, false, IsTrue, Result, Ok, Err}
 use Rattle.std.specs.FinSet.{contains}
 use Rattle.wasi_host.specs.Answer.{HostAnswer}
-use Rattle.wasi_host.specs.FurtherLaws.{EffectOf, Fated, Fates, Finds, Follow, Leaves, MayTakeEffect, Others, TakesEffect, changed_to, has_failed, is_failing}
+use Rattle.wasi_host.specs.FurtherLaws.{EffectOf, FollowsPlan, Fates, Finds, Follow, Leaves, MayTakeEffect, Others, TakesEffect, changed_to, has_failed, is_failing}
 use Rattle.wasi_host.specs.HostCall.{HostCall, Close}
 use Rattle.wasi_host.specs.HostLaws.{Handles, Told, World, answered, hosted}
 use Rattle.wasi_host.specs.Tree.{Tree}
@@ -10,8 +10,8 @@ use Rattle.wasi_host.specs.declared.errors.ErrorCode.{ErrorCode}
 use Rattle.wasi_host.specs.declared.errors.ErrorCode.TheVariants.{Io}
 use Rattle.wasi_host.specs.declared.errors.HostError.{HostError}
 use Rattle.wasi_host.specs.declared.errors.HostError.TheVariants.{Code, Memory}
-use Rattle.wasi_host.specs.declared.injected_fault.Fate.{Fate}
-use Rattle.wasi_host.specs.declared.injected_fault.Fate.TheVariants.{Passes, FailsBefore, FailsAfter}
+use Rattle.wasi_host.specs.declared.injected_fault.InjectedFault.{InjectedFault}
+use Rattle.wasi_host.specs.declared.injected_fault.InjectedFault.TheVariants.{Passes, FailsBefore, FailsAfter}
 use Rattle.wasi_host.proofs.Refusals.{free_of}
 use Rattle.wasi_host_faults.specs.Faults.{Calls, one_came, fates_of, joined, next_fate, others_of, passed_on}
 
@@ -20,10 +20,10 @@ same_fates : (f g : Fates) (s : Calls) → ((n : ℕ) → f n ≡ g n) → (n : 
 same_fates f g s same zero = ap (joined (next_fate s)) (same 0)
 same_fates f g s same (suc n) = same_fates (passed_on fate f) (passed_on fate g) (one_came s) (passed fate) n
   where
-    fate : Fate
+    fate : InjectedFault
     fate = next_fate s
 
-    passed : (fate : Fate) (m : ℕ) → passed_on fate f m ≡ passed_on fate g m
+    passed : (fate : InjectedFault) (m : ℕ) → passed_on fate f m ≡ passed_on fate g m
     passed Passes m = same (m + 1)
     passed FailsBefore m = same m
     passed FailsAfter m = same (m + 1)
@@ -34,10 +34,10 @@ same_others : (f g : Others) (s : Calls) → ((n : ℕ) (t : Tree) → f n t ≡
 same_others f g s same zero t = same 0 t
 same_others f g s same (suc n) t = same_others (passed_on fate f) (passed_on fate g) (one_came s) (passed fate) n t
   where
-    fate : Fate
+    fate : InjectedFault
     fate = next_fate s
 
-    passed : (fate : Fate) (m : ℕ) (t : Tree) → passed_on fate f m t ≡ passed_on fate g m t
+    passed : (fate : InjectedFault) (m : ℕ) (t : Tree) → passed_on fate f m t ≡ passed_on fate g m t
     passed Passes m = same (m + 1)
     passed FailsBefore m = same m
     passed FailsAfter m = same (m + 1)
@@ -48,10 +48,10 @@ pub alone_too : (inner : Others) (s : Calls) → ((n : ℕ) (t : Tree) → inner
 alone_too inner s alone zero t = alone 0 t
 alone_too inner s alone (suc n) t = alone_too (passed_on fate inner) (one_came s) (passed fate) n t
   where
-    fate : Fate
+    fate : InjectedFault
     fate = next_fate s
 
-    passed : (fate : Fate) (m : ℕ) (t : Tree) → passed_on fate inner m t ≡ t
+    passed : (fate : InjectedFault) (m : ℕ) (t : Tree) → passed_on fate inner m t ≡ t
     passed Passes m = alone (m + 1)
     passed FailsBefore m = alone m
     passed FailsAfter m = alone (m + 1)
@@ -68,7 +68,7 @@ module _ (tells : Bool) (s : Calls) where
   others_stay {f = f} {g = g} same told = same_others f g s (same told)
 
 -- the fates after one call of which that becomes by the list
-later_by : (inner inner' : Fates) (s : Calls) {s' : Calls} (fate : Fate) → fate ≡ next_fate s → s' ≡ one_came s
+later_by : (inner inner' : Fates) (s : Calls) {s' : Calls} (fate : InjectedFault) → fate ≡ next_fate s → s' ≡ one_came s
     → ((n : ℕ) → inner' n ≡ passed_on fate inner n) → (n : ℕ) → fates_of inner' s' n ≡ fates_of inner s (n + 1)
 later_by inner inner' s fate is after same n =
     let one : suc n ≡ n + 1 = omega arith in
@@ -77,7 +77,7 @@ later_by inner inner' s fate is after same n =
     ∙ ap (fates_of inner s) one
 
 -- what others do after one call of which that becomes by the list
-follow_by : (inner inner' : Others) (s : Calls) {s' : Calls} (fate : Fate) → fate ≡ next_fate s → s' ≡ one_came s
+follow_by : (inner inner' : Others) (s : Calls) {s' : Calls} (fate : InjectedFault) → fate ≡ next_fate s → s' ≡ one_came s
     → ((n : ℕ) (t : Tree) → inner' n t ≡ passed_on fate inner n t) → Follow (others_of inner s) (others_of inner' s')
 follow_by inner inner' s fate is after same n t =
     let one : suc n ≡ n + 1 = omega arith in
@@ -103,16 +103,16 @@ module _ (tells : Bool) (inner : Others) (s : Calls) {s' : Calls} (after : s' �
 
 module _ {A : Type 0} (tells : Bool) (inner : Fates) (s : Calls) {inner' : Fates} {s' : Calls} (after : s' ≡ one_came s) where
   -- one that isn't listed
-  pub fated_passed : {r : Result A HostError} → Passes ≡ next_fate s → (IsTrue tells → Fated inner inner' r)
-      → IsTrue tells → Fated (fates_of inner s) (fates_of inner' s') r
+  pub fated_passed : {r : Result A HostError} → Passes ≡ next_fate s → (IsTrue tells → FollowsPlan inner inner' r)
+      → IsTrue tells → FollowsPlan (fates_of inner s) (fates_of inner' s') r
   fated_passed is fated told = record {
     failed = (fated told).failed ∙ ap (λ f. is_failing (joined f (inner 0))) is;
     later = later_by inner inner' s Passes is after (fated told).later;
   }
 
   -- one that is made, and its answer lost
-  pub fated_after : {B : Type 0} {r : Result B HostError} → FailsAfter ≡ next_fate s → (IsTrue tells → Fated inner inner' r)
-      → IsTrue tells → Fated {A = A} (fates_of inner s) (fates_of inner' s') (Err (Code Io))
+  pub fated_after : {B : Type 0} {r : Result B HostError} → FailsAfter ≡ next_fate s → (IsTrue tells → FollowsPlan inner inner' r)
+      → IsTrue tells → FollowsPlan {A = A} (fates_of inner s) (fates_of inner' s') (Err (Code Io))
   fated_after is fated told = record {
     failed = elim (inner 0) as (λ f. true ≡ is_failing (joined FailsAfter f)) [
       | Passes ↦ refl
@@ -125,15 +125,15 @@ module _ {A : Type 0} (tells : Bool) (inner : Fates) (s : Calls) {inner' : Fates
 -- one that isn't made
 pub fated_before : {A : Type 0} (tells : Bool) (inner : Fates) (s : Calls) {s' : Calls} → s' ≡ one_came s
     → FailsBefore ≡ next_fate s
-    → IsTrue tells → Fated {A = A} (fates_of inner s) (fates_of inner s') (Err (Code Io))
+    → IsTrue tells → FollowsPlan {A = A} (fates_of inner s) (fates_of inner s') (Err (Code Io))
 fated_before tells inner s after is told = record {
   failed = ap (λ f. is_failing (joined f (inner 0))) is;
   later = later_by inner inner s FailsBefore is after (λ n. refl);
 }
 
 -- a handle that was got is closed again
-pub fated_closed : {A : Type 0} {old mid new : Fates} {r : Result A HostError} → Fated old mid r
-    → ((n : ℕ) → new n ≡ mid n) → Fated old new r
+pub fated_closed : {A : Type 0} {old mid new : Fates} {r : Result A HostError} → FollowsPlan old mid r
+    → ((n : ℕ) → new n ≡ mid n) → FollowsPlan old new r
 fated_closed fated same = record { failed = fated.failed; later = λ n. same n ∙ fated.later n }
 
 pub follow_closed : (old mid new : Others) → Follow old mid → ((n : ℕ) (t : Tree) → new n t ≡ mid n t) → Follow old new
@@ -201,7 +201,7 @@ unfailed is (inl told) = told
 unfailed is (inr failed) = absurd (cc)
 
 -- what is left by the list and by the inner host, of a call that is made
-left_after : (left after : World) (found : Tree) (Effect : World → World → Type 0) (fate : Fate)
+left_after : (left after : World) (found : Tree) (Effect : World → World → Type 0) (fate : InjectedFault)
     → (fate ≡ Passes → Effect (changed_to found left) after) → Leaves fate left found after Effect
     → Leaves (joined FailsAfter fate) left found after Effect
 left_after left after found Effect Passes passed leaves = passed refl
@@ -212,7 +212,7 @@ module _ (fails finds : Bool) (inner : Fates) (s : Calls) (left after : World) (
   abbrev Inner : (World → World → Type 0) → Type 0
   Inner Effect = IsTrue fails → IsTrue finds → Leaves (inner 0) left found after Effect
 
-  abbrev Listed : Fate → (World → World → Type 0) → Type 0
+  abbrev Listed : InjectedFault → (World → World → Type 0) → Type 0
   Listed fate Effect = IsTrue fails → IsTrue finds → Leaves (joined fate (inner 0)) left found after Effect
 
   -- one that isn't listed
@@ -222,7 +222,7 @@ module _ (fails finds : Bool) (inner : Fates) (s : Calls) (left after : World) (
 
   -- one that is made, and its answer lost
   pub made_after : {A : Type 0} {old new : Handles} (call : HostCall) {shown : A → HostAnswer call}
-      {inner' : Fates} (r : Result A HostError) → FailsAfter ≡ next_fate s → (IsTrue fails → Fated inner inner' r)
+      {inner' : Fates} (r : Result A HostError) → FailsAfter ≡ next_fate s → (IsTrue fails → FollowsPlan inner inner' r)
       → (IsTrue finds → Finds old new left found after call shown r)
       → Inner (MayTakeEffect call) → Listed (next_fate s) (MayTakeEffect call)
   made_after call r is fated did made = subst (λ f. Listed f (MayTakeEffect call)) is (λ fails finds.
@@ -232,7 +232,7 @@ module _ (fails finds : Bool) (inner : Fates) (s : Calls) (left after : World) (
 
   pub made_hosted : {A : Type 0} {old new : Handles} (call : HostCall) {shown : A → HostAnswer call}
       {inner' : Fates} (r : Result A ErrorCode) → FailsAfter ≡ next_fate s
-      → (IsTrue fails → Fated inner inner' (hosted r))
+      → (IsTrue fails → FollowsPlan inner inner' (hosted r))
       → (IsTrue finds → Finds old new left found after call shown (hosted r))
       → Inner (TakesEffect call) → Listed (next_fate s) (TakesEffect call)
   made_hosted call r is fated did made = subst (λ f. Listed f (TakesEffect call)) is (λ fails finds.

@@ -7,7 +7,7 @@ use Rattle.std.proofs.lemmas.Bool.Decides.{nat_tests}
 use Rattle.std.proofs.lemmas.List.Sums.{count_by-le-length, sum_by-cons}
 use Rattle.wasi_host_faults.specs.Faults.{Calls, CountsFew, none_came, one_came, fault_numbered, met, next_fault, of_number, rise_from, standing_at, met_after, fate_by}
 use Rattle.wasi_host_faults.specs.declared.fault.Fault.{Fault}
-use Rattle.wasi_host.specs.declared.injected_fault.Fate.TheVariants.{FailsBefore, FailsAfter}
+use Rattle.wasi_host.specs.declared.injected_fault.InjectedFault.TheVariants.{FailsBefore, FailsAfter}
 
 -- how many have at most this number
 pub passed : List Fault → ℕ → ℕ

@@ -2,8 +2,8 @@
 use Rattle.std.specs.Prelude.{◌≡◌, IsTrue, ℕ, zero, suc, ◌+◌, ◌-◌, ◌^◌, ◌≤◌, Bool, true, ◌&&◌, if◌then◌else◌, nat_eq, nat_le, nat_lt, count_by, min, slice_get, length, List, [], ◌∷◌, Option, Some, None}
 use Rattle.wasi_host.specs.FurtherLaws.{Fates, Others}
 use Rattle.wasi_host.specs.HostLaws.{FaultCount, never_fails}
-use Rattle.wasi_host.specs.declared.injected_fault.Fate.{Fate}
-use Rattle.wasi_host.specs.declared.injected_fault.Fate.TheVariants.{Passes, FailsBefore, FailsAfter}
+use Rattle.wasi_host.specs.declared.injected_fault.InjectedFault.{InjectedFault}
+use Rattle.wasi_host.specs.declared.injected_fault.InjectedFault.TheVariants.{Passes, FailsBefore, FailsAfter}
 use Rattle.wasi_host_faults.specs.declared.fault.Fault.{Fault}
 
 -- the numbers rise, and the first is above this one
@@ -40,12 +40,12 @@ standing_at faults place calls =
     if nat_lt calls (2 ^ 64 - 1) then of_number (calls + 1) (slice_get faults place) else None
 
 -- what becomes of a call whose fault this is
-abbrev pub fate_by : Option Fault → Fate
+abbrev pub fate_by : Option Fault → InjectedFault
 fate_by None = Passes
 fate_by (Some fault) = if fault.after then FailsAfter else FailsBefore
 
 -- what becomes of the next call by the list
-abbrev pub next_fate : Calls → Fate
+abbrev pub next_fate : Calls → InjectedFault
 next_fate s = fate_by (next_fault s)
 
 -- one call more came
@@ -57,7 +57,7 @@ unfoldable pub met : Calls → ℕ
 met s = count_by (λ (fault : Fault). nat_le fault.number s.calls) s.faults
 
 -- and after one more of which that became
-abbrev pub met_after : ℕ → Fate → ℕ
+abbrev pub met_after : ℕ → InjectedFault → ℕ
 met_after n Passes = n
 met_after n FailsBefore = n + 1
 met_after n FailsAfter = n + 1
@@ -72,7 +72,7 @@ pub record Failing (H : Type 0) : Type 0 where
   pub calls : Calls
 
 -- what becomes of a call, by the list and then by the inner host
-abbrev pub joined : Fate → Fate → Fate
+abbrev pub joined : InjectedFault → InjectedFault → InjectedFault
 joined Passes inner = inner
 joined FailsBefore inner = FailsBefore
 joined FailsAfter Passes = FailsAfter
@@ -80,7 +80,7 @@ joined FailsAfter FailsBefore = FailsBefore
 joined FailsAfter FailsAfter = FailsAfter
 
 -- the inner host's calls to come, after a call of which that becomes by the list: one that isn't made is none of them
-abbrev pub passed_on : {A : Type 0} → Fate → (ℕ → A) → ℕ → A
+abbrev pub passed_on : {A : Type 0} → InjectedFault → (ℕ → A) → ℕ → A
 passed_on Passes inner n = inner (n + 1)
 passed_on FailsBefore inner n = inner n
 passed_on FailsAfter inner n = inner (n + 1)

@@ -7,7 +7,7 @@ use crate::schedule::Schedule;
 use std::alloc::Global;
 use std::marker::Model;
 use wasi_host::{
-    Advice, DirEntry, ErrorCode, Fate, Forget, Handle, Host, HostError, Metadata, OpenOptions,
+    Advice, DirEntry, ErrorCode, InjectedFault, Forget, Handle, Host, HostError, Metadata, OpenOptions,
     SyncFlags, SystemTime,
 };
 use wasi_paths::Name;
@@ -18,9 +18,9 @@ const FAILED: HostError = HostError::Code(ErrorCode::Io);
 macro_rules! by_fate {
     ($host:ident, $call:ident($($argument:expr),*), $error:expr) => {
         match $host.schedule.next() {
-            Fate::Passes => $host.inner.$call($($argument),*),
-            Fate::FailsBefore => Err($error),
-            Fate::FailsAfter => {
+            InjectedFault::Passes => $host.inner.$call($($argument),*),
+            InjectedFault::FailsBefore => Err($error),
+            InjectedFault::FailsAfter => {
                 let _ = $host.inner.$call($($argument),*);
                 Err($error)
             }
@@ -99,9 +99,9 @@ impl<H: Host> Host for FailAt<H> {
         options: &OpenOptions,
     ) -> Result<Handle, HostError> {
         match self.schedule.next() {
-            Fate::Passes => self.inner.open_at(start, name, options),
-            Fate::FailsBefore => Err(FAILED),
-            Fate::FailsAfter => match self.inner.open_at(start, name, options) {
+            InjectedFault::Passes => self.inner.open_at(start, name, options),
+            InjectedFault::FailsBefore => Err(FAILED),
+            InjectedFault::FailsAfter => match self.inner.open_at(start, name, options) {
                 Ok(handle) => {
                     self.inner.close(handle);
                     Err(FAILED)
@@ -202,9 +202,9 @@ impl<H: Host> Host for FailAt<H> {
 
     fn pread(&mut self, file: Handle, buf: &mut [u8], offset: u64) -> Result<usize, ErrorCode> {
         match self.schedule.next() {
-            Fate::Passes => self.inner.pread(file, buf, offset),
-            Fate::FailsBefore => Err(ErrorCode::Io),
-            Fate::FailsAfter => {
+            InjectedFault::Passes => self.inner.pread(file, buf, offset),
+            InjectedFault::FailsBefore => Err(ErrorCode::Io),
+            InjectedFault::FailsAfter => {
                 let _ = self.inner.pread(file, &mut [], offset);
                 Err(ErrorCode::Io)
             }

@@ -4,7 +4,7 @@ ghost use Rattle.wasi_host_faults.specs.Faults.{one_came, numbers_rise, met_afte
 
 use crate::fault::Fault;
 use std::marker::Model;
-use wasi_host::Fate;
+use wasi_host::InjectedFault;
 
 /// The calls that fail, by their numbers, and how many calls came. `place` is that of the next fault in the list.
 #[derive(Debug, Drop)]
@@ -40,7 +40,7 @@ impl Schedule {
     }
 
     /// Counts a call, and says what becomes of it.
-    pub fn next(&mut self) -> Fate
+    pub fn next(&mut self) -> InjectedFault
         ensures fate { result ≡ next_fate self.old }
         ensures after { self.new ≡ one_came self.old }
         ensures count { met self.new ≡ met_after (met self.old) result }
@@ -64,12 +64,12 @@ fn listed_at(faults: &Vec<Fault>, place: usize, calls: u64) -> Option<Fault>
     Some(*fault)
 }
 
-fn fate_of(fault: Option<Fault>) -> Fate
+fn fate_of(fault: Option<Fault>) -> InjectedFault
     ensures { result ≡ fate_by fault }
 {
     match fault {
-        None => Fate::Passes,
-        Some(fault) if fault.after => Fate::FailsAfter,
-        Some(_) => Fate::FailsBefore,
+        None => InjectedFault::Passes,
+        Some(fault) if fault.after => InjectedFault::FailsAfter,
+        Some(_) => InjectedFault::FailsBefore,
     }
 }

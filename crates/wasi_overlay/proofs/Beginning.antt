@@ -3,7 +3,7 @@ use Rattle.std.proofs.Common.{◌≡◌, ◌≤◌, ◌<◌, ◌+◌, ℕ, suc, 
 use Rattle.std.specs.FinMap as maps
 use Rattle.std.specs.FinSet.{empty}
 use Rattle.wasi_host.specs.Tree.{Tree, Node, Content, File, Directory, Link, node_at, next_of, stray, names_of, is_directory}
-use Rattle.wasi_tree_index.specs.NameRows.{AllNames, names_at}
+use Rattle.wasi_tree_index.specs.DirEntryKeys.{AllNames, names_at}
 use Rattle.wasi_tree.specs.ParentOf.{AreParents, IsKept}
 use Rattle.wasi_tree.specs.Sound.{IsSound, IsSoundNode}
 use Rattle.wasi_tree.specs.StoredTree.{named_content, named_from}

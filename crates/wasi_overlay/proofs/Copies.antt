@@ -7,11 +7,11 @@ use Rattle.std.specs.FinMap as maps
 use Rattle.std.specs.FinSet.{empty}
 use Rattle.wasi_host.specs.Tree.{Tree, Node, Content, File, Directory, Link, node_at, next_of, stray, names_of, is_directory}
 use Rattle.wasi_host.specs.declared.limits.Limits.{Limits}
-use Rattle.wasi_tree_index.specs.NameRows.{AllNames, names_at}
+use Rattle.wasi_tree_index.specs.DirEntryKeys.{AllNames, names_at}
 use Rattle.wasi_tree.specs.ParentOf.{AreParents}
 use Rattle.wasi_tree.specs.Sound.{IsSound}
 use Rattle.wasi_tree.specs.StoredTree.{named_content, named_from, stored_node, stored_tree, with_names, AreBelow, IsStored, OtherNamesStay}
-use Rattle.wasi_tree.specs.declared.inode.Row.{Row}
+use Rattle.wasi_tree.specs.declared.inode.Inode.{Inode}
 use Rattle.wasi_tree.proofs.NamedLemmas.{apart_from}
 use Rattle.wasi_overlay.specs.OverStore.{HoldsNames}
 use Rattle.wasi_overlay.proofs.Beginning.{sound_unworked, stand_unworked, unworked}
@@ -62,12 +62,12 @@ named_again m k (node ∷ nodes) here = λ i.
         ap (names_at m) same ∙ here (suc i) (omega arith)
 
 -- rows, names and limits of a tree
-pub record AreCopied (t : Tree) (rows : List Row) (copies : AllNames) (most : Limits) : Type 0 where
+pub record AreCopied (t : Tree) (rows : List Inode) (copies : AllNames) (most : Limits) : Type 0 where
   pub nodes : map stored_node rows ≡ map (with_names maps.empty) t.nodes
   pub names : HoldsNames t (next_of t) copies
   pub limits : most ≡ t.limits
 
-module _ {t : Tree} {rows : List Row} {names : AllNames} {limits : Limits} (copied : AreCopied t rows names limits) where
+module _ {t : Tree} {rows : List Inode} {names : AllNames} {limits : Limits} (copied : AreCopied t rows names limits) where
   pub copied_tree : stored_tree rows names limits empty ≡ unworked t
   unfolding node_at
   copied_tree = λ i.

@@ -3,33 +3,33 @@ use Rattle.std.proofs.Common.{◌≡◌, ◌<◌, ◌≤◌, ◌+◌, ◌-◌, �
 use Rattle.std.proofs.lemmas.List.{length-map, length-append, map_push}
 use Rattle.wasi_host.specs.Tree.{Tree, Node, stray, node_at}
 use Rattle.wasi_tree.specs.StoredTree.{stored_node}
-use Rattle.wasi_tree.specs.declared.inode.Row.{Row}
+use Rattle.wasi_tree.specs.declared.inode.Inode.{Inode}
 use Rattle.wasi_overlay.specs.Grown.{grown}
 
 -- there are as many nodes as in the tree, and were made
-pub length-grown : (base : List Node) (made : List Row) → length (grown base made) ≡ length base + length made
+pub length-grown : (base : List Node) (made : List Inode) → length (grown base made) ≡ length base + length made
 length-grown base made = omega (arith, length-append base (map stored_node made), length-map made stored_node)
 
-stays_at : (base : List Node) (made : List Row) (n : ℕ) → n < length base
+stays_at : (base : List Node) (made : List Inode) (n : ℕ) → n < length base
     → slice_index_or base n stray ≡ slice_index_or (grown base made) n stray
 stays_at [] made n within = absurd (omega arith)
 stays_at (node ∷ base) made zero within = refl
 stays_at (node ∷ base) made (suc n) within = stays_at base made n (omega arith)
 
 -- a node of the tree
-pub grown_base : (t : Tree) (made : List Row) (n : ℕ) → n < length t.nodes
+pub grown_base : (t : Tree) (made : List Inode) (n : ℕ) → n < length t.nodes
     → node_at t n ≡ slice_index_or (grown t.nodes made) n stray
 unfolding node_at
 grown_base t made n within = stays_at t.nodes made n within
 
-made_at : (made : List Row) (k : ℕ) (d : Row) → k < length made
+made_at : (made : List Inode) (k : ℕ) (d : Inode) → k < length made
     → stored_node (slice_index_or made k d) ≡ slice_index_or (map stored_node made) k stray
 made_at [] k d within = absurd (omega arith)
 made_at (row ∷ made) zero d within = refl
 made_at (row ∷ made) (suc k) d within = made_at made k d (omega arith)
 
 -- a node that was made
-pub grown_made : (base : List Node) (made : List Row) (n : ℕ) (row : Row) → length base ≤ n → n < length (grown base made)
+pub grown_made : (base : List Node) (made : List Inode) (n : ℕ) (row : Inode) → length base ≤ n → n < length (grown base made)
     → row ≡ slice_index_or made (n - length base) row
     → stored_node row ≡ slice_index_or (grown base made) n stray
 grown_made [] made n row past within is =
@@ -42,7 +42,7 @@ grown_made (node ∷ base) made (suc n) row past within is =
     grown_made base made n row (omega arith) (omega arith) (is ∙ ap (λ k. slice_index_or made k row) same)
 
 -- one node more
-pub grown_push : (base : List Node) (made : List Row) (row : Row)
+pub grown_push : (base : List Node) (made : List Inode) (row : Inode)
     → grown base (made ++ row ∷ []) ≡ grown base made ++ stored_node row ∷ []
 grown_push [] made row = map_push stored_node made row
 grown_push (node ∷ base) made row = ap (λ nodes. node ∷ nodes) (grown_push base made row)

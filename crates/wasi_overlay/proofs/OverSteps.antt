@@ -13,7 +13,7 @@ use Rattle.wasi_tree.specs.ParentOf.{IsKept, without_parent}
 use Rattle.wasi_tree.specs.Sound.{IsSound, IsSoundNode, NodesStay}
 use Rattle.wasi_tree.specs.StoredTree.{named_content, with_names, AreBelow}
 use Rattle.wasi_tree.specs.TouchedTree.{Touched}
-use Rattle.wasi_tree_index.specs.NameRows.{AllNames}
+use Rattle.wasi_tree_index.specs.DirEntryKeys.{AllNames}
 use Rattle.wasi_tree.proofs.MoveLemmas.{moved_as, put_from}
 use Rattle.wasi_tree.proofs.NamedLemmas.{below_more, below-insert, below-remove, unnamed-name_lost, unnamed-one_name_more, unnamed-other_bytes}
 use Rattle.wasi_tree.proofs.SoundLemmas.{seen, seen-other_bytes, stays_same}

@@ -9,7 +9,7 @@ use Rattle.wasi_host.specs.Answer.{metadata_of, metadata_from}
 use Rattle.wasi_host.specs.Step.{with_content, with_entry, without_entry, content_changed, node_made, with_times, times_set}
 use Rattle.wasi_host.specs.declared.system_time.SystemTime.{SystemTime}
 use Rattle.wasi_host.proofs.Changes.{changed, directory_within}
-use Rattle.wasi_tree_index.specs.NameRows.{AllNames, names_at}
+use Rattle.wasi_tree_index.specs.DirEntryKeys.{AllNames, names_at}
 use Rattle.wasi_tree_index.proofs.NamesLemmas.{names_at-insert_other}
 use Rattle.wasi_tree.specs.StoredTree.{with_names, named_content, named_from, AreBelow}
 use Rattle.wasi_tree.proofs.NamedLemmas.{said_of-named, length-named, named_node, named_put, named_push, named_more, named_less, apart_from}

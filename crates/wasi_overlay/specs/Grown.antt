@@ -4,7 +4,7 @@ use Rattle.std.specs.Coded.{Coded, code_by, coded×, coded_ℕ, coded_list}
 use Rattle.wasi_host.specs.Tree.{Node}
 use Rattle.wasi_host.specs.TreeCode.{node_code}
 use Rattle.wasi_tree.specs.StoredTree.{stored_node}
-use Rattle.wasi_tree.specs.declared.inode.Row.{Row}
+use Rattle.wasi_tree.specs.declared.inode.Inode.{Inode}
 
 -- the nodes by number, and how many more can be made before memory is taken
 pub record GrownNodes : Type 0 where
@@ -17,7 +17,7 @@ grown_code =
     (λ g. (g.nodes, g.room)) (λ p. record { nodes = p.0; room = p.1 }) (λ _. refl)
 
 -- the nodes of a tree, and behind them those that the rows stand for
-abbrev pub grown : List Node → List Row → List Node
+abbrev pub grown : List Node → List Inode → List Node
 grown base made = base ++ map stored_node made
 
 -- their count is a number of 64 bits

@@ -6,7 +6,7 @@ use Rattle.wasi_host.specs.Tree.{Tree, Node, Nodes, next_of, node_at, names_of, 
 use Rattle.wasi_host.specs.Step.{name_lost, with_content}
 use Rattle.wasi_host.specs.TreeCode.{tree_code, nodes_code}
 use Rattle.wasi_host.specs.declared.limits.Limits.{Limits}
-use Rattle.wasi_tree_index.specs.NameRows.{AllNames, names_at}
+use Rattle.wasi_tree_index.specs.DirEntryKeys.{AllNames, names_at}
 use Rattle.wasi_overlay.specs.OverNodes.{OverState}
 use Rattle.wasi_tree.specs.ParentOf.{IsKept}
 use Rattle.wasi_tree.specs.Sound.{IsSound}

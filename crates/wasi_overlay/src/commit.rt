@@ -9,8 +9,8 @@ ghost use Rattle.wasi_overlay.specs.OverStore.{HoldsNames};
 use crate::over_store::OverStore;
 use std::alloc::{AllocError, Global};
 use wasi_host::Metadata;
-use wasi_tree_index::Rows;
-use wasi_tree::{MemStore, NodeStore, Row, RowContent, add_entries};
+use wasi_tree_index::NameIndex;
+use wasi_tree::{MemStore, NodeStore, Inode, InodeContent, add_entries};
 
 impl<'a> OverStore<'a> {
     /// The tree as it is, on which no step has worked, in memory of its own.
@@ -25,7 +25,7 @@ impl<'a> OverStore<'a> {
     }
 
     /// A row of each node.
-    fn copy_rows(&self, alloc: Global) -> Result<Vec<Row>, AllocError>
+    fn copy_rows(&self, alloc: Global) -> Result<Vec<Inode>, AllocError>
         ensures { IfOk result (λ rows. map stored_node rows.items ≡ map (with_names maps.empty) self.now.tree.nodes) }
     {
         let mut rows = Vec::new(alloc);
@@ -36,7 +36,7 @@ impl<'a> OverStore<'a> {
     }
 
     /// The row of a node, without a directory's names.
-    fn copy_row(&self, alloc: Global, n: u64) -> Result<Row, AllocError>
+    fn copy_row(&self, alloc: Global, n: u64) -> Result<Inode, AllocError>
         requires { n < next_of self.now.tree }
         ensures { IfOk result (λ row. stored_node row ≡ with_names maps.empty (node_at self.now.tree n)) }
     {
@@ -46,7 +46,7 @@ impl<'a> OverStore<'a> {
             btime,
             ..
         } = self.metadata(n);
-        Ok(Row {
+        Ok(Inode {
             content: self.copy_content(alloc, n)?,
             bits: self.bits(n),
             atime,
@@ -56,29 +56,29 @@ impl<'a> OverStore<'a> {
     }
 
     /// What a node is, without a directory's names.
-    fn copy_content(&self, alloc: Global, n: u64) -> Result<RowContent, AllocError>
+    fn copy_content(&self, alloc: Global, n: u64) -> Result<InodeContent, AllocError>
         requires { n < next_of self.now.tree }
         ensures { IfOk result (λ content. stored_content content ≡ named_content maps.empty (node_at self.now.tree n).content) }
     {
         if self.is_directory(n) {
-            return Ok(RowContent::Dir {
+            return Ok(InodeContent::Dir {
                 gone: self.is_gone(n),
             });
         }
         let links = self.links(n);
         if self.is_file(n) {
             let bytes = Vec::from_slice(alloc, self.bytes(n))?;
-            return Ok(RowContent::File { bytes, links });
+            return Ok(InodeContent::File { bytes, links });
         }
         let text = String::from_str(alloc, self.text(n))?;
-        Ok(RowContent::Link { text, links })
+        Ok(InodeContent::Link { text, links })
     }
 
     /// The names of all directories.
-    fn copy_names(&self, alloc: Global) -> Result<Rows, AllocError>
+    fn copy_names(&self, alloc: Global) -> Result<NameIndex, AllocError>
         ensures { IfOk result (λ rows. HoldsNames self.now.tree (next_of self.now.tree) rows.names) }
     {
-        let mut rows = Rows::new(alloc);
+        let mut rows = NameIndex::new(alloc);
         for n in 0..self.count() {
             self.copy_names_of(alloc, &mut rows, n)?;
         }
@@ -86,7 +86,7 @@ impl<'a> OverStore<'a> {
     }
 
     /// The names of a node, behind those of the nodes below its number.
-    fn copy_names_of(&self, alloc: Global, rows: &mut Rows, n: u64) -> Result<(), AllocError>
+    fn copy_names_of(&self, alloc: Global, rows: &mut NameIndex, n: u64) -> Result<(), AllocError>
         requires { HoldsNames self.now.tree n rows.old.names }
         ensures { OnOk result (HoldsNames self.now.tree (n + 1) rows.new.names) }
     {

@@ -8,14 +8,14 @@ ghost use Rattle.wasi_overlay.specs.Grown.{grown};
 use std::alloc::{AllocError, Global};
 use std::marker::Model;
 use wasi_host::{Bits, FileType, Metadata};
-use wasi_tree::{MemStore, NodeStore, Row};
+use wasi_tree::{MemStore, NodeStore, Inode};
 
 /// The nodes of a tree that stays, and behind them nodes that were made. Contracts see the nodes by number, and how many
 /// more can be made before memory is taken.
 #[derive(Debug, Drop)]
 pub struct Grown<'a> {
     base: &'a MemStore,
-    made: Vec<Row>,
+    made: Vec<Inode>,
 }
 
 impl<'a> Model for Grown<'a> {
@@ -171,7 +171,7 @@ impl<'a> Grown<'a> {
     }
 
     /// One node more, with the next number.
-    pub fn push(&mut self, row: Row)
+    pub fn push(&mut self, row: Inode)
         requires room { 0 < self.old.room }
         requires number { length self.old.nodes < 2 ^ 64 - 1 }
         ensures { self.new.nodes ≡ self.old.nodes ++ stored_node row ∷ [] }
@@ -181,7 +181,7 @@ impl<'a> Grown<'a> {
 }
 
 /// The row of the node of a number, where it was made.
-fn row_of<'a>(base: &MemStore, made: &'a [Row], n: u64) -> Option<&'a Row>
+fn row_of<'a>(base: &MemStore, made: &'a [Inode], n: u64) -> Option<&'a Inode>
     requires { n < length (grown base.now.tree.nodes made.now) }
     ensures made { IfSome result (λ row. stored_node row.now ≡ slice_index_or (grown base.now.tree.nodes made.now) n stray) }
     ensures within { IfNone result (n < length base.now.tree.nodes) }

@@ -16,7 +16,7 @@ use crate::seats::Seats;
 use std::alloc::{AllocError, Global};
 use std::marker::Model;
 use wasi_host::{Bits, FileType, Metadata, SystemTime};
-use wasi_tree::{MemStore, Row};
+use wasi_tree::{MemStore, Inode};
 
 /// The nodes of an overlay over a tree that stays: those of the tree and those that were made, each with what its seat
 /// keeps of it. What a step comes to has a seat from then on. Contracts see the nodes, and the numbers of seats.
@@ -268,7 +268,7 @@ impl<'a> OverNodes<'a> {
     }
 
     /// One node more, which is worked on and touched.
-    pub fn push(&mut self, row: Row)
+    pub fn push(&mut self, row: Inode)
         requires { self.old.has_room ≡ true }
         ensures nodes { self.new.nodes ≡ self.old.nodes ++ stored_node row ∷ [] }
         ensures worked { self.new.worked ≡ insert self.old.worked (length self.old.nodes) }

@@ -16,9 +16,9 @@ use crate::over_parents::OverParents;
 use std::alloc::{AllocError, Global};
 use std::marker::Model;
 use wasi_host::{Bits, DirEntry, FileType, Limits, Metadata, SystemTime};
-use wasi_tree_index::{Near, OverRows};
+use wasi_tree_index::{SearchHint, OverNameIndex};
 use wasi_paths::Name;
-use wasi_tree::{Looked, MemStore, NewContent, NewEntry, NewNode, NodeStore, Row};
+use wasi_tree::{NameLookup, MemStore, NewContent, NewEntry, NewNode, NodeStore, Inode};
 
 /// The nodes of a tree that stays, with what changed of them since: the nodes that were come to, those that were made, and
 /// the names that were put or taken. Contracts see the tree that both together are, the touched nodes, and the nodes that
@@ -26,12 +26,12 @@ use wasi_tree::{Looked, MemStore, NewContent, NewEntry, NewNode, NodeStore, Row}
 #[derive(Debug, Drop)]
 pub struct OverStore<'a> {
     pub(crate) nodes: OverNodes<'a>,
-    pub(crate) names: OverRows<'a>,
+    pub(crate) names: OverNameIndex<'a>,
     pub(crate) parents: OverParents<'a>,
     pub(crate) limits: Limits,
     alloc: Global,
     /// Where a name of the tree below was found last.
-    near: Near,
+    near: SearchHint,
 }
 
 impl<'a> Model for OverStore<'a> {
@@ -60,11 +60,11 @@ impl<'a> OverStore<'a> {
         base.laws();
         OverStore {
             nodes: OverNodes::new(alloc, base),
-            names: OverRows::new(alloc, base.all_names()),
+            names: OverNameIndex::new(alloc, base.all_names()),
             parents: OverParents::new(alloc, base),
             limits: base.limits(),
             alloc,
-            near: Near::first(),
+            near: SearchHint::first(),
         }
     }
 
@@ -84,7 +84,7 @@ impl<'a> OverStore<'a> {
     }
 
     /// The node that a name holds in a directory.
-    fn child(&self, near: &mut Near, directory: u64, name: Name<'_>) -> Option<u64>
+    fn child(&self, near: &mut SearchHint, directory: u64, name: Name<'_>) -> Option<u64>
         requires { directory < next_of self.now.tree }
         ensures found { result ≡ child self.now.tree directory (name_bytes name.entry) }
         ensures below { IfSome result (λ n. n < next_of self.now.tree) }
@@ -218,11 +218,11 @@ impl<'a> NodeStore for OverStore<'a> {
         self.parents.is_below(top, directory)
     }
 
-    fn look<'n>(&mut self, directory: u64, name: Name<'n>) -> Looked<'n> {
+    fn look<'n>(&mut self, directory: u64, name: Name<'n>) -> NameLookup<'n> {
         let mut near = self.near;
         let found = self.child(&mut near, directory, name);
         self.near = near;
-        Looked {
+        NameLookup {
             directory,
             name,
             found,
@@ -266,7 +266,7 @@ impl<'a> NodeStore for OverStore<'a> {
     }
 
     /// All room is taken first, so that nothing has changed where memory is wanted.
-    fn make_node(&mut self, directory: u64, name: Name<'_>, row: Row) -> Result<u64, AllocError> {
+    fn make_node(&mut self, directory: u64, name: Name<'_>, row: Inode) -> Result<u64, AllocError> {
         let node = self.nodes.count();
         self.nodes.reserve()?;
         self.parents.reserve()?;

@@ -5,7 +5,7 @@ ghost use Rattle.std.specs.List.Sorted.{IsStrictlySortedBy};
 ghost use Rattle.std.specs.Ordering.{nat_cmp};
 ghost use Rattle.wasi_host.specs.Tree.{next_of, node_at, is_directory};
 ghost use Rattle.wasi_host.specs.HostLaws.{never_fails};
-ghost use Rattle.wasi_host.specs.declared.injected_fault.Fate.TheVariants.{Passes};
+ghost use Rattle.wasi_host.specs.declared.injected_fault.InjectedFault.TheVariants.{Passes};
 ghost use Rattle.wasi_overlay.specs.Overlay.{IsFreshOn};
 ghost use Rattle.wasi_tree.specs.Given.{given, given_of};
 ghost use Rattle.wasi_tree.specs.MemState.{live_of, held_in, world_of};

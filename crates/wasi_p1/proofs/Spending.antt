@@ -5,11 +5,11 @@ use Rattle.wasi_guest.specs.declared.answer.Value.{Value}
 use Rattle.wasi_host.specs.HostLaws.{World, FaultCount}
 use Rattle.wasi_host.specs.Tree.{Nodes}
 use Rattle.wasi_p1.specs.RunQuotas.{KeepsToQuotas, KeptToQuotas}
-use Rattle.wasi_p1_model.specs.CallTurn.{Turns, in_world}
+use Rattle.wasi_p1_model.specs.CallTransition.{Turns, in_world}
 use Rattle.wasi_p1_model.specs.Front.{FueledCall}
 use Rattle.wasi_p1_model.specs.Guest.{Guest, State}
 use Rattle.wasi_p1_model.specs.QuotaLaws.{WritesAsOpened}
-use Rattle.wasi_p1_model.specs.Run.{DidRun, StoodAt}
+use Rattle.wasi_p1_model.specs.Trace.{RefinesTrace, StoodAt}
 use Rattle.wasi_p1_model.specs.declared.error.P1Error.{P1Error}
 use Rattle.wasi_p1_model.proofs.Moving.{turn_moves}
 use Rattle.wasi_p1_model.proofs.QuotaRuns.{run_counts, run_opened, run_within}
@@ -25,7 +25,7 @@ turn_writes {rose} {w} {v} {g} {g'} {call} {r} takes all = elim (turn_moves rose
 
 -- so a run keeps to the quota
 pub did_keep : {before now : FaultCount} {old new : State} {calls : List FueledCall} {answers : List Answer} {touched : Nodes}
-    → DidRun before now old calls answers new touched → WritesAsOpened old.guest → KeepsToQuotas old calls answers new
+    → RefinesTrace before now old calls answers new touched → WritesAsOpened old.guest → KeepsToQuotas old calls answers new
 did_keep {old = old} {new = new} {calls = calls} did all = record {
   turns = did.turns;
   faults = did.faults;

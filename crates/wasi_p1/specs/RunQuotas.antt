@@ -4,15 +4,15 @@ use Rattle.wasi_guest.specs.declared.answer.Answer.{Answer}
 use Rattle.wasi_p1_model.specs.Front.{FueledCall}
 use Rattle.wasi_p1_model.specs.Guest.{State}
 use Rattle.wasi_p1_model.specs.QuotaLaws.{CountsUse, StaysWithinQuotas, WritesAsOpened}
-use Rattle.wasi_p1_model.specs.Run.{Turned, Run, answers_of}
+use Rattle.wasi_p1_model.specs.Trace.{TraceStep, Trace, answers_of}
 
 -- A run of these calls with these answers. The nodes that it makes, and the bytes by which it makes files longer, are at
 -- most what the quota leaves at its start. Each of its turns counts its use, and no more. Its files are written as they
 -- were opened, so the same holds of a run from there
 pub record KeepsToQuotas (old : State) (calls : List FueledCall) (answers : List Answer) (new : State) : Type 0 where
-  pub turns : List Turned
+  pub turns : List TraceStep
   pub faults : ℕ
-  pub run : Run faults old calls turns new
+  pub run : Trace faults old calls turns new
   pub answers_are : answers ≡ answers_of turns
   pub within : StaysWithinQuotas old.guest.holdings turns
   pub counts : All CountsUse turns

@@ -35,7 +35,7 @@ impl<H: Host> WasiP1Ctx<H> {
     ghost use Rattle.wasi_guest.specs.Quotas.{IsQuota};
     ghost use Rattle.wasi_guest.specs.Services.{handed};
     ghost use Rattle.wasi_p1_model.specs.Quotas.{with_quota, IsWithinQuota};
-    ghost use Rattle.wasi_p1_model.specs.Stock.{first_fuel, first_stock};
+    ghost use Rattle.wasi_p1_model.specs.GuestEnvModel.{first_fuel, first_stock};
 
     /// A context with the three standard streams as descriptors 0 to 2, and then the preopens, in order, which takes their
     /// handles over. Each handle is live, and given once. Nothing is asked of the host. The fuel left is `FUEL`.

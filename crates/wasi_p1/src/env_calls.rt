@@ -1,6 +1,6 @@
 //! The calls on arguments, the environment, clocks, random bytes, polls, the process and sockets.
 ghost use Rattle.wasi_guest.specs.declared.call.Call.TheVariants.{ArgsGet, ArgsSizesGet, ClockResGet, ClockTimeGet, EnvironGet, EnvironSizesGet, PollOneoff, ProcExit, ProcRaise, RandomGet, SchedYield, SockAccept, SockRecv, SockSend, SockShutdown};
-ghost use Rattle.wasi_p1_model.specs.Method.{StaysInBounds, DoesItsRow};
+ghost use Rattle.wasi_p1_model.specs.Method.{KeepsHostLaws, MeetsSpec};
 
 use crate::ctx::WasiP1Ctx;
 use wasi_guest::Value;
@@ -22,9 +22,9 @@ impl<H: Host> WasiP1Ctx<H> {
         events: u32,
         count: u32,
     ) -> Result<Value, P1Error>
-        ensures bounds { StaysInBounds H.Host self.old self.new memory.old
+        ensures host_laws { KeepsHostLaws H.Host self.old self.new memory.old
             (PollOneoff subscriptions events count) result }
-        ensures turn { DoesItsRow H.Host self.old self.new memory.old memory.new
+        ensures spec { MeetsSpec H.Host self.old self.new memory.old memory.new
             (PollOneoff subscriptions events count) result }
     {
         poll_oneoff(&mut self.state, memory, subscriptions, events, count)
@@ -38,8 +38,8 @@ impl<H: Host> WasiP1Ctx<H> {
         argv: u32,
         argv_buf: u32,
     ) -> Result<Value, P1Error>
-        ensures bounds { StaysInBounds H.Host self.old self.new memory.old (ArgsGet argv argv_buf) result }
-        ensures turn { DoesItsRow H.Host self.old self.new memory.old memory.new (ArgsGet argv argv_buf) result }
+        ensures host_laws { KeepsHostLaws H.Host self.old self.new memory.old (ArgsGet argv argv_buf) result }
+        ensures spec { MeetsSpec H.Host self.old self.new memory.old memory.new (ArgsGet argv argv_buf) result }
     {
         args_get(&mut self.state, memory, argv, argv_buf)
     }
@@ -47,8 +47,8 @@ impl<H: Host> WasiP1Ctx<H> {
     /// Answers how many arguments there are, and how many bytes their texts have with the zeros. Refusals:
     /// docs/calls.md.
     pub fn args_sizes_get(&mut self, memory: &mut [u8]) -> Result<Value, P1Error>
-        ensures bounds { StaysInBounds H.Host self.old self.new memory.old ArgsSizesGet result }
-        ensures turn { DoesItsRow H.Host self.old self.new memory.old memory.new ArgsSizesGet result }
+        ensures host_laws { KeepsHostLaws H.Host self.old self.new memory.old ArgsSizesGet result }
+        ensures spec { MeetsSpec H.Host self.old self.new memory.old memory.new ArgsSizesGet result }
     {
         args_sizes_get(&mut self.state, memory)
     }
@@ -61,8 +61,8 @@ impl<H: Host> WasiP1Ctx<H> {
         environ: u32,
         environ_buf: u32,
     ) -> Result<Value, P1Error>
-        ensures bounds { StaysInBounds H.Host self.old self.new memory.old (EnvironGet environ environ_buf) result }
-        ensures turn { DoesItsRow H.Host self.old self.new memory.old memory.new
+        ensures host_laws { KeepsHostLaws H.Host self.old self.new memory.old (EnvironGet environ environ_buf) result }
+        ensures spec { MeetsSpec H.Host self.old self.new memory.old memory.new
             (EnvironGet environ environ_buf) result }
     {
         environ_get(&mut self.state, memory, environ, environ_buf)
@@ -71,16 +71,16 @@ impl<H: Host> WasiP1Ctx<H> {
     /// Answers how many variables the environment has, and how many bytes their texts have with the zeros. Refusals:
     /// docs/calls.md.
     pub fn environ_sizes_get(&mut self, memory: &mut [u8]) -> Result<Value, P1Error>
-        ensures bounds { StaysInBounds H.Host self.old self.new memory.old EnvironSizesGet result }
-        ensures turn { DoesItsRow H.Host self.old self.new memory.old memory.new EnvironSizesGet result }
+        ensures host_laws { KeepsHostLaws H.Host self.old self.new memory.old EnvironSizesGet result }
+        ensures spec { MeetsSpec H.Host self.old self.new memory.old memory.new EnvironSizesGet result }
     {
         environ_sizes_get(&mut self.state, memory)
     }
 
     /// Answers how far apart two moments of a clock are, in nanoseconds. Refusals: docs/calls.md.
     pub fn clock_res_get(&mut self, memory: &mut [u8], id: u32) -> Result<Value, P1Error>
-        ensures bounds { StaysInBounds H.Host self.old self.new memory.old (ClockResGet id) result }
-        ensures turn { DoesItsRow H.Host self.old self.new memory.old memory.new (ClockResGet id) result }
+        ensures host_laws { KeepsHostLaws H.Host self.old self.new memory.old (ClockResGet id) result }
+        ensures spec { MeetsSpec H.Host self.old self.new memory.old memory.new (ClockResGet id) result }
     {
         clock_res_get(&mut self.state, memory, id)
     }
@@ -92,24 +92,24 @@ impl<H: Host> WasiP1Ctx<H> {
         id: u32,
         precision: u64,
     ) -> Result<Value, P1Error>
-        ensures bounds { StaysInBounds H.Host self.old self.new memory.old (ClockTimeGet id precision) result }
-        ensures turn { DoesItsRow H.Host self.old self.new memory.old memory.new (ClockTimeGet id precision) result }
+        ensures host_laws { KeepsHostLaws H.Host self.old self.new memory.old (ClockTimeGet id precision) result }
+        ensures spec { MeetsSpec H.Host self.old self.new memory.old memory.new (ClockTimeGet id precision) result }
     {
         clock_time_get(&mut self.state, memory, id, precision)
     }
 
     /// Ends the guest with a status below 126. Refusals: docs/calls.md.
     pub fn proc_exit(&mut self, memory: &mut [u8], status: u32) -> Result<Value, P1Error>
-        ensures bounds { StaysInBounds H.Host self.old self.new memory.old (ProcExit status) result }
-        ensures turn { DoesItsRow H.Host self.old self.new memory.old memory.new (ProcExit status) result }
+        ensures host_laws { KeepsHostLaws H.Host self.old self.new memory.old (ProcExit status) result }
+        ensures spec { MeetsSpec H.Host self.old self.new memory.old memory.new (ProcExit status) result }
     {
         proc_exit(&mut self.state, memory, status)
     }
 
     /// Is refused, as the crate refuses it: no signal is raised. Refusals: docs/calls.md.
     pub fn proc_raise(&mut self, memory: &mut [u8], signal: u32) -> Result<Value, P1Error>
-        ensures bounds { StaysInBounds H.Host self.old self.new memory.old (ProcRaise signal) result }
-        ensures turn { DoesItsRow H.Host self.old self.new memory.old memory.new (ProcRaise signal) result }
+        ensures host_laws { KeepsHostLaws H.Host self.old self.new memory.old (ProcRaise signal) result }
+        ensures spec { MeetsSpec H.Host self.old self.new memory.old memory.new (ProcRaise signal) result }
     {
         proc_raise(&mut self.state, memory, signal)
     }
@@ -121,24 +121,24 @@ impl<H: Host> WasiP1Ctx<H> {
         buf: u32,
         buf_len: u32,
     ) -> Result<Value, P1Error>
-        ensures bounds { StaysInBounds H.Host self.old self.new memory.old (RandomGet buf buf_len) result }
-        ensures turn { DoesItsRow H.Host self.old self.new memory.old memory.new (RandomGet buf buf_len) result }
+        ensures host_laws { KeepsHostLaws H.Host self.old self.new memory.old (RandomGet buf buf_len) result }
+        ensures spec { MeetsSpec H.Host self.old self.new memory.old memory.new (RandomGet buf buf_len) result }
     {
         random_get(&mut self.state, memory, buf, buf_len)
     }
 
     /// Does nothing.
     pub fn sched_yield(&mut self, memory: &mut [u8]) -> Result<Value, P1Error>
-        ensures bounds { StaysInBounds H.Host self.old self.new memory.old SchedYield result }
-        ensures turn { DoesItsRow H.Host self.old self.new memory.old memory.new SchedYield result }
+        ensures host_laws { KeepsHostLaws H.Host self.old self.new memory.old SchedYield result }
+        ensures spec { MeetsSpec H.Host self.old self.new memory.old memory.new SchedYield result }
     {
         sched_yield(&mut self.state, memory)
     }
 
     /// Is refused: no descriptor is a socket. Refusals: docs/calls.md.
     pub fn sock_accept(&mut self, memory: &mut [u8], fd: u32, flags: u32) -> Result<Value, P1Error>
-        ensures bounds { StaysInBounds H.Host self.old self.new memory.old (SockAccept fd flags) result }
-        ensures turn { DoesItsRow H.Host self.old self.new memory.old memory.new (SockAccept fd flags) result }
+        ensures host_laws { KeepsHostLaws H.Host self.old self.new memory.old (SockAccept fd flags) result }
+        ensures spec { MeetsSpec H.Host self.old self.new memory.old memory.new (SockAccept fd flags) result }
     {
         sock_accept(&mut self.state, memory, fd, flags)
     }
@@ -152,8 +152,8 @@ impl<H: Host> WasiP1Ctx<H> {
         iovs_len: u32,
         ri_flags: u32,
     ) -> Result<Value, P1Error>
-        ensures bounds { StaysInBounds H.Host self.old self.new memory.old (SockRecv fd iovs iovs_len ri_flags) result }
-        ensures turn { DoesItsRow H.Host self.old self.new memory.old memory.new
+        ensures host_laws { KeepsHostLaws H.Host self.old self.new memory.old (SockRecv fd iovs iovs_len ri_flags) result }
+        ensures spec { MeetsSpec H.Host self.old self.new memory.old memory.new
             (SockRecv fd iovs iovs_len ri_flags) result }
     {
         sock_recv(&mut self.state, memory, fd, iovs, iovs_len, ri_flags)
@@ -168,8 +168,8 @@ impl<H: Host> WasiP1Ctx<H> {
         iovs_len: u32,
         si_flags: u32,
     ) -> Result<Value, P1Error>
-        ensures bounds { StaysInBounds H.Host self.old self.new memory.old (SockSend fd iovs iovs_len si_flags) result }
-        ensures turn { DoesItsRow H.Host self.old self.new memory.old memory.new
+        ensures host_laws { KeepsHostLaws H.Host self.old self.new memory.old (SockSend fd iovs iovs_len si_flags) result }
+        ensures spec { MeetsSpec H.Host self.old self.new memory.old memory.new
             (SockSend fd iovs iovs_len si_flags) result }
     {
         sock_send(&mut self.state, memory, fd, iovs, iovs_len, si_flags)
@@ -177,8 +177,8 @@ impl<H: Host> WasiP1Ctx<H> {
 
     /// Is refused: no descriptor is a socket. Refusals: docs/calls.md.
     pub fn sock_shutdown(&mut self, memory: &mut [u8], fd: u32, how: u32) -> Result<Value, P1Error>
-        ensures bounds { StaysInBounds H.Host self.old self.new memory.old (SockShutdown fd how) result }
-        ensures turn { DoesItsRow H.Host self.old self.new memory.old memory.new (SockShutdown fd how) result }
+        ensures host_laws { KeepsHostLaws H.Host self.old self.new memory.old (SockShutdown fd how) result }
+        ensures spec { MeetsSpec H.Host self.old self.new memory.old memory.new (SockShutdown fd how) result }
     {
         sock_shutdown(&mut self.state, memory, fd, how)
     }

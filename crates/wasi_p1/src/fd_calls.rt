@@ -1,6 +1,6 @@
 //! The calls on descriptors, and on what they refer to.
 ghost use Rattle.wasi_guest.specs.declared.call.Call.TheVariants.{FdClose, FdFdstatGet, FdFdstatSetFlags, FdFdstatSetRights, FdFilestatGet, FdFilestatSetTimes, FdPrestatDirName, FdPrestatGet, FdReaddir, FdRenumber};
-ghost use Rattle.wasi_p1_model.specs.Method.{StaysInBounds, DoesItsRow};
+ghost use Rattle.wasi_p1_model.specs.Method.{KeepsHostLaws, MeetsSpec};
 
 use crate::ctx::WasiP1Ctx;
 use wasi_guest::Value;
@@ -14,16 +14,16 @@ use wasi_p1_model::P1Error;
 impl<H: Host> WasiP1Ctx<H> {
     /// Closes a descriptor. Its number may be used again. Refusals: docs/calls.md.
     pub fn fd_close(&mut self, memory: &mut [u8], fd: u32) -> Result<Value, P1Error>
-        ensures bounds { StaysInBounds H.Host self.old self.new memory.old (FdClose fd) result }
-        ensures turn { DoesItsRow H.Host self.old self.new memory.old memory.new (FdClose fd) result }
+        ensures host_laws { KeepsHostLaws H.Host self.old self.new memory.old (FdClose fd) result }
+        ensures spec { MeetsSpec H.Host self.old self.new memory.old memory.new (FdClose fd) result }
     {
         fd_close(&mut self.state, memory, fd)
     }
 
     /// Answers a descriptor's type, its flags and its rights. Refusals: docs/calls.md.
     pub fn fd_fdstat_get(&mut self, memory: &mut [u8], fd: u32) -> Result<Value, P1Error>
-        ensures bounds { StaysInBounds H.Host self.old self.new memory.old (FdFdstatGet fd) result }
-        ensures turn { DoesItsRow H.Host self.old self.new memory.old memory.new (FdFdstatGet fd) result }
+        ensures host_laws { KeepsHostLaws H.Host self.old self.new memory.old (FdFdstatGet fd) result }
+        ensures spec { MeetsSpec H.Host self.old self.new memory.old memory.new (FdFdstatGet fd) result }
     {
         fd_fdstat_get(&mut self.state, memory, fd)
     }
@@ -36,8 +36,8 @@ impl<H: Host> WasiP1Ctx<H> {
         fd: u32,
         flags: u32,
     ) -> Result<Value, P1Error>
-        ensures bounds { StaysInBounds H.Host self.old self.new memory.old (FdFdstatSetFlags fd flags) result }
-        ensures turn { DoesItsRow H.Host self.old self.new memory.old memory.new (FdFdstatSetFlags fd flags) result }
+        ensures host_laws { KeepsHostLaws H.Host self.old self.new memory.old (FdFdstatSetFlags fd flags) result }
+        ensures spec { MeetsSpec H.Host self.old self.new memory.old memory.new (FdFdstatSetFlags fd flags) result }
     {
         fd_fdstat_set_flags(&mut self.state, memory, fd, flags)
     }
@@ -50,9 +50,9 @@ impl<H: Host> WasiP1Ctx<H> {
         base: u64,
         inheriting: u64,
     ) -> Result<Value, P1Error>
-        ensures bounds { StaysInBounds H.Host self.old self.new memory.old
+        ensures host_laws { KeepsHostLaws H.Host self.old self.new memory.old
             (FdFdstatSetRights fd base inheriting) result }
-        ensures turn { DoesItsRow H.Host self.old self.new memory.old memory.new
+        ensures spec { MeetsSpec H.Host self.old self.new memory.old memory.new
             (FdFdstatSetRights fd base inheriting) result }
     {
         fd_fdstat_set_rights(&mut self.state, memory, fd, base, inheriting)
@@ -61,16 +61,16 @@ impl<H: Host> WasiP1Ctx<H> {
     /// Answers the metadata of what a descriptor refers to, as POSIX's `fstat`; zeros for a standard stream. Refusals:
     /// docs/calls.md.
     pub fn fd_filestat_get(&mut self, memory: &mut [u8], fd: u32) -> Result<Value, P1Error>
-        ensures bounds { StaysInBounds H.Host self.old self.new memory.old (FdFilestatGet fd) result }
-        ensures turn { DoesItsRow H.Host self.old self.new memory.old memory.new (FdFilestatGet fd) result }
+        ensures host_laws { KeepsHostLaws H.Host self.old self.new memory.old (FdFilestatGet fd) result }
+        ensures spec { MeetsSpec H.Host self.old self.new memory.old memory.new (FdFilestatGet fd) result }
     {
         fd_filestat_get(&mut self.state, memory, fd)
     }
 
     /// Answers how many bytes a preopen's name has. Refusals: docs/calls.md.
     pub fn fd_prestat_get(&mut self, memory: &mut [u8], fd: u32) -> Result<Value, P1Error>
-        ensures bounds { StaysInBounds H.Host self.old self.new memory.old (FdPrestatGet fd) result }
-        ensures turn { DoesItsRow H.Host self.old self.new memory.old memory.new (FdPrestatGet fd) result }
+        ensures host_laws { KeepsHostLaws H.Host self.old self.new memory.old (FdPrestatGet fd) result }
+        ensures spec { MeetsSpec H.Host self.old self.new memory.old memory.new (FdPrestatGet fd) result }
     {
         fd_prestat_get(&mut self.state, memory, fd)
     }
@@ -83,8 +83,8 @@ impl<H: Host> WasiP1Ctx<H> {
         path: u32,
         path_len: u32,
     ) -> Result<Value, P1Error>
-        ensures bounds { StaysInBounds H.Host self.old self.new memory.old (FdPrestatDirName fd path path_len) result }
-        ensures turn { DoesItsRow H.Host self.old self.new memory.old memory.new
+        ensures host_laws { KeepsHostLaws H.Host self.old self.new memory.old (FdPrestatDirName fd path path_len) result }
+        ensures spec { MeetsSpec H.Host self.old self.new memory.old memory.new
             (FdPrestatDirName fd path path_len) result }
     {
         fd_prestat_dir_name(&mut self.state, memory, fd, path, path_len)
@@ -93,8 +93,8 @@ impl<H: Host> WasiP1Ctx<H> {
     /// Closes what `to` refers to, and gives the descriptor `from` its number, as POSIX's `dup2` and a close of `from`.
     /// Refusals: docs/calls.md.
     pub fn fd_renumber(&mut self, memory: &mut [u8], from: u32, to: u32) -> Result<Value, P1Error>
-        ensures bounds { StaysInBounds H.Host self.old self.new memory.old (FdRenumber from to) result }
-        ensures turn { DoesItsRow H.Host self.old self.new memory.old memory.new (FdRenumber from to) result }
+        ensures host_laws { KeepsHostLaws H.Host self.old self.new memory.old (FdRenumber from to) result }
+        ensures spec { MeetsSpec H.Host self.old self.new memory.old memory.new (FdRenumber from to) result }
     {
         fd_renumber(&mut self.state, memory, from, to)
     }
@@ -110,8 +110,8 @@ impl<H: Host> WasiP1Ctx<H> {
         buf_len: u32,
         cookie: u64,
     ) -> Result<Value, P1Error>
-        ensures bounds { StaysInBounds H.Host self.old self.new memory.old (FdReaddir fd buf buf_len cookie) result }
-        ensures turn { DoesItsRow H.Host self.old self.new memory.old memory.new
+        ensures host_laws { KeepsHostLaws H.Host self.old self.new memory.old (FdReaddir fd buf buf_len cookie) result }
+        ensures spec { MeetsSpec H.Host self.old self.new memory.old memory.new
             (FdReaddir fd buf buf_len cookie) result }
     {
         fd_readdir(&mut self.state, memory, fd, buf, buf_len, cookie)
@@ -127,9 +127,9 @@ impl<H: Host> WasiP1Ctx<H> {
         mtim: u64,
         fst_flags: u32,
     ) -> Result<Value, P1Error>
-        ensures bounds { StaysInBounds H.Host self.old self.new memory.old
+        ensures host_laws { KeepsHostLaws H.Host self.old self.new memory.old
             (FdFilestatSetTimes fd atim mtim fst_flags) result }
-        ensures turn { DoesItsRow H.Host self.old self.new memory.old memory.new
+        ensures spec { MeetsSpec H.Host self.old self.new memory.old memory.new
             (FdFilestatSetTimes fd atim mtim fst_flags) result }
     {
         fd_filestat_set_times(&mut self.state, memory, fd, atim, mtim, fst_flags)

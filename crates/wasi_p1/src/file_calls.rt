@@ -1,6 +1,6 @@
 //! The calls on the bytes, the position, the size and the storing of an open file.
 ghost use Rattle.wasi_guest.specs.declared.call.Call.TheVariants.{FdAdvise, FdAllocate, FdDatasync, FdFilestatSetSize, FdPread, FdPwrite, FdRead, FdSeek, FdSync, FdTell, FdWrite};
-ghost use Rattle.wasi_p1_model.specs.Method.{StaysInBounds, DoesItsRow};
+ghost use Rattle.wasi_p1_model.specs.Method.{KeepsHostLaws, MeetsSpec};
 
 use crate::ctx::WasiP1Ctx;
 use wasi_guest::Value;
@@ -22,8 +22,8 @@ impl<H: Host> WasiP1Ctx<H> {
         len: u64,
         advice: u32,
     ) -> Result<Value, P1Error>
-        ensures bounds { StaysInBounds H.Host self.old self.new memory.old (FdAdvise fd offset len advice) result }
-        ensures turn { DoesItsRow H.Host self.old self.new memory.old memory.new
+        ensures host_laws { KeepsHostLaws H.Host self.old self.new memory.old (FdAdvise fd offset len advice) result }
+        ensures spec { MeetsSpec H.Host self.old self.new memory.old memory.new
             (FdAdvise fd offset len advice) result }
     {
         fd_advise(&mut self.state, memory, fd, offset, len, advice)
@@ -37,24 +37,24 @@ impl<H: Host> WasiP1Ctx<H> {
         offset: u64,
         len: u64,
     ) -> Result<Value, P1Error>
-        ensures bounds { StaysInBounds H.Host self.old self.new memory.old (FdAllocate fd offset len) result }
-        ensures turn { DoesItsRow H.Host self.old self.new memory.old memory.new (FdAllocate fd offset len) result }
+        ensures host_laws { KeepsHostLaws H.Host self.old self.new memory.old (FdAllocate fd offset len) result }
+        ensures spec { MeetsSpec H.Host self.old self.new memory.old memory.new (FdAllocate fd offset len) result }
     {
         fd_allocate(&mut self.state, memory, fd, offset, len)
     }
 
     /// Waits until a file's bytes are stored, as POSIX's `fdatasync`. Refusals: docs/calls.md.
     pub fn fd_datasync(&mut self, memory: &mut [u8], fd: u32) -> Result<Value, P1Error>
-        ensures bounds { StaysInBounds H.Host self.old self.new memory.old (FdDatasync fd) result }
-        ensures turn { DoesItsRow H.Host self.old self.new memory.old memory.new (FdDatasync fd) result }
+        ensures host_laws { KeepsHostLaws H.Host self.old self.new memory.old (FdDatasync fd) result }
+        ensures spec { MeetsSpec H.Host self.old self.new memory.old memory.new (FdDatasync fd) result }
     {
         fd_datasync(&mut self.state, memory, fd)
     }
 
     /// Waits until a file's bytes and its metadata are stored, as POSIX's `fsync`. Refusals: docs/calls.md.
     pub fn fd_sync(&mut self, memory: &mut [u8], fd: u32) -> Result<Value, P1Error>
-        ensures bounds { StaysInBounds H.Host self.old self.new memory.old (FdSync fd) result }
-        ensures turn { DoesItsRow H.Host self.old self.new memory.old memory.new (FdSync fd) result }
+        ensures host_laws { KeepsHostLaws H.Host self.old self.new memory.old (FdSync fd) result }
+        ensures spec { MeetsSpec H.Host self.old self.new memory.old memory.new (FdSync fd) result }
     {
         fd_sync(&mut self.state, memory, fd)
     }
@@ -67,8 +67,8 @@ impl<H: Host> WasiP1Ctx<H> {
         fd: u32,
         size: u64,
     ) -> Result<Value, P1Error>
-        ensures bounds { StaysInBounds H.Host self.old self.new memory.old (FdFilestatSetSize fd size) result }
-        ensures turn { DoesItsRow H.Host self.old self.new memory.old memory.new (FdFilestatSetSize fd size) result }
+        ensures host_laws { KeepsHostLaws H.Host self.old self.new memory.old (FdFilestatSetSize fd size) result }
+        ensures spec { MeetsSpec H.Host self.old self.new memory.old memory.new (FdFilestatSetSize fd size) result }
     {
         fd_filestat_set_size(&mut self.state, memory, fd, size)
     }
@@ -82,16 +82,16 @@ impl<H: Host> WasiP1Ctx<H> {
         offset: i64,
         whence: u32,
     ) -> Result<Value, P1Error>
-        ensures bounds { StaysInBounds H.Host self.old self.new memory.old (FdSeek fd offset whence) result }
-        ensures turn { DoesItsRow H.Host self.old self.new memory.old memory.new (FdSeek fd offset whence) result }
+        ensures host_laws { KeepsHostLaws H.Host self.old self.new memory.old (FdSeek fd offset whence) result }
+        ensures spec { MeetsSpec H.Host self.old self.new memory.old memory.new (FdSeek fd offset whence) result }
     {
         fd_seek(&mut self.state, memory, fd, offset, whence)
     }
 
     /// Answers a file's position. Refusals: docs/calls.md.
     pub fn fd_tell(&mut self, memory: &mut [u8], fd: u32) -> Result<Value, P1Error>
-        ensures bounds { StaysInBounds H.Host self.old self.new memory.old (FdTell fd) result }
-        ensures turn { DoesItsRow H.Host self.old self.new memory.old memory.new (FdTell fd) result }
+        ensures host_laws { KeepsHostLaws H.Host self.old self.new memory.old (FdTell fd) result }
+        ensures spec { MeetsSpec H.Host self.old self.new memory.old memory.new (FdTell fd) result }
     {
         fd_tell(&mut self.state, memory, fd)
     }
@@ -106,8 +106,8 @@ impl<H: Host> WasiP1Ctx<H> {
         iovs_len: u32,
         offset: u64,
     ) -> Result<Value, P1Error>
-        ensures bounds { StaysInBounds H.Host self.old self.new memory.old (FdPread fd iovs iovs_len offset) result }
-        ensures turn { DoesItsRow H.Host self.old self.new memory.old memory.new
+        ensures host_laws { KeepsHostLaws H.Host self.old self.new memory.old (FdPread fd iovs iovs_len offset) result }
+        ensures spec { MeetsSpec H.Host self.old self.new memory.old memory.new
             (FdPread fd iovs iovs_len offset) result }
     {
         fd_pread(&mut self.state, memory, fd, iovs, iovs_len, offset)
@@ -123,8 +123,8 @@ impl<H: Host> WasiP1Ctx<H> {
         iovs_len: u32,
         offset: u64,
     ) -> Result<Value, P1Error>
-        ensures bounds { StaysInBounds H.Host self.old self.new memory.old (FdPwrite fd iovs iovs_len offset) result }
-        ensures turn { DoesItsRow H.Host self.old self.new memory.old memory.new
+        ensures host_laws { KeepsHostLaws H.Host self.old self.new memory.old (FdPwrite fd iovs iovs_len offset) result }
+        ensures spec { MeetsSpec H.Host self.old self.new memory.old memory.new
             (FdPwrite fd iovs iovs_len offset) result }
     {
         fd_pwrite(&mut self.state, memory, fd, iovs, iovs_len, offset)
@@ -139,8 +139,8 @@ impl<H: Host> WasiP1Ctx<H> {
         iovs: u32,
         iovs_len: u32,
     ) -> Result<Value, P1Error>
-        ensures bounds { StaysInBounds H.Host self.old self.new memory.old (FdRead fd iovs iovs_len) result }
-        ensures turn { DoesItsRow H.Host self.old self.new memory.old memory.new (FdRead fd iovs iovs_len) result }
+        ensures host_laws { KeepsHostLaws H.Host self.old self.new memory.old (FdRead fd iovs iovs_len) result }
+        ensures spec { MeetsSpec H.Host self.old self.new memory.old memory.new (FdRead fd iovs iovs_len) result }
     {
         fd_read(&mut self.state, memory, fd, iovs, iovs_len)
     }
@@ -154,8 +154,8 @@ impl<H: Host> WasiP1Ctx<H> {
         iovs: u32,
         iovs_len: u32,
     ) -> Result<Value, P1Error>
-        ensures bounds { StaysInBounds H.Host self.old self.new memory.old (FdWrite fd iovs iovs_len) result }
-        ensures turn { DoesItsRow H.Host self.old self.new memory.old memory.new (FdWrite fd iovs iovs_len) result }
+        ensures host_laws { KeepsHostLaws H.Host self.old self.new memory.old (FdWrite fd iovs iovs_len) result }
+        ensures spec { MeetsSpec H.Host self.old self.new memory.old memory.new (FdWrite fd iovs iovs_len) result }
     {
         fd_write(&mut self.state, memory, fd, iovs, iovs_len)
     }

@@ -20,7 +20,7 @@ pub use wasi_guest::{
 };
 pub use wasi_p1_state::{CtxRefused, Ended, FUEL, P1State};
 pub use wasi_p1_model::{
-    CtxError, DirectorySlot, FileModes, FileSlot, Holdings, Output, Outputs, P1Error, P1Preopen,
+    CtxError, DirectorySlot, FileModes, FileSlot, GuestEnv, Output, Outputs, P1Error, P1Preopen,
     RunError, Slot, Stream, append_only_runs_keep, append_only_turns_add, bytes_put_are_got,
     descriptor_numbers, live_handles_stay, methods_are_complete, other_errors_never_come,
     pages_list_each_entry_once, permissions_stem, positions, quotas_are_counted,

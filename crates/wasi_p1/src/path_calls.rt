@@ -1,6 +1,6 @@
 //! The calls on paths below a directory.
 ghost use Rattle.wasi_guest.specs.declared.call.Call.TheVariants.{PathCreateDirectory, PathFilestatGet, PathFilestatSetTimes, PathLink, PathOpen, PathReadlink, PathRemoveDirectory, PathRename, PathSymlink, PathUnlinkFile};
-ghost use Rattle.wasi_p1_model.specs.Method.{StaysInBounds, DoesItsRow};
+ghost use Rattle.wasi_p1_model.specs.Method.{KeepsHostLaws, MeetsSpec};
 
 use crate::ctx::WasiP1Ctx;
 use wasi_guest::Value;
@@ -27,9 +27,9 @@ impl<H: Host> WasiP1Ctx<H> {
         inheriting: u64,
         fdflags: u32,
     ) -> Result<Value, P1Error>
-        ensures bounds { StaysInBounds H.Host self.old self.new memory.old
+        ensures host_laws { KeepsHostLaws H.Host self.old self.new memory.old
             (PathOpen fd dirflags path path_len oflags base inheriting fdflags) result }
-        ensures turn { DoesItsRow H.Host self.old self.new memory.old memory.new
+        ensures spec { MeetsSpec H.Host self.old self.new memory.old memory.new
             (PathOpen fd dirflags path path_len oflags base inheriting fdflags) result }
     {
         path_open(
@@ -55,9 +55,9 @@ impl<H: Host> WasiP1Ctx<H> {
         path: u32,
         path_len: u32,
     ) -> Result<Value, P1Error>
-        ensures bounds { StaysInBounds H.Host self.old self.new memory.old
+        ensures host_laws { KeepsHostLaws H.Host self.old self.new memory.old
             (PathCreateDirectory fd path path_len) result }
-        ensures turn { DoesItsRow H.Host self.old self.new memory.old memory.new
+        ensures spec { MeetsSpec H.Host self.old self.new memory.old memory.new
             (PathCreateDirectory fd path path_len) result }
     {
         path_create_directory(&mut self.state, memory, fd, path, path_len)
@@ -72,9 +72,9 @@ impl<H: Host> WasiP1Ctx<H> {
         path: u32,
         path_len: u32,
     ) -> Result<Value, P1Error>
-        ensures bounds { StaysInBounds H.Host self.old self.new memory.old
+        ensures host_laws { KeepsHostLaws H.Host self.old self.new memory.old
             (PathRemoveDirectory fd path path_len) result }
-        ensures turn { DoesItsRow H.Host self.old self.new memory.old memory.new
+        ensures spec { MeetsSpec H.Host self.old self.new memory.old memory.new
             (PathRemoveDirectory fd path path_len) result }
     {
         path_remove_directory(&mut self.state, memory, fd, path, path_len)
@@ -89,8 +89,8 @@ impl<H: Host> WasiP1Ctx<H> {
         path: u32,
         path_len: u32,
     ) -> Result<Value, P1Error>
-        ensures bounds { StaysInBounds H.Host self.old self.new memory.old (PathUnlinkFile fd path path_len) result }
-        ensures turn { DoesItsRow H.Host self.old self.new memory.old memory.new
+        ensures host_laws { KeepsHostLaws H.Host self.old self.new memory.old (PathUnlinkFile fd path path_len) result }
+        ensures spec { MeetsSpec H.Host self.old self.new memory.old memory.new
             (PathUnlinkFile fd path path_len) result }
     {
         path_unlink_file(&mut self.state, memory, fd, path, path_len)
@@ -107,9 +107,9 @@ impl<H: Host> WasiP1Ctx<H> {
         new_path: u32,
         new_path_len: u32,
     ) -> Result<Value, P1Error>
-        ensures bounds { StaysInBounds H.Host self.old self.new memory.old
+        ensures host_laws { KeepsHostLaws H.Host self.old self.new memory.old
             (PathSymlink old_path old_path_len fd new_path new_path_len) result }
-        ensures turn { DoesItsRow H.Host self.old self.new memory.old memory.new
+        ensures spec { MeetsSpec H.Host self.old self.new memory.old memory.new
             (PathSymlink old_path old_path_len fd new_path new_path_len) result }
     {
         path_symlink(
@@ -134,9 +134,9 @@ impl<H: Host> WasiP1Ctx<H> {
         buf: u32,
         buf_len: u32,
     ) -> Result<Value, P1Error>
-        ensures bounds { StaysInBounds H.Host self.old self.new memory.old
+        ensures host_laws { KeepsHostLaws H.Host self.old self.new memory.old
             (PathReadlink fd path path_len buf buf_len) result }
-        ensures turn { DoesItsRow H.Host self.old self.new memory.old memory.new
+        ensures spec { MeetsSpec H.Host self.old self.new memory.old memory.new
             (PathReadlink fd path path_len buf buf_len) result }
     {
         path_readlink(&mut self.state, memory, fd, path, path_len, buf, buf_len)
@@ -152,9 +152,9 @@ impl<H: Host> WasiP1Ctx<H> {
         path: u32,
         path_len: u32,
     ) -> Result<Value, P1Error>
-        ensures bounds { StaysInBounds H.Host self.old self.new memory.old
+        ensures host_laws { KeepsHostLaws H.Host self.old self.new memory.old
             (PathFilestatGet fd flags path path_len) result }
-        ensures turn { DoesItsRow H.Host self.old self.new memory.old memory.new
+        ensures spec { MeetsSpec H.Host self.old self.new memory.old memory.new
             (PathFilestatGet fd flags path path_len) result }
     {
         path_filestat_get(&mut self.state, memory, fd, flags, path, path_len)
@@ -173,9 +173,9 @@ impl<H: Host> WasiP1Ctx<H> {
         mtim: u64,
         fst_flags: u32,
     ) -> Result<Value, P1Error>
-        ensures bounds { StaysInBounds H.Host self.old self.new memory.old
+        ensures host_laws { KeepsHostLaws H.Host self.old self.new memory.old
             (PathFilestatSetTimes fd flags path path_len atim mtim fst_flags) result }
-        ensures turn { DoesItsRow H.Host self.old self.new memory.old memory.new
+        ensures spec { MeetsSpec H.Host self.old self.new memory.old memory.new
             (PathFilestatSetTimes fd flags path path_len atim mtim fst_flags) result }
     {
         path_filestat_set_times(
@@ -204,9 +204,9 @@ impl<H: Host> WasiP1Ctx<H> {
         new_path: u32,
         new_path_len: u32,
     ) -> Result<Value, P1Error>
-        ensures bounds { StaysInBounds H.Host self.old self.new memory.old
+        ensures host_laws { KeepsHostLaws H.Host self.old self.new memory.old
             (PathLink old_fd old_flags old_path old_path_len new_fd new_path new_path_len) result }
-        ensures turn { DoesItsRow H.Host self.old self.new memory.old memory.new
+        ensures spec { MeetsSpec H.Host self.old self.new memory.old memory.new
             (PathLink old_fd old_flags old_path old_path_len new_fd new_path new_path_len) result }
     {
         path_link(
@@ -234,9 +234,9 @@ impl<H: Host> WasiP1Ctx<H> {
         new_path: u32,
         new_path_len: u32,
     ) -> Result<Value, P1Error>
-        ensures bounds { StaysInBounds H.Host self.old self.new memory.old
+        ensures host_laws { KeepsHostLaws H.Host self.old self.new memory.old
             (PathRename old_fd old_path old_path_len new_fd new_path new_path_len) result }
-        ensures turn { DoesItsRow H.Host self.old self.new memory.old memory.new
+        ensures spec { MeetsSpec H.Host self.old self.new memory.old memory.new
             (PathRename old_fd old_path old_path_len new_fd new_path new_path_len) result }
     {
         path_rename(

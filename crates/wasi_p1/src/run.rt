@@ -4,17 +4,17 @@ ghost use Rattle.wasi_p1_model.specs.ErrorNumbers.{MayCome};
 ghost use Rattle.wasi_p1_model.specs.Front.{with_fuel};
 ghost use Rattle.wasi_fs.specs.declared.perms.FsPerms.TheVariants.{AppendOnly};
 ghost use Rattle.wasi_p1_model.specs.AppendOnly.{Adds, AppendsAtEnd};
-ghost use Rattle.wasi_p1_model.specs.CallTurn.{IsAnswered, IsValidCall, NamesUnder, OthersStay, TakesTurn};
-ghost use Rattle.wasi_p1_model.specs.Method.{StaysInBounds, DoesItsRow};
+ghost use Rattle.wasi_p1_model.specs.CallTransition.{IsAnswered, IsValidCall, NamesUnder, OthersStay, Transitions};
+ghost use Rattle.wasi_p1_model.specs.Method.{KeepsHostLaws, MeetsSpec};
 ghost use Rattle.wasi_host.specs.HostLaws.{Rose};
 ghost use Rattle.wasi_p1_model.specs.Guest.{State, guest_of, state_of};
-ghost use Rattle.wasi_p1_model.specs.Calls.{may_want};
-ghost use Rattle.wasi_p1_model.specs.Run.{AnswersEach, answer_of, ends, ios, Allows, answered_in, WantedAt, DidRun, StoodAt};
+ghost use Rattle.wasi_p1_model.specs.Calls.{may_run_out_of_memory};
+ghost use Rattle.wasi_p1_model.specs.Trace.{AnswersEach, answer_of, ends, ios, Allows, answered_in, OutOfMemoryAt, RefinesTrace, StoodAt};
 ghost use Rattle.wasi_p1_model.specs.declared.error.P1Error.TheVariants.{Memory};
 ghost use Rattle.wasi_p1_model.specs.Owners.{RunTraced, SlotsOfCall};
 ghost use Rattle.wasi_p1_model.specs.Reach.{Confined, StaysTouched};
 ghost use Rattle.wasi_p1_model.specs.InTurn.{DoesCall, DoCalls, DoCallsUntil, SlotsOfRun};
-ghost use Rattle.wasi_p1_model.specs.StatesAgree.{SeesOnlyReach};
+ghost use Rattle.wasi_p1_model.specs.StatesAgree.{Noninterferes};
 ghost use Rattle.wasi_p1_model.specs.Unchanged.{LeavesAll};
 ghost use Rattle.wasi_p1_model.specs.QuotaLaws.{WritesAsOpened};
 ghost use Rattle.wasi_p1.specs.RunQuotas.{KeepsToQuotas, KeptToQuotas};
@@ -63,8 +63,8 @@ pub fn call<H: Host>(
     memory: &mut [u8],
     call: Call,
 ) -> Result<Value, P1Error>
-    ensures bounds { StaysInBounds H.Host context.old context.new memory.old call result }
-    ensures turn { DoesItsRow H.Host context.old context.new memory.old memory.new call result }
+    ensures host_laws { KeepsHostLaws H.Host context.old context.new memory.old call result }
+    ensures spec { MeetsSpec H.Host context.old context.new memory.old memory.new call result }
     ensures complete { IsTrue H.told → (Rose (H.faults context.old.host) (H.faults context.new.host) → ⊥)
         → IsValidCall (state_of H.world context.old memory.old) (with_fuel context.old.fuel call)
         → IsAnswered call result }
@@ -87,8 +87,8 @@ fn by_name<H: Host>(
     memory: &mut [u8],
     call: Call,
 ) -> Result<Value, P1Error>
-    ensures bounds { StaysInBounds H.Host context.old context.new memory.old call result }
-    ensures turn { DoesItsRow H.Host context.old context.new memory.old memory.new call result }
+    ensures host_laws { KeepsHostLaws H.Host context.old context.new memory.old call result }
+    ensures spec { MeetsSpec H.Host context.old context.new memory.old memory.new call result }
 {
     match call {
         Call::ArgsGet { argv, argv_buf } => context.args_get(memory, argv, argv_buf),
@@ -272,10 +272,10 @@ fn call_with<H: Host>(
     one: Call,
 ) -> Result<Value, P1Error>
     ensures size { length memory.new ≡ length memory.old }
-    ensures bounds { StaysInBounds H.Host context.old context.new memory.old one result }
+    ensures host_laws { KeepsHostLaws H.Host context.old context.new memory.old one result }
     ensures slots { SlotsOfCall context.old.slots context.new.slots memory.old one }
-    ensures wants { result ≡ Err Memory → IsTrue (may_want one) }
-    ensures turn { IsTrue H.told → TakesTurn H.world (Rose (H.faults context.old.host) (H.faults context.new.host))
+    ensures wants { result ≡ Err Memory → IsTrue (may_run_out_of_memory one) }
+    ensures spec { IsTrue H.told → Transitions H.world (Rose (H.faults context.old.host) (H.faults context.new.host))
         context.old context.new memory.old memory.new (with_fuel fuel one) result }
     ensures does { DoesCall H.Host fuel context.old context.new memory.old memory.new one result }
 {
@@ -308,7 +308,7 @@ pub fn run_calls<H: Host>(
     ensures most { (H.faults context.new.host).most ≡ (H.faults context.old.host).most }
     ensures answers { IfOk result (λ a. AnswersEach (map (with_fuel fuel) calls.now.items) a.answers) }
     ensures answered { IfErr result (λ e. answered_in e ≤ length calls.now.items) }
-    ensures wanted { IfErr result (λ e. WantedAt context.old context.new memory.old memory.new calls.now.items
+    ensures wanted { IfErr result (λ e. OutOfMemoryAt context.old context.new memory.old memory.new calls.now.items
         (answered_in e)) }
     ensures errnos { IsTrue H.told → IfOk result (λ a. All MayCome a.answers) }
     ensures ios { IfOk result (λ a. Allows (H.faults context.old.host) (H.faults context.new.host) (ios a.answers)) }
@@ -316,7 +316,7 @@ pub fn run_calls<H: Host>(
     ensures slots { SlotsOfRun H.Host fuel context.old memory.old calls.now.items context.new.slots }
     ensures lineage { RunTraced context.old.slots context.new.slots
         (H.lookups context.old.host) (H.lookups context.new.host) }
-    ensures run { IsTrue H.told → IfOk result (λ a. DidRun (H.faults context.old.host) (H.faults context.new.host)
+    ensures run { IsTrue H.told → IfOk result (λ a. RefinesTrace (H.faults context.old.host) (H.faults context.new.host)
         (state_of H.world context.old memory.old) (map (with_fuel fuel) calls.now.items) a.answers
         (state_of H.world context.new memory.new) (H.world context.new.host).touched) }
     ensures memory { IsTrue H.told → IfErr result (λ e. StoodAt (H.faults context.old.host) (H.faults context.new.host)
@@ -340,7 +340,7 @@ pub fn run_calls<H: Host>(
     ensures until { IfErr result (λ e. DoCallsUntil H.Host fuel context.old memory.old calls.now.items (answered_in e)
         context.new memory.new) }
     ensures agree { IsTrue H.told → (Rose (H.faults context.old.host) (H.faults context.new.host) → ⊥)
-        → IfOk result (λ a. SeesOnlyReach (state_of H.world context.old memory.old)
+        → IfOk result (λ a. Noninterferes (state_of H.world context.old memory.old)
         (map (with_fuel fuel) calls.now.items) a.answers (state_of H.world context.new memory.new)) }
 {
     let Ok(mut answers) = Answers::with_room(alloc, calls.len()) else {

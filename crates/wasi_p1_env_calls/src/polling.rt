@@ -1,6 +1,6 @@
 //! The call that waits.
 ghost use Rattle.wasi_guest.specs.declared.call.Call.TheVariants.{PollOneoff};
-ghost use Rattle.wasi_p1_model.specs.Method.{StaysInBounds, DoesItsRow};
+ghost use Rattle.wasi_p1_model.specs.Method.{KeepsHostLaws, MeetsSpec};
 
 use wasi_guest::{Event, Subscription, Value};
 use wasi_host::Host;
@@ -32,9 +32,9 @@ pub fn poll_oneoff<H: Host>(
     events: u32,
     count: u32,
 ) -> Result<Value, P1Error>
-    ensures bounds { StaysInBounds H.Host context.old context.new memory.old (PollOneoff subscriptions events count)
+    ensures host_laws { KeepsHostLaws H.Host context.old context.new memory.old (PollOneoff subscriptions events count)
         result }
-    ensures turn { DoesItsRow H.Host context.old context.new memory.old memory.new (PollOneoff subscriptions events count)
+    ensures spec { MeetsSpec H.Host context.old context.new memory.old memory.new (PollOneoff subscriptions events count)
         result }
 {
     some_asked(count)?;

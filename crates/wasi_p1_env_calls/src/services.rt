@@ -1,6 +1,6 @@
 //! The calls of a guest that ask nothing of the tree.
 ghost use Rattle.wasi_guest.specs.declared.call.Call.TheVariants.{ArgsGet, ArgsSizesGet, ClockResGet, ClockTimeGet, EnvironGet, EnvironSizesGet, ProcExit, ProcRaise, RandomGet, SchedYield, SockAccept, SockRecv, SockSend, SockShutdown};
-ghost use Rattle.wasi_p1_model.specs.Method.{StaysInBounds, DoesItsRow};
+ghost use Rattle.wasi_p1_model.specs.Method.{KeepsHostLaws, MeetsSpec};
 
 use wasi_guest::{Errno, FdFlags, RiFlags, SdFlags, Value};
 use wasi_host::Host;
@@ -18,8 +18,8 @@ pub fn args_get<H: Host>(
     argv: u32,
     argv_buf: u32,
 ) -> Result<Value, P1Error>
-    ensures bounds { StaysInBounds H.Host context.old context.new memory.old (ArgsGet argv argv_buf) result }
-    ensures turn { DoesItsRow H.Host context.old context.new memory.old memory.new (ArgsGet argv argv_buf) result }
+    ensures host_laws { KeepsHostLaws H.Host context.old context.new memory.old (ArgsGet argv argv_buf) result }
+    ensures spec { MeetsSpec H.Host context.old context.new memory.old memory.new (ArgsGet argv argv_buf) result }
 {
     context.holdings.args_into(memory, argv, argv_buf)?;
     Ok(Value::Unit)
@@ -32,8 +32,8 @@ pub fn args_sizes_get<H: Host>(
     context: &mut P1State<H>,
     memory: &mut [u8],
 ) -> Result<Value, P1Error>
-    ensures bounds { StaysInBounds H.Host context.old context.new memory.old ArgsSizesGet result }
-    ensures turn { DoesItsRow H.Host context.old context.new memory.old memory.new ArgsSizesGet result }
+    ensures host_laws { KeepsHostLaws H.Host context.old context.new memory.old ArgsSizesGet result }
+    ensures spec { MeetsSpec H.Host context.old context.new memory.old memory.new ArgsSizesGet result }
 {
     Ok(context.holdings.args_sizes()?)
 }
@@ -46,8 +46,8 @@ pub fn environ_get<H: Host>(
     environ: u32,
     environ_buf: u32,
 ) -> Result<Value, P1Error>
-    ensures bounds { StaysInBounds H.Host context.old context.new memory.old (EnvironGet environ environ_buf) result }
-    ensures turn { DoesItsRow H.Host context.old context.new memory.old memory.new
+    ensures host_laws { KeepsHostLaws H.Host context.old context.new memory.old (EnvironGet environ environ_buf) result }
+    ensures spec { MeetsSpec H.Host context.old context.new memory.old memory.new
         (EnvironGet environ environ_buf) result }
 {
     context.holdings.environ_into(memory, environ, environ_buf)?;
@@ -60,8 +60,8 @@ pub fn environ_sizes_get<H: Host>(
     context: &mut P1State<H>,
     memory: &mut [u8],
 ) -> Result<Value, P1Error>
-    ensures bounds { StaysInBounds H.Host context.old context.new memory.old EnvironSizesGet result }
-    ensures turn { DoesItsRow H.Host context.old context.new memory.old memory.new EnvironSizesGet result }
+    ensures host_laws { KeepsHostLaws H.Host context.old context.new memory.old EnvironSizesGet result }
+    ensures spec { MeetsSpec H.Host context.old context.new memory.old memory.new EnvironSizesGet result }
 {
     Ok(context.holdings.environ_sizes()?)
 }
@@ -74,8 +74,8 @@ pub fn clock_res_get<H: Host>(
     memory: &mut [u8],
     id: u32,
 ) -> Result<Value, P1Error>
-    ensures bounds { StaysInBounds H.Host context.old context.new memory.old (ClockResGet id) result }
-    ensures turn { DoesItsRow H.Host context.old context.new memory.old memory.new (ClockResGet id) result }
+    ensures host_laws { KeepsHostLaws H.Host context.old context.new memory.old (ClockResGet id) result }
+    ensures spec { MeetsSpec H.Host context.old context.new memory.old memory.new (ClockResGet id) result }
 {
     Ok(Value::Number(context.holdings.clock_res(id)?))
 }
@@ -88,8 +88,8 @@ pub fn clock_time_get<H: Host>(
     id: u32,
     precision: u64,
 ) -> Result<Value, P1Error>
-    ensures bounds { StaysInBounds H.Host context.old context.new memory.old (ClockTimeGet id precision) result }
-    ensures turn { DoesItsRow H.Host context.old context.new memory.old memory.new (ClockTimeGet id precision) result }
+    ensures host_laws { KeepsHostLaws H.Host context.old context.new memory.old (ClockTimeGet id precision) result }
+    ensures spec { MeetsSpec H.Host context.old context.new memory.old memory.new (ClockTimeGet id precision) result }
 {
     Ok(Value::Number(context.holdings.clock_time(id)?))
 }
@@ -101,8 +101,8 @@ pub fn proc_exit<H: Host>(
     memory: &mut [u8],
     status: u32,
 ) -> Result<Value, P1Error>
-    ensures bounds { StaysInBounds H.Host context.old context.new memory.old (ProcExit status) result }
-    ensures turn { DoesItsRow H.Host context.old context.new memory.old memory.new (ProcExit status) result }
+    ensures host_laws { KeepsHostLaws H.Host context.old context.new memory.old (ProcExit status) result }
+    ensures spec { MeetsSpec H.Host context.old context.new memory.old memory.new (ProcExit status) result }
 {
     Err(exit_with(status))
 }
@@ -114,8 +114,8 @@ pub fn proc_raise<H: Host>(
     memory: &mut [u8],
     signal: u32,
 ) -> Result<Value, P1Error>
-    ensures bounds { StaysInBounds H.Host context.old context.new memory.old (ProcRaise signal) result }
-    ensures turn { DoesItsRow H.Host context.old context.new memory.old memory.new (ProcRaise signal) result }
+    ensures host_laws { KeepsHostLaws H.Host context.old context.new memory.old (ProcRaise signal) result }
+    ensures spec { MeetsSpec H.Host context.old context.new memory.old memory.new (ProcRaise signal) result }
 {
     known_signal(signal)?;
     Err(P1Error::Errno(Errno::Notsup))
@@ -129,8 +129,8 @@ pub fn random_get<H: Host>(
     buf: u32,
     buf_len: u32,
 ) -> Result<Value, P1Error>
-    ensures bounds { StaysInBounds H.Host context.old context.new memory.old (RandomGet buf buf_len) result }
-    ensures turn { DoesItsRow H.Host context.old context.new memory.old memory.new (RandomGet buf buf_len) result }
+    ensures host_laws { KeepsHostLaws H.Host context.old context.new memory.old (RandomGet buf buf_len) result }
+    ensures spec { MeetsSpec H.Host context.old context.new memory.old memory.new (RandomGet buf buf_len) result }
 {
     bytes_at(memory, buf, buf_len)?;
     context.holdings.random_into(memory, buf, buf_len);
@@ -140,8 +140,8 @@ pub fn random_get<H: Host>(
 /// Lets others run: nothing is done.
 #[tactic(auto, using(wasi_p1_model::proofs::Taking::refusals, wasi_p1_model::proofs::Taking::answered_at_once), unfolding(wasi_p1_model::specs::Calls::Services::sched_yield))]
 pub fn sched_yield<H: Host>(context: &mut P1State<H>, memory: &mut [u8]) -> Result<Value, P1Error>
-    ensures bounds { StaysInBounds H.Host context.old context.new memory.old SchedYield result }
-    ensures turn { DoesItsRow H.Host context.old context.new memory.old memory.new SchedYield result }
+    ensures host_laws { KeepsHostLaws H.Host context.old context.new memory.old SchedYield result }
+    ensures spec { MeetsSpec H.Host context.old context.new memory.old memory.new SchedYield result }
 {
     Ok(Value::Unit)
 }
@@ -155,8 +155,8 @@ pub fn sock_accept<H: Host>(
     fd: u32,
     flags: u32,
 ) -> Result<Value, P1Error>
-    ensures bounds { StaysInBounds H.Host context.old context.new memory.old (SockAccept fd flags) result }
-    ensures turn { DoesItsRow H.Host context.old context.new memory.old memory.new (SockAccept fd flags) result }
+    ensures host_laws { KeepsHostLaws H.Host context.old context.new memory.old (SockAccept fd flags) result }
+    ensures spec { MeetsSpec H.Host context.old context.new memory.old memory.new (SockAccept fd flags) result }
 {
     FdFlags::from_bits(flags).ok_or(INVALID)?;
     live_at(&context.fs.host, &context.descriptors, fd)?;
@@ -173,8 +173,8 @@ pub fn sock_recv<H: Host>(
     iovs_len: u32,
     ri_flags: u32,
 ) -> Result<Value, P1Error>
-    ensures bounds { StaysInBounds H.Host context.old context.new memory.old (SockRecv fd iovs iovs_len ri_flags) result }
-    ensures turn { DoesItsRow H.Host context.old context.new memory.old memory.new
+    ensures host_laws { KeepsHostLaws H.Host context.old context.new memory.old (SockRecv fd iovs iovs_len ri_flags) result }
+    ensures spec { MeetsSpec H.Host context.old context.new memory.old memory.new
         (SockRecv fd iovs iovs_len ri_flags) result }
 {
     RiFlags::from_bits(ri_flags).ok_or(INVALID)?;
@@ -192,8 +192,8 @@ pub fn sock_send<H: Host>(
     iovs_len: u32,
     si_flags: u32,
 ) -> Result<Value, P1Error>
-    ensures bounds { StaysInBounds H.Host context.old context.new memory.old (SockSend fd iovs iovs_len si_flags) result }
-    ensures turn { DoesItsRow H.Host context.old context.new memory.old memory.new
+    ensures host_laws { KeepsHostLaws H.Host context.old context.new memory.old (SockSend fd iovs iovs_len si_flags) result }
+    ensures spec { MeetsSpec H.Host context.old context.new memory.old memory.new
         (SockSend fd iovs iovs_len si_flags) result }
 {
     live_at(&context.fs.host, &context.descriptors, fd)?;
@@ -208,8 +208,8 @@ pub fn sock_shutdown<H: Host>(
     fd: u32,
     how: u32,
 ) -> Result<Value, P1Error>
-    ensures bounds { StaysInBounds H.Host context.old context.new memory.old (SockShutdown fd how) result }
-    ensures turn { DoesItsRow H.Host context.old context.new memory.old memory.new (SockShutdown fd how) result }
+    ensures host_laws { KeepsHostLaws H.Host context.old context.new memory.old (SockShutdown fd how) result }
+    ensures spec { MeetsSpec H.Host context.old context.new memory.old memory.new (SockShutdown fd how) result }
 {
     SdFlags::from_bits(how).ok_or(INVALID)?;
     live_at(&context.fs.host, &context.descriptors, fd)?;

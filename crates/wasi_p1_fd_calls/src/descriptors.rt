@@ -1,6 +1,6 @@
 //! The calls on a descriptor itself.
 ghost use Rattle.wasi_guest.specs.declared.call.Call.TheVariants.{FdClose, FdFdstatGet, FdFdstatSetFlags, FdFdstatSetRights, FdFilestatGet, FdPrestatDirName, FdPrestatGet, FdRenumber};
-ghost use Rattle.wasi_p1_model.specs.Method.{StaysInBounds, DoesItsRow};
+ghost use Rattle.wasi_p1_model.specs.Method.{KeepsHostLaws, MeetsSpec};
 
 use wasi_fs::Descriptor;
 use wasi_guest::{Errno, Value};
@@ -23,8 +23,8 @@ pub fn fd_close<H: Host>(
     memory: &mut [u8],
     fd: u32,
 ) -> Result<Value, P1Error>
-    ensures bounds { StaysInBounds H.Host context.old context.new memory.old (FdClose fd) result }
-    ensures turn { DoesItsRow H.Host context.old context.new memory.old memory.new (FdClose fd) result }
+    ensures host_laws { KeepsHostLaws H.Host context.old context.new memory.old (FdClose fd) result }
+    ensures spec { MeetsSpec H.Host context.old context.new memory.old memory.new (FdClose fd) result }
 {
     let slot = live_at(&context.fs.host, &context.descriptors, fd)?;
     close_slot(&mut context.fs, &mut context.descriptors, fd, slot);
@@ -42,8 +42,8 @@ pub fn fd_fdstat_get<H: Host>(
     memory: &mut [u8],
     fd: u32,
 ) -> Result<Value, P1Error>
-    ensures bounds { StaysInBounds H.Host context.old context.new memory.old (FdFdstatGet fd) result }
-    ensures turn { DoesItsRow H.Host context.old context.new memory.old memory.new (FdFdstatGet fd) result }
+    ensures host_laws { KeepsHostLaws H.Host context.old context.new memory.old (FdFdstatGet fd) result }
+    ensures spec { MeetsSpec H.Host context.old context.new memory.old memory.new (FdFdstatGet fd) result }
 {
     let slot = live_at(&context.fs.host, &context.descriptors, fd)?;
     match slot {
@@ -74,8 +74,8 @@ pub fn fd_fdstat_set_flags<H: Host>(
     fd: u32,
     flags: u32,
 ) -> Result<Value, P1Error>
-    ensures bounds { StaysInBounds H.Host context.old context.new memory.old (FdFdstatSetFlags fd flags) result }
-    ensures turn { DoesItsRow H.Host context.old context.new memory.old memory.new (FdFdstatSetFlags fd flags) result }
+    ensures host_laws { KeepsHostLaws H.Host context.old context.new memory.old (FdFdstatSetFlags fd flags) result }
+    ensures spec { MeetsSpec H.Host context.old context.new memory.old memory.new (FdFdstatSetFlags fd flags) result }
 {
     let fdflags = fdflags_of(flags)?;
     let FileSlot { file, position, .. } = file_at(
@@ -101,8 +101,8 @@ pub fn fd_fdstat_set_rights<H: Host>(
     base: u64,
     inheriting: u64,
 ) -> Result<Value, P1Error>
-    ensures bounds { StaysInBounds H.Host context.old context.new memory.old (FdFdstatSetRights fd base inheriting) result }
-    ensures turn { DoesItsRow H.Host context.old context.new memory.old memory.new (FdFdstatSetRights fd base inheriting)
+    ensures host_laws { KeepsHostLaws H.Host context.old context.new memory.old (FdFdstatSetRights fd base inheriting) result }
+    ensures spec { MeetsSpec H.Host context.old context.new memory.old memory.new (FdFdstatSetRights fd base inheriting)
         result }
 {
     rights_of(base)?;
@@ -120,8 +120,8 @@ pub fn fd_filestat_get<H: Host>(
     memory: &mut [u8],
     fd: u32,
 ) -> Result<Value, P1Error>
-    ensures bounds { StaysInBounds H.Host context.old context.new memory.old (FdFilestatGet fd) result }
-    ensures turn { DoesItsRow H.Host context.old context.new memory.old memory.new (FdFilestatGet fd) result }
+    ensures host_laws { KeepsHostLaws H.Host context.old context.new memory.old (FdFilestatGet fd) result }
+    ensures spec { MeetsSpec H.Host context.old context.new memory.old memory.new (FdFilestatGet fd) result }
 {
     let slot = live_at(&context.fs.host, &context.descriptors, fd)?;
     match slot {
@@ -148,8 +148,8 @@ pub fn fd_prestat_get<H: Host>(
     memory: &mut [u8],
     fd: u32,
 ) -> Result<Value, P1Error>
-    ensures bounds { StaysInBounds H.Host context.old context.new memory.old (FdPrestatGet fd) result }
-    ensures turn { DoesItsRow H.Host context.old context.new memory.old memory.new (FdPrestatGet fd) result }
+    ensures host_laws { KeepsHostLaws H.Host context.old context.new memory.old (FdPrestatGet fd) result }
+    ensures spec { MeetsSpec H.Host context.old context.new memory.old memory.new (FdPrestatGet fd) result }
 {
     let name = preopen_at(
         &context.fs.host,
@@ -172,8 +172,8 @@ pub fn fd_prestat_dir_name<H: Host>(
     path: u32,
     path_len: u32,
 ) -> Result<Value, P1Error>
-    ensures bounds { StaysInBounds H.Host context.old context.new memory.old (FdPrestatDirName fd path path_len) result }
-    ensures turn { DoesItsRow H.Host context.old context.new memory.old memory.new (FdPrestatDirName fd path path_len)
+    ensures host_laws { KeepsHostLaws H.Host context.old context.new memory.old (FdPrestatDirName fd path path_len) result }
+    ensures spec { MeetsSpec H.Host context.old context.new memory.old memory.new (FdPrestatDirName fd path path_len)
         result }
 {
     live_at(&context.fs.host, &context.descriptors, fd)?;
@@ -197,8 +197,8 @@ pub fn fd_renumber<H: Host>(
     from: u32,
     to: u32,
 ) -> Result<Value, P1Error>
-    ensures bounds { StaysInBounds H.Host context.old context.new memory.old (FdRenumber from to) result }
-    ensures turn { DoesItsRow H.Host context.old context.new memory.old memory.new (FdRenumber from to) result }
+    ensures host_laws { KeepsHostLaws H.Host context.old context.new memory.old (FdRenumber from to) result }
+    ensures spec { MeetsSpec H.Host context.old context.new memory.old memory.new (FdRenumber from to) result }
 {
     live_at(&context.fs.host, &context.descriptors, from)?;
     let slot = live_at(&context.fs.host, &context.descriptors, to)?;

@@ -1,6 +1,6 @@
 //! The call that lists a directory.
 ghost use Rattle.wasi_guest.specs.declared.call.Call.TheVariants.{FdReaddir};
-ghost use Rattle.wasi_p1_model.specs.Method.{StaysInBounds, DoesItsRow};
+ghost use Rattle.wasi_p1_model.specs.Method.{KeepsHostLaws, MeetsSpec};
 
 use wasi_guest::{Errno, Value};
 use wasi_host::Host;
@@ -29,8 +29,8 @@ pub fn fd_readdir<H: Host>(
     buf_len: u32,
     cookie: u64,
 ) -> Result<Value, P1Error>
-    ensures bounds { StaysInBounds H.Host context.old context.new memory.old (FdReaddir fd buf buf_len cookie) result }
-    ensures turn { DoesItsRow H.Host context.old context.new memory.old memory.new (FdReaddir fd buf buf_len cookie)
+    ensures host_laws { KeepsHostLaws H.Host context.old context.new memory.old (FdReaddir fd buf buf_len cookie) result }
+    ensures spec { MeetsSpec H.Host context.old context.new memory.old memory.new (FdReaddir fd buf buf_len cookie)
         result }
 {
     let dir = directory_at(&context.fs.host, &context.descriptors, fd, Errno::Badf)?;

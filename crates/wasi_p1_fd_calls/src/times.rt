@@ -1,6 +1,6 @@
 //! The calls that set times.
 ghost use Rattle.wasi_guest.specs.declared.call.Call.TheVariants.{FdFilestatSetTimes};
-ghost use Rattle.wasi_p1_model.specs.Method.{StaysInBounds, DoesItsRow};
+ghost use Rattle.wasi_p1_model.specs.Method.{KeepsHostLaws, MeetsSpec};
 
 use wasi_guest::Value;
 use wasi_host::Host;
@@ -22,9 +22,9 @@ pub fn fd_filestat_set_times<H: Host>(
     mtim: u64,
     fst_flags: u32,
 ) -> Result<Value, P1Error>
-    ensures bounds { StaysInBounds H.Host context.old context.new memory.old
+    ensures host_laws { KeepsHostLaws H.Host context.old context.new memory.old
         (FdFilestatSetTimes fd atim mtim fst_flags) result }
-    ensures turn { DoesItsRow H.Host context.old context.new memory.old memory.new
+    ensures spec { MeetsSpec H.Host context.old context.new memory.old memory.new
         (FdFilestatSetTimes fd atim mtim fst_flags) result }
 {
     let times = NewTimes::of(context.holdings.wall(), atim, mtim, fst_flags)?;

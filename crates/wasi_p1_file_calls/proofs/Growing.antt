@@ -7,21 +7,21 @@ use Rattle.wasi_guest.specs.declared.call.Call.{Call}
 use Rattle.wasi_guest.specs.declared.errno.Errno.TheVariants.{Io}
 use Rattle.wasi_host.specs.HostCall.{SetSize}
 use Rattle.wasi_host.specs.HostLaws.{World, Handles, FaultCount, Rose}
-use Rattle.wasi_host.specs.declared.open_handle.Held.{Held}
+use Rattle.wasi_host.specs.declared.open_handle.OpenHandle.{OpenHandle}
 use Rattle.wasi_host.specs.declared.lookup.Lookup.{Lookup}
 use Rattle.wasi_p1_model.specs.CallParts.{IsReplied, Makes, WantsNoMemory}
-use Rattle.wasi_p1_model.specs.CallTurn.{FollowsRow}
+use Rattle.wasi_p1_model.specs.CallTransition.{FollowsRow}
 use Rattle.wasi_p1_model.specs.Front.{ask}
 use Rattle.wasi_p1_model.specs.Guest.{Guest, guest_by, guest_of}
 use Rattle.wasi_p1_model.specs.Owners.{handles, Owned, SlotsOfCall}
 use Rattle.wasi_p1_model.specs.Putting.{count_in, put_call, put_end, put_in, put_request}
 use Rattle.wasi_p1_model.specs.Quotas.{counted_growth}
 use Rattle.wasi_p1_model.specs.Request.{Request, Reply, Direct, end_after, written_by}
-use Rattle.wasi_p1_model.specs.Row.{Row, give, made_of_reply}
-use Rattle.wasi_p1_model.specs.Calls.{descriptors_named, front, may_want}
+use Rattle.wasi_p1_model.specs.CallResult.{CallResult, give, made_of_reply}
+use Rattle.wasi_p1_model.specs.Calls.{descriptors_named, front, may_run_out_of_memory}
 use Rattle.wasi_p1_model.specs.Slots.{View}
 use Rattle.wasi_p1_model.specs.Spending.{growing, makes, on_outcome, spent, with_growth}
-use Rattle.wasi_p1_model.specs.Stock.{Stock}
+use Rattle.wasi_p1_model.specs.GuestEnvModel.{GuestEnvModel}
 use Rattle.wasi_p1_model.specs.declared.error.P1Error.{P1Error}
 use Rattle.wasi_p1_model.specs.declared.error.P1Error.TheVariants.{Errno, Memory}
 use Rattle.wasi_p1_model.specs.declared.quotas.Allowance.{Allowance}
@@ -41,11 +41,11 @@ use Rattle.wasi_p1_model.proofs.Taking.{PutBack, guest_put, put_guest, unchanged
 
 -- It is a write or a new size, after which the file has this end. What may be replied over any host doesn't depend on
 -- what the handle stands for
-pub record GrowsFile {A : Type 0} (F : Held → Request) (N : (f : Held) → Reply (F f) → Row A) (end : FileEnd) : Type 0 where
-  pub writes : (f : Held) → IsWriting (F f)
-  pub file : (f : Held) → written_by (F f) ≡ f.node
-  pub ends : (f : Held) → end_after (F f) ≡ end
-  pub any : (f g : Held) (result : Row A) → IsReplied (F f) (N f) result → IsReplied (F g) (N g) result
+pub record GrowsFile {A : Type 0} (F : OpenHandle → Request) (N : (f : OpenHandle) → Reply (F f) → CallResult A) (end : FileEnd) : Type 0 where
+  pub writes : (f : OpenHandle) → IsWriting (F f)
+  pub file : (f : OpenHandle) → written_by (F f) ≡ f.node
+  pub ends : (f : OpenHandle) → end_after (F f) ≡ end
+  pub any : (f g : OpenHandle) (result : CallResult A) → IsReplied (F f) (N f) result → IsReplied (F g) (N g) result
 
 -- a piece that is put where the position stays
 pub call_grows : (append : Bool) (offset : ℕ) (piece : List ℕ) → GrowsFile (λ f. Direct (put_call append f offset piece))
@@ -57,7 +57,7 @@ call_grows true offset piece = record {
   any = by;
 }
   where
-    by : (f g : Held) (result : Row ℕ)
+    by : (f g : OpenHandle) (result : CallResult ℕ)
         → IsReplied (Direct (put_call true f offset piece)) (λ answer. give (count_in true f offset piece answer)) result
         → IsReplied (Direct (put_call true g offset piece)) (λ answer. give (count_in true g offset piece answer)) result
     by f g (Ok x) replied = replied
@@ -69,7 +69,7 @@ call_grows false offset piece = record {
   any = by;
 }
   where
-    by : (f g : Held) (result : Row ℕ)
+    by : (f g : OpenHandle) (result : CallResult ℕ)
         → IsReplied (Direct (put_call false f offset piece)) (λ answer. give (count_in false f offset piece answer)) result
         → IsReplied (Direct (put_call false g offset piece)) (λ answer. give (count_in false g offset piece answer)) result
     by f g (Ok x) replied = replied
@@ -85,7 +85,7 @@ request_grows true offset piece = record {
   any = by;
 }
   where
-    by : (f g : Held) (result : Row Put)
+    by : (f g : OpenHandle) (result : CallResult Put)
         → IsReplied (put_request true f offset piece) (λ reply. give (put_in true f offset piece reply)) result
         → IsReplied (put_request true g offset piece) (λ reply. give (put_in true g offset piece reply)) result
     by f g (Ok x) replied = replied
@@ -97,7 +97,7 @@ request_grows false offset piece = record {
   any = by;
 }
   where
-    by : (f g : Held) (result : Row Put)
+    by : (f g : OpenHandle) (result : CallResult Put)
         → IsReplied (put_request false f offset piece) (λ reply. give (put_in false f offset piece reply)) result
         → IsReplied (put_request false g offset piece) (λ reply. give (put_in false g offset piece reply)) result
     by f g (Ok x) replied = replied
@@ -112,7 +112,7 @@ size_grows size = record {
   any = by;
 }
   where
-    by : (f g : Held) (result : Row (Unit {0})) → IsReplied (Direct (SetSize f size)) (λ _. give tt) result
+    by : (f g : OpenHandle) (result : CallResult (Unit {0})) → IsReplied (Direct (SetSize f size)) (λ _. give tt) result
         → IsReplied (Direct (SetSize g size)) (λ _. give tt) result
     by f g (Ok x) replied = replied
     by f g (Err e) replied = replied
@@ -136,28 +136,28 @@ still_held {H} {told} {world} {rose} {live} {old} {mid} {limit} {n} {growth} {en
     by (Some l) check = (check.tells is l refl).keeps h lives
 
 module _ {H A : Type 0} {told : Bool} {world : H → World} {rose : Type 0} {live : Handles} {old mid : H}
-    {limit : Option Allowance} {end : FileEnd} {F : Held → Request} {N : (f : Held) → Reply (F f) → Row A}
+    {limit : Option Allowance} {end : FileEnd} {F : OpenHandle → Request} {N : (f : OpenHandle) → Reply (F f) → CallResult A}
     (puts : GrowsFile F N end) where
   -- what was checked is the growth of the request
-  checked : {result : Row ℕ} (f : Held) → ChecksGrowth told world rose live old mid limit f.node end result
+  checked : {result : CallResult ℕ} (f : OpenHandle) → ChecksGrowth told world rose live old mid limit f.node end result
       → ChecksGrowth told world rose live old mid limit (written_by (F f)) (end_after (F f)) result
   checked {result} f check =
       subst (λ n. ChecksGrowth told world rose live old mid limit n (end_after (F f)) result) (sym (puts.file f))
       (subst (λ x. ChecksGrowth told world rose live old mid limit f.node x result) (sym (puts.ends f)) check)
 
 -- what was made of the handle after the look is made of it before that
-made_before : {A rose : Type 0} (F : Held → Request) (N : (f : Held) → Reply (F f) → Row A) {f g : Held}
-    {live live' : Handles} {w v : World} {result : Row A} → f ≡ g → live' ≡ live → Makes rose live' w v (F f) (N f) result
+made_before : {A rose : Type 0} (F : OpenHandle → Request) (N : (f : OpenHandle) → Reply (F f) → CallResult A) {f g : OpenHandle}
+    {live live' : Handles} {w v : World} {result : CallResult A} → f ≡ g → live' ≡ live → Makes rose live' w v (F f) (N f) result
     → Makes rose live w v (F g) (N g) result
 made_before {rose = rose} F N {f = f} {live = live} {w = w} {v = v} {result = result} same lives makes =
     subst (λ x. Makes rose live w v (F x) (N x) result) same (subst (λ l. Makes rose l w v (F f) (N f) result) lives makes)
 
 -- ---- what is shown then
 
-module _ {H : Type 0} {stock : Stock} {live : Handles} (growth : ℕ) (old : View H) (world : H → World)
+module _ {H : Type 0} {stock : GuestEnvModel} {live : Handles} (growth : ℕ) (old : View H) (world : H → World)
     (memory : List ℕ) (host : H) (left : ℕ) (owned : Owned live (handles old.slots)) (counted : stock ≡ counted_growth growth old.holdings) where
   -- the growth is counted, and nothing else changed
-  grown_stays : (x : Value) (stands : ℕ → Held)
+  grown_stays : (x : Value) (stands : ℕ → OpenHandle)
       → ((q : ℕ) → contains live q ≡ true → stands q ≡ (world old.host).held q)
       → ◌≡◌ {A = Value × Guest} (with_growth growth (x, guest_of world old memory))
       (x, guest_by stands (record old { host = host; holdings = stock; fuel = left }) memory)
@@ -169,7 +169,7 @@ module _ {H : Type 0} {stock : Stock} {live : Handles} (growth : ℕ) (old : Vie
 
   -- and a file's descriptor was put back
   grown_put : {slots : List Slot} (fd : ℕ) (x : Value) (f : FileSlot) → slots ≡ slice_set old.slots fd (File f)
-      → contains live f.file.file ≡ true → (stands : ℕ → Held)
+      → contains live f.file.file ≡ true → (stands : ℕ → OpenHandle)
       → ((q : ℕ) → contains live q ≡ true → stands q ≡ (world old.host).held q)
       → ◌≡◌ {A = Value × Guest} (with_growth growth (x, guest_put (world old.host).held old fd f memory))
       (x, guest_by stands (record old { host = host; slots = slots; holdings = stock; fuel = left }) memory)
@@ -184,7 +184,7 @@ module _ {H : Type 0} {stock : Stock} {live : Handles} (growth : ℕ) (old : Vie
 
 module _ {H A : Type 0} {told : Bool} {world : H → World} {faults : H → FaultCount} {lookups : H → List Lookup}
     {old : View H} {mid : H} {left : ℕ} {memory : List ℕ} {call : Call} {live : Handles} {limit : Option Allowance}
-    {end : FileEnd} {F : Held → Request} {N : (f : Held) → Reply (F f) → Row A} (puts : GrowsFile F N end)
+    {end : FileEnd} {F : OpenHandle → Request} {N : (f : OpenHandle) → Reply (F f) → CallResult A} (puts : GrowsFile F N end)
     (shown : Guest → A → Value × Guest) (h : ℕ)
     (at : growing limit (ask (F ((world old.host).held h)) (made_of_reply (F ((world old.host).held h))
     (N ((world old.host).held h)) (shown (guest_of world old memory)))) left
@@ -199,17 +199,17 @@ module _ {H A : Type 0} {told : Bool} {world : H → World} {faults : H → Faul
       unchanged
 
   -- it was let through
-  module _ {growth : ℕ} {host : H} {stock : Stock} {live' : Handles}
+  module _ {growth : ℕ} {host : H} {stock : GuestEnvModel} {live' : Handles}
       (check : ChecksGrowth told world (Rose (faults old.host) (faults mid)) live old.host mid limit
       ((world old.host).held h).node end (Ok growth)) (later : (faults old.host).count ≤ (faults mid).count)
       (same : live' ≡ live) (lives : contains live h ≡ true) where
     -- and the request was refused, or its host failed
     pub growth_err : {e : P1Error} → IsReplied (F ((world mid).held h)) (N ((world mid).held h)) (Err e)
-        → (e ≡ Memory → IsTrue (may_want call))
+        → (e ≡ Memory → IsTrue (may_run_out_of_memory call))
         → (IsTrue told → Makes (Rose (faults mid) (faults host)) live' (world mid) (world host) (F ((world mid).held h))
         (N ((world mid).held h)) (Err e))
         → (e ≡ Errno Io → Rose (faults mid) (faults host)) → makes call ≡ false
-        → stock ≡ on_outcome (let r : Row A = Err e in r) (counted_growth growth old.holdings) old.holdings
+        → stock ≡ on_outcome (let r : CallResult A = Err e in r) (counted_growth growth old.holdings) old.holdings
         → FollowsRow told world faults lookups old (record old { host = host; holdings = stock; fuel = left }) memory memory
         call (Err e)
     growth_err {e} replied wants told_by io none counted =
@@ -221,14 +221,14 @@ module _ {H A : Type 0} {told : Bool} {world : H → World} {faults : H → Faul
           slots = refl;
           table_max = refl;
           holdings = counted
-              ∙ ap (λ b. on_outcome (let r : Row A = Err e in r) (spent b growth old.holdings) old.holdings) (sym none);
+              ∙ ap (λ b. on_outcome (let r : CallResult A = Err e in r) (spent b growth old.holdings) old.holdings) (sym none);
           memory = refl;
         })
 
     -- and it was answered
     growth_ok : {slots : List Slot} {y : Value} {x : A} → SlotsOfCall old.slots slots memory call
         → IsReplied (F ((world mid).held h)) (N ((world mid).held h)) (Ok x)
-        → ((stands : ℕ → Held) → ((q : ℕ) → contains live q ≡ true → stands q ≡ (world old.host).held q)
+        → ((stands : ℕ → OpenHandle) → ((q : ℕ) → contains live q ≡ true → stands q ≡ (world old.host).held q)
         → grow_shown shown (guest_of world old memory) (growth, x)
         ≡ (y, guest_by stands (record old { host = host; slots = slots; holdings = stock; fuel = left }) memory))
         → (IsTrue told → Makes (Rose (faults mid) (faults host)) live' (world mid) (world host) (F ((world mid).held h))

@@ -1,6 +1,6 @@
 //! The calls on a file's position, on its size, and on how it is stored.
 ghost use Rattle.wasi_guest.specs.declared.call.Call.TheVariants.{FdAdvise, FdAllocate, FdDatasync, FdFilestatSetSize, FdSeek, FdSync, FdTell};
-ghost use Rattle.wasi_p1_model.specs.Method.{StaysInBounds, DoesItsRow};
+ghost use Rattle.wasi_p1_model.specs.Method.{KeepsHostLaws, MeetsSpec};
 
 use wasi_guest::{Errno, Value};
 use wasi_host::Host;
@@ -22,8 +22,8 @@ pub fn fd_advise<H: Host>(
     len: u64,
     advice: u32,
 ) -> Result<Value, P1Error>
-    ensures bounds { StaysInBounds H.Host context.old context.new memory.old (FdAdvise fd offset len advice) result }
-    ensures turn { DoesItsRow H.Host context.old context.new memory.old memory.new (FdAdvise fd offset len advice) result }
+    ensures host_laws { KeepsHostLaws H.Host context.old context.new memory.old (FdAdvise fd offset len advice) result }
+    ensures spec { MeetsSpec H.Host context.old context.new memory.old memory.new (FdAdvise fd offset len advice) result }
 {
     let how = advice_of(advice)?;
     let slot = file_at(&context.fs.host, &context.descriptors, fd, FileUse::Itself)?;
@@ -50,8 +50,8 @@ pub fn fd_allocate<H: Host>(
     offset: u64,
     len: u64,
 ) -> Result<Value, P1Error>
-    ensures bounds { StaysInBounds H.Host context.old context.new memory.old (FdAllocate fd offset len) result }
-    ensures turn { DoesItsRow H.Host context.old context.new memory.old memory.new (FdAllocate fd offset len) result }
+    ensures host_laws { KeepsHostLaws H.Host context.old context.new memory.old (FdAllocate fd offset len) result }
+    ensures spec { MeetsSpec H.Host context.old context.new memory.old memory.new (FdAllocate fd offset len) result }
 {
     file_at(&context.fs.host, &context.descriptors, fd, FileUse::Itself)?;
     Err(P1Error::Errno(Errno::Notsup))
@@ -65,8 +65,8 @@ pub fn fd_datasync<H: Host>(
     memory: &mut [u8],
     fd: u32,
 ) -> Result<Value, P1Error>
-    ensures bounds { StaysInBounds H.Host context.old context.new memory.old (FdDatasync fd) result }
-    ensures turn { DoesItsRow H.Host context.old context.new memory.old memory.new (FdDatasync fd) result }
+    ensures host_laws { KeepsHostLaws H.Host context.old context.new memory.old (FdDatasync fd) result }
+    ensures spec { MeetsSpec H.Host context.old context.new memory.old memory.new (FdDatasync fd) result }
 {
     let slot = file_at(&context.fs.host, &context.descriptors, fd, FileUse::Itself)?;
     about_file(
@@ -87,8 +87,8 @@ pub fn fd_sync<H: Host>(
     memory: &mut [u8],
     fd: u32,
 ) -> Result<Value, P1Error>
-    ensures bounds { StaysInBounds H.Host context.old context.new memory.old (FdSync fd) result }
-    ensures turn { DoesItsRow H.Host context.old context.new memory.old memory.new (FdSync fd) result }
+    ensures host_laws { KeepsHostLaws H.Host context.old context.new memory.old (FdSync fd) result }
+    ensures spec { MeetsSpec H.Host context.old context.new memory.old memory.new (FdSync fd) result }
 {
     let slot = file_at(&context.fs.host, &context.descriptors, fd, FileUse::Itself)?;
     about_file(
@@ -114,8 +114,8 @@ pub fn fd_filestat_set_size<H: Host>(
     fd: u32,
     size: u64,
 ) -> Result<Value, P1Error>
-    ensures bounds { StaysInBounds H.Host context.old context.new memory.old (FdFilestatSetSize fd size) result }
-    ensures turn { DoesItsRow H.Host context.old context.new memory.old memory.new (FdFilestatSetSize fd size) result }
+    ensures host_laws { KeepsHostLaws H.Host context.old context.new memory.old (FdFilestatSetSize fd size) result }
+    ensures spec { MeetsSpec H.Host context.old context.new memory.old memory.new (FdFilestatSetSize fd size) result }
 {
     let slot = file_at(&context.fs.host, &context.descriptors, fd, FileUse::Itself)?;
     check_alter(slot.file.perms)?;
@@ -145,8 +145,8 @@ pub fn fd_seek<H: Host>(
     offset: i64,
     whence: u32,
 ) -> Result<Value, P1Error>
-    ensures bounds { StaysInBounds H.Host context.old context.new memory.old (FdSeek fd offset whence) result }
-    ensures turn { DoesItsRow H.Host context.old context.new memory.old memory.new (FdSeek fd offset whence) result }
+    ensures host_laws { KeepsHostLaws H.Host context.old context.new memory.old (FdSeek fd offset whence) result }
+    ensures spec { MeetsSpec H.Host context.old context.new memory.old memory.new (FdSeek fd offset whence) result }
 {
     let place = whence_of(whence)?;
     let FileSlot {
@@ -172,8 +172,8 @@ pub fn fd_tell<H: Host>(
     memory: &mut [u8],
     fd: u32,
 ) -> Result<Value, P1Error>
-    ensures bounds { StaysInBounds H.Host context.old context.new memory.old (FdTell fd) result }
-    ensures turn { DoesItsRow H.Host context.old context.new memory.old memory.new (FdTell fd) result }
+    ensures host_laws { KeepsHostLaws H.Host context.old context.new memory.old (FdTell fd) result }
+    ensures spec { MeetsSpec H.Host context.old context.new memory.old memory.new (FdTell fd) result }
 {
     let slot = file_at(
         &context.fs.host,

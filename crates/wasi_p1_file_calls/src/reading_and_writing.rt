@@ -1,7 +1,7 @@
 //! The calls that read and write by a descriptor.
 ghost use Rattle.std.specs.Prelude.{IsTrue, IfOk};
 ghost use Rattle.wasi_guest.specs.declared.call.Call.TheVariants.{FdPread, FdPwrite, FdRead, FdWrite};
-ghost use Rattle.wasi_p1_model.specs.Method.{StaysInBounds, DoesItsRow};
+ghost use Rattle.wasi_p1_model.specs.Method.{KeepsHostLaws, MeetsSpec};
 ghost use Rattle.wasi_p1_model.specs.Guest.{state_of};
 ghost use Rattle.wasi_p1_model.specs.Writing.{WritesWhole};
 
@@ -31,8 +31,8 @@ pub fn fd_pread<H: Host>(
     iovs_len: u32,
     offset: u64,
 ) -> Result<Value, P1Error>
-    ensures bounds { StaysInBounds H.Host context.old context.new memory.old (FdPread fd iovs iovs_len offset) result }
-    ensures turn { DoesItsRow H.Host context.old context.new memory.old memory.new (FdPread fd iovs iovs_len offset)
+    ensures host_laws { KeepsHostLaws H.Host context.old context.new memory.old (FdPread fd iovs iovs_len offset) result }
+    ensures spec { MeetsSpec H.Host context.old context.new memory.old memory.new (FdPread fd iovs iovs_len offset)
         result }
 {
     let buffer = buffer_at(memory, &mut context.fuel, iovs, iovs_len)?;
@@ -63,8 +63,8 @@ pub fn fd_pwrite<H: Host>(
     iovs_len: u32,
     offset: u64,
 ) -> Result<Value, P1Error>
-    ensures bounds { StaysInBounds H.Host context.old context.new memory.old (FdPwrite fd iovs iovs_len offset) result }
-    ensures turn { DoesItsRow H.Host context.old context.new memory.old memory.new (FdPwrite fd iovs iovs_len offset)
+    ensures host_laws { KeepsHostLaws H.Host context.old context.new memory.old (FdPwrite fd iovs iovs_len offset) result }
+    ensures spec { MeetsSpec H.Host context.old context.new memory.old memory.new (FdPwrite fd iovs iovs_len offset)
         result }
 {
     let buffer = buffer_at(memory, &mut context.fuel, iovs, iovs_len)?;
@@ -94,8 +94,8 @@ pub fn fd_read<H: Host>(
     iovs: u32,
     iovs_len: u32,
 ) -> Result<Value, P1Error>
-    ensures bounds { StaysInBounds H.Host context.old context.new memory.old (FdRead fd iovs iovs_len) result }
-    ensures turn { DoesItsRow H.Host context.old context.new memory.old memory.new (FdRead fd iovs iovs_len) result }
+    ensures host_laws { KeepsHostLaws H.Host context.old context.new memory.old (FdRead fd iovs iovs_len) result }
+    ensures spec { MeetsSpec H.Host context.old context.new memory.old memory.new (FdRead fd iovs iovs_len) result }
 {
     let buffer = buffer_at(memory, &mut context.fuel, iovs, iovs_len)?;
     let source = source_at(&context.fs.host, &context.descriptors, fd)?;
@@ -135,8 +135,8 @@ pub fn fd_write<H: Host>(
     iovs: u32,
     iovs_len: u32,
 ) -> Result<Value, P1Error>
-    ensures bounds { StaysInBounds H.Host context.old context.new memory.old (FdWrite fd iovs iovs_len) result }
-    ensures turn { DoesItsRow H.Host context.old context.new memory.old memory.new (FdWrite fd iovs iovs_len) result }
+    ensures host_laws { KeepsHostLaws H.Host context.old context.new memory.old (FdWrite fd iovs iovs_len) result }
+    ensures spec { MeetsSpec H.Host context.old context.new memory.old memory.new (FdWrite fd iovs iovs_len) result }
     ensures whole { IsTrue H.told → IfOk result (WritesWhole (state_of H.world context.old memory.old)
         (state_of H.world context.new memory.new) fd iovs iovs_len) }
 {

@@ -14,12 +14,12 @@ use Rattle.wasi_host.specs.Steps.{◌>>=◌}
 use Rattle.wasi_host.specs.Tree.{Tree, node_at, child}
 use Rattle.wasi_host.specs.declared.errors.ErrorCode.{ErrorCode}
 use Rattle.wasi_host.specs.declared.errors.ErrorCode.TheVariants.{IsDirectory}
-use Rattle.wasi_host.specs.declared.open_handle.Held.{Held}
+use Rattle.wasi_host.specs.declared.open_handle.OpenHandle.{OpenHandle}
 use Rattle.wasi_host.proofs.Chain.{free}
 use Rattle.wasi_host.proofs.Leaving.{each_kind}
 use Rattle.wasi_host.proofs.Refusals.{free_of}
 use Rattle.wasi_host.proofs.ValidSteps.{CanLook, can_open, can_make_directory, can_make_link, can_add}
-use Rattle.wasi_resolve.specs.EntryOps.{PlaceCall, PlaceAnswer, CreateDir, Symlink, call_at, answer_in, place_for, step_in}
+use Rattle.wasi_resolve.specs.EntryOps.{EntryOp, PlaceAnswer, CreateDir, Symlink, call_at, answer_in, place_for, step_in}
 use Rattle.wasi_resolve.specs.TwoPathOps.{HardLink, Places, places_for, asks_directory, answer_at_two, step_at_two}
 use Rattle.wasi_resolve.specs.PathRequest.{AtPlace, AtTwo, Opened, answer_at, as_asked}
 use Rattle.wasi_resolve.specs.Paths.{Opening, Place, opening, opening_of, step_of}
@@ -78,7 +78,7 @@ open_adds t d text how {found} uncut answered = by (walk t d text (Open (options
 -- ---- something is done at a place
 
 -- what a call adds at each place where it is answered is added
-place_adds : (t : Tree) (what : PlaceCall) {reply : PlaceAnswer what}
+place_adds : (t : Tree) (what : EntryOp) {reply : PlaceAnswer what}
     → ((p : Place) → answer_in t what p ≡ Ok reply → Adds t (step t (call_at what p)))
     → (m : Result Place ErrorCode) → (m >>= answer_in t what) ≡ Ok reply → Adds t (step_in t what m)
 place_adds t what adds (Ok p) is = adds p is
@@ -133,13 +133,13 @@ name_adds t old old_text new new_text {done} answered = by (places_for t old old
 -- ---- a piece is put
 
 -- in append mode it is put at the end
-pub call_adds : (append : Bool) (f : Held) (offset : ℕ) (piece : List ℕ) (t : Tree) → append ≡ true
+pub call_adds : (append : Bool) (f : OpenHandle) (offset : ℕ) (piece : List ℕ) (t : Tree) → append ≡ true
     → Adds t (after t (Direct (put_call append f offset piece)))
 call_adds true f offset piece t is = put_at_end f.node piece refl
 call_adds false f offset piece t is = absurd (cc)
 
 -- also where the file is looked at then
-pub request_adds : (append : Bool) (f : Held) (offset : ℕ) (piece : List ℕ) (t : Tree) → append ≡ true
+pub request_adds : (append : Bool) (f : OpenHandle) (offset : ℕ) (piece : List ℕ) (t : Tree) → append ≡ true
     → Adds t (after t (put_request append f offset piece))
 request_adds true f offset piece t is = put_at_end f.node piece refl
 request_adds false f offset piece t is = absurd (cc)

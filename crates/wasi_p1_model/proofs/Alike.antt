@@ -6,10 +6,10 @@ use Rattle.wasi_host.specs.declared.errors.ErrorCode.{ErrorCode}
 use Rattle.wasi_p1_model.specs.Guest.{Guest, State}
 use Rattle.wasi_p1_model.specs.Request.{Request, Reply, reply_of, after, starts_at}
 use Rattle.wasi_host.specs.Steps.{◌>>=◌}
-pub use Rattle.wasi_p1_model.specs.Row.{row_on}
-use Rattle.wasi_p1_model.specs.Row.{Row, give, Program, done, asking, beside, from_host, with_tree}
+pub use Rattle.wasi_p1_model.specs.CallResult.{row_on}
+use Rattle.wasi_p1_model.specs.CallResult.{CallResult, give, Program, done, asking, beside, from_host, with_tree}
 use Rattle.wasi_p1_model.specs.Calls.{Stem, stem_in, row, turn}
-use Rattle.wasi_p1_model.proofs.Near.{given_by, KeepsSlots, StaysNear, IsNear, AsksNear}
+use Rattle.wasi_p1_model.proofs.LocalCalls.{given_by, KeepsSlots, StaysNear, IsLocal, AsksNear}
 use Rattle.wasi_p1_model.specs.StatesAgree.{Alike, AnswerAlike}
 use Rattle.wasi_guest.specs.declared.call.Call.{Call}
 use Rattle.wasi_p1_model.specs.Front.{FueledCall}
@@ -20,12 +20,12 @@ use Rattle.wasi_p1_model.proofs.RequestsAgree.{after_agree, reply_same, after_cl
 use Rattle.wasi_p1_model.proofs.Locality.{row_near}
 
 -- an answer and a guest, beside the tree after them
-abbrev pub over : Tree → Row (Value × Guest) → Row (Value × State)
+abbrev pub over : Tree → CallResult (Value × Guest) → CallResult (Value × State)
 over t m = beside t m >>= (λ p. give (with_tree p))
 
 -- what comes of a request's answer
-abbrev pub replied : Tree → (r : Request) → (Reply r → Row (Value × Guest)) → Result (Reply r) ErrorCode
-    → Row (Value × State)
+abbrev pub replied : Tree → (r : Request) → (Reply r → CallResult (Value × Guest)) → Result (Reply r) ErrorCode
+    → CallResult (Value × State)
 replied t r next a = over (after t r) (from_host a >>= next)
 
 module _ {Seen : ℕ → Type 0} {s s' : State} (alike : Alike Seen s s') where
@@ -42,12 +42,12 @@ module _ {Seen : ℕ → Type 0} {s s' : State} (alike : Alike Seen s s') where
     },
   )
 
-  module _ {call : Call} {r : Request} {next : Reply r → Row (Value × Guest)}
+  module _ {call : Call} {r : Request} {next : Reply r → CallResult (Value × Guest)}
       (near : AsksNear s.guest call r next) where
     starts_seen : (n : ℕ) → Contains (starts_at r) n → Seen n
     starts_seen n has = alike.slots n (named_has (near.starts n has))
 
-    next_alike : (reply : Reply r) → reply_of s.tree r ≡ Ok reply → (m : Row (Value × Guest))
+    next_alike : (reply : Reply r) → reply_of s.tree r ≡ Ok reply → (m : CallResult (Value × Guest))
         → KeepsSlots s.guest (stem_in call) (given_by r reply) m
         → AnswerAlike Seen s (over (after s.tree r) m) (over (after s'.tree r) m)
     next_alike reply is (Err e) keep = refl
@@ -73,7 +73,7 @@ module _ {Seen : ℕ → Type 0} {s s' : State} (alike : Alike Seen s s') where
     asking_alike = subst (λ a. AnswerAlike Seen s (row_on s.tree (Ok (asking r next))) (replied s'.tree r next a))
         (reply_same alike.closed alike.trees r starts_seen) (reply_alike (reply_of s.tree r) refl)
 
-  row_alike : (call : Call) (m : Row (Program (Value × Guest))) → IsNear s.guest call m
+  row_alike : (call : Call) (m : CallResult (Program (Value × Guest))) → IsLocal s.guest call m
       → AnswerAlike Seen s (row_on s.tree m) (row_on s'.tree m)
   row_alike call (Ok (done p)) near = done_alike (stem_in call) p near.slots
   row_alike call (Ok (asking r next)) near = asking_alike near

@@ -19,13 +19,13 @@ use Rattle.wasi_host.proofs.Carrying.{named_within}
 use Rattle.wasi_host.proofs.Changes.{node_at-past}
 use Rattle.wasi_host.proofs.Leaving.{LeavesFor, Contains-here, named_in, no_name, stays_near}
 use Rattle.wasi_p1_model.specs.AppendOnly.{AppendsAtEnd, AreApart, AppendingStays, KeepsNode, MayAlterNothing, NodesAreThere, OnlyGrows, ReachedUnder, opened, under, RunsKeepWhatIsApart, RunsOnlyGrow}
-use Rattle.wasi_p1_model.specs.CallTurn.{Turns, NamesUnder, in_world}
+use Rattle.wasi_p1_model.specs.CallTransition.{Turns, NamesUnder, in_world}
 use Rattle.wasi_p1_model.specs.Front.{FueledCall}
 use Rattle.wasi_p1_model.specs.Guest.{Guest, State}
 use Rattle.wasi_p1_model.specs.Request.{Request, Reply, reply_of, after}
-use Rattle.wasi_p1_model.specs.Row.{Row, Program, done, asking}
+use Rattle.wasi_p1_model.specs.CallResult.{CallResult, Program, done, asking}
 use Rattle.wasi_p1_model.specs.Calls.{through, stem_in, descriptors_named, row, turn}
-use Rattle.wasi_p1_model.specs.Run.{Turned, Played, Faulted}
+use Rattle.wasi_p1_model.specs.Trace.{TraceStep, Played, Faulted}
 use Rattle.wasi_p1_model.specs.Stems.{stems_by, HasPerms}
 use Rattle.wasi_guest.specs.declared.answer.Answer.TheVariants as answers
 use Rattle.wasi_p1_model.proofs.Alike.{row_on}
@@ -34,7 +34,7 @@ use Rattle.wasi_p1_model.proofs.Elsewhere.{StaysOr, request_stays}
 use Rattle.wasi_p1_model.proofs.Growing.{adds_grow, still_grows, grows_on, keeps_itself, keeps_same, keeps_on}
 use Rattle.wasi_p1_model.specs.declared.error.P1Error.{P1Error}
 use Rattle.wasi_p1_model.proofs.Moving.{Moves, turn_moves, turned_moves, run_keeps, over_tree, over_guest, replied_by}
-use Rattle.wasi_p1_model.proofs.Near.{IsNear, IsNamed, AllUnder, AsksNear, HasNode, KeepsSlots, StaysNear, Permitted, leaves, changes, given_by}
+use Rattle.wasi_p1_model.proofs.LocalCalls.{IsLocal, IsNamed, AllUnder, AsksNear, HasNode, KeepsSlots, StaysNear, Permitted, leaves, changes, given_by}
 use Rattle.wasi_p1_model.proofs.Locality.{row_near}
 use Rattle.wasi_p1_model.proofs.Locality.Parts.{one_under}
 use Rattle.wasi_p1_model.proofs.Permitting.{turned_permitted}
@@ -66,7 +66,7 @@ still_leaves s call = record {
   grows = omega arith;
 }
 
-asking_leaves : {s : State} {call : Call} {r : Request} {next : Reply r → Row (Value × Guest)}
+asking_leaves : {s : State} {call : Call} {r : Request} {next : Reply r → CallResult (Value × Guest)}
     → AsksNear s.guest call r next → (reply : Reply r) → reply_of s.tree r ≡ Ok reply
     → TreeLeaves s call (after s.tree r)
 asking_leaves {s} {r = r} near reply is = record {
@@ -115,7 +115,7 @@ done_slots stays fd n perms has node = elim (stays.nodes fd n node) [
   | inr (none, _) ↦ absurd (omega (arith, none.1))
 ]
 
-asking_slots : {s : State} {call : Call} {r : Request} {next : Reply r → Row (Value × Guest)} {p : Value × Guest}
+asking_slots : {s : State} {call : Call} {r : Request} {next : Reply r → CallResult (Value × Guest)} {p : Value × Guest}
     → AsksNear s.guest call r next → (reply : Reply r) → reply_of s.tree r ≡ Ok reply
     → StaysNear s.guest (stem_in call) (given_by r reply) p → SlotsLeave s call (after s.tree r) p.1
 asking_slots {s} {call} {r} {p = p} near reply is stays fd n perms has node = elim (stays.nodes fd n node) [
@@ -137,7 +137,7 @@ asking_slots {s} {call} {r} {p = p} near reply is stays fd n perms has node = el
 
 -- ---- whatever it answers
 
-row_leaves : {s : State} {call : Call} (m : Row (Program (Value × Guest))) (p : Value × State) → IsNear s.guest call m
+row_leaves : {s : State} {call : Call} (m : CallResult (Program (Value × Guest))) (p : Value × State) → IsLocal s.guest call m
     → row_on s.tree m ≡ Ok p → Leaves s call p.1
 row_leaves {s} {call} (Ok (done q)) p near is =
     let same : p.1.tree ≡ s.tree = over_tree (Ok q) is in
@@ -172,7 +172,7 @@ moves_leave {s} call s' (inr still) = elim still.tree [
       (row_leaves (row s.guest call) step.given (row_near s.guest call) step.answers).tree
 ]
 
-turned_leaves : (t : Turned) → Played t ⊎ Faulted t → Leaves t.before t.call.call t.after
+turned_leaves : (t : TraceStep) → Played t ⊎ Faulted t → Leaves t.before t.call.call t.after
 turned_leaves t took = moves_leave t.call t.after (turned_moves t took)
 
 pub turn_appends : {rose : Type 0} {w v : World} {g g' : Guest} {call : FueledCall} {r : Result Value P1Error}
@@ -382,7 +382,7 @@ record KeepsApart (start s : State) : Type 0 where
   pub others : (n : ℕ) → n < next_of start.tree → ReachedUnder s ReadWrite n → ReachedUnder start ReadWrite n
   pub kept : (n : ℕ) → n < next_of start.tree → (ReachedUnder start ReadWrite n → ⊥) → KeepsNode start.tree s.tree n
 
-turned_keeps : (start : State) (t : Turned) → Played t ⊎ Faulted t → KeepsApart start t.before → KeepsApart start t.after
+turned_keeps : (start : State) (t : TraceStep) → Played t ⊎ Faulted t → KeepsApart start t.before → KeepsApart start t.after
 turned_keeps start t took held =
     let left = turned_leaves t took in
     let grows = held.grows in
@@ -414,10 +414,10 @@ run_keeps_apart k old new calls turns run valid there appends apart n within nev
 
 -- ---- guests that may alter nothing
 
-alters_nothing : (t : Turned) → Played t ⊎ Faulted t → MayAlterNothing t.before.guest → MayAlterNothing t.after.guest
+alters_nothing : (t : TraceStep) → Played t ⊎ Faulted t → MayAlterNothing t.before.guest → MayAlterNothing t.after.guest
 alters_nothing t took never n perms has = never _ perms (turn_stems t took n perms has)
 
-turned_grows : (t : Turned) → Played t ⊎ Faulted t → AppendsAtEnd t.before.guest → MayAlterNothing t.before.guest
+turned_grows : (t : TraceStep) → Played t ⊎ Faulted t → AppendsAtEnd t.before.guest → MayAlterNothing t.before.guest
     → OnlyGrows t.before.tree t.after.tree
 turned_grows t took appends never = by (turned_permitted t took)
   where

@@ -16,7 +16,7 @@ use Rattle.wasi_host.specs.declared.errors.ErrorCode.{ErrorCode}
 use Rattle.wasi_host.specs.declared.errors.ErrorCode.TheVariants.{Io}
 use Rattle.wasi_host.specs.declared.errors.HostError.{HostError}
 use Rattle.wasi_host.specs.declared.errors.HostError.TheVariants.{Code, Memory}
-use Rattle.wasi_host.specs.declared.open_handle.Held.{Held}
+use Rattle.wasi_host.specs.declared.open_handle.OpenHandle.{OpenHandle}
 use Rattle.wasi_host.specs.declared.metadata.Metadata.{Metadata}
 use Rattle.wasi_host.proofs.Touching.{touches_with, touches_same, no_ends}
 use Rattle.wasi_guest.specs.declared.errno.Errno.TheVariants as errnos
@@ -25,7 +25,7 @@ use Rattle.wasi_p1_model.specs.CallParts.{Makes}
 use Rattle.wasi_p1_model.specs.Errnos.{errno_of}
 use Rattle.wasi_p1_model.specs.Putting.{appended_in}
 use Rattle.wasi_p1_model.specs.Request.{Direct, Behind, reply_of}
-use Rattle.wasi_p1_model.specs.Row.{Row, from_host, give}
+use Rattle.wasi_p1_model.specs.CallResult.{CallResult, from_host, give}
 use Rattle.wasi_p1_model.specs.declared.error.P1Error.{P1Error}
 use Rattle.wasi_p1_model.specs.declared.error.P1Error.TheVariants.{Errno, Memory as Wanted}
 use Rattle.wasi_p1_model.proofs.Reading.{keeps_all}
@@ -71,7 +71,7 @@ touches_then {ends = ends} {b = b} first second = record {
 }
 
 -- both are answered so, where they are
-pub behind_reply : (t : Tree) (f : Held) (piece : List ℕ) {reply : ℕ × Metadata} → reply_of t (Behind f piece) ≡ Ok reply
+pub behind_reply : (t : Tree) (f : OpenHandle) (piece : List ℕ) {reply : ℕ × Metadata} → reply_of t (Behind f piece) ≡ Ok reply
     → reply ≡ (length piece, metadata_of (step t (Append f piece)) f.node)
 behind_reply t f piece {reply} is = by (refusal t (Append f piece)) is
   where
@@ -88,7 +88,7 @@ behind_reply t f piece {reply} is = by (refusal t (Append f piece)) is
 
 -- ---- the append
 
-module _ (f : Held) (piece : List ℕ) where
+module _ (f : OpenHandle) (piece : List ℕ) where
   -- where it is answered the two are
   pub answered_both : (t : Tree) {count : ℕ} → host_answer t (Append f piece) ≡ Ok count
       → reply_of t (Behind f piece) ≡ Ok (count, metadata_of (step t (Append f piece)) f.node)
@@ -109,8 +109,8 @@ module _ (f : Held) (piece : List ℕ) where
       next : ℕ → Result (ℕ × Metadata) ErrorCode
       next count = host_answer (step t (Append f piece)) (Stat f.node) >>= (λ metadata. Ok (count, metadata))
 
-      by : (m : Result ℕ ErrorCode) → (let r : Row ℕ = Err e in r) ≡ from_host m
-          → (let r : Row (ℕ × Metadata) = Err e in r) ≡ from_host (m >>= next)
+      by : (m : Result ℕ ErrorCode) → (let r : CallResult ℕ = Err e in r) ≡ from_host m
+          → (let r : CallResult (ℕ × Metadata) = Err e in r) ≡ from_host (m >>= next)
       by (Ok count) is = absurd (cc)
       by (Err code) is = let same : e ≡ Errno (errno_of code) = (cc) in ap Err same
   refused_both t (inr (inl is)) = inr (inl (let same : _ ≡ Wanted = (cc) in ap Err same))
@@ -135,7 +135,7 @@ module _ (f : Held) (piece : List ℕ) where
 -- ---- and then the look
 
 -- what came of the two
-pub record Looked (live : Handles) (w v : World) (f : Held) (piece : List ℕ) (count : ℕ) : Type 0 where
+pub record Looked (live : Handles) (w v : World) (f : OpenHandle) (piece : List ℕ) (count : ℕ) : Type 0 where
   pub keeps : (h : ℕ) → contains live h ≡ true → v.held h ≡ w.held h
   pub answered : host_answer w.tree (Append f piece) ≡ Ok count
   pub tree : v.tree ≡ step w.tree (Append f piece)
@@ -155,7 +155,7 @@ module _ {rose : Type 0} {live mid new : Handles} {w u v : World} {h : ℕ} {pie
   both result told =
       let (reply, asked, is) = first.does in
       let same : reply ≡ count = (cc) in
-      let there = subst (λ (f : Held). Told {A = Metadata} mid new u v (Stat f.node) (λ m. m) result) (first.keeps h held) told in
+      let there = subst (λ (f : OpenHandle). Told {A = Metadata} mid new u v (Stat f.node) (λ m. m) result) (first.keeps h held) told in
       let looked = look (w.held h).node result there.after in
       let tree : v.tree ≡ step w.tree (Append (w.held h) piece) = looked.tree ∙ asked.tree in record {
         keeps = λ q live. keeps_all u v still there.keeps q (subst (λ s. contains s q ≡ true) (sym kept) live)
@@ -186,7 +186,7 @@ module _ {rose : Type 0} {live mid new : Handles} {w u v : World} {h : ℕ} {pie
       same : (reply : ℕ) × Asked rose w u (Direct (Append (w.held h) piece)) (Ok reply) × (give reply ≡ Ok count)
           → metadata ≡ metadata_of (step w.tree (Append (w.held h) piece)) n
       same (reply, asked, is) =
-          let there = subst (λ (f : Held). Told {A = Metadata} mid new u v (Stat f.node) (λ m. m) (Ok metadata))
+          let there = subst (λ (f : OpenHandle). Told {A = Metadata} mid new u v (Stat f.node) (λ m. m) (Ok metadata))
           (first.keeps h held) told in
           let told_so = sym there.meaning ∙ ap (λ t. host_answer t (Stat n)) asked.tree ∙ seen _ n in (cc)
 

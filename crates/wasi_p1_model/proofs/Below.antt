@@ -7,7 +7,7 @@ use Rattle.wasi_host.specs.HostLaws.{World, Handles, HasCause, Rose, FaultCount}
 use Rattle.wasi_host.specs.declared.errors.ErrorCode.{ErrorCode}
 use Rattle.wasi_host.specs.declared.errors.HostError.{HostError}
 use Rattle.wasi_host.specs.declared.errors.HostError.TheVariants.{Code}
-use Rattle.wasi_host.specs.declared.open_handle.Held.{Held}
+use Rattle.wasi_host.specs.declared.open_handle.OpenHandle.{OpenHandle}
 use Rattle.wasi_host.specs.declared.lookup.Lookup.{Lookup}
 use Rattle.wasi_resolve.specs.PathRequest.{PathRequest, PathReply, meant_by}
 use Rattle.wasi_resolve.specs.Resolved.{Resolved}
@@ -16,14 +16,14 @@ use Rattle.wasi_guest.specs.declared.answer.Value.TheVariants.{Unit as Nothing}
 use Rattle.wasi_guest.specs.declared.call.Call.{Call}
 use Rattle.wasi_p1_model.specs.Asked.{Asked}
 use Rattle.wasi_p1_model.specs.CallParts.{Refused, Follows, IsReplied}
-use Rattle.wasi_p1_model.specs.CallTurn.{FollowsRow, Kept}
+use Rattle.wasi_p1_model.specs.CallTransition.{FollowsRow, Kept}
 use Rattle.wasi_p1_model.specs.Errnos.{errno_of, error_of}
 use Rattle.wasi_p1_model.specs.Guest.{Guest, guest_slots, guest_of, guest_by}
 use Rattle.wasi_p1_model.specs.Owners.{handles, Owned, SlotsOfCall}
 use Rattle.wasi_p1_model.specs.Request.{Request, Reply, MayReply, Path}
-use Rattle.wasi_p1_model.specs.Row.{Row, give, made_of_reply}
+use Rattle.wasi_p1_model.specs.CallResult.{CallResult, give, made_of_reply}
 use Rattle.wasi_p1_model.specs.Front.{ask, done_if}
-use Rattle.wasi_p1_model.specs.Calls.{front, may_want}
+use Rattle.wasi_p1_model.specs.Calls.{front, may_run_out_of_memory}
 use Rattle.wasi_p1_model.specs.Slots.{View}
 use Rattle.wasi_p1_model.specs.Spending.{spends_nothing}
 use Rattle.wasi_p1_model.specs.declared.error.P1Error.{P1Error}
@@ -64,7 +64,7 @@ module _ {H : Type 0} {told : Bool} {world : H → World} {faults : H → FaultC
   -- nothing was asked
   not_permitted : (e : P1Error) (code : ErrorCode)
       → (Err (Errno (errno_of code)), new.fuel) ≡ front (guest_of world old before) call old.fuel
-      → Refused {A = Value} (Some code) (Err e) old.host new.host → (e ≡ Memory → IsTrue (may_want call))
+      → Refused {A = Value} (Some code) (Err e) old.host new.host → (e ≡ Memory → IsTrue (may_run_out_of_memory call))
       → Kept old new before after
       → FollowsRow told world faults lookups old new before after call (Err e)
   not_permitted e code at (why, host) may kept =
@@ -79,12 +79,12 @@ module _ {H : Type 0} {told : Bool} {world : H → World} {faults : H → FaultC
       then : View H
       then = record old { fuel = new.fuel }
 
-  module _ {r : Request} {A : Type 0} {own : Option ErrorCode} (next : Reply r → Row A)
+  module _ {r : Request} {A : Type 0} {own : Option ErrorCode} (next : Reply r → CallResult A)
       (shown : Guest → A → Value × Guest)
       (at : tail own r next shown (guest_of world old before) new.fuel ≡ front (guest_of world old before) call old.fuel)
     where
       pub permitted_err : {e : P1Error} → Refused {A = A} own (Err e) old.host new.host
-          → (own ≡ None → IsReplied r next (Err e)) → (e ≡ Memory → IsTrue (may_want call))
+          → (own ≡ None → IsReplied r next (Err e)) → (e ≡ Memory → IsTrue (may_run_out_of_memory call))
           → IsTrue (spends_nothing call r) → Kept old new before after
           → (IsTrue told → own ≡ None
           → guest_slots (world new.host).held new.slots ≡ guest_slots (world old.host).held old.slots)
@@ -129,7 +129,7 @@ module _ {H : Type 0} {told : Bool} {world : H → World} {faults : H → FaultC
       (at : done_if own r (guest_of world old before) new.fuel ≡ front (guest_of world old before) call old.fuel)
       (owned : Owned live (handles old.slots)) where
     pub changed_err : IsTrue (spends_nothing call r) → Kept old new before after → (e : HostError) → Refuses {A = Unit {0}} own (Err e) old.host new.host
-        → (error_of e ≡ Memory → IsTrue (may_want call))
+        → (error_of e ≡ Memory → IsTrue (may_run_out_of_memory call))
         → (IsTrue told → own ≡ None → KeepsHeld live (world old.host) (world new.host))
         → (IsTrue told → own ≡ None
         → Asked (Rose (faults old.host) (faults new.host)) (world old.host) (world new.host) r (Err (error_of e)))
@@ -159,7 +159,7 @@ module _ {H : Type 0} {told : Bool} {world : H → World} {faults : H → FaultC
         by None is = tt
         by (Some code) is = absurd (let r = is.0 in cc)
 
-        again : (stands : ℕ → Held) → guest_slots stands old.slots ≡ guest_slots (world old.host).held old.slots
+        again : (stands : ℕ → OpenHandle) → guest_slots stands old.slots ≡ guest_slots (world old.host).held old.slots
             → ◌≡◌ {A = Value × Guest} (Nothing, guest_of world old before) (Nothing, guest_by stands new after)
         again stands same = λ i. (
           Nothing,
@@ -174,12 +174,12 @@ module _ {H : Type 0} {told : Bool} {world : H → World} {faults : H → FaultC
   -- ---- what is found at a path, where nothing has to be permitted
 
   module _ {B : Type 0} {live : Handles} {p : PathRequest} {A : Type 0} {shown : B → PathReply p}
-      (next : PathReply p → Row A) (told_by : Guest → A → Value × Guest)
+      (next : PathReply p → CallResult A) (told_by : Guest → A → Value × Guest)
       (at : ask (Path p) (made_of_reply (Path p) next (told_by (guest_of world old before))) new.fuel
       ≡ front (guest_of world old before) call old.fuel)
       (owned : Owned live (handles old.slots)) where
     pub found_err : (e : HostError) → HasCause {A = B} (faults old.host) (faults new.host) (Err e)
-        → IsTrue (may_want call) → IsTrue (spends_nothing call (Path p)) → Kept old new before after
+        → IsTrue (may_run_out_of_memory call) → IsTrue (spends_nothing call (Path p)) → Kept old new before after
         → (IsTrue told → Resolved live (world old.host) (world new.host) (meant_by (world old.host).tree p) shown (Err e))
         → FollowsRow told world faults lookups old new before after call (Err (error_of e))
     found_err e cause may unused kept resolves =
@@ -192,7 +192,7 @@ module _ {H : Type 0} {told : Bool} {world : H → World} {faults : H → FaultC
         (resolves : IsTrue told
         → Resolved live (world old.host) (world new.host) (meant_by (world old.host).tree p) shown (Ok b)) where
       -- the row refused what was found
-      pub found_refused : {e : P1Error} → next (shown b) ≡ Err e → IsTrue (may_want call) → Kept old new before after
+      pub found_refused : {e : P1Error} → next (shown b) ≡ Err e → IsTrue (may_run_out_of_memory call) → Kept old new before after
           → FollowsRow told world faults lookups old new before after call (Err e)
       found_refused is wants kept =
           does_refused next told_by at (shown b, may, is) (λ _. wants) kept
@@ -217,7 +217,7 @@ module _ {H : Type 0} {told : Bool} {world : H → World} {faults : H → FaultC
     (at : done_if own (Path p) (guest_of world old memory) left ≡ front (guest_of world old memory) call old.fuel)
     (owned : Owned live (handles old.slots)) where
   pub done_err : (e : HostError) → HasCause {A = Unit {0}} (faults old.host) (faults host) (Err e)
-      → Refuses {A = Unit {0}} own (Err e) old.host host → IsTrue (may_want call)
+      → Refuses {A = Unit {0}} own (Err e) old.host host → IsTrue (may_run_out_of_memory call)
       → IsTrue (spends_nothing call (Path p))
       → (IsTrue told → own ≡ None → Resolved {A = Unit {0}} live (world old.host) (world host)
       (meant_by (world old.host).tree p) shown (Err e))

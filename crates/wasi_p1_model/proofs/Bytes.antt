@@ -5,13 +5,13 @@ use Rattle.std.specs.Int.{to_le_bytes, w32}
 use Rattle.std.specs.List.{range_with_len}
 use Rattle.std.proofs.lemmas.Bool.{leb-true, and_parts}
 use Rattle.std.proofs.lemmas.Bool.Decides.{nat_tests}
-use Rattle.wasi_p1_model.specs.Row.{give}
+use Rattle.wasi_p1_model.specs.CallResult.{give}
 use Rattle.wasi_p1_model.specs.Services.{next_input, input_into, written, aligned, total_of, with_texts, put_texts, texts_at, random_bytes, random_taken}
 use Rattle.wasi_guest.specs.declared.iovec.Iovec.{Iovec}
 use Rattle.wasi_guest.specs.declared.quota.QuotaUsed.{QuotaUsed}
-use Rattle.wasi_p1_model.specs.Stock.{Stock}
-use Rattle.wasi_p1_model.specs.declared.holdings.Output.{Output}
-use Rattle.wasi_p1_model.specs.declared.holdings.Output.TheVariants as outputs
+use Rattle.wasi_p1_model.specs.GuestEnvModel.{GuestEnvModel}
+use Rattle.wasi_p1_model.specs.declared.guest_env.Output.{Output}
+use Rattle.wasi_p1_model.specs.declared.guest_env.Output.TheVariants as outputs
 use Rattle.wasi_p1_model.specs.Validity.{IsStock}
 use Rattle.std.specs.Str.{is_utf8}
 use Rattle.std.proofs.lemmas.Grind.{common_steps}
@@ -27,12 +27,12 @@ use Rattle.wasi_guest.specs.declared.errno.Errno.{Errno as ErrorNumber}
 use Rattle.wasi_guest.specs.declared.errno.Errno.TheVariants as errnos
 use Rattle.wasi_p1_model.specs.Files.{name_at, name_of, name_into, name_within, or_refused}
 use Rattle.wasi_p1_model.specs.Guest.{GuestSlot, directory}
-use Rattle.wasi_p1_model.specs.Row.{Row}
+use Rattle.wasi_p1_model.specs.CallResult.{CallResult}
 use Rattle.wasi_guest.specs.Records.{Found, read_on, bytes_in, text_from, text_in}
 use Rattle.wasi_guest.specs.declared.guest_error.GuestError.TheVariants as guests
 use Rattle.wasi_p1_model.specs.Parts.{range, from_guest, guest_fault}
 use Rattle.wasi_p1_model.specs.declared.error.P1Error.TheVariants.{Errno, Trap}
-use Rattle.wasi_p1_model.proofs.Near.{AreBytes}
+use Rattle.wasi_p1_model.proofs.LocalCalls.{AreBytes}
 
 -- ---- bytes
 
@@ -71,7 +71,7 @@ range_is {bytes} memory at n is = by (in_memory memory at n) refl is
     part = slice_range memory at (at + n)
 
     by : (b : Bool) → in_memory memory at n ≡ b
-        → (let m : Row (List ℕ) = cond b (Ok part) (Err (Trap Pointer)) in m) ≡ Ok bytes
+        → (let m : CallResult (List ℕ) = cond b (Ok part) (Err (Trap Pointer)) in m) ≡ Ok bytes
         → IsRange memory at n bytes
     by true inside given =
         let same : part ≡ bytes = (cc) in
@@ -129,25 +129,25 @@ put_texts_bytes memory texts at buf {after} is are all = by (length texts == 0) 
     put : put_texts memory texts at buf ≡ Ok after → AreBytes after
     put is = one (aligned at) is
       where
-        three : (m : Row (List ℕ)) → (m >>= (λ _. give (with_texts memory texts at buf))) ≡ Ok after → AreBytes after
+        three : (m : CallResult (List ℕ)) → (m >>= (λ _. give (with_texts memory texts at buf))) ≡ Ok after → AreBytes after
         three (Ok part) is = let same : with_texts memory texts at buf ≡ after = (cc) in
             subst AreBytes same (texts_bytes memory texts at buf are all)
         three (Err e) is = absurd (cc)
 
-        two : (m : Row (List ℕ)) → (m >>= (λ _. range memory buf (total_of texts) >>= (λ _. give (with_texts memory texts at buf)))) ≡ Ok after → AreBytes after
+        two : (m : CallResult (List ℕ)) → (m >>= (λ _. range memory buf (total_of texts) >>= (λ _. give (with_texts memory texts at buf)))) ≡ Ok after → AreBytes after
         two (Ok part) is = three (range memory buf (total_of texts)) is
         two (Err e) is = absurd (cc)
 
-        one : (m : Row ℕ) → (m >>= (λ _. range memory at (4 * length texts) >>= (λ _. range memory buf (total_of texts) >>= (λ _. give (with_texts memory texts at buf))))) ≡ Ok after → AreBytes after
+        one : (m : CallResult ℕ) → (m >>= (λ _. range memory at (4 * length texts) >>= (λ _. range memory buf (total_of texts) >>= (λ _. give (with_texts memory texts at buf))))) ≡ Ok after → AreBytes after
         one (Ok at') is = two (range memory at (4 * length texts)) is
         one (Err e) is = absurd (cc)
 
-    by : (b : Bool) → (let m : Row (List ℕ) = cond b (Ok memory) (put_texts memory texts at buf) in m) ≡ Ok after → AreBytes after
+    by : (b : Bool) → (let m : CallResult (List ℕ) = cond b (Ok memory) (put_texts memory texts at buf) in m) ≡ Ok after → AreBytes after
     by true is = let same : memory ≡ after = (cc) in subst AreBytes same are
     by false is = put is
 
 -- what is read of the standard input are bytes, and so is what is left
-pub input_bytes : (memory : List ℕ) (stock : Stock) (buffer : Iovec) {read : ℕ × (List ℕ × Stock)}
+pub input_bytes : (memory : List ℕ) (stock : GuestEnvModel) (buffer : Iovec) {read : ℕ × (List ℕ × GuestEnvModel)}
     → input_into memory stock buffer ≡ Ok read → AreBytes memory → IsStock stock
     → AreBytes read.1.0 × IsStock read.1.1
 unfolding input_into
@@ -156,7 +156,7 @@ input_bytes memory stock buffer {read} is are has = by (next_input stock.stdin b
     taken : (bytes : List ℕ) → next_input stock.stdin buffer.buf_len ≡ Ok bytes → AreBytes bytes
     taken bytes = ends (length stock.stdin == 0)
       where
-        takes : (b : Bool) → (let m : Row (List ℕ) = cond b (Err (Errno errnos.Intr)) (Ok (take buffer.buf_len stock.stdin)) in m)
+        takes : (b : Bool) → (let m : CallResult (List ℕ) = cond b (Err (Errno errnos.Intr)) (Ok (take buffer.buf_len stock.stdin)) in m)
             ≡ Ok bytes → AreBytes bytes
         takes true is = absurd (cc)
         takes false is = let same : take buffer.buf_len stock.stdin ≡ bytes = (cc) in
@@ -167,15 +167,15 @@ input_bytes memory stock buffer {read} is are has = by (next_input stock.stdin b
         ends true is = let same : [] ≡ bytes = (cc) in subst AreBytes same refl
         ends false is = takes (buffer.buf_len == 0) is
 
-    rest : List ℕ → ℕ × (List ℕ × Stock)
+    rest : List ℕ → ℕ × (List ℕ × GuestEnvModel)
     rest bytes =
         (length bytes, (with_bytes memory buffer.buf bytes, record stock { stdin = drop (length bytes) stock.stdin }))
 
-    by : (m : Row (List ℕ)) → next_input stock.stdin buffer.buf_len ≡ m → (m >>= (λ bytes. give (rest bytes))) ≡ Ok read
+    by : (m : CallResult (List ℕ)) → next_input stock.stdin buffer.buf_len ≡ m → (m >>= (λ bytes. give (rest bytes))) ≡ Ok read
         → AreBytes read.1.0 × IsStock read.1.1
     by (Ok bytes) at is =
         let same : rest bytes ≡ read = (cc) in
-        subst (λ (r : ℕ × (List ℕ × Stock)). AreBytes r.1.0 × IsStock r.1.1) same (
+        subst (λ (r : ℕ × (List ℕ × GuestEnvModel)). AreBytes r.1.0 × IsStock r.1.1) same (
           put_bytes memory bytes buffer.buf are (taken bytes at),
           record {
             preopens = has.preopens;
@@ -188,14 +188,14 @@ input_bytes memory stock buffer {read} is are has = by (next_input stock.stdin b
     by (Err e) at is = absurd (cc)
 
 -- what is written changes nothing that was handed in
-pub written_stock : (stock : Stock) (o : Output) (piece : List ℕ) → IsStock stock → IsStock (written stock o piece)
+pub written_stock : (stock : GuestEnvModel) (o : Output) (piece : List ℕ) → IsStock stock → IsStock (written stock o piece)
 written_stock stock outputs.Stdout piece is =
     record { preopens = is.preopens; args = is.args; environ = is.environ; random = is.random; stdin = is.stdin }
 written_stock stock outputs.Stderr piece is =
     record { preopens = is.preopens; args = is.args; environ = is.environ; random = is.random; stdin = is.stdin }
 
 -- nor do other counts of what is used
-pub used_stock : (stock : Stock) (used : QuotaUsed) → IsStock stock → IsStock (record stock { used = used })
+pub used_stock : (stock : GuestEnvModel) (used : QuotaUsed) → IsStock stock → IsStock (record stock { used = used })
 used_stock stock used is =
     record { preopens = is.preopens; args = is.args; environ = is.environ; random = is.random; stdin = is.stdin }
 
@@ -205,7 +205,7 @@ random_byte (b ∷ bytes) zero are = (and_parts (nat_lt b 256) (are_bytes bytes)
 random_byte (b ∷ bytes) (suc i) are = random_byte bytes i ((and_parts (nat_lt b 256) (are_bytes bytes) are).1)
 
 -- what is given round and round are bytes
-pub random_are : (stock : Stock) (n : ℕ) → IsStock stock → AreBytes (random_bytes stock n)
+pub random_are : (stock : GuestEnvModel) (n : ℕ) → IsStock stock → AreBytes (random_bytes stock n)
 unfolding random_bytes
 random_are stock n is = by (range_with_len 0 n)
   where
@@ -213,7 +213,7 @@ random_are stock n is = by (range_with_len 0 n)
     by [] = refl
     by (i ∷ rest) = rw (random_byte stock.random ((stock.random_at + i) % length stock.random) is.random) (by rest)
 
-pub taken_stock : (stock : Stock) (n : ℕ) → IsStock stock → IsStock (random_taken stock n)
+pub taken_stock : (stock : GuestEnvModel) (n : ℕ) → IsStock stock → IsStock (random_taken stock n)
 unfolding random_taken
 taken_stock stock n is = record { preopens = is.preopens; args = is.args; environ = is.environ; random = is.random; stdin = is.stdin }
 
@@ -250,12 +250,12 @@ name_bytes {name} {after} e names slot memory at most is put are all =
         by (Some other) at is = let same : other ≡ name = (cc) in subst AreBytes same (name_in names slot at all)
         by None at is = absurd (cc)
 
-    placed : (m : Row (List ℕ)) → (m >>= (λ _. give (with_bytes memory at name))) ≡ Ok after → AreBytes after
+    placed : (m : CallResult (List ℕ)) → (m >>= (λ _. give (with_bytes memory at name))) ≡ Ok after → AreBytes after
     placed (Ok range) is = let same : with_bytes memory at name ≡ after = (cc) in
         subst AreBytes same (put_bytes memory name at are bytes)
     placed (Err e) is = absurd (cc)
 
-    by : (b : Bool) → ((let m : Row (List ℕ) = cond b (Err (Errno errnos.Nametoolong)) (Ok name) in m)
+    by : (b : Bool) → ((let m : CallResult (List ℕ) = cond b (Err (Errno errnos.Nametoolong)) (Ok name) in m)
         >>= (λ bytes. range memory at (length bytes) >>= (λ _. give (with_bytes memory at bytes)))) ≡ Ok after → AreBytes after
     by true is = absurd (cc)
     by false is = placed (range memory at (length name)) is

@@ -1,6 +1,6 @@
 -- What a call adds to the look-ups, and the descriptors after it.
 use Rattle.std.proofs.Common.{ℕ, ◌≡◌, ◌≤◌, inl, inr, List, [], ◌∷◌, Some, Ok, arith, slice_get, slice_set, sym, subst}
-use Rattle.wasi_host.specs.Lineage.{Traced, Only, OneOf, Nothing}
+use Rattle.wasi_host.specs.Lineage.{HasProvenance, Only, OneOf, Nothing}
 use Rattle.wasi_host.proofs.Tracing.{traced_none, traced_then, traced_given, traced_kept}
 use Rattle.wasi_host.specs.declared.lookup.Lookup.{Lookup}
 use Rattle.wasi_p1_model.specs.Numbering.{with_new}
@@ -18,8 +18,8 @@ use Rattle.wasi_p1_model.proofs.Owning.{uses-new, uses-closed}
 -- what was opened stands under its number
 pub traced_new : {Given : ℕ → Type 0} {old new : List Lookup} (table : List Slot) (modes : FileModes)
     (descriptor : Descriptor)
-    → Traced Given Nothing (GotOpened (Ok descriptor)) old new
-    → Traced Given (IsHandle (handles table))
+    → HasProvenance Given Nothing (GotOpened (Ok descriptor)) old new
+    → HasProvenance Given (IsHandle (handles table))
     (IsHandle (handles (with_new is_closed_slot table (slot_of modes descriptor)))) old new
 traced_new table modes descriptor traced = traced_kept _ _ (λ q some.
     let slot = slot_of modes descriptor in
@@ -34,35 +34,35 @@ traced_new table modes descriptor traced = traced_kept _ _ (λ q some.
 
 -- a call that opened nothing
 pub traced_refused : {Given Kept Made : ℕ → Type 0} {old new : List Lookup} → ((q : ℕ) → Made q → ⊥)
-    → Traced Given Nothing Made old new
-    → Traced Given Kept Kept old new
+    → HasProvenance Given Nothing Made old new
+    → HasProvenance Given Kept Kept old new
 traced_refused {Kept = Kept} none traced = traced_kept Kept Kept (λ q has. inl has) traced
 
 -- one that begins from the descriptor that the call names
 pub traced_at : {Kept Kept' : ℕ → Type 0} {old new : List Lookup} {h : ℕ} (table : List Slot) (fd : ℕ) (fds : List ℕ)
-    → HasHandle table fd h → Traced (Only h) Kept Kept' old new
-    → Traced (IsHandle (under (handles table) (fd ∷ fds))) Kept Kept' old new
+    → HasHandle table fd h → HasProvenance (Only h) Kept Kept' old new
+    → HasProvenance (IsHandle (under (handles table) (fd ∷ fds))) Kept Kept' old new
 traced_at {h = h} table fd fds has traced =
     let named = is_named (handles table) fd h fds has in
     traced_given _ (λ q same. subst (IsHandle (under (handles table) (fd ∷ fds))) (sym same) named) traced
 
 -- one that begins from the directory that the call names
 pub traced_from : {Kept Kept' : ℕ → Type 0} {h : ℕ} {old new : List Lookup} (table : List Slot) (fd : ℕ)
-    → HasHandle table fd h → Traced (Only h) Kept Kept' old new
-    → Traced (IsHandle (under (handles table) (fd ∷ []))) Kept Kept' old new
+    → HasHandle table fd h → HasProvenance (Only h) Kept Kept' old new
+    → HasProvenance (IsHandle (under (handles table) (fd ∷ []))) Kept Kept' old new
 traced_from table fd has traced = traced_at table fd [] has traced
 
 -- and opens nothing
 pub traced_below : {h : ℕ} {old new : List Lookup} (table : List Slot) (fd : ℕ)
-    → HasHandle table fd h → Traced (Only h) Nothing Nothing old new
-    → Traced (IsHandle (under (handles table) (fd ∷ []))) (IsHandle (handles table)) (IsHandle (handles table)) old new
+    → HasHandle table fd h → HasProvenance (Only h) Nothing Nothing old new
+    → HasProvenance (IsHandle (under (handles table) (fd ∷ []))) (IsHandle (handles table)) (IsHandle (handles table)) old new
 traced_below table fd has traced = traced_from table fd has (traced_refused (λ q none. none) traced)
 
 -- one that begins from two directories, and opens nothing
 pub traced_between : {h h' : ℕ} {old new : List Lookup} (table : List Slot) (fd fd' : ℕ)
     → HasHandle table fd h → HasHandle table fd' h'
-    → Traced (OneOf h h') Nothing Nothing old new
-    → Traced (IsHandle (under (handles table) (fd ∷ fd' ∷ []))) (IsHandle (handles table)) (IsHandle (handles table))
+    → HasProvenance (OneOf h h') Nothing Nothing old new
+    → HasProvenance (IsHandle (under (handles table) (fd ∷ fd' ∷ []))) (IsHandle (handles table)) (IsHandle (handles table))
     old new
 traced_between {h} {h'} table fd fd' has has' traced =
     let Names = IsHandle (under (handles table) (fd ∷ fd' ∷ [])) in
@@ -77,25 +77,25 @@ traced_between {h} {h'} table fd fd' has has' traced =
 -- one that looks nothing up, after which no handle is used that wasn't
 pub traced_less : {old new : List Lookup} (table table' : List Slot)
     → ((q : ℕ) → uses (handles table') q ≤ uses (handles table) q) → new ≡ old
-    → Traced Nothing (IsHandle (handles table)) (IsHandle (handles table')) old new
+    → HasProvenance Nothing (IsHandle (handles table)) (IsHandle (handles table')) old new
 traced_less table table' less same =
     traced_none _ _ _ _ _ same (λ q some. let fewer = less q in omega (arith, some, fewer))
 
 -- one that closes a number
 pub traced_closed : {slot : Slot} {old new : List Lookup} (table : List Slot) (i : ℕ) → slice_get table i ≡ Some slot
     → new ≡ old
-    → Traced Nothing (IsHandle (handles table)) (IsHandle (handles (slice_set table i Closed))) old new
+    → HasProvenance Nothing (IsHandle (handles table)) (IsHandle (handles (slice_set table i Closed))) old new
 traced_closed table i is same = traced_less table (slice_set table i Closed)
     (λ q. let fewer = uses-closed table i q is in omega (arith, fewer)) same
 
 -- one that adds none
 pub traced_free : {Kept Kept' : ℕ → Type 0} {old new : List Lookup} (Given : ℕ → Type 0)
-    → Traced Nothing Kept Kept' old new → Traced Given Kept Kept' old new
+    → HasProvenance Nothing Kept Kept' old new → HasProvenance Given Kept Kept' old new
 traced_free Given traced = traced_given Given (λ q none. absurd none) traced
 
 -- the look-ups of one call more, from the descriptors that it names
 pub traced_on : {Given Kept' : ℕ → Type 0} {a b c : List Lookup} (mid : List Slot) (fds : List ℕ)
-    → Traced (IsHandle (under (handles mid) fds)) (IsHandle (handles mid)) Kept' b c
-    → Traced Given Given (IsHandle (handles mid)) a b
-    → Traced Given Given Kept' a c
+    → HasProvenance (IsHandle (under (handles mid) fds)) (IsHandle (handles mid)) Kept' b c
+    → HasProvenance Given Given (IsHandle (handles mid)) a b
+    → HasProvenance Given Given Kept' a c
 traced_on mid fds step so = traced_then (λ h has. has) (λ h named. named_is (handles mid) fds h named) so step

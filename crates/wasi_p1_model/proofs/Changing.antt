@@ -20,7 +20,7 @@ use Rattle.wasi_p1_model.specs.DescriptorLaws.{FitsTable}
 use Rattle.wasi_p1_model.specs.Guest.{Guest, GuestSlot, OpenFile, closed, stream, directory, file, is_closed, new_number, with_guest_slot, node_in, open_nodes, perms_in}
 use Rattle.wasi_p1_model.specs.Numbering.{last_where, free_number, live_count, put_at, with_new}
 use Rattle.wasi_resolve.specs.PathRequest.{Opened}
-use Rattle.wasi_p1_model.specs.Row.{Row, give}
+use Rattle.wasi_p1_model.specs.CallResult.{CallResult, give}
 use Rattle.wasi_p1_model.specs.Files.{file_in, read_place_in}
 use Rattle.wasi_p1_model.specs.Parts.{OpenNode, node_of, directory_or, from, source_in, into, sink_in, open_node_in, new_guest_slot, room_for, with_file, live_in}
 use Rattle.wasi_guest.specs.declared.answer.TrapKind.TheVariants.{TableFull}
@@ -29,9 +29,9 @@ use Rattle.wasi_p1_model.specs.declared.slots.FileModes.{FileModes}
 use Rattle.wasi_p1_model.specs.declared.slots.Stream.TheVariants as streams
 use Rattle.wasi_p1_model.specs.declared.usage.FileUse.{FileUse}
 use Rattle.wasi_p1_model.specs.declared.usage.FileUse.TheVariants.{ReadAt}
-use Rattle.wasi_p1_model.specs.Stock.{Stock}
+use Rattle.wasi_p1_model.specs.GuestEnvModel.{GuestEnvModel}
 use Rattle.wasi_p1_model.specs.Validity.{HasBytes}
-use Rattle.wasi_p1_model.proofs.Near.{Ends, Has, IsNamed, KeepsSlots, StaysNear, AreBytes, KeepsBytes}
+use Rattle.wasi_p1_model.proofs.LocalCalls.{Ends, Has, IsNamed, KeepsSlots, StaysNear, AreBytes, KeepsBytes}
 use Rattle.wasi_p1_model.proofs.Bytes.{put_bytes}
 use Rattle.wasi_p1_model.proofs.Numbers.{all_live, last_passes}
 use Rattle.wasi_p1_model.proofs.Wanting.{Never}
@@ -108,11 +108,11 @@ pub read_place_is : {f : OpenFile} (slots : List GuestSlot) (table_max : ℕ) (p
     → read_place_in slots table_max p ≡ Ok f → p ≡ Some (file f)
 read_place_is {f} slots table_max p is = by (file_in ReadAt p) refl is
   where
-    by : (m : Row OpenFile) → file_in ReadAt p ≡ m
+    by : (m : CallResult OpenFile) → file_in ReadAt p ≡ m
         → (m >>= (λ g. room_for slots table_max 1 >>= (λ _. give g))) ≡ Ok f → p ≡ Some (file f)
     by (Ok g) at is = file_is ReadAt p (at ∙ roomy (room_for slots table_max 1) is)
       where
-        roomy : (m : Row (Unit {0})) → (m >>= (λ _. give g)) ≡ Ok f → (let r : Row OpenFile = Ok g in r) ≡ Ok f
+        roomy : (m : CallResult (Unit {0})) → (m >>= (λ _. give g)) ≡ Ok f → (let r : CallResult OpenFile = Ok g in r) ≡ Ok f
         roomy (Ok u) is = is
         roomy (Err e) is = absurd (cc)
     by (Err e) at is = absurd (cc)
@@ -278,7 +278,7 @@ unfolding room_for with_new
 new_fits {u} g slot room most fits = (by (last_where is_closed g.slots) refl, fits.1)
   where
     least : (b : Bool) → nat_le (live_count is_closed g.slots + 1) g.table_max ≡ b
-        → (let m : Row (Unit {0}) = cond b (Ok tt) (Err (Trap TableFull)) in m) ≡ Ok u
+        → (let m : CallResult (Unit {0}) = cond b (Ok tt) (Err (Trap TableFull)) in m) ≡ Ok u
         → live_count is_closed g.slots + 1 ≤ g.table_max
     least true is roomy = grind (arith, nat_tests)
     least false is roomy = absurd (cc)
@@ -360,7 +360,7 @@ put_opened g fd perms mode modes found roomy is appends = record {
     new = new_guest_slot perms mode modes found
 
 -- nothing comes, and nothing goes
-pub put_nothing : {x : Value} {memory given : List ℕ} {stock : Stock} (g : Guest)
+pub put_nothing : {x : Value} {memory given : List ℕ} {stock : GuestEnvModel} (g : Guest)
     → StaysNear g itself given (x, record g { memory = memory; holdings = stock })
 put_nothing g = record {
   nodes = λ k n has. inl has;
@@ -379,37 +379,37 @@ nodes_stay {g} {p = p} stays n has =
 -- ---- what a row writes into memory, or tells
 
 -- a row that writes bytes, where the range is this
-abbrev writes : Guest → ℕ → List ℕ → Row (List ℕ) → Row (Value × Guest)
+abbrev writes : Guest → ℕ → List ℕ → CallResult (List ℕ) → CallResult (Value × Guest)
 writes g buf bytes m =
     m >>= (λ _. give (length bytes, with_bytes g.memory buf bytes)) >>= (λ p. give (with_text g p))
 
-pub written_slots : (g : Guest) (buf : ℕ) (bytes : List ℕ) (m : Row (List ℕ))
+pub written_slots : (g : Guest) (buf : ℕ) (bytes : List ℕ) (m : CallResult (List ℕ))
     → KeepsSlots g itself [] (writes g buf bytes m)
 written_slots g buf bytes (Ok part) = put_nothing g
 written_slots g buf bytes (Err e) = tt
 
-pub written_ends : {P : Type 0} (g : Guest) (buf : ℕ) (bytes : List ℕ) (m : Row (List ℕ)) → Never m → P
+pub written_ends : {P : Type 0} (g : Guest) (buf : ℕ) (bytes : List ℕ) (m : CallResult (List ℕ)) → Never m → P
     → Ends P (writes g buf bytes m)
 written_ends g buf bytes (Ok part) never is = tt
 written_ends g buf bytes (Err e) never is = (never, is)
 
-pub written_bytes : (g : Guest) (buf : ℕ) (bytes : List ℕ) (m : Row (List ℕ)) → HasBytes g → AreBytes bytes
+pub written_bytes : (g : Guest) (buf : ℕ) (bytes : List ℕ) (m : CallResult (List ℕ)) → HasBytes g → AreBytes bytes
     → KeepsBytes (writes g buf bytes m)
 written_bytes g buf bytes (Ok part) are more = (put_bytes g.memory bytes buf are.0 more, are.1)
 written_bytes g buf bytes (Err e) are more = tt
 
 -- a row that tells of a node
-abbrev tells : Guest → Row Filestat → Row (Value × Guest)
+abbrev tells : Guest → CallResult Filestat → CallResult (Value × Guest)
 tells g m = m >>= (λ stat. give (with_filestat g stat))
 
-pub stated_slots : (g : Guest) (m : Row Filestat) → KeepsSlots g itself [] (tells g m)
+pub stated_slots : (g : Guest) (m : CallResult Filestat) → KeepsSlots g itself [] (tells g m)
 stated_slots g (Ok stat) = put_nothing g
 stated_slots g (Err e) = tt
 
-pub stated_ends : {P : Type 0} (g : Guest) (m : Row Filestat) → Never m → P → Ends P (tells g m)
+pub stated_ends : {P : Type 0} (g : Guest) (m : CallResult Filestat) → Never m → P → Ends P (tells g m)
 stated_ends g (Ok stat) never is = tt
 stated_ends g (Err e) never is = (never, is)
 
-pub stated_bytes : (g : Guest) (m : Row Filestat) → HasBytes g → KeepsBytes (tells g m)
+pub stated_bytes : (g : Guest) (m : CallResult Filestat) → HasBytes g → KeepsBytes (tells g m)
 stated_bytes g (Ok stat) are = are
 stated_bytes g (Err e) are = tt

@@ -9,9 +9,9 @@ use Rattle.wasi_p1_model.specs.Front.{with_fuel}
 use Rattle.wasi_p1_model.specs.Guest.{GuestSlot, State, closed, perms_in}
 use Rattle.wasi_p1_model.specs.Numbering.{renumbered}
 use Rattle.wasi_p1_model.specs.Parts.{live_in}
-use Rattle.wasi_p1_model.specs.Row.{Row}
+use Rattle.wasi_p1_model.specs.CallResult.{CallResult}
 use Rattle.wasi_p1_model.specs.Calls.{fd_close, fd_renumber, turn}
-use Rattle.wasi_p1_model.specs.Run.{Turned, Played, Faulted, Gives, answer_of}
+use Rattle.wasi_p1_model.specs.Trace.{TraceStep, Played, Faulted, Gives, answer_of}
 use Rattle.wasi_p1_model.specs.Stems.{HasPerms}
 use Rattle.wasi_p1_model.specs.declared.error.P1Error.{P1Error}
 use Rattle.wasi_p1_model.specs.declared.error.P1Error.TheVariants.{Errno, Trap, Exit, Memory}
@@ -57,7 +57,7 @@ left_there {perms} slots from to other has =
 -- ---- a turn that answers such a call
 
 -- what is answered Ok was answered by its row
-answered_ok : (t : Turned) (x : Value) → t.answer ≡ answers.Ok x → Played t ⊎ Faulted t
+answered_ok : (t : TraceStep) (x : Value) → t.answer ≡ answers.Ok x → Played t ⊎ Faulted t
     → turn t.before t.call ≡ Ok (x, t.after)
 answered_ok t x is (inr faulted) = let io = sym is ∙ faulted.io in absurd (cc)
 answered_ok t x is (inl played) = by (turn t.before t.call) refl played
@@ -68,21 +68,21 @@ answered_ok t x is (inl played) = by (turn t.before t.call) refl played
     refused (Exit status) given = let wrong = given ∙ ap Some is in absurd (cc)
     refused Memory given = absurd (cc)
 
-    by : (m : Row (Value × State)) → turn t.before t.call ≡ m → Gives m t.before t.answer t.after
+    by : (m : CallResult (Value × State)) → turn t.before t.call ≡ m → Gives m t.before t.answer t.after
         → turn t.before t.call ≡ Ok (x, t.after)
     by (Ok p) at (answer, new) =
         let same : p.0 ≡ x = (let both = sym answer ∙ is in cc) in
         at ∙ (λ i. Ok (same i, sym new i))
     by (Err e) at (answer, new) = absurd (refused e answer)
 
-pub closes_number : (t : Turned) (fd : ℕ) (x : Value) → t.call.call ≡ calls.FdClose fd → t.answer ≡ answers.Ok x
+pub closes_number : (t : TraceStep) (fd : ℕ) (x : Value) → t.call.call ≡ calls.FdClose fd → t.answer ≡ answers.Ok x
     → Played t ⊎ Faulted t → (perms : FsPerms) → HasPerms t.after.guest fd perms → ⊥
 closes_number t fd x is answer took perms has =
     let gives = ap (λ (c : Call). turn t.before (with_fuel t.call.fuel c)) (sym is) ∙ answered_ok t x answer took in
     let slots = closed_slots t.before t.after x t.call.fuel fd gives in
     closed_there t.before.guest.slots fd (subst (λ slots. perms_in (slice_get slots fd) ≡ Some perms) slots has)
 
-pub renumbering_closes : (t : Turned) (from to : ℕ) (x : Value) → t.call.call ≡ calls.FdRenumber from to
+pub renumbering_closes : (t : TraceStep) (from to : ℕ) (x : Value) → t.call.call ≡ calls.FdRenumber from to
     → t.answer ≡ answers.Ok x → from ≢ to → Played t ⊎ Faulted t → (perms : FsPerms)
     → HasPerms t.after.guest from perms → ⊥
 renumbering_closes t from to x is answer other took perms has =

@@ -5,16 +5,16 @@ use Rattle.wasi_paths.specs.Parts.{Component, RootDir, CurDir, ParentDir, Normal
 use Rattle.wasi_host.specs.Answer.{Listed, host_answer, list_answer, open_answer, unless}
 use Rattle.wasi_host.specs.HostCall.{HostCall, Access, Append, ListDir, OpenAt, RenameAt, Stat, StatAt}
 use Rattle.wasi_host.specs.Options.{Options}
-use Rattle.wasi_host.specs.Refusal.{first_row, moving_rows, naming_rows, loop_rows, refusal, rows_of}
+use Rattle.wasi_host.specs.Refusal.{first_rule, moving_rows, naming_rows, loop_rows, refusal, refusal_rules}
 use Rattle.wasi_host.specs.Step.{step}
 use Rattle.wasi_host.specs.Steps.{◌>>=◌}
 use Rattle.wasi_host.specs.Tree.{Tree, child, hold_one, node_at}
 use Rattle.wasi_host.specs.declared.errors.ErrorCode.{ErrorCode}
 use Rattle.wasi_host.specs.declared.errors.ErrorCode.TheVariants as codes
-use Rattle.wasi_host.specs.declared.open_handle.Held.{Held}
+use Rattle.wasi_host.specs.declared.open_handle.OpenHandle.{OpenHandle}
 use Rattle.wasi_host.proofs.Refusals.{unless_refused as answered_unless}
-use Rattle.wasi_resolve.specs.EntryOps.{PlaceCall, CreateDir, ReadLink, RemoveDir, RemoveFile, SetTimes, Symlink, answer_in, call_at, place_for, unrooted}
-use Rattle.wasi_resolve.specs.TwoPathOps.{TwoPlaceCall, asks_directory, call_at_two, places_for, text_for}
+use Rattle.wasi_resolve.specs.EntryOps.{EntryOp, CreateDir, ReadLink, RemoveDir, RemoveFile, SetTimes, Symlink, answer_in, call_at, place_for, unrooted}
+use Rattle.wasi_resolve.specs.TwoPathOps.{TwoPathOp, asks_directory, call_at_two, places_for, text_for}
 use Rattle.wasi_resolve.specs.Meanings.{lists_at, listing_options}
 use Rattle.wasi_resolve.specs.PathRequest.{AtPlace, AtTwo, LookPath, OpenPath, Opened, PathRequest, TimesPath, answer_at, as_asked, path_reply}
 use Rattle.wasi_resolve.specs.Paths.{Opening, Place, access_unsupported, behind_slash, directory_options, looked, looked_at, opened, opened_by, opening, opening_of, or_else, parent, place, place_at, reading, timed, timed_again, writing}
@@ -42,12 +42,12 @@ abbrev all_known : List (Bool × ErrorCode) → Bool
 all_known [] = true
 all_known (row ∷ rows) = is_known row.1 && all_known rows
 
-pub first_known : (rows : List (Bool × ErrorCode)) → IsTrue (all_known rows) → IfSome (first_row rows) IsKnown
+pub first_known : (rows : List (Bool × ErrorCode)) → IsTrue (all_known rows) → IfSome (first_rule rows) IsKnown
 first_known [] known = tt
 first_known ((true, code) ∷ rows) known = (and_parts (is_known code) (all_known rows) known).0
 first_known ((false, code) ∷ rows) known = first_known rows (and_parts (is_known code) (all_known rows) known).1
 
-rows_known : (t : Tree) (call : HostCall) → IsTrue (all_known (rows_of t call))
+rows_known : (t : Tree) (call : HostCall) → IsTrue (all_known (refusal_rules t call))
 rows_known t (RenameAt old old_name new new_name requires_dir) =
     by (hold_one (child t old old_name) (child t new new_name))
   where
@@ -62,7 +62,7 @@ rows_known t call = refl
 
 pub refusal_known : (t : Tree) (call : HostCall) → IfSome (refusal t call) IsKnown
 unfolding refusal
-refusal_known t call = first_known (rows_of t call) (rows_known t call)
+refusal_known t call = first_known (refusal_rules t call) (rows_known t call)
 
 unless_known : {B : Type 0} (own : Option ErrorCode) (x : B) → IfSome own IsKnown → Knows (unless own x)
 unless_known None x known = tt
@@ -203,7 +203,7 @@ module _ (t : Tree) (s : ℕ) where
   unfolding timed
   timed_known text = by (opened t s text writing true) (opened_known text writing true)
     where
-      unsupported : (m : Result Held ErrorCode) → Knows m → Knows (or_else access_unsupported m)
+      unsupported : (m : Result OpenHandle ErrorCode) → Knows m → Knows (or_else access_unsupported m)
       unsupported (Ok held) known = tt
       unsupported (Err codes.Access) known = refl
       unsupported (Err code) known = known
@@ -213,7 +213,7 @@ module _ (t : Tree) (s : ℕ) where
       again codes.IsDirectory known = unsupported (opened t s text reading true) (opened_known text reading true)
       again code known = known
 
-      by : (m : Result Held ErrorCode) → Knows m → Knows (or_else (timed_again t s text) m)
+      by : (m : Result OpenHandle ErrorCode) → Knows m → Knows (or_else (timed_again t s text) m)
       by (Ok held) known = tt
       by (Err code) known = again code known
 
@@ -226,7 +226,7 @@ unrooted_known text = by (has_root text)
     by true = refl
     by false = tt
 
-done_known : (t : Tree) (what : PlaceCall) (p : Place) → Knows (answer_in t what p)
+done_known : (t : Tree) (what : EntryOp) (p : Place) → Knows (answer_in t what p)
 done_known t ReadLink p = then (host_answer t (call_at ReadLink p)) unrooted (host_known t (call_at ReadLink p)) unrooted_known
 done_known t CreateDir p = host_known t (call_at CreateDir p)
 done_known t RemoveFile p = host_known t (call_at RemoveFile p)
@@ -234,10 +234,10 @@ done_known t RemoveDir p = host_known t (call_at RemoveDir p)
 done_known t (Symlink text) p = host_known t (call_at (Symlink text) p)
 done_known t (SetTimes atime mtime) p = host_known t (call_at (SetTimes atime mtime) p)
 
-at_place_known : (t : Tree) (s : ℕ) (text : List ℕ) (what : PlaceCall) → Knows (place_for t s text what >>= answer_in t what)
+at_place_known : (t : Tree) (s : ℕ) (text : List ℕ) (what : EntryOp) → Knows (place_for t s text what >>= answer_in t what)
 at_place_known t s text what = then (place_for t s text what) (answer_in t what) (place_known t s _) (done_known t what)
 
-places_known : (t : Tree) (old : ℕ) (old_text : List ℕ) (new : ℕ) (new_text : List ℕ) (what : TwoPlaceCall)
+places_known : (t : Tree) (old : ℕ) (old_text : List ℕ) (new : ℕ) (new_text : List ℕ) (what : TwoPathOp)
     → Knows (places_for t old old_text new new_text what)
 places_known t old old_text new new_text what = then (place t old (text_for what old_text)) _ (place_known t old _)
     (λ p. then (place t new (text_for what new_text)) _ (place_known t new _) (λ q. tt))

@@ -7,12 +7,12 @@ use Rattle.wasi_host.specs.HostLaws.{World}
 use Rattle.wasi_p1_model.specs.Guest.{Guest, State}
 use Rattle.wasi_p1_model.specs.Request.{reply_of, after}
 use Rattle.wasi_host.specs.Steps.{◌>>=◌}
-use Rattle.wasi_p1_model.specs.Row.{with_tree, Row, Program, done, asking, from_host, starts}
+use Rattle.wasi_p1_model.specs.CallResult.{with_tree, CallResult, Program, done, asking, from_host, starts}
 use Rattle.wasi_p1_model.specs.Calls.{row, turn}
-use Rattle.wasi_p1_model.proofs.Near.{Has, IsNear}
-use Rattle.wasi_p1_model.specs.Turn.{IsTurn, ReachesHost, used_by}
+use Rattle.wasi_p1_model.proofs.LocalCalls.{Has, IsLocal}
+use Rattle.wasi_p1_model.specs.Transition.{IsTransition, ReachesHost, used_by}
 use Rattle.wasi_p1_model.specs.StatesAgree.{Alike, AnswerAlike}
-use Rattle.wasi_p1_model.specs.CallTurn.{Turns, in_world}
+use Rattle.wasi_p1_model.specs.CallTransition.{Turns, in_world}
 use Rattle.wasi_p1_model.specs.Reach.{Inside, InReach, Confined}
 use Rattle.wasi_guest.specs.declared.call.Call.{Call}
 use Rattle.wasi_p1_model.specs.Front.{FueledCall}
@@ -28,13 +28,13 @@ use Rattle.wasi_p1_model.proofs.Uses.{with_counts}
 
 -- ---- no number is given up
 
-over_grows : (t t' : Tree) (m : Row (Value × Guest)) (p : Value × State) → next_of t ≤ next_of t' → over t' m ≡ Ok p
+over_grows : (t t' : Tree) (m : CallResult (Value × Guest)) (p : Value × State) → next_of t ≤ next_of t' → over t' m ≡ Ok p
     → next_of t ≤ next_of p.1.tree
 over_grows t t' (Ok q) p grows is =
     let same : with_tree (q, t') ≡ p = (cc) in subst (λ (x : Value × State). next_of t ≤ next_of x.1.tree) same grows
 over_grows t t' (Err e) p grows is = absurd (cc)
 
-pub row_grows : (t : Tree) (m : Row (Program (Value × Guest))) (p : Value × State) → row_on t m ≡ Ok p
+pub row_grows : (t : Tree) (m : CallResult (Program (Value × Guest))) (p : Value × State) → row_on t m ≡ Ok p
     → next_of t ≤ next_of p.1.tree
 row_grows t (Ok (done q)) p is = over_grows t t (Ok q) p (omega arith) is
 row_grows t (Ok (asking r next)) p is =
@@ -54,7 +54,7 @@ pub record Keeping (Seen : ℕ → Type 0) (s s' : State) : Type 0 where
   pub grows : next_of s.tree ≤ next_of s'.tree
 
 module _ {Seen : ℕ → Type 0} {s : State} (holds : Holds Seen s) where
-  keeps_alike : (m : Row (Value × State)) (p : Value × State) → AnswerAlike Seen s m m → m ≡ Ok p
+  keeps_alike : (m : CallResult (Value × State)) (p : Value × State) → AnswerAlike Seen s m m → m ≡ Ok p
       → Holds (OrMade Seen s.tree p.1.tree) p.1
   keeps_alike (Ok q) p alike is =
       let same : q ≡ p = (cc) in
@@ -98,12 +98,12 @@ module _ {Seen : ℕ → Type 0} {s : State} (holds : Holds Seen s) where
           })
 
   turn_keeps : (rose : Type 0) (s' : State) (call : FueledCall) (r : Result Value P1Error)
-      → IsTurn rose (ReachesHost s call) (used_by s call) s s' r (turn s call) → Keeping Seen s s'
+      → IsTransition rose (ReachesHost s call) (used_by s call) s s' r (turn s call) → Keeping Seen s s'
   turn_keeps rose s' call r takes = moves_keep s' call (turn_moves rose _ call r takes)
 
 -- ---- what a run keeps
 
-starts_near : (g : Guest) (call : Call) (m : Row (Program (Value × Guest))) → IsNear g call m → (n : ℕ)
+starts_near : (g : Guest) (call : Call) (m : CallResult (Program (Value × Guest))) → IsLocal g call m → (n : ℕ)
     → Contains (starts m) n → Has g n
 starts_near g call (Ok (done p)) near n has = absurd (omega (arith, has.1))
 starts_near g call (Ok (asking r next)) near n has = named_has (near.starts n has)

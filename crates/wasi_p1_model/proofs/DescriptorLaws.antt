@@ -19,7 +19,7 @@ use Rattle.wasi_p1_model.specs.RawFlags.{open_how, or_inval}
 use Rattle.wasi_p1_model.specs.Putting.{count_in, put_call}
 use Rattle.wasi_p1_model.specs.Quotas.{allowance}
 use Rattle.wasi_p1_model.specs.Request.{Path, Direct}
-use Rattle.wasi_p1_model.specs.Row.{Row, give}
+use Rattle.wasi_p1_model.specs.CallResult.{CallResult, give}
 use Rattle.wasi_p1_model.specs.Calls.{fd_pread, fd_pwrite, fd_seek, fd_tell, path_open, seek_from}
 use Rattle.wasi_p1_model.specs.declared.usage.FileUse.TheVariants.{Position, WriteAt}
 use Rattle.wasi_p1_model.proofs.Alike.{row_on}
@@ -149,7 +149,7 @@ seeks_are_told s s' x fuel again fd whence offset is =
         ∙ put_there s.guest.slots fd (file (at_position f position)) at) refl
         ∙ ap (λ y. Ok (y, s')) (sym answered)
 
-    sought_so : (f : OpenFile) (m : Row ℕ) → slice_get s.guest.slots fd ≡ Some (file f)
+    sought_so : (f : OpenFile) (m : CallResult ℕ) → slice_get s.guest.slots fd ≡ Some (file f)
         → (m >>= (λ position. give (sought s.guest fd f position))) ≡ Ok (x, s'.guest)
         → row_on s'.tree (fd_tell s'.guest fd again).0 ≡ Ok (x, s')
     sought_so f (Ok position) at gives =

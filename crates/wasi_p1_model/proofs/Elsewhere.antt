@@ -13,7 +13,7 @@ use Rattle.wasi_host.specs.Answer.{HostAnswer, host_answer}
 use Rattle.wasi_host.specs.Step.{step, with_nodes, with_content, content_changed, entry_changed, with_entry, without_entry, with_name, without_name, node_made, new_file, new_directory, new_link, other_bytes, with_size, is_cut, file_cut, opened_step, open_step, with_piece, write_step, one_name_more, added_step, link_step, one_name_less, made_gone, dropped_step, unlink_step, remove_step, name_lost, name_taken, name_moved_onto, moved_step, rename_step, with_times, times_set, times_set_if, times_step, starts_of}
 use Rattle.wasi_host.specs.Steps.{◌>>=◌}
 use Rattle.wasi_host.specs.declared.errors.ErrorCode.{ErrorCode}
-use Rattle.wasi_host.specs.declared.open_handle.Held.{Held}
+use Rattle.wasi_host.specs.declared.open_handle.OpenHandle.{OpenHandle}
 use Rattle.wasi_host.specs.declared.system_time.SystemTime.{SystemTime}
 use Rattle.wasi_host.proofs.Agreeing.{child_seen, itself}
 use Rattle.wasi_host.proofs.Chain.{free}
@@ -23,8 +23,8 @@ use Rattle.wasi_host.proofs.Refusals.{free_of, none_refuses}
 use Rattle.wasi_host.proofs.ValidSteps.{has_bytes, can_open, can_make_directory, can_make_link, can_add, can_rename, can_unlink, can_remove}
 use Rattle.wasi_resolve.specs.Laws.{GivesIn}
 use Rattle.wasi_resolve.specs.EntryOps as at_place
-use Rattle.wasi_resolve.specs.EntryOps.{PlaceCall, PlaceAnswer, CreateDir, RemoveFile, RemoveDir, Symlink, ReadLink, call_at, answer_in, place_text, place_for, step_in}
-use Rattle.wasi_resolve.specs.TwoPathOps.{TwoPlaceCall, HardLink, Rename, Places, text_for, asks_directory, answer_at_two, step_at_two}
+use Rattle.wasi_resolve.specs.EntryOps.{EntryOp, PlaceAnswer, CreateDir, RemoveFile, RemoveDir, Symlink, ReadLink, call_at, answer_in, place_text, place_for, step_in}
+use Rattle.wasi_resolve.specs.TwoPathOps.{TwoPathOp, HardLink, Rename, Places, text_for, asks_directory, answer_at_two, step_at_two}
 use Rattle.wasi_resolve.specs.Paths.{Opening, Place, opening, step_of, place, timed}
 use Rattle.wasi_resolve.specs.PathRequest.{PathRequest, OpenPath, LookPath, AtPlace, TimesPath, AtTwo, PathReply, Opened, answer_at, as_asked, times_through, path_reply, path_after, path_starts}
 use Rattle.wasi_resolve.proofs.PathAgreeing as paths
@@ -105,7 +105,7 @@ module _ {Seen : ℕ → Type 0} {t : Tree} (closed : IsClosed Seen t) where
   write_stays n offset [] seen = all_stay
   write_stays n offset (byte ∷ bytes) seen = bytes_stay n (λ old. with_piece old offset (byte ∷ bytes)) seen
 
-  append_stays : (f : Held) (piece : List ℕ) → Seen f.node → StaysOr Seen t (step t (Append f piece))
+  append_stays : (f : OpenHandle) (piece : List ℕ) → Seen f.node → StaysOr Seen t (step t (Append f piece))
   append_stays f piece seen = write_stays f.node (length (bytes_of (node_at t f.node).content)) piece seen
 
   times_stay : (n : ℕ) (atime mtime : Option SystemTime) → Seen n → StaysOr Seen t (times_set t n atime mtime)
@@ -226,7 +226,7 @@ module _ {Seen : ℕ → Type 0} {t : Tree} (closed : IsClosed Seen t) where
 
   -- ---- through a path
 
-  place_stays : (what : PlaceCall) (m : Result Place ErrorCode) {reply : PlaceAnswer what}
+  place_stays : (what : EntryOp) (m : Result Place ErrorCode) {reply : PlaceAnswer what}
       → GivesIn Seen (λ (p : Place). p.directory) m → (m >>= answer_in t what) ≡ Ok reply
       → StaysOr Seen t (step_in t what m)
   place_stays CreateDir (Ok p) seen is = answered_stays (call_at CreateDir p) (from_one Seen seen) is
@@ -238,7 +238,7 @@ module _ {Seen : ℕ → Type 0} {t : Tree} (closed : IsClosed Seen t) where
       answered_stays (call_at (at_place.SetTimes atime mtime) p) (from_one Seen seen) is
   place_stays what (Err code) seen is = all_stay
 
-  done_stays : (s : ℕ) (text : List ℕ) (what : PlaceCall) {reply : PlaceAnswer what} → Seen s
+  done_stays : (s : ℕ) (text : List ℕ) (what : EntryOp) {reply : PlaceAnswer what} → Seen s
       → (place_for t s text what >>= answer_in t what) ≡ Ok reply
       → StaysOr Seen t (step_in t what (place_for t s text what))
   done_stays s text what seen is =
@@ -251,15 +251,15 @@ module _ {Seen : ℕ → Type 0} {t : Tree} (closed : IsClosed Seen t) where
       step_stays (OpenAt e.directory e.name e.options) (from_one Seen seen) (free _ _ _ (as_opened directory (answer_at t e) is))
   opening_stays directory (Err code) seen is = all_stay
 
-  timed_stays : (atime mtime : Option SystemTime) (m : Result Held ErrorCode)
-      → GivesIn Seen (λ (held : Held). held.node) m → StaysOr Seen t (times_through t atime mtime m)
+  timed_stays : (atime mtime : Option SystemTime) (m : Result OpenHandle ErrorCode)
+      → GivesIn Seen (λ (held : OpenHandle). held.node) m → StaysOr Seen t (times_through t atime mtime m)
   timed_stays atime mtime (Ok f) seen = times_stay f.node atime mtime seen
   timed_stays atime mtime (Err code) seen = all_stay
 
   abbrev both : Result Place ErrorCode → Result Place ErrorCode → Result Places ErrorCode
   both a b = a >>= (λ p. b >>= (λ q. Ok (record { old = p; new = q })))
 
-  two_stay : (what : TwoPlaceCall) (asks : Bool) (a b : Result Place ErrorCode) {reply : Unit {0}}
+  two_stay : (what : TwoPathOp) (asks : Bool) (a b : Result Place ErrorCode) {reply : Unit {0}}
       → GivesIn Seen (λ (p : Place). p.directory) a → GivesIn Seen (λ (p : Place). p.directory) b
       → (both a b >>= answer_at_two t what asks) ≡ Ok reply → StaysOr Seen t (step_at_two t what asks (both a b))
   two_stay HardLink asks (Ok p) (Ok q) old new is =

@@ -8,34 +8,34 @@ use Rattle.wasi_host.specs.declared.errors.ErrorCode.{ErrorCode}
 use Rattle.wasi_guest.specs.declared.answer.Answer.{Answer}
 use Rattle.wasi_guest.specs.declared.answer.Value.{Value}
 use Rattle.wasi_guest.specs.declared.call.Call.{Call}
-use Rattle.wasi_p1_model.specs.CallTurn.{Turns, in_world}
+use Rattle.wasi_p1_model.specs.CallTransition.{Turns, in_world}
 use Rattle.wasi_p1_model.specs.ErrorNumbers.{MayCome}
 use Rattle.wasi_p1_model.specs.Front.{FueledCall}
 use Rattle.wasi_p1_model.specs.Guest.{Guest, State}
 use Rattle.wasi_p1_model.specs.Request.{Reply, after, reply_of}
-use Rattle.wasi_p1_model.specs.Row.{Row, Program, asking, done, row_on}
+use Rattle.wasi_p1_model.specs.CallResult.{CallResult, Program, asking, done, row_on}
 use Rattle.wasi_p1_model.specs.Calls.{row, turn}
-use Rattle.wasi_p1_model.specs.Run.{DidRun, Faulted, Gives, Played, Run, Turned, answer_of, answers_of}
+use Rattle.wasi_p1_model.specs.Trace.{RefinesTrace, Faulted, Gives, Played, Trace, TraceStep, answer_of, answers_of}
 use Rattle.wasi_p1_model.specs.declared.error.P1Error.{P1Error}
 use Rattle.wasi_p1_model.specs.declared.error.P1Error.TheVariants.{Errno, Trap, Exit, Memory}
 use Rattle.wasi_p1_model.proofs.Alike.{over, replied}
 use Rattle.wasi_p1_model.proofs.Codes.{Knows, reply_known}
 use Rattle.wasi_p1_model.proofs.Moving.{each_turn}
-use Rattle.wasi_p1_model.proofs.Near.{Ends, IsNear}
+use Rattle.wasi_p1_model.proofs.LocalCalls.{Ends, IsLocal}
 use Rattle.wasi_p1_model.proofs.Locality.{row_near}
 use Rattle.wasi_p1_model.proofs.Wanting.{IsRefusal, Never}
 
 -- ---- of a row over a tree
 
-over_never : (t : Tree) (m : Row (Value × Guest)) → Never m → Never (over t m)
+over_never : (t : Tree) (m : CallResult (Value × Guest)) → Never m → Never (over t m)
 over_never t (Ok p) never = tt
 over_never t (Err e) never = never
 
-ends_never : (undone : Type 0) (m : Row (Value × Guest)) → Ends undone m → Never m
+ends_never : (undone : Type 0) (m : CallResult (Value × Guest)) → Ends undone m → Never m
 ends_never undone (Ok p) ends = tt
 ends_never undone (Err e) ends = ends.0
 
-row_never : (g : Guest) (call : Call) (t : Tree) (m : Row (Program (Value × Guest))) → IsNear g call m
+row_never : (g : Guest) (call : Call) (t : Tree) (m : CallResult (Program (Value × Guest))) → IsLocal g call m
     → Never (row_on t m)
 row_never g call t (Ok (done p)) near = tt
 row_never g call t (Ok (asking r next)) near = by (reply_of t r) refl (reply_known t r)
@@ -70,20 +70,20 @@ turn_errnos {w = w} {g = g} {call = call} (Err e) did = elim did.turn [
 some_comes : {a : Answer} {o : Option Answer} → o ≡ Some a → IfSome o MayCome → MayCome a
 some_comes is comes = subst (λ o. IfSome o MayCome) is comes
 
-gives_comes : (m : Row (Value × State)) (old new : State) (a : Answer) → Gives m old a new → Never m → MayCome a
+gives_comes : (m : CallResult (Value × State)) (old new : State) (a : Answer) → Gives m old a new → Never m → MayCome a
 gives_comes (Ok p) old new a gives never = subst MayCome (sym gives.0) tt
 gives_comes (Err e) old new a gives never = some_comes gives.0 (refusal_comes e never)
 
-turned_comes : (t : Turned) → Played t ⊎ Faulted t → MayCome t.answer
+turned_comes : (t : TraceStep) → Played t ⊎ Faulted t → MayCome t.answer
 turned_comes t (inl played) = gives_comes (turn t.before t.call) t.before t.after t.answer played (turn_never t.before t.call)
 turned_comes t (inr faulted) = subst MayCome (sym faulted.io) refl
 
-pub run_errnos : (calls : List FueledCall) (turns : List Turned) (k : ℕ) (old new : State) → Run k old calls turns new
+pub run_errnos : (calls : List FueledCall) (turns : List TraceStep) (k : ℕ) (old new : State) → Trace k old calls turns new
     → All MayCome (answers_of turns)
 run_errnos calls turns k old new run =
-    All-map MayCome (λ (t : Turned). t.answer) turns (each_turn (λ t. MayCome t.answer) turned_comes calls turns k old new run)
+    All-map MayCome (λ (t : TraceStep). t.answer) turns (each_turn (λ t. MayCome t.answer) turned_comes calls turns k old new run)
 
 pub did_errnos : {before now : FaultCount} {old new : State} {calls : List FueledCall} {answers : List Answer} {touched : Nodes}
-    → DidRun before now old calls answers new touched → All MayCome answers
+    → RefinesTrace before now old calls answers new touched → All MayCome answers
 did_errnos {old = old} {new = new} {calls = calls} did =
     subst (All MayCome) (sym did.answers_are) (run_errnos calls did.turns did.faults old new did.run)

@@ -4,23 +4,23 @@ use Rattle.std.specs.FinSet.{contains}
 use Rattle.std.specs.Prelude.{IsTrue}
 use Rattle.wasi_host.specs.HostLaws.{World, Handles, FaultCount, Rose}
 use Rattle.wasi_host.specs.declared.errors.ErrorCode.{ErrorCode}
-use Rattle.wasi_host.specs.declared.open_handle.Held.{Held}
+use Rattle.wasi_host.specs.declared.open_handle.OpenHandle.{OpenHandle}
 use Rattle.wasi_host.specs.declared.lookup.Lookup.{Lookup}
 use Rattle.wasi_guest.specs.declared.answer.Value.{Value}
 use Rattle.wasi_guest.specs.declared.call.Call.{Call}
 use Rattle.wasi_guest.specs.declared.errno.Errno.TheVariants.{Io}
 use Rattle.wasi_p1_model.specs.CallParts.{Follows, IsReplied, Makes, WantsNoMemory}
-use Rattle.wasi_p1_model.specs.CallTurn.{FollowsRow, Kept, KeptBut, OnlyUses}
+use Rattle.wasi_p1_model.specs.CallTransition.{FollowsRow, Kept, KeptBut, OnlyUses}
 use Rattle.wasi_p1_model.specs.Front.{ask, with_fuel}
 use Rattle.wasi_p1_model.specs.Guest.{Guest, guest_by, guest_of, guest_slots, state_of}
 use Rattle.wasi_p1_model.specs.Owners.{handles, Owned, SlotsOfCall}
 use Rattle.wasi_p1_model.specs.Quotas.{counted_makings}
 use Rattle.wasi_p1_model.specs.Request.{Request, Reply, end_after, growth_in, written_by}
-use Rattle.wasi_p1_model.specs.Row.{Row, made_of_reply}
-use Rattle.wasi_p1_model.specs.Calls.{front, may_want}
+use Rattle.wasi_p1_model.specs.CallResult.{CallResult, made_of_reply}
+use Rattle.wasi_p1_model.specs.Calls.{front, may_run_out_of_memory}
 use Rattle.wasi_p1_model.specs.Slots.{View}
 use Rattle.wasi_p1_model.specs.Spending.{check_to_make, growing, grows, makes, making, on_outcome, spent}
-use Rattle.wasi_p1_model.specs.Stock.{Stock}
+use Rattle.wasi_p1_model.specs.GuestEnvModel.{GuestEnvModel}
 use Rattle.wasi_p1_model.specs.declared.error.P1Error.{P1Error}
 use Rattle.wasi_p1_model.specs.declared.error.P1Error.TheVariants.{Errno, Memory}
 use Rattle.wasi_p1_model.specs.declared.quotas.Allowance.{Allowance}
@@ -38,11 +38,11 @@ use Rattle.wasi_p1_model.proofs.Uses.{growth_nothing, spent_making, used_is}
 pub record KeptSpent {H : Type 0} (call : Call) (growth : ℕ) (e : P1Error) (old new : View H) (before after : List ℕ) : Type 0 where
   pub slots : new.slots ≡ old.slots
   pub table_max : new.table_max ≡ old.table_max
-  pub holdings : new.holdings ≡ on_outcome (let r : Row Value = Err e in r) (spent (makes call) growth old.holdings) old.holdings
+  pub holdings : new.holdings ≡ on_outcome (let r : CallResult Value = Err e in r) (spent (makes call) growth old.holdings) old.holdings
   pub memory : after ≡ before
 
 -- what a failure counts: the use where the host failed, and else nothing
-counts_of : {used s s' : Stock} (e : P1Error) → s' ≡ on_outcome (let r : Row Value = Err e in r) used s
+counts_of : {used s s' : GuestEnvModel} (e : P1Error) → s' ≡ on_outcome (let r : CallResult Value = Err e in r) used s
     → ((e ≡ Errno Io) × (s' ≡ used)) ⊎ ((e ≡ Errno Io → ⊥) × (s' ≡ s))
 counts_of (Errno Io) is = inl (refl, is)
 counts_of e is = inr ((λ io. absurd (cc)), is)
@@ -55,10 +55,10 @@ still_held {slots = slots} w v owned keeps same = ap (guest_slots v.held) same �
 
 module _ {H : Type 0} {told : Bool} {world : H → World} {faults : H → FaultCount} {lookups : H → List Lookup}
     {old new : View H} {before after : List ℕ} {call : Call} where
-  module _ {r : Request} {A : Type 0} (next : Reply r → Row A) (shown : Guest → A → Value × Guest)
+  module _ {r : Request} {A : Type 0} (next : Reply r → CallResult A) (shown : Guest → A → Value × Guest)
       (at : ask r (made_of_reply r next (shown (guest_of world old before))) new.fuel
       ≡ front (guest_of world old before) call old.fuel) {e : P1Error} (replied : IsReplied r next (Err e))
-      (wants : e ≡ Memory → IsTrue (may_want call)) (slots : GuestSlotsStay told world old new)
+      (wants : e ≡ Memory → IsTrue (may_run_out_of_memory call)) (slots : GuestSlotsStay told world old new)
       (does : IsTrue told → Did world faults old new r next (Err e)) where
     -- as `does_err`, of a call with a use
     pub spends_err : (growth : ℕ) → (e ≡ Errno Io → Rose (faults old.host) (faults new.host))
@@ -69,7 +69,7 @@ module _ {H : Type 0} {told : Bool} {world : H → World} {faults : H → FaultC
         but : OnlyUses call e old.holdings new.holdings → KeptBut call e old new before after
         but uses = record { slots = kept.slots; table_max = kept.table_max; uses = uses; memory = kept.memory }
 
-        guest : IsTrue told → {stock : Stock} → new.holdings ≡ stock
+        guest : IsTrue told → {stock : GuestEnvModel} → new.holdings ≡ stock
             → guest_of world new after ≡ record (guest_of world old before) { holdings = stock }
         guest told is = λ i. record {
           slots = slots told i;
@@ -97,17 +97,17 @@ module _ {H : Type 0} {told : Bool} {world : H → World} {faults : H → FaultC
 
   -- ---- of a call that makes something
 
-  module _ {r : Request} {A : Type 0} (own : Option ErrorCode) (b : Bool) (next : Reply r → Row A)
+  module _ {r : Request} {A : Type 0} (own : Option ErrorCode) (b : Bool) (next : Reply r → CallResult A)
       (shown : Guest → A → Value × Guest)
       (at : making b (guest_of world old before) (tail own r next shown (guest_of world old before)) new.fuel
       ≡ front (guest_of world old before) call old.fuel) (check : check_to_make b own old.holdings ≡ Ok tt) where
     -- the part below was refused, or its host failed
     pub made_err : {e : P1Error} → b ≡ makes call → grows r ≡ false → IsReplied r next (Err e)
-        → (e ≡ Memory → IsTrue (may_want call)) → GuestSlotsStay told world old new
+        → (e ≡ Memory → IsTrue (may_run_out_of_memory call)) → GuestSlotsStay told world old new
         → (IsTrue told → Did world faults old new r next (Err e))
         → (e ≡ Errno Io → Rose (faults old.host) (faults new.host))
         → new.slots ≡ old.slots → new.table_max ≡ old.table_max
-        → new.holdings ≡ on_outcome (let r : Row Value = Err e in r) (counted_makings b old.holdings) old.holdings
+        → new.holdings ≡ on_outcome (let r : CallResult Value = Err e in r) (counted_makings b old.holdings) old.holdings
         → after ≡ before → FollowsRow told world faults lookups old new before after call (Err e)
     made_err {e} is none replied wants stays does rises slots table_max holdings memory =
         spends_err next (λ g x. made b (shown g x))
@@ -115,7 +115,7 @@ module _ {H : Type 0} {told : Bool} {world : H → World} {faults : H → FaultC
           slots = slots;
           table_max = table_max;
           holdings = holdings
-              ∙ ap (λ (s : Stock). on_outcome (let r : Row Value = Err e in r) s old.holdings)
+              ∙ ap (λ (s : GuestEnvModel). on_outcome (let r : CallResult Value = Err e in r) s old.holdings)
               (ap (λ b. counted_makings b old.holdings) is ∙ sym (spent_making (makes call) old.holdings));
           memory = memory;
         }) (λ told. sym (growth_nothing _ r none))
@@ -133,7 +133,7 @@ module _ {H : Type 0} {told : Bool} {world : H → World} {faults : H → FaultC
 
   -- ---- of a write or a new size
 
-  module _ {limit : Option Allowance} {w : Request} {A : Type 0} (next : Reply w → Row A)
+  module _ {limit : Option Allowance} {w : Request} {A : Type 0} (next : Reply w → CallResult A)
       (shown : Guest → A → Value × Guest)
       (at : growing limit (ask w (made_of_reply w next (shown (guest_of world old before)))) new.fuel
       ≡ front (guest_of world old before) call old.fuel) (writes : IsWriting w) {live : Handles}
@@ -155,7 +155,7 @@ module _ {H : Type 0} {told : Bool} {world : H → World} {faults : H → FaultC
         (check : ChecksGrowth told world rose live old.host mid limit (written_by w) (end_after w) (Ok growth))
         (rises : rose' → Rose (faults old.host) (faults new.host)) where
       -- and the request was refused, or its host failed
-      pub grow_err : {e : P1Error} → IsReplied w next (Err e) → (e ≡ Memory → IsTrue (may_want call))
+      pub grow_err : {e : P1Error} → IsReplied w next (Err e) → (e ≡ Memory → IsTrue (may_run_out_of_memory call))
           → (IsTrue told → Makes rose' live (world mid) (world new.host) w next (Err e))
           → (e ≡ Errno Io → rose') → KeptSpent call growth e old new before after
           → FollowsRow told world faults lookups old new before after call (Err e)
@@ -169,7 +169,7 @@ module _ {H : Type 0} {told : Bool} {world : H → World} {faults : H → FaultC
       -- and it was answered
       pub grow_ok : {y : Value} {x : A} → length after ≡ length before → SlotsOfCall old.slots new.slots before call
           → Follows w next (Ok x)
-          → ((stands : ℕ → Held) → ((h : ℕ) → contains live h ≡ true → stands h ≡ (world old.host).held h)
+          → ((stands : ℕ → OpenHandle) → ((h : ℕ) → contains live h ≡ true → stands h ≡ (world old.host).held h)
           → grow_shown shown (guest_of world old before) (growth, x) ≡ (y, guest_by stands new after))
           → (IsTrue told → Makes rose' live (world mid) (world new.host) w next (Ok x))
           → FollowsRow told world faults lookups old new before after call (Ok y)

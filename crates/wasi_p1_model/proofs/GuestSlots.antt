@@ -3,7 +3,7 @@ use Rattle.std.proofs.Common.{ℕ, ◌+◌, ◌≤◌, List, [], ◌∷◌, ◌�
 use Rattle.std.proofs.lemmas.List.{map-set}
 use Rattle.std.specs.FinSet.{contains}
 use Rattle.wasi_host.specs.HostLaws.{World, Handles}
-use Rattle.wasi_host.specs.declared.open_handle.Held.{Held}
+use Rattle.wasi_host.specs.declared.open_handle.OpenHandle.{OpenHandle}
 use Rattle.wasi_p1_model.specs.Numbering.{free_number, with_new, live_count}
 use Rattle.wasi_p1_model.specs.Slots.{is_closed_slot, slot_of}
 use Rattle.wasi_p1_model.specs.Guest.{GuestSlot, guest_slot, guest_slots, directory_by, file_by, is_closed, new_number, with_guest_slot, directory, file}
@@ -25,7 +25,7 @@ use Rattle.wasi_p1_model.proofs.Owning.{used_live, without_live, owns_closed}
 
 -- ---- handles that stand for the same leave the guest its slots
 
-slot_same : {held again : ℕ → Held} (slot : Slot) → ((h : ℕ) → 1 ≤ uses_in (handle_in slot) h → again h ≡ held h)
+slot_same : {held again : ℕ → OpenHandle} (slot : Slot) → ((h : ℕ) → 1 ≤ uses_in (handle_in slot) h → again h ≡ held h)
     → guest_slot again slot ≡ guest_slot held slot
 slot_same slots.Closed same = refl
 slot_same (slots.Stream s) same = refl
@@ -34,7 +34,7 @@ slot_same (slots.Directory d) same =
 slot_same (slots.File f) same =
     ap (λ x. file (file_by x f)) (same f.file.file (omega (arith, uses_itself f.file.file)))
 
-same_slots : {held again : ℕ → Held} (table : List Slot) → ((h : ℕ) → 1 ≤ uses (handles table) h → again h ≡ held h)
+same_slots : {held again : ℕ → OpenHandle} (table : List Slot) → ((h : ℕ) → 1 ≤ uses (handles table) h → again h ≡ held h)
     → guest_slots again table ≡ guest_slots held table
 same_slots [] same = refl
 same_slots {held} {again} (slot ∷ table) same =
@@ -48,12 +48,12 @@ same_slots {held} {again} (slot ∷ table) same =
     counted h = ap (λ os. uses os h) (handles-cons slot table) ∙ uses-cons (handle_in slot) (handles table) h
 
 -- as they do over a host that keeps what the live handles stand for
-pub guest_slots_stay : {live : Handles} {held again : ℕ → Held} (table : List Slot) → Owned live (handles table)
+pub guest_slots_stay : {live : Handles} {held again : ℕ → OpenHandle} (table : List Slot) → Owned live (handles table)
     → ((h : ℕ) → contains live h ≡ true → again h ≡ held h) → guest_slots again table ≡ guest_slots held table
 guest_slots_stay table owned keeps = same_slots table (λ h some. keeps h (used_live h owned some))
 
 -- a descriptor that was put back, by what its handle stood for before
-pub put_file_at : (stands again : ℕ → Held) (table now : List Slot) (fd : ℕ) (f : FileSlot)
+pub put_file_at : (stands again : ℕ → OpenHandle) (table now : List Slot) (fd : ℕ) (f : FileSlot)
     → now ≡ slice_set table fd (slots.File f) → again f.file.file ≡ stands f.file.file
     → guest_slots again table ≡ guest_slots stands table
     → guest_slots again now ≡ slice_set (guest_slots stands table) fd (file (file_by (stands f.file.file) f))
@@ -82,29 +82,29 @@ closed_stays {slot = slot} table i is gone owned rests =
 
 -- ---- a descriptor that was opened
 
-closed_mapped : (held : ℕ → Held) (slot : Slot) → is_closed (guest_slot held slot) ≡ is_closed_slot slot
+closed_mapped : (held : ℕ → OpenHandle) (slot : Slot) → is_closed (guest_slot held slot) ≡ is_closed_slot slot
 closed_mapped held slots.Closed = refl
 closed_mapped held (slots.Stream s) = refl
 closed_mapped held (slots.Directory d) = refl
 closed_mapped held (slots.File f) = refl
 
 -- as many are live
-pub live_guests : (held : ℕ → Held) (table : List Slot)
+pub live_guests : (held : ℕ → OpenHandle) (table : List Slot)
     → live_count is_closed (guest_slots held table) ≡ live_count is_closed_slot table
 live_guests held table = live_count-map (guest_slot held) is_closed_slot is_closed (closed_mapped held) table
 
 -- its number is that of the guest's slot
-number_kept : (held : ℕ → Held) (table : List Slot)
+number_kept : (held : ℕ → OpenHandle) (table : List Slot)
     → free_number is_closed_slot table ≡ new_number (guest_slots held table)
 number_kept held table = sym (free_number-map (guest_slot held) is_closed_slot is_closed (closed_mapped held) table)
 
-with_numbered : (held : ℕ → Held) (table : List Slot) (slot : Slot)
+with_numbered : (held : ℕ → OpenHandle) (table : List Slot) (slot : Slot)
     → guest_slots held (with_new is_closed_slot table slot)
     ≡ with_guest_slot (guest_slots held table) (guest_slot held slot)
 with_numbered held table slot = with_new-map (guest_slot held) is_closed_slot is_closed (closed_mapped held) table slot
 
 -- the guest's slot of what was opened
-slot_opened : (held : ℕ → Held) (perms : FsPerms) (mode : OpenMode) (modes : FileModes) (descriptor : Descriptor)
+slot_opened : (held : ℕ → OpenHandle) (perms : FsPerms) (mode : OpenMode) (modes : FileModes) (descriptor : Descriptor)
     → perms_of descriptor ≡ perms → open_mode_of descriptor ≡ mode
     → new_guest_slot perms mode modes (opened_of held descriptor) ≡ guest_slot held (slot_of modes descriptor)
 slot_opened held perms mode modes (descriptors.File f) p m = λ i. file (record {
@@ -119,7 +119,7 @@ slot_opened held perms mode modes (descriptors.Dir dir) p m =
     λ i. directory (record { node = (held dir.dir).node; perms = sym p i; open_mode = sym m i; preopen = None })
 
 -- it stands under its number
-pub opened_numbered : {slots : List GuestSlot} (held : ℕ → Held) (perms : FsPerms) (mode : OpenMode) (modes : FileModes)
+pub opened_numbered : {slots : List GuestSlot} (held : ℕ → OpenHandle) (perms : FsPerms) (mode : OpenMode) (modes : FileModes)
     (table : List Slot) (descriptor : Descriptor)
     → guest_slots held table ≡ slots → perms_of descriptor ≡ perms → open_mode_of descriptor ≡ mode
     → opened_among slots perms mode modes (opened_of held descriptor)

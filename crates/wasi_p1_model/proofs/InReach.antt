@@ -8,8 +8,8 @@ use Rattle.wasi_guest.specs.declared.answer.Answer.{Answer}
 use Rattle.wasi_p1_model.specs.Guest.{Guest, State, open_nodes}
 use Rattle.wasi_p1_model.specs.Front.{FueledCall}
 use Rattle.wasi_p1_model.specs.Reach.{Inside}
-use Rattle.wasi_p1_model.specs.Run.{Turned, Run, Allows, DidRun, answers_of}
-use Rattle.wasi_p1_model.specs.StatesAgree.{Alike, Agrees, ReachIsOne, SeesOnlyReach}
+use Rattle.wasi_p1_model.specs.Trace.{TraceStep, Trace, Allows, RefinesTrace, answers_of}
+use Rattle.wasi_p1_model.specs.StatesAgree.{Alike, Agrees, ReachIsOne, Noninterferes}
 use Rattle.wasi_p1_model.proofs.RunsAlike.{runs_alike}
 
 pub alike_in_reach : {s s' : State} → Agrees s s' → Alike (Inside s) s s'
@@ -38,8 +38,8 @@ reach_is_one s s' agrees n = (to_other agrees n, from_other agrees n)
 
 -- ---- a run
 
-pub runs_same : (old new : State) (calls : List FueledCall) (turns : List Turned) → Run 0 old calls turns new
-    → SeesOnlyReach old calls (answers_of turns) new
+pub runs_same : (old new : State) (calls : List FueledCall) (turns : List TraceStep) → Trace 0 old calls turns new
+    → Noninterferes old calls (answers_of turns) new
 runs_same old new calls turns run other agrees =
     let alike = runs_alike calls new turns (alike_in_reach agrees) run in
     record {
@@ -57,7 +57,7 @@ none_faulted before now k (inl within) never = grind arith
 none_faulted before now k (inr ended) never = absurd (never (omega arith))
 
 pub did_same : {before now : FaultCount} {old new : State} {calls : List FueledCall} {answers : List Answer} {touched : Nodes}
-    → DidRun before now old calls answers new touched → (Rose before now → ⊥) → SeesOnlyReach old calls answers new
+    → RefinesTrace before now old calls answers new touched → (Rose before now → ⊥) → Noninterferes old calls answers new
 did_same {before} {now} {old} {new} {calls} did never =
     let none = none_faulted before now did.faults did.allowed never in
     rw did.answers_are (runs_same old new calls did.turns (rw none at did.run))

@@ -8,7 +8,7 @@ use Rattle.wasi_guest.specs.declared.answer.Value.{Value}
 use Rattle.wasi_guest.specs.declared.call.Call.{Call}
 use Rattle.wasi_p1_model.specs.InTurn.{DoesCall, IsAnsweredSo, DoCalls, DoCallsUntil, SlotsOfRun}
 use Rattle.wasi_p1_model.specs.Owners.{SlotsOfCall}
-use Rattle.wasi_p1_model.specs.Run.{answer_of, ends, GoOn}
+use Rattle.wasi_p1_model.specs.Trace.{answer_of, ends, GoOn}
 use Rattle.wasi_p1_model.specs.Slots.{View}
 use Rattle.wasi_p1_model.specs.Unchanged.{AsBefore}
 use Rattle.wasi_p1_model.specs.declared.error.P1Error.{P1Error}

@@ -2,11 +2,11 @@
 use Rattle.std.proofs.Common.{ℕ, suc, ◌+◌, ◌-◌, ◌*◌, ◌^◌, ◌≡◌, ◌<◌, ◌≤◌, min, List, [], ◌∷◌, ◌++◌, map, refl, ap, sym, ◌∙◌, subst, Ok, Err, arith, append_assoc}
 use Rattle.std.proofs.lemmas.List.{map-append}
 use Rattle.wasi_host.specs.Steps.{◌>>=◌}
-use Rattle.wasi_host.specs.declared.open_handle.Held.{Held}
+use Rattle.wasi_host.specs.declared.open_handle.OpenHandle.{OpenHandle}
 use Rattle.wasi_p1_model.specs.Guest.{GuestSlot}
 use Rattle.wasi_p1_model.specs.Polling.{awaited_by, waited_by, waited_at, all_waited, comes_at, files_in, earliest, files_named, judged_in, judged_of, judged_with}
-use Rattle.wasi_p1_model.specs.Row.{Row, give}
-use Rattle.wasi_p1_model.specs.Stock.{Stock}
+use Rattle.wasi_p1_model.specs.CallResult.{CallResult, give}
+use Rattle.wasi_p1_model.specs.GuestEnvModel.{GuestEnvModel}
 use Rattle.wasi_p1_model.specs.declared.error.P1Error.{P1Error}
 use Rattle.wasi_p1_model.specs.declared.awaited.Awaited.{Awaited}
 use Rattle.wasi_p1_model.specs.declared.awaited.Awaited.TheVariants as awaiteds
@@ -16,7 +16,7 @@ use Rattle.wasi_p1_model.specs.declared.awaited.Waited.{Waited}
 -- ---- one subscription
 
 -- what a handle stands for is the same in these
-judged_by : (held : ℕ → Held) (what : Awaited)
+judged_by : (held : ℕ → OpenHandle) (what : Awaited)
     → (files_in (awaited_by held what) ≡ files_in what) × (comes_at (awaited_by held what) ≡ comes_at what)
 judged_by held (awaiteds.FileToRead file position) = (refl, refl)
 judged_by held (awaiteds.Clock end) = (refl, refl)
@@ -27,28 +27,28 @@ judged_by held awaiteds.FileToWrite = (refl, refl)
 -- ---- those that are left
 
 -- of so many from a start on, those from one on give the whole
-pub record Left {A : Type 0} (stock : Stock) (slots : List GuestSlot) (memory : List ℕ) (start count i : ℕ) (onto : List Waited → A)
-    (whole : Row A) : Type 0 where
+pub record Left {A : Type 0} (stock : GuestEnvModel) (slots : List GuestSlot) (memory : List ℕ) (start count i : ℕ) (onto : List Waited → A)
+    (whole : CallResult A) : Type 0 where
   pub gives : (all_waited stock slots memory (start + 48 * i) (count - i) >>= (λ ws. give (onto ws))) ≡ whole
 
-onto_same : {A : Type 0} (f g : List Waited → A) (m : Row (List Waited)) → ((ws : List Waited) → f ws ≡ g ws)
+onto_same : {A : Type 0} (f g : List Waited → A) (m : CallResult (List Waited)) → ((ws : List Waited) → f ws ≡ g ws)
     → (m >>= (λ ws. give (f ws))) ≡ (m >>= (λ ws. give (g ws)))
 onto_same f g (Ok ws) same = ap give (same ws)
 onto_same f g (Err e) same = refl
 
 -- the first of them is judged
-first_judged : {A : Type 0} {w : Waited} (onto : List Waited → A) (stock : Stock) (slots : List GuestSlot) (memory : List ℕ) (at n : ℕ)
+first_judged : {A : Type 0} {w : Waited} (onto : List Waited → A) (stock : GuestEnvModel) (slots : List GuestSlot) (memory : List ℕ) (at n : ℕ)
     → Ok w ≡ waited_at stock slots memory at → (all_waited stock slots memory at (suc n) >>= (λ ws. give (onto ws)))
     ≡ (all_waited stock slots memory (at + 48) n >>= (λ ws. give (onto (w ∷ ws))))
 unfolding all_waited
 first_judged {w = w} onto stock slots memory at n is =
     rw (← is) (by (all_waited stock slots memory (at + 48) n))
   where
-    by : (m : Row (List Waited)) → ((m >>= (λ others. give (w ∷ others))) >>= (λ ws. give (onto ws))) ≡ (m >>= (λ ws. give (onto (w ∷ ws))))
+    by : (m : CallResult (List Waited)) → ((m >>= (λ others. give (w ∷ others))) >>= (λ ws. give (onto ws))) ≡ (m >>= (λ ws. give (onto (w ∷ ws))))
     by (Ok ws) = refl
     by (Err e) = refl
 
-module _ {A : Type 0} {onto : List Waited → A} {whole : Row A} {stock : Stock} {slots : List GuestSlot} {memory : List ℕ}
+module _ {A : Type 0} {onto : List Waited → A} {whole : CallResult A} {stock : GuestEnvModel} {slots : List GuestSlot} {memory : List ℕ}
     {start count i : ℕ} where
   pub one_less : {w : Waited} → i < count → Ok w ≡ waited_at stock slots memory (start + 48 * i)
       → Left stock slots memory start count i onto whole → Left stock slots memory start count (i + 1) (λ ws. onto (w ∷ ws)) whole
@@ -78,7 +78,7 @@ module _ {A : Type 0} {onto : List Waited → A} {whole : Row A} {stock : Stock}
       subst (λ m. (all_waited stock slots memory (start + 48 * i) m >>= (λ ws. give (onto ws))) ≡ whole) n left.gives
 
 -- all are left
-pub from_start : {A : Type 0} (onto : List Waited → A) (whole : Row A) (stock : Stock) (slots : List GuestSlot) (memory : List ℕ)
+pub from_start : {A : Type 0} (onto : List Waited → A) (whole : CallResult A) (stock : GuestEnvModel) (slots : List GuestSlot) (memory : List ℕ)
     (start count : ℕ) → (all_waited stock slots memory start count >>= (λ ws. give (onto ws))) ≡ whole
     → Left stock slots memory start count 0 onto whole
 from_start onto whole stock slots memory start count is =
@@ -99,7 +99,7 @@ unfolding earliest
 early [] = omega arith
 early (w ∷ ws) = let rest = early ws in omega (arith, rest)
 
-pub none_judged : (stock : Stock) (slots : List GuestSlot) (memory : List ℕ) (start count : ℕ)
+pub none_judged : (stock : GuestEnvModel) (slots : List GuestSlot) (memory : List ℕ) (start count : ℕ)
     → Left stock slots memory start count 0 (judged_with (record { files = 0; earliest = 2 ^ 64 - 1 }))
     (judged_in stock slots memory start count)
 none_judged stock slots memory start count =
@@ -109,8 +109,8 @@ none_judged stock slots memory start count =
     (omega arith) (omega (arith, early ws))))
 
 -- with one more
-pub one_judged : {whole : Row Judged} {stock : Stock} {slots : List GuestSlot} {memory : List ℕ} {start count i : ℕ}
-    (held : ℕ → Held) (before now : Judged) (w : Waited) → i < count
+pub one_judged : {whole : CallResult Judged} {stock : GuestEnvModel} {slots : List GuestSlot} {memory : List ℕ} {start count i : ℕ}
+    (held : ℕ → OpenHandle) (before now : Judged) (w : Waited) → i < count
     → Ok (waited_by held w) ≡ waited_at stock slots memory (start + 48 * i)
     → now.files ≡ before.files + files_in w.what → now.earliest ≡ min before.earliest (comes_at w.what)
     → Left stock slots memory start count i (judged_with before) whole
@@ -127,7 +127,7 @@ one_judged {stock = stock} {slots} {memory} {start} {count} {i} held before now 
           ∙ less.gives;
     }
 
-pub all_judged : {whole : Row Judged} {stock : Stock} {slots : List GuestSlot} {memory : List ℕ} {start count i : ℕ} (before : Judged)
+pub all_judged : {whole : CallResult Judged} {stock : GuestEnvModel} {slots : List GuestSlot} {memory : List ℕ} {start count i : ℕ} (before : Judged)
     → count ≤ i → before.earliest ≤ 2 ^ 64 - 1 → Left stock slots memory start count i (judged_with before) whole
     → Ok before ≡ whole
 unfolding earliest files_named
@@ -136,11 +136,11 @@ all_judged before behind early left =
     ∙ none_left {onto = judged_with before} behind left
 
 -- a refusal of one is that of all, and an answer is theirs
-pub judged_err : {e : P1Error} (m : Row (List Waited)) → Err e ≡ (m >>= (λ ws. give (judged_of ws))) → Err e ≡ m
+pub judged_err : {e : P1Error} (m : CallResult (List Waited)) → Err e ≡ (m >>= (λ ws. give (judged_of ws))) → Err e ≡ m
 judged_err (Ok ws) is = absurd (cc)
 judged_err {e} (Err f) is = let same : e ≡ f = (cc) in ap Err same
 
-pub judged_ok : {j : Judged} (m : Row (List Waited)) → Ok j ≡ (m >>= (λ ws. give (judged_of ws)))
+pub judged_ok : {j : Judged} (m : CallResult (List Waited)) → Ok j ≡ (m >>= (λ ws. give (judged_of ws)))
     → (ws : List Waited) × (Ok ws ≡ m) × (j ≡ judged_of ws)
 judged_ok (Ok ws) is = (ws, refl, (cc))
 judged_ok (Err f) is = absurd (cc)
@@ -152,20 +152,20 @@ nothing_behind [] = refl
 nothing_behind (w ∷ ws) = ap (λ rest. w ∷ rest) (nothing_behind ws)
 
 -- behind those that were kept
-abbrev pub kept_with : (ℕ → Held) → List Waited → List Waited → List Waited
+abbrev pub kept_with : (ℕ → OpenHandle) → List Waited → List Waited → List Waited
 kept_with held all ws = map (waited_by held) all ++ ws
 
-pub none_kept : (held : ℕ → Held) (all : List Waited) (stock : Stock) (slots : List GuestSlot) (memory : List ℕ) (start count : ℕ)
+pub none_kept : (held : ℕ → OpenHandle) (all : List Waited) (stock : GuestEnvModel) (slots : List GuestSlot) (memory : List ℕ) (start count : ℕ)
     → all ≡ [] → Left stock slots memory start count 0 (kept_with held all) (all_waited stock slots memory start count)
 none_kept held all stock slots memory start count is =
     from_start (kept_with held all) _ stock slots memory start count (rw is (by (all_waited stock slots memory start count)))
   where
-    by : (m : Row (List Waited)) → (m >>= (λ ws. give ws)) ≡ m
+    by : (m : CallResult (List Waited)) → (m >>= (λ ws. give ws)) ≡ m
     by (Ok ws) = refl
     by (Err e) = refl
 
-pub one_kept : {whole : Row (List Waited)} {stock : Stock} {slots : List GuestSlot} {memory : List ℕ} {start count i : ℕ}
-    (held : ℕ → Held) (all : List Waited) (w : Waited) → i < count
+pub one_kept : {whole : CallResult (List Waited)} {stock : GuestEnvModel} {slots : List GuestSlot} {memory : List ℕ} {start count i : ℕ}
+    (held : ℕ → OpenHandle) (all : List Waited) (w : Waited) → i < count
     → Ok (waited_by held w) ≡ waited_at stock slots memory (start + 48 * i)
     → Left stock slots memory start count i (kept_with held all) whole
     → Left stock slots memory start count (i + 1) (kept_with held (all ++ w ∷ [])) whole
@@ -179,8 +179,8 @@ one_kept {stock = stock} {slots} {memory} {start} {count} {i} held all w within 
           ∙ less.gives;
     }
 
-pub all_kept : {whole : Row (List Waited)} {stock : Stock} {slots : List GuestSlot} {memory : List ℕ} {start count i : ℕ}
-    (held : ℕ → Held) (all : List Waited) → count ≤ i → Left stock slots memory start count i (kept_with held all) whole
+pub all_kept : {whole : CallResult (List Waited)} {stock : GuestEnvModel} {slots : List GuestSlot} {memory : List ℕ} {start count i : ℕ}
+    (held : ℕ → OpenHandle) (all : List Waited) → count ≤ i → Left stock slots memory start count i (kept_with held all) whole
     → whole ≡ Ok (map (waited_by held) all)
 all_kept held all behind left =
     sym (none_left {onto = kept_with held all} behind left) ∙ ap Ok (nothing_behind (map (waited_by held) all))

@@ -7,13 +7,13 @@ use Rattle.wasi_guest.specs.declared.call.Call.{Call}
 use Rattle.wasi_host.specs.HostLaws.{World, Handles, FaultCount}
 use Rattle.wasi_host.specs.declared.lookup.Lookup.{Lookup}
 use Rattle.wasi_p1_model.specs.CallParts.{Follows, IsReplied, Knows}
-use Rattle.wasi_p1_model.specs.CallTurn.{FollowsRow, Kept}
+use Rattle.wasi_p1_model.specs.CallTransition.{FollowsRow, Kept}
 use Rattle.wasi_p1_model.specs.Front.{answer, known_or_asked, onward}
 use Rattle.wasi_p1_model.specs.Guest.{Guest, guest_of}
 use Rattle.wasi_p1_model.specs.Owners.{handles, Owned}
 use Rattle.wasi_p1_model.specs.Request.{Request, Reply}
-use Rattle.wasi_p1_model.specs.Row.{Row, Program, done}
-use Rattle.wasi_p1_model.specs.Calls.{front, descriptors_named, may_want}
+use Rattle.wasi_p1_model.specs.CallResult.{CallResult, Program, done}
+use Rattle.wasi_p1_model.specs.Calls.{front, descriptors_named, may_run_out_of_memory}
 use Rattle.wasi_p1_model.specs.Slots.{View}
 use Rattle.wasi_p1_model.specs.Spending.{spends_nothing}
 use Rattle.wasi_p1_model.specs.declared.slots.FileSlot.{FileSlot}
@@ -24,17 +24,17 @@ use Rattle.wasi_p1_model.proofs.Below.{same_view}
 use Rattle.wasi_p1_model.proofs.Taking.{refused_at, makes_err, put_answered, put_ok, guest_put, Made, PutBack}
 
 -- the end of a row, of what is made of what is known
-abbrev known_end : {A : Type 0} → ℕ → (A → Value × Guest) → Row A → Row (Program (Value × Guest)) × ℕ
+abbrev known_end : {A : Type 0} → ℕ → (A → Value × Guest) → CallResult A → CallResult (Program (Value × Guest)) × ℕ
 known_end fuel shown m = onward m fuel (λ x. answer (shown x))
 
 module _ {H : Type 0} {told : Bool} {world : H → World} {faults : H → FaultCount} {lookups : H → List Lookup}
     {old new : View H} {before after : List ℕ} {call : Call} {A B : Type 0} {r : Request} {base : Option B}
-    (part : B → Row A) (next : Reply r → Row A) (shown : Guest → A → Value × Guest)
+    (part : B → CallResult A) (next : Reply r → CallResult A) (shown : Guest → A → Value × Guest)
     (at : known_or_asked base part r next (shown (guest_of world old before)) new.fuel
     ≡ front (guest_of world old before) call old.fuel)
     {live : Handles} (owned : Owned live (handles old.slots)) where
   pub known_err : {e : P1Error} → Knows base part (Err e) old.host new.host → (base ≡ None → IsReplied r next (Err e))
-      → (e ≡ Memory → IsTrue (may_want call)) → IsTrue (spends_nothing call r) → Kept old new before after
+      → (e ≡ Memory → IsTrue (may_run_out_of_memory call)) → IsTrue (spends_nothing call r) → Kept old new before after
       → (IsTrue told → base ≡ None → Made world faults old new live r next (Err e))
       → FollowsRow told world faults lookups old new before after call (Err e)
   known_err {e} knows replied wants unused kept makes = by base refl at knows
@@ -74,5 +74,5 @@ module _ {H : Type 0} {told : Bool} {world : H → World} {faults : H → FaultC
       by (Some b) some at (gives, host) =
           let known = subst (λ m. known_end new.fuel (shown (guest_of world old before)) m
           ≡ front (guest_of world old before) call old.fuel) (sym gives) at in
-          put_answered (subst (λ (p : Value × Guest). ◌≡◌ {A = Row (Program (Value × Guest)) × ℕ} (Ok (done p), new.fuel)
+          put_answered (subst (λ (p : Value × Guest). ◌≡◌ {A = CallResult (Program (Value × Guest)) × ℕ} (Ok (done p), new.fuel)
           (front (guest_of world old before) call old.fuel)) shows known) size put named is same host

@@ -19,9 +19,9 @@ use Rattle.wasi_p1_model.specs.Front.{ask}
 use Rattle.wasi_p1_model.specs.Guest.{Guest}
 use Rattle.wasi_p1_model.specs.Quotas.{growth_within, is_above}
 use Rattle.wasi_p1_model.specs.Request.{Request, Reply, Direct, Grow, after, comes_to, end_after, growth_at, growth_in, grown_reply, reply_of, size_at, starts_at, written_by}
-use Rattle.wasi_p1_model.specs.Row.{Row, asking, from_host, give, made_of_reply}
+use Rattle.wasi_p1_model.specs.CallResult.{CallResult, asking, from_host, give, made_of_reply}
 use Rattle.wasi_p1_model.specs.Spending.{check_to_make, grow_request, grown_in, growing, growth_from, making, with_growth, with_making}
-use Rattle.wasi_p1_model.specs.Stock.{Stock}
+use Rattle.wasi_p1_model.specs.GuestEnvModel.{GuestEnvModel}
 use Rattle.wasi_p1_model.specs.declared.error.P1Error.{P1Error}
 use Rattle.wasi_p1_model.specs.declared.error.P1Error.TheVariants.{Errno, Memory}
 use Rattle.wasi_p1_model.specs.declared.quotas.Allowance.{Allowance}
@@ -37,19 +37,19 @@ made true p = with_making p
 made false p = p
 
 -- where the check let it through, what is asked is permitted
-pub made_permitted : (makes : Bool) (own : Option ErrorCode) (s : Stock) → check_to_make makes own s ≡ Ok tt → own ≡ None
+pub made_permitted : (makes : Bool) (own : Option ErrorCode) (s : GuestEnvModel) → check_to_make makes own s ≡ Ok tt → own ≡ None
 made_permitted makes None s left = refl
 made_permitted makes (Some code) s left = absurd (cc)
 
 -- and then a row that makes something asks, and its answer is counted
-pub made_tail : {A : Type 0} {fuel : ℕ} (makes : Bool) (own : Option ErrorCode) (r : Request) (next : Reply r → Row A)
+pub made_tail : {A : Type 0} {fuel : ℕ} (makes : Bool) (own : Option ErrorCode) (r : Request) (next : Reply r → CallResult A)
     (shown : Guest → A → Value × Guest) (g : Guest) → check_to_make makes own g.holdings ≡ Ok tt
     → making makes g (tail own r next shown g) fuel ≡ ask r (made_of_reply r next (λ x. made makes (shown g x))) fuel
 made_tail {A} {fuel} makes (Some code) r next shown g left = absurd (cc)
 made_tail {A} {fuel} false None r next shown g left = refl
 made_tail {A} {fuel} true None r next shown g left = rw left (λ i. (Ok (asking r (λ reply. again (next reply) i)), fuel))
   where
-    again : (m : Row A) → ((m >>= (λ x. give (shown g x))) >>= (λ p. give (with_making p)))
+    again : (m : CallResult A) → ((m >>= (λ x. give (shown g x))) >>= (λ p. give (with_making p)))
         ≡ (m >>= (λ x. give (with_making (shown g x))))
     again (Ok x) = refl
     again (Err e) = refl
@@ -57,8 +57,8 @@ made_tail {A} {fuel} true None r next shown g left = rw left (λ i. (Ok (asking 
 -- ---- growth
 
 -- what a part makes of the reply of a write or a new size, beside the growth
-abbrev pub grow_next : {A : Type 0} (limit : Option Allowance) (w : Request) → (Reply w → Row A) → Reply (grow_request limit w)
-    → Row (ℕ × A)
+abbrev pub grow_next : {A : Type 0} (limit : Option Allowance) (w : Request) → (Reply w → CallResult A) → Reply (grow_request limit w)
+    → CallResult (ℕ × A)
 grow_next limit w next reply = grown_in limit w reply >>= (λ grown. next grown.1 >>= (λ x. give (grown.0, x)))
 
 -- and its answer, with the growth counted
@@ -66,22 +66,22 @@ abbrev pub grow_shown : {A : Type 0} → (Guest → A → Value × Guest) → Gu
 grow_shown shown g p = with_growth p.0 (shown g p.1)
 
 -- a row that makes a file grow asks so
-pub grow_tail : {A : Type 0} {fuel : ℕ} (limit : Option Allowance) (w : Request) (next : Reply w → Row A)
+pub grow_tail : {A : Type 0} {fuel : ℕ} (limit : Option Allowance) (w : Request) (next : Reply w → CallResult A)
     (shown : Guest → A → Value × Guest) (g : Guest)
     → growing limit (ask w (made_of_reply w next (shown g))) fuel
     ≡ ask (grow_request limit w) (made_of_reply (grow_request limit w) (grow_next limit w next) (grow_shown shown g)) fuel
 grow_tail {A} {fuel} limit w next shown g =
     λ i. (Ok (asking (grow_request limit w) (λ reply. again (grown_in limit w reply) i)), fuel)
   where
-    counts : ℕ → Row (Value × Guest) → Row (Value × Guest)
+    counts : ℕ → CallResult (Value × Guest) → CallResult (Value × Guest)
     counts n m = m >>= (λ p. give (with_growth n p))
 
-    inner : (n : ℕ) (m : Row A) → counts n (m >>= (λ x. give (shown g x)))
+    inner : (n : ℕ) (m : CallResult A) → counts n (m >>= (λ x. give (shown g x)))
         ≡ ((m >>= (λ x. give (n, x))) >>= (λ p. give (grow_shown shown g p)))
     inner n (Ok x) = refl
     inner n (Err e) = refl
 
-    again : (m : Row (ℕ × Reply w)) → (m >>= (λ grown. counts grown.0 (next grown.1 >>= (λ x. give (shown g x)))))
+    again : (m : CallResult (ℕ × Reply w)) → (m >>= (λ grown. counts grown.0 (next grown.1 >>= (λ x. give (shown g x)))))
         ≡ ((m >>= (λ grown. next grown.1 >>= (λ x. give (grown.0, x)))) >>= (λ p. give (grow_shown shown g p)))
     again (Ok grown) = inner grown.0 (next grown.1)
     again (Err e) = refl
@@ -96,7 +96,7 @@ pub record IsWriting (w : Request) : Type 0 where
 
 -- what the check of the growth gave: without a bound nothing was asked; else the file was looked at
 pub record ChecksGrowth {H : Type 0} (told : Bool) (world : H → World) (rose : Type 0) (live : Handles) (old new : H)
-    (limit : Option Allowance) (n : ℕ) (end : FileEnd) (result : Row ℕ) : Type 0 where
+    (limit : Option Allowance) (n : ℕ) (end : FileEnd) (result : CallResult ℕ) : Type 0 where
   pub unbound : limit ≡ None → (result ≡ Ok 0) × (new ≡ old)
   pub front : (l : Allowance) → limit ≡ Some l
       → IsReplied (Direct (Stat n)) (λ metadata. growth_from l end metadata.size) result
@@ -104,18 +104,18 @@ pub record ChecksGrowth {H : Type 0} (told : Bool) (world : H → World) (rose :
       → Makes rose live (world old) (world new) (Direct (Stat n)) (λ metadata. growth_from l end metadata.size) result
 
 -- what was reckoned of a size
-pub reckoned : {result : Row ℕ} (l : Allowance) (end : FileEnd) (size : ℕ) → growth_from l end size ≡ result
+pub reckoned : {result : CallResult ℕ} (l : Allowance) (end : FileEnd) (size : ℕ) → growth_from l end size ≡ result
     → (b : Bool) × (is_above l (growth_within l end size) ≡ b)
     × (result ≡ (if b then Err (Errno errnos.Dquot) else Ok (growth_within l end size)))
 unfolding growth_from
 reckoned l end size is = (is_above l (growth_within l end size), refl, sym is)
 
-too_much : {e : P1Error} (n : ℕ) (b : Bool) → (let r : Row ℕ = Err e in r) ≡ (if b then Err (Errno errnos.Dquot) else Ok n)
+too_much : {e : P1Error} (n : ℕ) (b : Bool) → (let r : CallResult ℕ = Err e in r) ≡ (if b then Err (Errno errnos.Dquot) else Ok n)
     → (b ≡ true) × (e ≡ Errno errnos.Dquot)
 too_much n true is = (refl, (cc))
 too_much n false is = absurd (cc)
 
-enough : {m : ℕ} (n : ℕ) (b : Bool) → (let r : Row ℕ = Ok m in r) ≡ (if b then Err (Errno errnos.Dquot) else Ok n)
+enough : {m : ℕ} (n : ℕ) (b : Bool) → (let r : CallResult ℕ = Ok m in r) ≡ (if b then Err (Errno errnos.Dquot) else Ok n)
     → (b ≡ false) × (m ≡ n)
 enough n true is = absurd (cc)
 enough n false is = (refl, (cc))
@@ -181,12 +181,12 @@ touches_both {b = b} first second = record {
 }
 
 -- a fault that rose in a part of it rose in all of it
-rises_in : {A rose all : Type 0} {result row : Row A} → (rose → all) → GivesOrElse rose result row → GivesOrElse all result row
+rises_in : {A rose all : Type 0} {result row : CallResult A} → (rose → all) → GivesOrElse rose result row → GivesOrElse all result row
 rises_in rises (inl is) = inl is
 rises_in rises (inr (inl is)) = inr (inl is)
 rises_in rises (inr (inr (is, up))) = inr (inr (is, rises up))
 
-asked_all : {rose all : Type 0} {w v : World} {r : Request} {result : Row (Reply r)} → (rose → all) → Asked rose w v r result
+asked_all : {rose all : Type 0} {w v : World} {r : Request} {result : CallResult (Reply r)} → (rose → all) → Asked rose w v r result
     → Asked all w v r result
 asked_all rises asked = record { reply = rises_in rises asked.reply; tree = asked.tree; touched = asked.touched }
 
@@ -198,12 +198,12 @@ module _ (t : Tree) (l : Allowance) (w : Request) (below : is_above l (growth_at
   grow_steps : after t (Grow l w) ≡ after t w
   grow_steps = rw below refl
 
-  grow_refuses : {e : P1Error} → (let r : Row (Reply w) = Err e in r) ≡ from_host (reply_of t w)
-      → (let r : Row (Reply (Grow l w)) = Err e in r) ≡ from_host (reply_of t (Grow l w))
+  grow_refuses : {e : P1Error} → (let r : CallResult (Reply w) = Err e in r) ≡ from_host (reply_of t w)
+      → (let r : CallResult (Reply (Grow l w)) = Err e in r) ≡ from_host (reply_of t (Grow l w))
   grow_refuses {e} is = rw below (by (reply_of t w) is)
     where
-      by : (m : Result (Reply w) ErrorCode) → (let r : Row (Reply w) = Err e in r) ≡ from_host m
-          → (let r : Row (Reply (Grow l w)) = Err e in r) ≡ from_host (grown_reply false (growth_at t l w) m)
+      by : (m : Result (Reply w) ErrorCode) → (let r : CallResult (Reply w) = Err e in r) ≡ from_host m
+          → (let r : CallResult (Reply (Grow l w)) = Err e in r) ≡ from_host (grown_reply false (growth_at t l w) m)
       by (Ok reply) is = absurd (cc)
       by (Err code) is = let same : e ≡ Errno (errno_of code) = (cc) in ap Err same
 
@@ -263,7 +263,7 @@ module _ {H : Type 0} {told : Bool} {world : H → World} {rose : Type 0} {live 
           | inr (metadata, asked, gives) ↦ asked.tree
         ]
 
-    module _ {A : Type 0} (next : Reply w → Row A) where
+    module _ {A : Type 0} (next : Reply w → CallResult A) where
       pub growth_refused_front : IsReplied (grow_request limit w) (grow_next limit w next) (Err e)
       growth_refused_front = by limit check
         where
@@ -337,7 +337,7 @@ module _ {H : Type 0} {told : Bool} {world : H → World} {rose : Type 0} {live 
         by None check = (let none : growth ≡ 0 = (let is = (check.unbound refl).0 in cc) in none ∙ sym (writes.alone (world old).tree))
         by (Some l) check = (reckons l (end_after w) (check.tells is l refl)).is
 
-    module _ {A : Type 0} (next : Reply w → Row A) where
+    module _ {A : Type 0} (next : Reply w → CallResult A) where
       pub grow_front_err : {e : P1Error} → IsReplied w next (Err e)
           → IsReplied (grow_request limit w) (grow_next limit w next) (Err e)
       grow_front_err {e} replied = by limit

@@ -2,7 +2,7 @@ pub mod Growing
 pub mod Adding
 pub mod Lengthening
 pub mod Elsewhere
-pub mod Near
+pub mod LocalCalls
 pub mod PlainLook
 pub mod Putting
 pub mod Numbers

@@ -14,7 +14,7 @@ use Rattle.wasi_host.specs.Tree.{Tree, Content, File, Directory, Link, node_at, 
 use Rattle.wasi_host.specs.ValidTree.{IsEntry, IsPlaced, IsValidContent, IsValidTree, name_count, names_for}
 use Rattle.wasi_host.specs.declared.errors.ErrorCode.{ErrorCode}
 use Rattle.wasi_host.specs.declared.file_type.FileType.TheVariants as types
-use Rattle.wasi_host.specs.declared.open_handle.Held.{Held}
+use Rattle.wasi_host.specs.declared.open_handle.OpenHandle.{OpenHandle}
 use Rattle.wasi_host.specs.declared.metadata.Metadata.{Metadata}
 use Rattle.wasi_host.specs.Agree.{IsClosed}
 use Rattle.wasi_host.proofs.Agreeing.{itself, unless_value}
@@ -194,7 +194,7 @@ opened_lists : (t : Tree) (d : ℕ) {names : List Listed} → (lists_at t d).ans
 unfolding reached child
 opened_lists t d {names} is =
     let (opened, found, lists) = both_ok (open_answer t d (codes ".") listing_options) _ is in
-    let same : d ≡ opened.node = ap (λ (h : Held). h.node) (unless_value (refusal t (OpenAt d (codes ".") listing_options)) found) in (
+    let same : d ≡ opened.node = ap (λ (h : OpenHandle). h.node) (unless_value (refusal t (OpenAt d (codes ".") listing_options)) found) in (
       (can_open t d (codes ".") listing_options (free _ _ _ found)).directory,
       sym (unless_value (refusal t (ListDir opened)) lists) ∙ ap (listing t) (sym same),
     )

@@ -14,7 +14,7 @@ use Rattle.wasi_host.specs.Tree.{Tree}
 use Rattle.wasi_host.specs.declared.dir_entry.DirEntry.{DirEntry}
 use Rattle.wasi_host.specs.declared.errors.ErrorCode.{ErrorCode}
 use Rattle.wasi_host.specs.declared.errors.HostError.{HostError}
-use Rattle.wasi_host.specs.declared.open_handle.Held.{Held}
+use Rattle.wasi_host.specs.declared.open_handle.OpenHandle.{OpenHandle}
 use Rattle.wasi_host.specs.declared.metadata.Metadata.{Metadata}
 use Rattle.wasi_host.proofs.Touching.{at_root}
 use Rattle.wasi_resolve.specs.Meanings.{lists_at}
@@ -108,7 +108,7 @@ module _ {live mid : Handles} {w u v : World} {dir : ℕ} (held : contains live 
       → Resolved live w v (reads_from w.tree (w.held dir).node (answer w.tree (w.held dir).node)) shown r
   read_on {shown = shown} {r = r} answer next =
       let d : ℕ = (w.held dir).node in
-      let here = subst (λ (h : Held). Resolved mid u v (reads_from u.tree h.node (answer u.tree h.node)) shown r)
+      let here = subst (λ (h : OpenHandle). Resolved mid u v (reads_from u.tree h.node (answer u.tree h.node)) shown r)
       (so_far.keeps dir held) next in
       let there = subst (λ t. Resolved mid u v (reads_from t d (answer t d)) shown r) so_far.tree here in
       resolved_then so_far (at_root w.tree d) (same_live same) refl there

@@ -5,9 +5,9 @@ use Rattle.wasi_guest.specs.declared.call.Call.{Call}
 use Rattle.wasi_guest.specs.declared.call.Call.TheVariants as calls
 use Rattle.wasi_p1_model.specs.Front.{FueledCall}
 use Rattle.wasi_p1_model.specs.Guest.{Guest}
-use Rattle.wasi_p1_model.specs.Row.{give}
+use Rattle.wasi_p1_model.specs.CallResult.{give}
 use Rattle.wasi_p1_model.specs.Calls.{row, args_get, args_sizes_get, environ_get, environ_sizes_get, clock_res_get, clock_time_get, proc_exit, proc_raise, sched_yield, sock_accept, sock_recv, sock_send, sock_shutdown}
-use Rattle.wasi_p1_model.proofs.Near.{IsNear}
+use Rattle.wasi_p1_model.proofs.LocalCalls.{IsLocal}
 use Rattle.wasi_p1_model.proofs.Wanting.{inval_never, sizes_never, clock_res_never, clock_time_never, exit_never, signal_never}
 pub mod Parts
 mod Spending
@@ -83,5 +83,5 @@ front_near g (calls.SockRecv _ _ _ _) = no_socket_near _ _ (inval_never _)
 front_near g (calls.SockSend _ _ _ si_flags) = no_socket_near _ (give si_flags) tt
 front_near g (calls.SockShutdown _ _) = no_socket_near _ _ (inval_never _)
 
-pub row_near : (g : Guest) (call : FueledCall) → IsNear g call.call (row g call)
+pub row_near : (g : Guest) (call : FueledCall) → IsLocal g call.call (row g call)
 row_near g call = (front_near g call.call).near call.fuel

@@ -6,15 +6,15 @@ use Rattle.wasi_host.specs.Tree.{Tree}
 use Rattle.wasi_host.specs.declared.errors.ErrorCode.{ErrorCode}
 use Rattle.wasi_p1_model.specs.Guest.{Guest, State}
 use Rattle.wasi_p1_model.specs.Request.{Request, Reply, reply_of, after}
-use Rattle.wasi_p1_model.specs.Row.{with_tree, Row, give, asking}
+use Rattle.wasi_p1_model.specs.CallResult.{with_tree, CallResult, give, asking}
 use Rattle.wasi_guest.specs.Iovec.{first_buffer}
 use Rattle.wasi_guest.specs.Records.{Found, text_in}
 use Rattle.wasi_guest.specs.declared.iovec.Iovec.{Iovec}
 use Rattle.wasi_p1_model.specs.Front.{Front, CallFront, FueledCall, onward, free, charge, charged_text, charged_buffer, ◌>>=◌}
 use Rattle.wasi_p1_model.specs.Parts.{from_guest}
 use Rattle.wasi_p1_model.specs.Calls.{turn}
-use Rattle.wasi_p1_model.specs.Run.{Turned, Played, Faulted, Gives, Run, Spends, ends}
-use Rattle.wasi_p1_model.specs.Turn.{AfterFault, IsTurn, StepTaken, used_by}
+use Rattle.wasi_p1_model.specs.Trace.{TraceStep, Played, Faulted, Gives, Trace, Spends, ends}
+use Rattle.wasi_p1_model.specs.Transition.{AfterFault, IsTransition, StepTaken, used_by}
 use Rattle.wasi_guest.specs.declared.quota.QuotaUsed.{QuotaUsed}
 use Rattle.wasi_p1_model.specs.declared.error.P1Error.{P1Error}
 use Rattle.wasi_guest.specs.declared.answer.Value.{Value}
@@ -25,22 +25,22 @@ use Rattle.wasi_p1_model.proofs.Uses.{used_counts, with_counts}
 -- ---- what a call leaves that its row didn't answer
 
 -- the tree has the row's one step
-pub record TookStep (u : Tree) (row : Row (Value × State)) : Type 0 where
+pub record TookStep (u : Tree) (row : CallResult (Value × State)) : Type 0 where
   pub given : Value × State
   pub answers : row ≡ Ok given
   pub tree : u ≡ given.1.tree
 
 -- all stays but for counts of what is used and, maybe, the row's one step in the tree
-pub record StaysBut (s s' : State) (row : Row (Value × State)) : Type 0 where
+pub record StaysBut (s s' : State) (row : CallResult (Value × State)) : Type 0 where
   pub used : QuotaUsed
   pub guest : s'.guest ≡ with_counts used s.guest
   pub tree : (s'.tree ≡ s.tree) ⊎ TookStep s'.tree row
 
 -- it is the row's, or all stays but for that
-abbrev pub Moves : State → State → Row (Value × State) → Type 0
+abbrev pub Moves : State → State → CallResult (Value × State) → Type 0
 Moves s s' row = ((x : Value) × (row ≡ Ok (x, s'))) ⊎ StaysBut s s' row
 
-module _ {s s' : State} {row : Row (Value × State)} where
+module _ {s s' : State} {row : CallResult (Value × State)} where
   -- all stays
   pub stays : s' ≡ s → StaysBut s s' row
   stays same = record {
@@ -58,7 +58,7 @@ module _ {s s' : State} {row : Row (Value × State)} where
   }
   after_fault call (inr (inr step)) = by row refl step
     where
-      by : (m : Row (Value × State)) → row ≡ m → StepTaken (used_by s call) s' m → StaysBut s s' row
+      by : (m : CallResult (Value × State)) → row ≡ m → StepTaken (used_by s call) s' m → StaysBut s s' row
       by (Ok p) is step = record {
         used = (used_by s call).holdings.used;
         guest = ap (λ (x : State). x.guest) step ∙ used_counts s call;
@@ -66,33 +66,33 @@ module _ {s s' : State} {row : Row (Value × State)} where
       }
       by (Err e) is step = absurd step
 
-pub turn_moves : (rose reaches : Type 0) {s s' : State} (call : FueledCall) {row : Row (Value × State)}
-    (r : Result Value P1Error) → IsTurn rose reaches (used_by s call) s s' r row → Moves s s' row
+pub turn_moves : (rose reaches : Type 0) {s s' : State} (call : FueledCall) {row : CallResult (Value × State)}
+    (r : Result Value P1Error) → IsTransition rose reaches (used_by s call) s s' r row → Moves s s' row
 turn_moves rose reaches call (Ok x) is = inl (x, is)
 turn_moves rose reaches call (Err e) (inl refuses) = inr (stays refuses.stays)
 turn_moves rose reaches call (Err e) (inr (inl wants)) = inr (stays wants.stays)
 turn_moves rose reaches call (Err e) (inr (inr faults)) = inr (after_fault call faults.state)
 
 -- a turn of a run that is faulted
-pub faulted_stays : {t : Turned} → Faulted t → StaysBut t.before t.after (turn t.before t.call)
+pub faulted_stays : {t : TraceStep} → Faulted t → StaysBut t.before t.after (turn t.before t.call)
 faulted_stays {t} faulted = after_fault t.call faulted.state
 
 -- a turn of a run, faulted or not
-pub turned_moves : (t : Turned) → Played t ⊎ Faulted t → Moves t.before t.after (turn t.before t.call)
+pub turned_moves : (t : TraceStep) → Played t ⊎ Faulted t → Moves t.before t.after (turn t.before t.call)
 turned_moves t (inl played) = by (turn t.before t.call) played
   where
-    by : (row : Row (Value × State)) → Gives row t.before t.answer t.after → Moves t.before t.after row
+    by : (row : CallResult (Value × State)) → Gives row t.before t.answer t.after → Moves t.before t.after row
     by (Ok p) (is, new) = inl (p.0, ap (λ (s : State). Ok (p.0, s)) (sym new))
     by (Err e) (is, new) = inr (stays new)
 turned_moves t (inr faulted) = inr (faulted_stays faulted)
 
-pub turned_by : {k j : ℕ} {t : Turned} → Spends k j t → Played t ⊎ Faulted t
+pub turned_by : {k j : ℕ} {t : TraceStep} → Spends k j t → Played t ⊎ Faulted t
 turned_by (inl (played, same)) = inl played
 turned_by (inr (faulted, same)) = inr faulted
 
 -- what holds of each turn holds of each of a run
-pub each_turn : (P : Turned → Type 0) → ((t : Turned) → Played t ⊎ Faulted t → P t) → (calls : List FueledCall)
-    (turns : List Turned) (k : ℕ) (old new : State) → Run k old calls turns new
+pub each_turn : (P : TraceStep → Type 0) → ((t : TraceStep) → Played t ⊎ Faulted t → P t) → (calls : List FueledCall)
+    (turns : List TraceStep) (k : ℕ) (old new : State) → Trace k old calls turns new
     → All P turns
 each_turn P holds [] [] k old new run = All-nil P
 each_turn P holds [] (t ∷ turns) k old new run = absurd run
@@ -101,14 +101,14 @@ each_turn P holds (call ∷ calls) (t ∷ turns) k old new (j, before, is, spend
     All-cons P t turns (holds t (turned_by spends))
     (later (each_turn P holds calls turns j t.after new) (ends t.answer) rest)
   where
-    later : (Run j t.after calls turns new → All P turns) → (b : Bool)
-        → MatchBool b ((turns ≡ []) × (new ≡ t.after)) (Run j t.after calls turns new) → All P turns
+    later : (Trace j t.after calls turns new → All P turns) → (b : Bool)
+        → MatchBool b ((turns ≡ []) × (new ≡ t.after)) (Trace j t.after calls turns new) → All P turns
     later next true (none, last) = subst (All P) (sym none) (All-nil P)
     later next false on = next on
 
 -- what each turn keeps a run keeps
-pub run_keeps : (Holds : State → Type 0) → ((t : Turned) → Played t ⊎ Faulted t → Holds t.before → Holds t.after)
-    → (calls : List FueledCall) (turns : List Turned) (k : ℕ) (old new : State) → Run k old calls turns new
+pub run_keeps : (Holds : State → Type 0) → ((t : TraceStep) → Played t ⊎ Faulted t → Holds t.before → Holds t.after)
+    → (calls : List FueledCall) (turns : List TraceStep) (k : ℕ) (old new : State) → Trace k old calls turns new
     → Holds old → Holds new
 run_keeps Holds keeps [] [] k old new run held = subst Holds (sym run) held
 run_keeps Holds keeps [] (t ∷ turns) k old new run held = absurd run
@@ -119,19 +119,19 @@ run_keeps Holds keeps (call ∷ calls) (t ∷ turns) k old new (j, before, is, s
     then : Holds t.after
     then = keeps t (turned_by spends) (subst Holds (sym before) held)
 
-    later : (Run j t.after calls turns new → Holds new) → (b : Bool)
-        → MatchBool b ((turns ≡ []) × (new ≡ t.after)) (Run j t.after calls turns new) → Holds new
+    later : (Trace j t.after calls turns new → Holds new) → (b : Bool)
+        → MatchBool b ((turns ≡ []) × (new ≡ t.after)) (Trace j t.after calls turns new) → Holds new
     later next true (none, last) = subst Holds (sym last) then
     later next false on = next on
 
 -- ---- the answer of a row over a tree
 
-pub over_tree : {t : Tree} {p : Value × State} (m : Row (Value × Guest)) → over t m ≡ Ok p → p.1.tree ≡ t
+pub over_tree : {t : Tree} {p : Value × State} (m : CallResult (Value × Guest)) → over t m ≡ Ok p → p.1.tree ≡ t
 over_tree {t} {p} (Ok q) is =
     let same : with_tree (q, t) ≡ p = (cc) in ap (λ (x : Value × State). x.1.tree) (sym same)
 over_tree (Err e) is = absurd (cc)
 
-pub over_guest : {p : Value × State} (t : Tree) (m : Row (Value × Guest)) → over t m ≡ Ok p → m ≡ Ok (p.0, p.1.guest)
+pub over_guest : {p : Value × State} (t : Tree) (m : CallResult (Value × Guest)) → over t m ≡ Ok p → m ≡ Ok (p.0, p.1.guest)
 over_guest {p} t (Ok q) is =
     let same : with_tree (q, t) ≡ p = (cc) in ap (λ (x : Value × State). Ok (x.0, x.1.guest)) same
 over_guest t (Err e) is = absurd (cc)
@@ -139,7 +139,7 @@ over_guest t (Err e) is = absurd (cc)
 -- ---- the parts of a row that was answered
 
 -- each gave what the next one took
-pub gave : {A : Type 0} {p : Value × State} (t : Tree) (m : Row A) (next : A → CallFront) (fuel : ℕ)
+pub gave : {A : Type 0} {p : Value × State} (t : Tree) (m : CallResult A) (next : A → CallFront) (fuel : ℕ)
     → row_on t ((free m >>= next) fuel).0 ≡ Ok p → (x : A) × (m ≡ Ok x) × (row_on t (next x fuel).0 ≡ Ok p)
 gave t (Ok x) next fuel is = (x, refl, is)
 gave t (Err e) next fuel is = absurd (cc)
@@ -194,13 +194,13 @@ gave_buffer {p} t memory iovs n next fuel = by (nat_le (8 * n) fuel)
     by false is = absurd (cc)
 
 -- and its request was answered
-pub record Replied (t : Tree) (r : Request) (next : Reply r → Row (Value × Guest)) (p : Value × State) : Type 0 where
+pub record Replied (t : Tree) (r : Request) (next : Reply r → CallResult (Value × Guest)) (p : Value × State) : Type 0 where
   pub reply : Reply r
   pub is : reply_of t r ≡ Ok reply
   pub tree : p.1.tree ≡ after t r
   pub gives : next reply ≡ Ok (p.0, p.1.guest)
 
-pub replied_by : {p : Value × State} (t : Tree) (r : Request) (next : Reply r → Row (Value × Guest))
+pub replied_by : {p : Value × State} (t : Tree) (r : Request) (next : Reply r → CallResult (Value × Guest))
     → row_on t (Ok (asking r next)) ≡ Ok p → Replied t r next p
 replied_by {p} t r next is = by (reply_of t r) refl is
   where

@@ -8,7 +8,7 @@ use Rattle.wasi_fs.specs.declared.descriptor.Descriptor.TheVariants as descripto
 use Rattle.wasi_host.specs.HostLaws.{World, Handles}
 use Rattle.wasi_host.specs.declared.errors.ErrorCode.{ErrorCode}
 use Rattle.wasi_host.specs.declared.errors.HostError.{HostError}
-use Rattle.wasi_host.specs.declared.open_handle.Held.{Held}
+use Rattle.wasi_host.specs.declared.open_handle.OpenHandle.{OpenHandle}
 use Rattle.wasi_p1_model.specs.Guest.{guest_slots}
 use Rattle.wasi_p1_model.specs.Owners.{handle_in, handles, Got, Owned}
 use Rattle.wasi_p1_model.specs.Slots.{is_closed_slot, slot_of}
@@ -28,7 +28,7 @@ got_slot old new modes (descriptors.File f) got = got
 got_slot old new modes (descriptors.Dir dir) got = got
 
 -- it is a directory where one is asked for
-pub opened_asked : (directory : Bool) (held : ℕ → Held) (descriptor : Descriptor) → IsAsked directory descriptor
+pub opened_asked : (directory : Bool) (held : ℕ → OpenHandle) (descriptor : Descriptor) → IsAsked directory descriptor
     → IsTrue directory → IsTrue (opened_of held descriptor).is_dir
 opened_asked true held (descriptors.File f) is asked = absurd (cc)
 opened_asked false held (descriptors.File f) is asked = absurd (cc)

@@ -18,7 +18,7 @@ use Rattle.wasi_p1_model.proofs.Texts.{with_both}
 use Rattle.wasi_p1_model.specs.Pages.{dirent_of, record_of, record_size, records_from, records_after, page}
 use Rattle.wasi_p1_model.specs.PageLaws.{PageLength, PastTheEnd}
 use Rattle.wasi_p1_model.proofs.Bytes.{byte_of, word_bytes, joined, cut}
-use Rattle.wasi_p1_model.proofs.Near.{AreBytes, HasByteNames}
+use Rattle.wasi_p1_model.proofs.LocalCalls.{AreBytes, HasByteNames}
 
 -- ---- the records of entries
 

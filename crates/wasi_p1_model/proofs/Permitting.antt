@@ -7,25 +7,25 @@ use Rattle.wasi_host.specs.Tree.{Tree}
 use Rattle.wasi_guest.specs.declared.answer.Value.{Value}
 use Rattle.wasi_guest.specs.declared.call.Call.{Call}
 use Rattle.wasi_p1_model.specs.AppendOnly.{Adds, nothing, AppendsAtEnd, AppendOnlyTurnsAdd}
-use Rattle.wasi_p1_model.specs.CallTurn.{Turns, NamesUnder}
+use Rattle.wasi_p1_model.specs.CallTransition.{Turns, NamesUnder}
 use Rattle.wasi_p1_model.specs.Front.{FueledCall}
 use Rattle.wasi_p1_model.specs.Guest.{Guest, State}
 use Rattle.wasi_p1_model.specs.ReadOnly.{IsReadOnlyGuest, ReadOnlyTurnsLeaveTheTree, ReadOnlyRunsLeaveTheTree}
-use Rattle.wasi_p1_model.specs.Row.{Row, Program, done, asking}
+use Rattle.wasi_p1_model.specs.CallResult.{CallResult, Program, done, asking}
 use Rattle.wasi_p1_model.specs.Calls.{row, turn}
-use Rattle.wasi_p1_model.specs.Run.{Turned, Played, Faulted}
+use Rattle.wasi_p1_model.specs.Trace.{TraceStep, Played, Faulted}
 use Rattle.wasi_p1_model.specs.declared.error.P1Error.{P1Error}
 use Rattle.wasi_p1_model.proofs.Alike.{row_on}
 use Rattle.wasi_p1_model.proofs.Moving.{Moves, turn_moves, turned_moves, run_keeps, over_tree, replied_by}
-use Rattle.wasi_p1_model.proofs.Near.{IsNear, Permitted, leaves, changes}
+use Rattle.wasi_p1_model.proofs.LocalCalls.{IsLocal, Permitted, leaves, changes}
 use Rattle.wasi_p1_model.proofs.Locality.{row_near}
 use Rattle.wasi_p1_model.proofs.Stemming.{turn_stems}
 
 -- ---- what a call does is permitted
 
 -- where its row answers it
-row_permits : (g : Guest) (call : Call) (t : Tree) (m : Row (Program (Value × Guest))) (p : Value × State)
-    → IsNear g call m → row_on t m ≡ Ok p → Permitted g call t p.1.tree
+row_permits : (g : Guest) (call : Call) (t : Tree) (m : CallResult (Program (Value × Guest))) (p : Value × State)
+    → IsLocal g call m → row_on t m ≡ Ok p → Permitted g call t p.1.tree
 row_permits g call t (Ok (done q)) p near is = leaves (over_tree (Ok q) is)
 row_permits g call t (Ok (asking r next)) p near is =
     let did = replied_by t r next is in
@@ -44,7 +44,7 @@ moves_permit {s} call (inr still) = elim still.tree [
 ]
 
 -- faulted or not
-pub turned_permitted : (t : Turned) → Played t ⊎ Faulted t
+pub turned_permitted : (t : TraceStep) → Played t ⊎ Faulted t
     → Permitted t.before.guest t.call.call t.before.tree t.after.tree
 turned_permitted t took = moves_permit t.call (turned_moves t took)
 
@@ -86,7 +86,7 @@ only_leaves (leaves same) only = same
 only_leaves (changes perms all other adds) only = absurd (other (only all.one perms (all.all all.one all.named)))
 
 -- and all that it has then stem from such
-turned_only : (t : Turned) → Played t ⊎ Faulted t → IsReadOnlyGuest t.before.guest → IsReadOnlyGuest t.after.guest
+turned_only : (t : TraceStep) → Played t ⊎ Faulted t → IsReadOnlyGuest t.before.guest → IsReadOnlyGuest t.after.guest
 turned_only t took only n perms has = only _ perms (turn_stems t took n perms has)
 
 pub run_leaves : ReadOnlyRunsLeaveTheTree

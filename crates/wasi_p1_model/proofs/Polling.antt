@@ -24,13 +24,13 @@ use Rattle.wasi_p1_model.specs.Guest.{GuestSlot, node_in}
 use Rattle.wasi_p1_model.specs.Parts.{from_guest, Source, input, from, source_in, Sink, output, into, sink_in}
 use Rattle.wasi_p1_model.specs.Polling.{some_asked, lists_within, end_of, clock_end, waiting_to_read, waiting_to_write, waiting_for, waited_at, all_waited, nodes_in, nodes_read, comes_at, type_of, nbytes_in, event_flags, wall_later, clocks_at, event_of, first_size, events, with_events}
 use Rattle.wasi_p1_model.specs.RawFlags.{or_inval}
-use Rattle.wasi_p1_model.specs.Row.{Row, give}
+use Rattle.wasi_p1_model.specs.CallResult.{CallResult, give}
 use Rattle.wasi_p1_model.specs.Services.{nanoseconds_of}
-use Rattle.wasi_p1_model.specs.Stock.{Stock}
+use Rattle.wasi_p1_model.specs.GuestEnvModel.{GuestEnvModel}
 use Rattle.wasi_p1_model.specs.Subscriptions.{descriptor_awaited, named_in, waited_for}
 use Rattle.wasi_p1_model.specs.declared.error.P1Error.{P1Error}
 use Rattle.wasi_p1_model.specs.declared.error.P1Error.TheVariants.{Errno}
-use Rattle.wasi_p1_model.specs.declared.holdings.Clocks.{Clocks}
+use Rattle.wasi_p1_model.specs.declared.guest_env.Clocks.{Clocks}
 use Rattle.wasi_p1_model.specs.declared.awaited.Awaited.{Awaited}
 use Rattle.wasi_p1_model.specs.declared.awaited.Awaited.TheVariants as awaiteds
 use Rattle.wasi_p1_model.specs.declared.awaited.Waited.{Waited}
@@ -54,7 +54,7 @@ unfolding lists_within
 lists_never memory subscriptions at n = when ((subscriptions % 8 == 0) && ((at % 8 == 0)
     && (in_memory memory subscriptions (48 * n) && in_memory memory at (32 * n)))) tt _ tt
 
-end_never : (stock : Stock) (timeout : ℕ) (absolute : Bool) (clock : Clockid) → Never (end_of stock timeout absolute clock)
+end_never : (stock : GuestEnvModel) (timeout : ℕ) (absolute : Bool) (clock : Clockid) → Never (end_of stock timeout absolute clock)
 end_never stock timeout true clocks.Realtime = after (nanoseconds_of stock.wall) _
     (when (nat_lt (stock.wall.seconds * 10 ^ 9 + stock.wall.nanoseconds) (2 ^ 64)) _ _ refl) (λ now. tt)
 end_never stock timeout true clocks.Monotonic = tt
@@ -63,7 +63,7 @@ end_never stock timeout false clocks.Monotonic = tt
 end_never stock timeout absolute clocks.ProcessCputimeId = refl
 end_never stock timeout absolute clocks.ThreadCputimeId = refl
 
-clock_never : (stock : Stock) (id timeout flags : ℕ) → Never (clock_end stock id timeout flags)
+clock_never : (stock : GuestEnvModel) (id timeout flags : ℕ) → Never (clock_end stock id timeout flags)
 unfolding clock_end
 clock_never stock id timeout flags = after (or_inval (clockid_of id)) _ (inval_never (clockid_of id)) (λ clock.
     after (or_inval (flags_in known_subclockflags flags)) _ (inval_never (flags_in known_subclockflags flags))
@@ -73,7 +73,7 @@ to_write_never : (sink : Sink) → Never (waiting_to_write sink)
 to_write_never (output o) = tt
 to_write_never (into f) = unless_so (is_read_only f.perms) awaiteds.FileToWrite _ refl
 
-waiting_never : (stock : Stock) (slots : List GuestSlot) (what : SubscriptionKind) → Never (waiting_for stock slots what)
+waiting_never : (stock : GuestEnvModel) (slots : List GuestSlot) (what : SubscriptionKind) → Never (waiting_for stock slots what)
 waiting_never stock slots (kinds.Clock id timeout precision flags) =
     after (clock_end stock id timeout flags) _ (clock_never stock id timeout flags) (λ end. tt)
 waiting_never stock slots (kinds.FdRead fd) =
@@ -81,23 +81,23 @@ waiting_never stock slots (kinds.FdRead fd) =
 waiting_never stock slots (kinds.FdWrite fd) =
     after (sink_in (slice_get slots fd)) _ (sink_never (slice_get slots fd)) to_write_never
 
-one_never : (stock : Stock) (slots : List GuestSlot) (memory : List ℕ) (at : ℕ) → Never (waited_at stock slots memory at)
+one_never : (stock : GuestEnvModel) (slots : List GuestSlot) (memory : List ℕ) (at : ℕ) → Never (waited_at stock slots memory at)
 unfolding waited_at
 one_never stock slots memory at = after (from_guest (subscription_in memory at)) _ (guest_never (subscription_in memory at))
     (λ asked. after (waiting_for stock slots asked.what) _ (waiting_never stock slots asked.what) (λ what. tt))
 
-pub waited_never : (stock : Stock) (slots : List GuestSlot) (memory : List ℕ) (at n : ℕ)
+pub waited_never : (stock : GuestEnvModel) (slots : List GuestSlot) (memory : List ℕ) (at n : ℕ)
     → Never (all_waited stock slots memory at n)
 unfolding all_waited
 waited_never stock slots memory at zero = tt
 waited_never stock slots memory at (suc n) = after (waited_at stock slots memory at) _ (one_never stock slots memory at)
     (λ first. after (all_waited stock slots memory (at + 48) n) _ (waited_never stock slots memory (at + 48) n) (λ others. tt))
 
-pub clocks_never : (stock : Stock) (moment : ℕ) → Never (clocks_at stock moment)
+pub clocks_never : (stock : GuestEnvModel) (moment : ℕ) → Never (clocks_at stock moment)
 unfolding clocks_at
 clocks_never stock moment = by (nat_le moment stock.monotonic)
   where
-    later : Row Clocks
+    later : CallResult Clocks
     later = wall_later stock.wall (moment - stock.monotonic) >>= (λ wall. give (record { wall = wall; monotonic = moment }))
 
     by : (b : Bool) → Never (cond b (Ok (record { wall = stock.wall; monotonic = stock.monotonic })) later)
@@ -118,24 +118,24 @@ pub record IsOf (slots : List GuestSlot) (fds : List ℕ) (n : ℕ) : Type 0 whe
   pub node : Contains (node_in (slice_get slots fd)) n
 
 -- what is waited for of one subscription
-abbrev NamesOne : List GuestSlot → List ℕ → Row Awaited → Type 0
+abbrev NamesOne : List GuestSlot → List ℕ → CallResult Awaited → Type 0
 NamesOne slots fds (Ok what) = (n : ℕ) → Contains (nodes_in what) n → IsOf slots fds n
 NamesOne slots fds (Err e) = Unit {0}
 
-abbrev NamesAll : List GuestSlot → List ℕ → Row (List Waited) → Type 0
+abbrev NamesAll : List GuestSlot → List ℕ → CallResult (List Waited) → Type 0
 NamesAll slots fds (Ok ws) = (n : ℕ) → Contains (nodes_read ws) n → IsOf slots fds n
 NamesAll slots fds (Err e) = Unit {0}
 
-asked_names : (stock : Stock) (slots : List GuestSlot) (what : SubscriptionKind)
+asked_names : (stock : GuestEnvModel) (slots : List GuestSlot) (what : SubscriptionKind)
     → NamesOne slots (descriptor_awaited what) (waiting_for stock slots what)
 asked_names stock slots (kinds.Clock id timeout precision flags) = by (clock_end stock id timeout flags)
   where
-    by : (m : Row ℕ) → NamesOne slots [] (m >>= (λ end. give (awaiteds.Clock end)))
+    by : (m : CallResult ℕ) → NamesOne slots [] (m >>= (λ end. give (awaiteds.Clock end)))
     by (Ok end) = λ n has. no_element n has
     by (Err e) = tt
 asked_names stock slots (kinds.FdRead fd) = by (source_in (slice_get slots fd)) refl
   where
-    by : (m : Row Source) → source_in (slice_get slots fd) ≡ m
+    by : (m : CallResult Source) → source_in (slice_get slots fd) ≡ m
         → NamesOne slots (fd ∷ []) (m >>= (λ source. give (waiting_to_read source)))
     by (Ok input) is = λ n has. no_element n has
     by (Ok (from f)) is = λ n has. record {
@@ -146,17 +146,17 @@ asked_names stock slots (kinds.FdRead fd) = by (source_in (slice_get slots fd)) 
     by (Err e) is = tt
 asked_names stock slots (kinds.FdWrite fd) = by (sink_in (slice_get slots fd))
   where
-    none : (b : Bool) → NamesOne slots (fd ∷ []) (let m : Row Awaited = cond b (Err (Errno errnos.Perm)) (Ok awaiteds.FileToWrite) in m)
+    none : (b : Bool) → NamesOne slots (fd ∷ []) (let m : CallResult Awaited = cond b (Err (Errno errnos.Perm)) (Ok awaiteds.FileToWrite) in m)
     none true = tt
     none false = λ n has. no_element n has
 
-    by : (m : Row Sink) → NamesOne slots (fd ∷ []) (m >>= waiting_to_write)
+    by : (m : CallResult Sink) → NamesOne slots (fd ∷ []) (m >>= waiting_to_write)
     by (Ok (output o)) = λ n has. no_element n has
     by (Ok (into f)) = none (is_read_only f.perms)
     by (Err e) = tt
 
 -- of all: those of the first, and of the others
-both_name : (slots : List GuestSlot) (asked : Found Subscription) (what : Subscription → Row Awaited) (all : Row (List Waited)) (fds : List ℕ)
+both_name : (slots : List GuestSlot) (asked : Found Subscription) (what : Subscription → CallResult Awaited) (all : CallResult (List Waited)) (fds : List ℕ)
     → ((s : Subscription) → NamesOne slots (descriptor_awaited s.what) (what s)) → NamesAll slots fds all
     → NamesAll slots (named_in asked ++ fds)
     ((from_guest asked >>= (λ s. what s >>= (λ w. give (record { userdata = s.userdata; what = w }))))
@@ -165,7 +165,7 @@ unfolding nodes_read
 both_name slots (Err e) what all fds first others = tt
 both_name slots (Ok s) what all fds first others = by (what s) (first s) all others
   where
-    by : (one : Row Awaited) → NamesOne slots (descriptor_awaited s.what) one → (all : Row (List Waited)) → NamesAll slots fds all
+    by : (one : CallResult Awaited) → NamesOne slots (descriptor_awaited s.what) one → (all : CallResult (List Waited)) → NamesAll slots fds all
         → NamesAll slots (descriptor_awaited s.what ++ fds) ((one >>= (λ w. give (record { userdata = s.userdata; what = w })))
         >>= (λ first. all >>= (λ others. give (first ∷ others))))
     by (Err e) first all others = tt
@@ -177,7 +177,7 @@ both_name slots (Ok s) what all fds first others = by (what s) (first s) all oth
           record { fd = is.fd; named = Contains-append_right (descriptor_awaited s.what) fds is.fd is.named; node = is.node }
     ]
 
-all_name : (stock : Stock) (slots : List GuestSlot) (memory : List ℕ) (at n : ℕ)
+all_name : (stock : GuestEnvModel) (slots : List GuestSlot) (memory : List ℕ) (at n : ℕ)
     → NamesAll slots (waited_for memory at n) (all_waited stock slots memory at n)
 unfolding all_waited waited_at waited_for nodes_read
 all_name stock slots memory at zero = λ n has. no_element n has
@@ -186,7 +186,7 @@ all_name stock slots memory at (suc n) =
     (waited_for memory (at + 48) n) (λ s. asked_names stock slots s.what) (all_name stock slots memory (at + 48) n)
 
 -- the files that are read are those of descriptors that are named
-pub files_named_by : {ws : List Waited} (stock : Stock) (slots : List GuestSlot) (memory : List ℕ) (at n : ℕ)
+pub files_named_by : {ws : List Waited} (stock : GuestEnvModel) (slots : List GuestSlot) (memory : List ℕ) (at n : ℕ)
     → all_waited stock slots memory at n ≡ Ok ws → (node : ℕ) → Contains (nodes_read ws) node
     → IsOf slots (waited_for memory at n) node
 files_named_by stock slots memory at n is = subst (NamesAll slots (waited_for memory at n)) is (all_name stock slots memory at n)

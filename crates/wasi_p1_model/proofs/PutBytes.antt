@@ -11,7 +11,7 @@ use Rattle.wasi_host.specs.HostLaws.{IsHeld}
 use Rattle.wasi_host.specs.Refusal.{refusal, can_write}
 use Rattle.wasi_host.specs.Step.{other_bytes, with_piece, write_step, with_content}
 use Rattle.wasi_host.specs.Tree.{Tree, Node, Content, File, Directory, Link, bytes_of, is_file, next_of, node_at}
-use Rattle.wasi_host.specs.declared.open_handle.Held.{Held}
+use Rattle.wasi_host.specs.declared.open_handle.OpenHandle.{OpenHandle}
 use Rattle.wasi_host.proofs.Agreeing.{unless_value}
 use Rattle.wasi_host.proofs.Changes.{node_at-changed}
 use Rattle.wasi_host.proofs.Refusals.{free_of}
@@ -27,7 +27,7 @@ use Rattle.wasi_p1_model.specs.PutBytes.{file_bytes, bytes_from, PutsAt, BytesAr
 use Rattle.wasi_p1_model.specs.Putting.{count_in, put_call, put_end}
 use Rattle.wasi_p1_model.specs.Quotas.{allowance, growth_to}
 use Rattle.wasi_p1_model.specs.Request.{Reply, Direct, size_at}
-use Rattle.wasi_p1_model.specs.Row.{Row, give}
+use Rattle.wasi_p1_model.specs.CallResult.{CallResult, give}
 use Rattle.wasi_p1_model.specs.Calls.{fd_pread, fd_pwrite, write_into}
 use Rattle.wasi_p1_model.specs.Spending.{growing}
 use Rattle.wasi_p1_model.specs.Writing.{put_growth, with_grown}
@@ -116,7 +116,7 @@ slice_get-write_step t n offset (byte ∷ bytes) k within is below =
 -- ---- the calls
 
 -- what was written to was opened for it
-opened_for : (t : Tree) (held : Held) (offset : ℕ) (piece : List ℕ) → refusal t (Pwrite held offset piece) ≡ None
+opened_for : (t : Tree) (held : OpenHandle) (offset : ℕ) (piece : List ℕ) → refusal t (Pwrite held offset piece) ≡ None
     → can_write held.mode ≡ true
 unfolding refusal
 opened_for t held offset piece none = grind arith
@@ -139,7 +139,7 @@ puts s s' f offset piece left x other is =
     counted append =
         with_grown (cond (includes (mode_bits f.open_mode) 2) (growth_to (size_at s.tree f.node) (put_end append offset piece)) 0) s.guest
 
-    next : (b : Bool) → Reply (Direct (put_call b (held_by f) offset piece)) → Row (Value × Guest)
+    next : (b : Bool) → Reply (Direct (put_call b (held_by f) offset piece)) → CallResult (Value × Guest)
     next b answer = give (Number (count_in b (held_by f) offset piece answer), s.guest)
 
     by : (b : Bool) → b ≡ false

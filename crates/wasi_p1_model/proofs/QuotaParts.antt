@@ -22,13 +22,13 @@ use Rattle.wasi_p1_model.specs.Parts.{new_guest_slot, with_file}
 use Rattle.wasi_p1_model.specs.QuotaLaws.{WritesAsOpened, total_bytes}
 use Rattle.wasi_p1_model.specs.Quotas.{allowance, count_on, counted_growth, counted_making, is_used_up}
 use Rattle.wasi_p1_model.specs.Request.{Request, Reply, Grow, after, growth_at, growth_in, reply_of}
-use Rattle.wasi_p1_model.specs.Row.{Row, Program, done, asking, give}
+use Rattle.wasi_p1_model.specs.CallResult.{CallResult, Program, done, asking, give}
 use Rattle.wasi_p1_model.specs.Services.{input_into, next_input, written}
 use Rattle.wasi_p1_model.specs.Spending.{grown_by, grown_in, made_by, may_make, spent, with_growth, with_making}
-use Rattle.wasi_p1_model.specs.Stock.{Stock}
+use Rattle.wasi_p1_model.specs.GuestEnvModel.{GuestEnvModel}
 use Rattle.wasi_p1_model.specs.declared.error.P1Error.TheVariants.{Errno}
-use Rattle.wasi_p1_model.specs.declared.holdings.Output.{Output}
-use Rattle.wasi_p1_model.specs.declared.holdings.Output.TheVariants as outputs
+use Rattle.wasi_p1_model.specs.declared.guest_env.Output.{Output}
+use Rattle.wasi_p1_model.specs.declared.guest_env.Output.TheVariants as outputs
 use Rattle.wasi_p1_model.specs.declared.quotas.Allowance.{Allowance}
 use Rattle.wasi_p1_model.specs.declared.slots.FileModes.{FileModes}
 use Rattle.wasi_p1_model.proofs.Changing.{IsFileOf, file_open, in_set, new_stems}
@@ -91,15 +91,15 @@ goes_on (Some most) used more = omega arith
 
 -- ---- the use of a call alone
 
-spent_quota : (makes : Bool) (growth : ℕ) (s : Stock) → (spent makes growth s).quota ≡ s.quota
+spent_quota : (makes : Bool) (growth : ℕ) (s : GuestEnvModel) → (spent makes growth s).quota ≡ s.quota
 spent_quota true growth s = refl
 spent_quota false growth s = refl
 
-nodes_later : (makes : Bool) (growth : ℕ) (s : Stock) → s.used.nodes ≤ (spent makes growth s).used.nodes
+nodes_later : (makes : Bool) (growth : ℕ) (s : GuestEnvModel) → s.used.nodes ≤ (spent makes growth s).used.nodes
 nodes_later true growth s = goes_on s.quota.nodes s.used.nodes 1
 nodes_later false growth s = omega arith
 
-bytes_later : (makes : Bool) (growth : ℕ) (s : Stock) → s.used.bytes ≤ (spent makes growth s).used.bytes
+bytes_later : (makes : Bool) (growth : ℕ) (s : GuestEnvModel) → s.used.bytes ≤ (spent makes growth s).used.bytes
 bytes_later true growth s = goes_on s.quota.bytes s.used.bytes growth
 bytes_later false growth s = goes_on s.quota.bytes s.used.bytes growth
 
@@ -127,7 +127,7 @@ nothing_done makes growth g t = record {
 -- ---- rows that make and grow nothing
 
 -- a request that counts no growth makes so many nodes at most, and no file longer, and the counts stay
-pub record Makes (most : ℕ) (g : Guest) (r : Request) (next : Reply r → Row (Value × Guest)) : Type 0 where
+pub record Makes (most : ℕ) (g : Guest) (r : Request) (next : Reply r → CallResult (Value × Guest)) : Type 0 where
   pub none : (t : Tree) → growth_in t r ≡ 0
   pub within : (t : Tree) (reply : Reply r) → reply_of t r ≡ Ok reply → Within most 0 t (after t r)
   pub keeps : (t : Tree) (reply : Reply r) → reply_of t r ≡ Ok reply → IfOk (next reply) (λ p. KeepsUse g p.1)
@@ -143,7 +143,7 @@ idle_spends {g} {h} {t} {u} none keeps within =
     let bytes = within.bytes in
     subst (λ n. SpendsWithin false n g h t u) (sym none) (record {
       quota = keeps.quota;
-      used = keeps.used ∙ sym (ap (λ (s : Stock). s.used) (growth_none g.holdings));
+      used = keeps.used ∙ sym (ap (λ (s : GuestEnvModel). s.used) (growth_none g.holdings));
       nodes = none_fits _ _ _ _ (omega arith) (omega arith);
       bytes = λ _. none_fits _ _ _ _ (omega arith) (goes_on _ _ _);
       opened = keeps.opened;
@@ -155,7 +155,7 @@ idle_uses g (asking r next) makes = λ t reply is. IfOk-weaker (next reply) (λ 
     (λ p keeps. idle_spends (makes.none t) keeps (makes.within t reply is)) (makes.keeps t reply is)
 
 -- what is made of an answer
-shown_ok : (P Q : Value × Guest → Type 0) (shown : Value × Guest → Value × Guest) (m : Row (Value × Guest))
+shown_ok : (P Q : Value × Guest → Type 0) (shown : Value × Guest → Value × Guest) (m : CallResult (Value × Guest))
     → ((p : Value × Guest) → P p → Q (shown p)) → IfOk m P → IfOk (m >>= (λ p. give (shown p))) Q
 shown_ok P Q shown (Ok p) all has = all p has
 shown_ok P Q shown (Err e) all has = tt
@@ -167,12 +167,12 @@ IsMaking g (done p) = ⊥
 IsMaking g (asking r next) = Makes 1 g r next
 
 -- a making is left
-making_left : (s : Stock) {left : Unit {0}} → may_make s ≡ Ok left → IfSome s.quota.nodes (λ most. s.used.nodes + 1 ≤ most)
+making_left : (s : GuestEnvModel) {left : Unit {0}} → may_make s ≡ Ok left → IfSome s.quota.nodes (λ most. s.used.nodes + 1 ≤ most)
 unfolding may_make
 making_left s {left} may = by s.quota.nodes may
   where
     by : (bound : Option ℕ)
-        → (let m : Row (Unit {0}) = cond (is_used_up bound s.used.nodes) (Err (Errno Dquot)) (Ok tt) in m) ≡ Ok left
+        → (let m : CallResult (Unit {0}) = cond (is_used_up bound s.used.nodes) (Err (Errno Dquot)) (Ok tt) in m) ≡ Ok left
         → IfSome bound (λ most. s.used.nodes + 1 ≤ most)
     by None may = tt
     by (Some most) may = grind (arith, nat_tests)
@@ -184,19 +184,19 @@ made_spends {g} {h} {t} {u} none may within keeps =
     let bytes = within.bytes in
     subst (λ n. SpendsWithin true n g (record h { holdings = counted_making h.holdings }) t u) (sym none) (record {
       quota = keeps.quota;
-      used = made_same keeps ∙ sym (ap (λ (s : Stock). s.used) (growth_none (counted_making g.holdings)));
+      used = made_same keeps ∙ sym (ap (λ (s : GuestEnvModel). s.used) (growth_none (counted_making g.holdings)));
       nodes = some_fit g.holdings.quota.nodes _ _ 1 (omega arith) (making_left g.holdings may);
       bytes = λ _. none_fits _ _ _ _ (omega arith) (goes_on _ _ _);
       opened = keeps.opened;
     })
 
-pub made_uses : (g : Guest) (m : Row (Program (Value × Guest))) → IfOk m (IsMaking g)
+pub made_uses : (g : Guest) (m : CallResult (Program (Value × Guest))) → IfOk m (IsMaking g)
     → IfOk (made_by true g m) (Uses true g)
 made_uses g (Err e) none = tt
 made_uses g (Ok (done p)) none = absurd none
 made_uses g (Ok (asking r next)) makes = by (may_make g.holdings) refl
   where
-    by : (left : Row (Unit {0})) → may_make g.holdings ≡ left
+    by : (left : CallResult (Unit {0})) → may_make g.holdings ≡ left
         → IfOk (left >>= (λ _. give (asking r (λ reply. next reply >>= (λ p. give (with_making p)))))) (Uses true g)
     by (Err e) may = tt
     by (Ok left) may = λ t reply is. shown_ok (λ p. KeepsUse g p.1) _ with_making (next reply)
@@ -205,7 +205,7 @@ made_uses g (Ok (asking r next)) makes = by (may_make g.holdings) refl
 -- ---- rows that make a file longer
 
 -- a request that writes a file, or gives it a size, which was opened for that where its handle does so
-pub record WritesFile (g : Guest) (f : OpenFile) (w : Request) (next : Reply w → Row (Value × Guest)) : Type 0 where
+pub record WritesFile (g : Guest) (f : OpenFile) (w : Request) (next : Reply w → CallResult (Value × Guest)) : Type 0 where
   pub write : IsWrite f.mode w
   pub keeps : (t : Tree) (reply : Reply w) → reply_of t w ≡ Ok reply → IfOk (next reply) (λ p. KeepsUse g p.1)
   pub opened : WritesAsOpened g → can_write f.mode ≡ true → includes (mode_bits f.open_mode) 2 ≡ true
@@ -250,7 +250,7 @@ module _ (g : Guest) (f : OpenFile) where
         opened = keeps.opened;
       }
 
-  pub grown_uses : (m : Row (Program (Value × Guest))) → IfOk m (IsGrowing g f)
+  pub grown_uses : (m : CallResult (Program (Value × Guest))) → IfOk m (IsGrowing g f)
       → IfOk (grown_by (allowance g.holdings f.open_mode) m) (Uses false g)
   grown_uses (Err e) none = tt
   grown_uses (Ok (done p)) none = absurd none
@@ -277,12 +277,12 @@ pub still : {memory : List ℕ} (g : Guest) → KeepsUse g (record g { memory = 
 still g = record { quota = refl; used = refl; opened = λ all. all }
 
 -- and of what else a guest has
-pub restocked : {memory : List ℕ} {stock : Stock} (g : Guest) → stock.quota ≡ g.holdings.quota
+pub restocked : {memory : List ℕ} {stock : GuestEnvModel} (g : Guest) → stock.quota ≡ g.holdings.quota
     → stock.used ≡ g.holdings.used → KeepsUse g (record g { memory = memory; holdings = stock })
 restocked g quota used = record { quota = quota; used = used; opened = λ all. all }
 
 -- whatever is made of what a part gives
-pub shown_keeps : {A : Type 0} (g : Guest) (shown : A → Value × Guest) (m : Row A)
+pub shown_keeps : {A : Type 0} (g : Guest) (shown : A → Value × Guest) (m : CallResult A)
     → ((x : A) → KeepsUse g (shown x).1) → IfOk (m >>= (λ x. give (shown x))) (λ p. KeepsUse g p.1)
 shown_keeps g shown (Ok x) keeps = keeps x
 shown_keeps g shown (Err e) keeps = tt
@@ -349,22 +349,22 @@ slot_opened g perms mode modes found asked = record {
 }
 
 -- what is read of the standard input
-pub input_read : {read : ℕ × (List ℕ × Stock)} (g : Guest) (buffer : Iovec) → input_into g.memory g.holdings buffer ≡ Ok read
+pub input_read : {read : ℕ × (List ℕ × GuestEnvModel)} (g : Guest) (buffer : Iovec) → input_into g.memory g.holdings buffer ≡ Ok read
     → KeepsUse g (record g { memory = read.1.0; holdings = read.1.1 })
 unfolding input_into
 input_read {read} g buffer is = by (next_input g.holdings.stdin buffer.buf_len) is
   where
-    taken : List ℕ → ℕ × (List ℕ × Stock)
+    taken : List ℕ → ℕ × (List ℕ × GuestEnvModel)
     taken bytes = (
       length bytes,
       (with_bytes g.memory buffer.buf bytes, record g.holdings { stdin = drop (length bytes) g.holdings.stdin }),
     )
 
-    by : (m : Row (List ℕ)) → (m >>= (λ bytes. give (taken bytes))) ≡ Ok read
+    by : (m : CallResult (List ℕ)) → (m >>= (λ bytes. give (taken bytes))) ≡ Ok read
         → KeepsUse g (record g { memory = read.1.0; holdings = read.1.1 })
     by (Ok bytes) is =
         let same : taken bytes ≡ read = (cc) in
-        subst (λ (r : ℕ × (List ℕ × Stock)). KeepsUse g (record g { memory = r.1.0; holdings = r.1.1 })) same
+        subst (λ (r : ℕ × (List ℕ × GuestEnvModel)). KeepsUse g (record g { memory = r.1.0; holdings = r.1.1 })) same
         (restocked g refl refl)
     by (Err e) is = absurd (cc)
 

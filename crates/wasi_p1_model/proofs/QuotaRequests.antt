@@ -17,13 +17,13 @@ use Rattle.wasi_host.specs.Tree.{Tree}
 use Rattle.wasi_host.specs.declared.errors.ErrorCode.{ErrorCode}
 use Rattle.wasi_host.specs.declared.errors.ErrorCode.TheVariants.{IsDirectory}
 use Rattle.wasi_host.specs.declared.open_handle.AccessMode.{AccessMode}
-use Rattle.wasi_host.specs.declared.open_handle.Held.{Held}
+use Rattle.wasi_host.specs.declared.open_handle.OpenHandle.{OpenHandle}
 use Rattle.wasi_host.specs.declared.system_time.SystemTime.{SystemTime}
 use Rattle.wasi_host.proofs.Agreeing.{unless_value}
 use Rattle.wasi_host.proofs.Chain.{free}
 use Rattle.wasi_host.proofs.Refusals.{free_of}
-use Rattle.wasi_resolve.specs.EntryOps.{PlaceCall, CreateDir, RemoveFile, RemoveDir, Symlink, ReadLink, SetTimes, call_at, place_for, step_in}
-use Rattle.wasi_resolve.specs.TwoPathOps.{TwoPlaceCall, HardLink, Rename, Places, asks_directory, call_at_two, places_for, step_at_two}
+use Rattle.wasi_resolve.specs.EntryOps.{EntryOp, CreateDir, RemoveFile, RemoveDir, Symlink, ReadLink, SetTimes, call_at, place_for, step_in}
+use Rattle.wasi_resolve.specs.TwoPathOps.{TwoPathOp, HardLink, Rename, Places, asks_directory, call_at_two, places_for, step_at_two}
 use Rattle.wasi_resolve.specs.PathRequest.{PathRequest, OpenPath, LookPath, AtPlace, TimesPath, AtTwo, Opened, PathReply, answer_at, as_asked, opened_at, path_after, path_reply, times_through}
 use Rattle.wasi_resolve.specs.Paths.{Opening, Place, opening, opening_of, step_of, timed}
 use Rattle.wasi_resolve.specs.Walk.{Open, Outcome, Stop, Name, Dot, walk}
@@ -32,7 +32,7 @@ use Rattle.wasi_resolve.proofs.WalkAgreeing.{there}
 use Rattle.wasi_p1_model.specs.Putting.{put_call, put_request}
 use Rattle.wasi_p1_model.specs.RawFlags.{how_by, open_how, or_inval}
 use Rattle.wasi_p1_model.specs.Request.{Request, Reply, Direct, Grow, after, growth_at, growth_in, reply_of}
-use Rattle.wasi_p1_model.specs.Row.{Row, give}
+use Rattle.wasi_p1_model.specs.CallResult.{CallResult, give}
 use Rattle.wasi_p1_model.specs.declared.quotas.Allowance.{Allowance}
 use Rattle.wasi_p1_model.proofs.Lengthening.{Lengthens}
 use Rattle.wasi_p1_model.proofs.TotalBytes.{Within, found_within, full_growth, step_within, within_itself, within_more}
@@ -136,7 +136,7 @@ creates_asked dirflags oflags base inheriting fdflags {how} is =
     (or_inval (flags_in known_rights base)) (or_inval (flags_in known_rights inheriting))
     (or_inval (flags_in known_fdflags fdflags)) is
   where
-    by : (lookups : Row ℕ) (known : Bool) (rights more modes : Row ℕ)
+    by : (lookups : CallResult ℕ) (known : Bool) (rights more modes : CallResult ℕ)
         → (lookups >>= (λ l. or_inval (cond known (Some oflags) None) >>= (λ o. rights >>= (λ r. more >>= (λ _.
         modes >>= (λ m. give (how_by l o r m))))))) ≡ Ok how → how.create ≡ has oflags flag.creat
     by (Ok l) true (Ok r) (Ok x) (Ok m) is =
@@ -145,24 +145,24 @@ creates_asked dirflags oflags base inheriting fdflags {how} is =
 
 -- ---- something is done at a place, or at two
 
-place_within : {made : ℕ} (t : Tree) (what : PlaceCall) → ((p : Place) → Within made 0 t (step t (call_at what p)))
+place_within : {made : ℕ} (t : Tree) (what : EntryOp) → ((p : Place) → Within made 0 t (step t (call_at what p)))
     → (m : Result Place ErrorCode) → Within made 0 t (step_in t what m)
 place_within t what steps (Ok p) = steps p
 place_within t what steps (Err code) = within_more within_itself
 
-two_within : (t : Tree) (what : TwoPlaceCall) (asks : Bool) (m : Result Places ErrorCode)
+two_within : (t : Tree) (what : TwoPathOp) (asks : Bool) (m : Result Places ErrorCode)
     → Within 0 0 t (step_at_two t what asks m)
 two_within t HardLink asks (Ok p) = step_within t (call_at_two HardLink asks p)
 two_within t Rename asks (Ok p) = step_within t (call_at_two Rename asks p)
 two_within t what asks (Err code) = within_itself
 
-times_within : (t : Tree) (atime mtime : Option SystemTime) (m : Result Held ErrorCode)
+times_within : (t : Tree) (atime mtime : Option SystemTime) (m : Result OpenHandle ErrorCode)
     → Within 0 0 t (times_through t atime mtime m)
 times_within t atime mtime (Ok held) = step_within t (calls.SetTimes held.node atime mtime)
 times_within t atime mtime (Err code) = within_itself
 
 -- the most nodes that a call at a place makes
-abbrev pub made_at : PlaceCall → ℕ
+abbrev pub made_at : EntryOp → ℕ
 made_at CreateDir = 1
 made_at RemoveFile = 0
 made_at RemoveDir = 0
@@ -170,7 +170,7 @@ made_at (Symlink text) = 1
 made_at ReadLink = 0
 made_at (SetTimes atime mtime) = 0
 
-pub at_place : (t : Tree) (what : PlaceCall) (m : Result Place ErrorCode) → Within (made_at what) 0 t (step_in t what m)
+pub at_place : (t : Tree) (what : EntryOp) (m : Result Place ErrorCode) → Within (made_at what) 0 t (step_in t what m)
 at_place t CreateDir m = place_within t CreateDir (λ p. step_within t (call_at CreateDir p)) m
 at_place t RemoveFile m = place_within t RemoveFile (λ p. step_within t (call_at RemoveFile p)) m
 at_place t RemoveDir m = place_within t RemoveDir (λ p. step_within t (call_at RemoveDir p)) m
@@ -206,20 +206,20 @@ pub record IsWrite (mode : AccessMode) (w : Request) : Type 0 where
   pub within : (t : Tree) → Within 0 (full_growth t w) t (after t w)
   pub writes : (t : Tree) (reply : Reply w) → reply_of t w ≡ Ok reply → can_write mode ≡ true
 
-pwrite_writes : (t : Tree) (f : Held) (offset : ℕ) (piece : List ℕ) → refusal t (Pwrite f offset piece) ≡ None
+pwrite_writes : (t : Tree) (f : OpenHandle) (offset : ℕ) (piece : List ℕ) → refusal t (Pwrite f offset piece) ≡ None
     → can_write f.mode ≡ true
 unfolding refusal
 pwrite_writes t f offset piece none = grind arith
 
-append_writes : (t : Tree) (f : Held) (piece : List ℕ) → refusal t (Append f piece) ≡ None → can_write f.mode ≡ true
+append_writes : (t : Tree) (f : OpenHandle) (piece : List ℕ) → refusal t (Append f piece) ≡ None → can_write f.mode ≡ true
 unfolding refusal
 append_writes t f piece none = grind arith
 
-size_writes : (t : Tree) (f : Held) (size : ℕ) → refusal t (SetSize f size) ≡ None → can_write f.mode ≡ true
+size_writes : (t : Tree) (f : OpenHandle) (size : ℕ) → refusal t (SetSize f size) ≡ None → can_write f.mode ≡ true
 unfolding refusal
 size_writes t f size none = grind arith
 
-pub put_is_write : (append : Bool) (f : Held) (offset : ℕ) (piece : List ℕ)
+pub put_is_write : (append : Bool) (f : OpenHandle) (offset : ℕ) (piece : List ℕ)
     → IsWrite f.mode (Direct (put_call append f offset piece))
 put_is_write true f offset piece = record {
   none = λ t. refl;
@@ -238,7 +238,7 @@ first_answer : {A B C : Type 0} {c : C} (m : Result A ErrorCode) (n : A → Resu
 first_answer (Ok a) n f is = (a, refl)
 first_answer (Err code) n f is = absurd (cc)
 
-pub request_is_write : (append : Bool) (f : Held) (offset : ℕ) (piece : List ℕ)
+pub request_is_write : (append : Bool) (f : OpenHandle) (offset : ℕ) (piece : List ℕ)
     → IsWrite f.mode (put_request append f offset piece)
 request_is_write true f offset piece = record {
   none = λ t. refl;
@@ -248,7 +248,7 @@ request_is_write true f offset piece = record {
 }
 request_is_write false f offset piece = put_is_write false f offset piece
 
-pub size_is_write : (f : Held) (size : ℕ) → IsWrite f.mode (Direct (SetSize f size))
+pub size_is_write : (f : OpenHandle) (size : ℕ) → IsWrite f.mode (Direct (SetSize f size))
 size_is_write f size = record {
   none = λ t. refl;
   within = λ t. step_within t (SetSize f size);

@@ -20,8 +20,8 @@ use Rattle.wasi_host.specs.Step.{step}
 use Rattle.wasi_host.specs.Tree.{Tree}
 use Rattle.wasi_host.specs.declared.errors.ErrorCode.{ErrorCode}
 use Rattle.wasi_host.specs.declared.metadata.Metadata.{Metadata}
-use Rattle.wasi_resolve.specs.EntryOps.{PlaceCall, CreateDir, ReadLink, RemoveDir, RemoveFile, Symlink}
-use Rattle.wasi_resolve.specs.TwoPathOps.{TwoPlaceCall, HardLink, Rename}
+use Rattle.wasi_resolve.specs.EntryOps.{EntryOp, CreateDir, ReadLink, RemoveDir, RemoveFile, Symlink}
+use Rattle.wasi_resolve.specs.TwoPathOps.{TwoPathOp, HardLink, Rename}
 use Rattle.wasi_resolve.specs.PathRequest.{Opened, path_reply, AtPlace, AtTwo, PathRequest, TimesPath}
 use Rattle.wasi_p1_model.specs.Fdstats.{directory_fdstat, preopen_fdstat}
 use Rattle.wasi_p1_model.specs.Files.{base_in, file_in, host_advice, keeps_append, name_at, name_into, not_synchronized, or_refused, position_from, read_place_in, sought}
@@ -36,13 +36,13 @@ use Rattle.wasi_p1_model.specs.NewTimes.{times_asked}
 use Rattle.wasi_p1_model.specs.Pages.{page}
 use Rattle.wasi_p1_model.specs.Polling.{all_waited, clocks_at, earliest, files_named, lists_within, nodes_read, some_asked}
 use Rattle.wasi_p1_model.specs.Request.{Request, Reply, Direct, Path, after, growth_in}
-use Rattle.wasi_p1_model.specs.Row.{Row, Program, done, asking, give}
+use Rattle.wasi_p1_model.specs.CallResult.{CallResult, Program, done, asking, give}
 use Rattle.wasi_p1_model.specs.Calls.{done_at, done_between, fdstat_of, filestat_of, front, look_and_tell, no_socket, puts_texts, read_from, row, seek_from, stored, write_into, write_to, args_get, args_sizes_get, environ_get, environ_sizes_get, clock_res_get, clock_time_get, fd_advise, fd_allocate, fd_close, fd_datasync, fd_sync, fd_fdstat_get, fd_fdstat_set_flags, fd_fdstat_set_rights, fd_filestat_get, fd_filestat_set_size, fd_filestat_set_times, fd_pread, fd_prestat_get, fd_prestat_dir_name, fd_pwrite, fd_read, fd_readdir, fd_renumber, fd_seek, fd_tell, fd_write, path_create_directory, path_filestat_get, path_filestat_set_times, path_link, path_open, path_readlink, path_remove_directory, path_unlink_file, path_rename, path_symlink, poll_oneoff, proc_exit, proc_raise, random_get, sched_yield, sock_accept, sock_recv, sock_send, sock_shutdown}
 use Rattle.wasi_p1_model.specs.Services.{clock_res, clock_time, input_into, known_signal, random_taken, sizes_of, texts_at}
 use Rattle.wasi_p1_model.specs.Spending.{growing, making, makes}
 use Rattle.wasi_p1_model.specs.declared.error.P1Error.{P1Error}
 use Rattle.wasi_p1_model.specs.declared.awaited.Waited.{Waited}
-use Rattle.wasi_p1_model.specs.declared.holdings.Clocks.{Clocks}
+use Rattle.wasi_p1_model.specs.declared.guest_env.Clocks.{Clocks}
 use Rattle.wasi_p1_model.specs.declared.slots.FileModes.{FileModes}
 use Rattle.wasi_p1_model.specs.declared.usage.FileUse.TheVariants.{Itself, Position, WriteAt}
 use Rattle.wasi_p1_model.proofs.Changing.{file_is, sink_is, source_is}
@@ -55,7 +55,7 @@ pub record Comes (P : Program (Value × Guest) → Type 0) (m : CallFront) : Typ
   pub comes : (fuel : ℕ) → IfOk (m fuel).0 P
 
 module _ {P : Program (Value × Guest) → Type 0} where
-  pub then : {A : Type 0} {next : A → CallFront} (m : Row A) → ((x : A) → m ≡ Ok x → Comes P (next x))
+  pub then : {A : Type 0} {next : A → CallFront} (m : CallResult A) → ((x : A) → m ≡ Ok x → Comes P (next x))
       → Comes P (free m >>= next)
   then (Ok x) comes = comes x refl
   then (Err e) comes = record { comes = λ fuel. tt }
@@ -65,7 +65,7 @@ module _ {P : Program (Value × Guest) → Type 0} where
       → Comes P (part >>= next)
   then_part {A} {next} part comes = record { comes = λ fuel. by (part fuel) }
     where
-      by : (given : Row A × ℕ) → IfOk (onward given.0 given.1 next).0 P
+      by : (given : CallResult A × ℕ) → IfOk (onward given.0 given.1 next).0 P
       by (Ok x, left) = (comes x).comes left
       by (Err e, left) = tt
 
@@ -74,7 +74,7 @@ module _ {P : Program (Value × Guest) → Type 0} where
   then_path g fd path len comes =
       then (start_in (slice_get g.slots fd)) (λ d _. then_part (charged_text g.memory path len) (comes d))
 
-  pub then_buffer : {A : Type 0} {next : A → Iovec → List ℕ → CallFront} (g : Guest) (named : Row A) (iovs n : ℕ)
+  pub then_buffer : {A : Type 0} {next : A → Iovec → List ℕ → CallFront} (g : Guest) (named : CallResult A) (iovs n : ℕ)
       → ((what : A) → named ≡ Ok what → (buffer : Iovec) (piece : List ℕ) → Comes P (next what buffer piece))
       → Comes P (at_buffer g named iovs n next)
   then_buffer g named iovs n comes = then_part (charged_buffer g.memory iovs n) (λ buffer. then named (λ what is.
@@ -83,7 +83,7 @@ module _ {P : Program (Value × Guest) → Type 0} where
   pub answers : {p : Value × Guest} → P (done p) → Comes P (answer p)
   answers is = record { comes = λ fuel. is }
 
-  pub asks : {r : Request} {next : Reply r → Row (Value × Guest)} → P (asking r next) → Comes P (ask r next)
+  pub asks : {r : Request} {next : Reply r → CallResult (Value × Guest)} → P (asking r next) → Comes P (ask r next)
   asks is = record { comes = λ fuel. is }
 
 -- a call's row spends so
@@ -93,7 +93,7 @@ RowUses g call = Comes (Uses (makes call) g) (front g call)
 idle : {g : Guest} {m : CallFront} → Comes (IsIdle g) m → Comes (Uses false g) m
 idle {g} {m} is = record { comes = λ fuel. by (m fuel).0 (is.comes fuel) }
   where
-    by : (row : Row (Program (Value × Guest))) → IfOk row (IsIdle g) → IfOk row (Uses false g)
+    by : (row : CallResult (Program (Value × Guest))) → IfOk row (IsIdle g) → IfOk row (Uses false g)
     by (Ok q) has = idle_uses g q has
     by (Err e) has = tt
 
@@ -126,14 +126,14 @@ if_done : {P : Program (Value × Guest) → Type 0} (g : Guest) (own : Option Er
 if_done g own r is = then (permit own) (λ _ _. asks is)
 
 -- at a place
-at_place : {P : Program (Value × Guest) → Type 0} (g : Guest) (fd path len : ℕ) (act : Act) (what : PlaceCall)
+at_place : {P : Program (Value × Guest) → Type 0} (g : Guest) (fd path len : ℕ) (act : Act) (what : EntryOp)
     → ((d : ℕ) (text : List ℕ) → P (asking (Path (AtPlace d text what)) (λ _. give (Nothing, g))))
     → Comes P (done_at g fd path len act what)
 at_place g fd path len act what is = then_path g fd path len (λ d text. if_done g (may_do d.perms act) _ (is d.node text))
 
 -- at two
 at_two : (g : Guest) (old_fd old_path old_len new_fd new_path new_len : ℕ) (own : FsPerms → FsPerms → Option ErrorCode)
-    (what : TwoPlaceCall) → Comes (IsIdle g) (done_between g old_fd old_path old_len new_fd new_path new_len own what)
+    (what : TwoPathOp) → Comes (IsIdle g) (done_between g old_fd old_path old_len new_fd new_path new_len own what)
 at_two g old_fd old_path old_len new_fd new_path new_len own what =
     then (start_in (slice_get g.slots old_fd)) (λ old _. then (start_in (slice_get g.slots new_fd)) (λ new _.
     then_part (charged_text g.memory old_path old_len) (λ old_text.
@@ -141,7 +141,7 @@ at_two g old_fd old_path old_len new_fd new_path new_len own what =
     if_done g (own old.perms new.perms) _ (path_done g (AtTwo old.node old_text new.node new_text what))))))
 
 -- a look, whatever is told of it
-looks : {g : Guest} {r : Request} {next : Reply r → Row (Value × Guest)} → ((t : Tree) → (growth_in t r ≡ 0) × (after t r ≡ t))
+looks : {g : Guest} {r : Request} {next : Reply r → CallResult (Value × Guest)} → ((t : Tree) → (growth_in t r ≡ 0) × (after t r ≡ t))
     → ((reply : Reply r) → IfOk (next reply) (λ p. KeepsUse g p.1))
     → Makes 0 g r next
 looks stays keeps = record {
@@ -151,7 +151,7 @@ looks stays keeps = record {
 }
 
 -- an answer made of what a part gives
-tells_idle : {A : Type 0} (g : Guest) (m : Row A) (shown : A → Value) → Comes (IsIdle g) (tells g m shown)
+tells_idle : {A : Type 0} (g : Guest) (m : CallResult A) (shown : A → Value) → Comes (IsIdle g) (tells g m shown)
 tells_idle g m shown = then m (λ x _. answers (still g))
 
 -- ---- families
@@ -166,7 +166,7 @@ stored_idle : (g : Guest) (fd : ℕ) → Comes (IsIdle g) (stored g fd)
 stored_idle g fd = then (file_in Itself (slice_get g.slots fd)) (λ f _.
     if_done g None (Direct (Sync f.node)) (looks (λ t. (refl, refl)) (λ _. still g)))
 
-no_socket_idle : (g : Guest) (fd : ℕ) (flags : Row ℕ) → Comes (IsIdle g) (no_socket g fd flags)
+no_socket_idle : (g : Guest) (fd : ℕ) (flags : CallResult ℕ) → Comes (IsIdle g) (no_socket g fd flags)
 no_socket_idle g fd flags = then flags (λ _ _. then (live_in (slice_get g.slots fd)) (λ _ _. refuses))
 
 fdstat_idle : (g : Guest) (slot : GuestSlot) → Comes (IsIdle g) (fdstat_of g slot)
@@ -219,7 +219,7 @@ ready_idle g at ws clocks (n ∷ ns) = asks (looks (λ t. (refl, refl)) (λ size
 -- ---- what makes a file longer
 
 -- through the descriptor of a number
-writes_file : {g : Guest} {f : OpenFile} {w : Request} {next : Reply w → Row (Value × Guest)} (fd : ℕ)
+writes_file : {g : Guest} {f : OpenFile} {w : Request} {next : Reply w → CallResult (Value × Guest)} (fd : ℕ)
     → slice_get g.slots fd ≡ Some (file f) → IsWrite f.mode w → ((reply : Reply w) → IfOk (next reply) (λ p. KeepsUse g p.1))
     → WritesFile g f w next
 writes_file {f = f} fd is write keeps =

@@ -8,7 +8,7 @@ use Rattle.wasi_host.specs.Tree.{next_of}
 use Rattle.wasi_p1_model.specs.Front.{FueledCall}
 use Rattle.wasi_p1_model.specs.Guest.{State}
 use Rattle.wasi_p1_model.specs.QuotaLaws.{CountsUse, OpenedStays, QuotasAreCounted, RunsStayWithinQuotas, StaysWithinQuotas, WritesAsOpened, quota_of, total_bytes, used_of}
-use Rattle.wasi_p1_model.specs.Run.{Faulted, Played, Run, Turned, ends}
+use Rattle.wasi_p1_model.specs.Trace.{Faulted, Played, Trace, TraceStep, ends}
 use Rattle.wasi_p1_model.proofs.Moving.{each_turn, run_keeps, turned_by}
 use Rattle.wasi_p1_model.proofs.QuotaParts.{Fits, none_fits}
 use Rattle.wasi_p1_model.proofs.QuotaTurns.{TurnEnds, TurnSpends, answered, failed, stays, turn_counts, turn_ends}
@@ -17,21 +17,21 @@ pub run_counts : QuotasAreCounted
 run_counts k old new calls turns run =
     each_turn CountsUse (λ t took. turn_counts t (turn_ends t took)) calls turns k old new run
 
-abbrev made : Turned → ℕ
+abbrev made : TraceStep → ℕ
 made t = next_of t.after.tree - next_of t.before.tree
 
-abbrev grown : Turned → ℕ
+abbrev grown : TraceStep → ℕ
 grown t = total_bytes t.after.tree - total_bytes t.before.tree
 
 -- what each turn makes and grows is counted, within the bounds
-record TurnFits (t : Turned) : Type 0 where
+record TurnFits (t : TraceStep) : Type 0 where
   pub quota : quota_of t.after ≡ quota_of t.before
   pub nodes : Fits (quota_of t.before).nodes (used_of t.before).nodes (used_of t.after).nodes (made t)
   pub bytes : WritesAsOpened t.before.guest
       → Fits (quota_of t.before).bytes (used_of t.before).bytes (used_of t.after).bytes (grown t)
   pub opened : WritesAsOpened t.before.guest → WritesAsOpened t.after.guest
 
-still_fits : (t : Turned) → t.after ≡ t.before → TurnFits t
+still_fits : (t : TraceStep) → t.after ≡ t.before → TurnFits t
 still_fits t same =
     let next = ap (λ (s : State). next_of s.tree) same in
     let total = ap (λ (s : State). total_bytes s.tree) same in
@@ -43,7 +43,7 @@ still_fits t same =
       opened = λ all. subst (λ (s : State). WritesAsOpened s.guest) (sym same) all;
     }
 
-spent_fits : (t : Turned) → TurnSpends t.call t.before t.after → TurnFits t
+spent_fits : (t : TraceStep) → TurnSpends t.call t.before t.after → TurnFits t
 spent_fits t spends = record {
   quota = spends.quota;
   nodes = subst (λ (u : QuotaUsed). Fits (quota_of t.before).nodes (used_of t.before).nodes u.nodes (made t))
@@ -53,7 +53,7 @@ spent_fits t spends = record {
   opened = spends.opened;
 }
 
-turn_fits : (t : Turned) → Played t ⊎ Faulted t → TurnFits t
+turn_fits : (t : TraceStep) → Played t ⊎ Faulted t → TurnFits t
 turn_fits t took = by (turn_ends t took)
   where
     by : TurnEnds t → TurnFits t
@@ -68,9 +68,9 @@ run_opened k old new calls turns run =
 -- ---- sums over the turns of a run
 
 -- from the last turn on
-run_adds : (P : State → List Turned → Type 0) → ((s : State) → P s [])
-    → ((t : Turned) (rest : List Turned) → Played t ⊎ Faulted t → P t.after rest → P t.before (t ∷ rest))
-    → (calls : List FueledCall) (turns : List Turned) (k : ℕ) (old new : State) → Run k old calls turns new → P old turns
+run_adds : (P : State → List TraceStep → Type 0) → ((s : State) → P s [])
+    → ((t : TraceStep) (rest : List TraceStep) → Played t ⊎ Faulted t → P t.after rest → P t.before (t ∷ rest))
+    → (calls : List FueledCall) (turns : List TraceStep) (k : ℕ) (old new : State) → Trace k old calls turns new → P old turns
 run_adds P none more [] [] k old new run = none old
 run_adds P none more [] (t ∷ turns) k old new run = absurd run
 run_adds P none more (call ∷ calls) [] k old new run = absurd run
@@ -78,8 +78,8 @@ run_adds P none more (call ∷ calls) (t ∷ turns) k old new (j, before, is, sp
     subst (λ s. P s (t ∷ turns)) before
     (more t turns (turned_by spends) (later (run_adds P none more calls turns j t.after new) (ends t.answer) rest))
   where
-    later : (Run j t.after calls turns new → P t.after turns) → (b : Bool)
-        → MatchBool b ((turns ≡ []) × (new ≡ t.after)) (Run j t.after calls turns new) → P t.after turns
+    later : (Trace j t.after calls turns new → P t.after turns) → (b : Bool)
+        → MatchBool b ((turns ≡ []) × (new ≡ t.after)) (Trace j t.after calls turns new) → P t.after turns
     later next true (nothing, last) = subst (P t.after) (sym nothing) (none t.after)
     later next false on = next on
 
@@ -91,8 +91,8 @@ sum_fits (Some most) used now more rest (counted, inl none) left = omega arith
 sum_fits (Some most) used now more rest (counted, inr within) left = omega arith
 
 -- of either bound, its count, and what turns make of that
-module _ (bound : Quota → Option ℕ) (count : QuotaUsed → ℕ) (more : Turned → ℕ) where
-  abbrev IsLeft : State → List Turned → Type 0
+module _ (bound : Quota → Option ℕ) (count : QuotaUsed → ℕ) (more : TraceStep → ℕ) where
+  abbrev IsLeft : State → List TraceStep → Type 0
   IsLeft s turns = IfSome (bound (quota_of s)) (λ most. sum_by more turns ≤ most - count (used_of s))
 
   none_left : (s : State) → IsLeft s []
@@ -102,7 +102,7 @@ module _ (bound : Quota → Option ℕ) (count : QuotaUsed → ℕ) (more : Turn
       by None = tt
       by (Some most) = omega arith
 
-  turn_left : (t : Turned) (rest : List Turned) → quota_of t.after ≡ quota_of t.before
+  turn_left : (t : TraceStep) (rest : List TraceStep) → quota_of t.after ≡ quota_of t.before
       → Fits (bound (quota_of t.before)) (count (used_of t.before)) (count (used_of t.after)) (more t)
       → IsLeft t.after rest → IsLeft t.before (t ∷ rest)
   turn_left t rest same fits left =

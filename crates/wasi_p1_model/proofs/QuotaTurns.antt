@@ -8,11 +8,11 @@ use Rattle.wasi_guest.specs.declared.answer.Value.{Value}
 use Rattle.wasi_p1_model.specs.Front.{FueledCall}
 use Rattle.wasi_p1_model.specs.Guest.{Guest, State}
 use Rattle.wasi_p1_model.specs.QuotaLaws.{CountsUse, quota_of, used_of}
-use Rattle.wasi_p1_model.specs.Row.{Program, Row, done, asking, row_on, with_tree}
+use Rattle.wasi_p1_model.specs.CallResult.{Program, CallResult, done, asking, row_on, with_tree}
 use Rattle.wasi_p1_model.specs.Calls.{row, turn}
-use Rattle.wasi_p1_model.specs.Run.{Faulted, Gives, Played, Turned, answer_of, is_success}
+use Rattle.wasi_p1_model.specs.Trace.{Faulted, Gives, Played, TraceStep, answer_of, is_success}
 use Rattle.wasi_p1_model.specs.Spending.{growth_of, makes}
-use Rattle.wasi_p1_model.specs.Turn.{AfterFault, StepTaken, used_by}
+use Rattle.wasi_p1_model.specs.Transition.{AfterFault, StepTaken, used_by}
 use Rattle.wasi_p1_model.specs.declared.error.P1Error.{P1Error}
 use Rattle.wasi_p1_model.specs.declared.error.P1Error.TheVariants.{Errno, Trap, Exit, Memory}
 use Rattle.wasi_p1_model.proofs.Moving.{replied_by}
@@ -28,7 +28,7 @@ TurnSpends call s s' =
 pub answered_spends : (s : State) (call : FueledCall) {p : Value × State} → turn s call ≡ Ok p → TurnSpends call s p.1
 answered_spends s call {p} is = by (row s.guest call) (row_uses s.guest call) is
   where
-    by : (m : Row (Program (Value × Guest))) → IfOk m (Uses (makes call.call) s.guest) → row_on s.tree m ≡ Ok p
+    by : (m : CallResult (Program (Value × Guest))) → IfOk m (Uses (makes call.call) s.guest) → row_on s.tree m ≡ Ok p
         → SpendsWithin (makes call.call) (growth_of s.tree m) s.guest p.1.guest s.tree p.1.tree
     by (Ok (done q)) uses is =
         let same : with_tree (q, s.tree) ≡ p = (cc) in
@@ -47,7 +47,7 @@ faulted_spends s s' call (inr (inl counted)) =
     inr (subst (TurnSpends call s) (sym counted) (nothing_done _ _ s.guest s.tree))
 faulted_spends s s' call (inr (inr step)) = inr (by (turn s call) refl step)
   where
-    by : (m : Row (Value × State)) → turn s call ≡ m → StepTaken (used_by s call) s' m → TurnSpends call s s'
+    by : (m : CallResult (Value × State)) → turn s call ≡ m → StepTaken (used_by s call) s' m → TurnSpends call s s'
     by (Ok p) is step = subst (TurnSpends call s) (sym step) (counted_alone (answered_spends s call is))
     by (Err e) is step = absurd step
 
@@ -59,15 +59,15 @@ refused_not (Exit status) is = let same : answers.Exit status ≡ _ = (cc) in ap
 refused_not Memory is = absurd (cc)
 
 -- A turn leaves its state, and isn't answered Ok; or it is answered so, or the host failed, and it did what a call does
-pub data TurnEnds (t : Turned) : Type 0 where
+pub data TurnEnds (t : TraceStep) : Type 0 where
   stays : is_success t.answer ≡ false → t.after ≡ t.before → TurnEnds t
   answered : is_success t.answer ≡ true → TurnSpends t.call t.before t.after → TurnEnds t
   failed : is_success t.answer ≡ false → Faulted t → TurnSpends t.call t.before t.after → TurnEnds t
 
-pub turn_ends : (t : Turned) → Played t ⊎ Faulted t → TurnEnds t
+pub turn_ends : (t : TraceStep) → Played t ⊎ Faulted t → TurnEnds t
 turn_ends t (inl played) = by (turn t.before t.call) refl played
   where
-    by : (m : Row (Value × State)) → turn t.before t.call ≡ m → Gives m t.before t.answer t.after → TurnEnds t
+    by : (m : CallResult (Value × State)) → turn t.before t.call ≡ m → Gives m t.before t.answer t.after → TurnEnds t
     by (Ok p) is (answer, new) = answered (ap is_success answer)
         (subst (TurnSpends t.call t.before) (sym new) (answered_spends t.before t.call is))
     by (Err e) is (answer, new) = stays (refused_not e answer) new
@@ -77,7 +77,7 @@ turn_ends t (inr faulted) = elim (faulted_spends t.before t.after t.call faulted
 ]
 
 -- what is counted
-pub turn_counts : (t : Turned) → TurnEnds t → CountsUse t
+pub turn_counts : (t : TraceStep) → TurnEnds t → CountsUse t
 turn_counts t (stays is same) = record { quota = ap quota_of same; used = rw is (inl (ap used_of same)) }
 turn_counts t (answered is spends) = record { quota = spends.quota; used = rw is spends.used }
 turn_counts t (failed is faulted spends) = record { quota = spends.quota; used = rw is (inr (faulted, spends.used)) }

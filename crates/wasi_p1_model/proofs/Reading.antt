@@ -9,21 +9,21 @@ use Rattle.wasi_host.specs.declared.errors.ErrorCode.{ErrorCode}
 use Rattle.wasi_host.specs.declared.errors.ErrorCode.TheVariants.{Io}
 use Rattle.wasi_host.specs.declared.errors.HostError.{HostError}
 use Rattle.wasi_host.specs.declared.errors.HostError.TheVariants.{Code}
-use Rattle.wasi_host.specs.declared.open_handle.Held.{Held}
+use Rattle.wasi_host.specs.declared.open_handle.OpenHandle.{OpenHandle}
 use Rattle.wasi_host.specs.Steps.{◌>>=◌}
 use Rattle.wasi_p1_model.specs.Asked.{Does}
 use Rattle.wasi_p1_model.specs.Errnos.{errno_of, error_of}
 use Rattle.wasi_guest.specs.Range.{with_bytes}
 use Rattle.wasi_p1_model.specs.CallParts.{Makes, ReadsInto, filled_at}
 use Rattle.wasi_p1_model.specs.Request.{Request, Reply, Direct}
-use Rattle.wasi_p1_model.specs.Row.{Row, give}
+use Rattle.wasi_p1_model.specs.CallResult.{CallResult, give}
 use Rattle.wasi_p1_model.specs.declared.error.P1Error.{P1Error}
 use Rattle.wasi_p1_model.specs.declared.error.P1Error.TheVariants.{Errno}
 use Rattle.wasi_guest.proofs.Ranges.{with_filled}
 use Rattle.wasi_p1_model.proofs.Resolving.{asked_ok, asked_err}
 
 -- a read over a told host of so many bytes, into the front of a buffer
-abbrev pub ReadTold : Handles → Handles → World → World → Held → ℕ → List ℕ → Result ℕ ErrorCode → ℕ → Type 0
+abbrev pub ReadTold : Handles → Handles → World → World → OpenHandle → ℕ → List ℕ → Result ℕ ErrorCode → ℕ → Type 0
 ReadTold old new w v f position buf result len =
     Told {A = ℕ} old new w v (Pread f position len) (λ n. take n buf) (hosted result)
 
@@ -61,7 +61,7 @@ pub keeps_all : {old new : Handles} (w v : World) → new ≡ old → Keeps old 
     → v.held q ≡ w.held q
 keeps_all w v same keeps q is = keeps q is (subst (λ s. contains s q ≡ true) (sym same) is)
 
-pub read_ok : {rose : Type 0} {old new : Handles} {w v : World} {f : Held} {position at size : ℕ} {memory buf : List ℕ}
+pub read_ok : {rose : Type 0} {old new : Handles} {w v : World} {f : OpenHandle} {position at size : ℕ} {memory buf : List ℕ}
     {n len : ℕ}
     → new ≡ old → Filled memory at size buf n len → ReadTold old new w v f position buf (Ok n) len
     → ReadsInto rose old w v f position at size memory (with_bytes memory at buf) (Ok n)
@@ -77,7 +77,7 @@ read_ok {rose} {old} {new} {w} {v} {f} {position} {at} {size} {memory} {buf} {n}
     }
 
 -- a refused read leaves the memory
-pub read_err : {rose : Type 0} {old new : Handles} {w v : World} {f : Held} {position size : ℕ} {buf : List ℕ}
+pub read_err : {rose : Type 0} {old new : Handles} {w v : World} {f : OpenHandle} {position size : ℕ} {buf : List ℕ}
     {code : ErrorCode} {len : ℕ}
     (at : ℕ) (before after : List ℕ) → new ≡ old → len ≡ size
     → ((let r : Result ℕ HostError = Err (Code code) in r) ≡ Err (Code Io) → rose)
@@ -93,7 +93,7 @@ read_err {old = old} {new = new} {w = w} {v = v} {f = f} {position = position} {
 -- ---- one call of a told host, as the request that it stands for
 
 module _ {rose A B : Type 0} {old new : Handles} {w v : World} {call : HostCall} {shown : A → HostAnswer call}
-    {next : HostAnswer call → Row B} (same : new ≡ old) where
+    {next : HostAnswer call → CallResult B} (same : new ≡ old) where
   pub told_ok : {a : A} {b : B} → Told old new w v call shown (Ok a) → next (shown a) ≡ Ok b
       → Makes rose old w v (Direct call) next (Ok b)
   told_ok {a} told is =
@@ -112,16 +112,16 @@ module _ {rose A B : Type 0} {old new : Handles} {w v : World} {call : HostCall}
 
 -- ---- what is made of what a part gives
 
-abbrev made_row : {A B : Type 0} → (A → B) → Row A → Row B
+abbrev made_row : {A B : Type 0} → (A → B) → CallResult A → CallResult B
 made_row made m = m >>= (λ x. give (made x))
 
-pub makes_made : {A B rose : Type 0} {live : Handles} {w v : World} {r : Request} {next : Reply r → Row A} (made : A → B)
-    (m : Row A) → Makes rose live w v r next m
+pub makes_made : {A B rose : Type 0} {live : Handles} {w v : World} {r : Request} {next : Reply r → CallResult A} (made : A → B)
+    (m : CallResult A) → Makes rose live w v r next m
     → Makes rose live w v r (λ reply. made_row made (next reply)) (made_row made m)
 makes_made {A} {rose = rose} {w = w} {v = v} {r = r} {next = next} made m makes =
     record { keeps = makes.keeps; does = by m makes.does }
   where
-    by : (m : Row A) → Does rose w v r next m → Does rose w v r (λ reply. made_row made (next reply)) (made_row made m)
+    by : (m : CallResult A) → Does rose w v r next m → Does rose w v r (λ reply. made_row made (next reply)) (made_row made m)
     by (Ok x) (reply, asked, is) = (reply, asked, ap (made_row made) is)
     by (Err e) (inl asked) = inl asked
     by (Err e) (inr (reply, asked, is)) = inr (reply, asked, ap (made_row made) is)

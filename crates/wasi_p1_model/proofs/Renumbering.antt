@@ -5,7 +5,7 @@ use Rattle.std.proofs.lemmas.List.Edits.{swap_is}
 use Rattle.std.proofs.Math.ListN.{get_or-map}
 use Rattle.std.proofs.lemmas.List.{map-set, set-set, set-get_or}
 use Rattle.std.proofs.lemmas.Option.{slice_get-get_or, get_or_from_slice_get, slice_get_within}
-use Rattle.wasi_host.specs.Lineage.{Traced, Nothing}
+use Rattle.wasi_host.specs.Lineage.{HasProvenance, Nothing}
 use Rattle.wasi_host.specs.HostLaws.{World, Handles}
 use Rattle.wasi_host.specs.declared.lookup.Lookup.{Lookup}
 use Rattle.wasi_guest.specs.declared.answer.Value.{Value}
@@ -21,7 +21,7 @@ use Rattle.wasi_p1_model.proofs.CallTracing.{traced_less}
 use Rattle.wasi_p1_model.proofs.Changing.{IsOfOpen, IsUnder, IsAt, IsFileOf, under_open, at_open, file_open, in_set, set_fits}
 use Rattle.wasi_p1_model.proofs.Counting.{handle_at, handle_put, uses-set}
 use Rattle.wasi_p1_model.proofs.GuestSlots.{released_stays}
-use Rattle.wasi_p1_model.proofs.Near.{StaysNear}
+use Rattle.wasi_p1_model.proofs.LocalCalls.{StaysNear}
 use Rattle.wasi_p1_model.proofs.Numbers.{other_number, same_number}
 use Rattle.wasi_p1_model.proofs.Owning.{owns_less}
 use Rattle.wasi_p1_model.proofs.Staying.{set_other}
@@ -120,7 +120,7 @@ owns_renumbered {dropped = dropped} table two is gone owned =
 
 pub traced_renumbered : {dropped : Slot} {from to : ℕ} {old new : List Lookup} (table : List Slot)
     → AreTwo table from to → slice_get table to ≡ Some dropped → new ≡ old
-    → Traced Nothing (IsHandle (handles table)) (IsHandle (handles (renumbered slots.Closed table from to))) old new
+    → HasProvenance Nothing (IsHandle (handles table)) (IsHandle (handles (renumbered slots.Closed table from to))) old new
 traced_renumbered {from = from} {to = to} table two is same =
     traced_less table (renumbered slots.Closed table from to)
     (λ q. let fewer = uses-renumbered table q two is in omega (arith, fewer)) same

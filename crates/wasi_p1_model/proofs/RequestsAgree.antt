@@ -9,7 +9,7 @@ use Rattle.wasi_host.specs.Steps.{◌>>=◌}
 use Rattle.wasi_host.specs.Tree.{Tree, node_at, child}
 use Rattle.wasi_host.specs.declared.errors.ErrorCode.{ErrorCode}
 use Rattle.wasi_host.specs.declared.open_handle.AccessMode.TheVariants.{Read}
-use Rattle.wasi_host.specs.declared.open_handle.Held.{Held}
+use Rattle.wasi_host.specs.declared.open_handle.OpenHandle.{OpenHandle}
 use Rattle.wasi_host.specs.Agree.{IsClosed, AgreeOn, OrMade}
 use Rattle.wasi_host.proofs.Leaving.{named_in, Contains-here}
 use Rattle.wasi_host.proofs.Agreeing.{step_agree, same_agree, answer_same, reach_closed, none_past}
@@ -23,7 +23,7 @@ use Rattle.wasi_p1_model.specs.declared.quotas.Allowance.{Allowance}
 use Rattle.wasi_p1_model.specs.declared.quotas.FileEnd.TheVariants as ends
 use Rattle.std.proofs.lemmas.List.Elements.{Contains-append_left, Contains-append_right}
 use Rattle.wasi_p1_model.proofs.Lengthening.{bounded_by}
-use Rattle.wasi_p1_model.proofs.Near.{given_by}
+use Rattle.wasi_p1_model.proofs.LocalCalls.{given_by}
 use Rattle.wasi_p1_model.proofs.RequestsLeave.{request_leaves}
 
 module _ {Seen : ℕ → Type 0} {t : Tree} (closed : IsClosed Seen t) where
@@ -98,7 +98,7 @@ module _ {Seen : ℕ → Type 0} {t u : Tree} (closed : IsClosed Seen t) (agree 
       opened : open_answer t d (codes ".") listing_options ≡ open_answer u d (codes ".") listing_options
       opened = answer_same closed agree (OpenAt d (codes ".") listing_options) from
 
-      held : Held
+      held : OpenHandle
       held = record { node = d; mode = Read }
 
       by : (o : Option ErrorCode) → unless o held >>= list_answer t ≡ unless o held >>= list_answer u

@@ -11,11 +11,11 @@ use Rattle.wasi_p1_model.specs.Files.{sought}
 use Rattle.wasi_p1_model.specs.Parts.{permit, at_position, with_file}
 use Rattle.wasi_p1_model.specs.Request.{Request, Reply}
 use Rattle.wasi_p1_model.specs.Putting.{put_answer}
-use Rattle.wasi_p1_model.specs.Row.{Row, made_of_reply}
+use Rattle.wasi_p1_model.specs.CallResult.{CallResult, made_of_reply}
 use Rattle.wasi_p1_model.specs.declared.usage.Put.{Put}
 
 -- of a row that asks for what has to be permitted
-abbrev pub tail : {A : Type 0} → Option ErrorCode → (r : Request) → (Reply r → Row A) → (Guest → A → Value × Guest)
+abbrev pub tail : {A : Type 0} → Option ErrorCode → (r : Request) → (Reply r → CallResult A) → (Guest → A → Value × Guest)
     → Guest → CallFront
 tail own r next shown g = free (permit own) >>= (λ _. ask r (made_of_reply r next (shown g)))
 

@@ -1,6 +1,6 @@
 -- One answer for each call of a run.
 use Rattle.std.proofs.Common.{◌<◌, ◌≡◌, true, false, List, [], ◌∷◌, ◌++◌, length, refl, arith}
-use Rattle.wasi_p1_model.specs.Run.{AnswersEach, GoOn, ends}
+use Rattle.wasi_p1_model.specs.Trace.{AnswersEach, GoOn, ends}
 use Rattle.wasi_guest.specs.declared.answer.Answer.{Answer}
 use Rattle.wasi_p1_model.specs.Front.{FueledCall}
 

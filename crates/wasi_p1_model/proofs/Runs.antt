@@ -7,13 +7,13 @@ use Rattle.std.proofs.lemmas.List.Elements.{All-nil, All-append, All-weaker}
 use Rattle.wasi_host.specs.Tree.{Tree, Nodes}
 use Rattle.wasi_host.specs.HostLaws.{World, Rose, FaultCount}
 use Rattle.wasi_p1_model.specs.Guest.{State, Guest}
-use Rattle.wasi_p1_model.specs.Calls.{row, turn, may_want}
+use Rattle.wasi_p1_model.specs.Calls.{row, turn, may_run_out_of_memory}
 use Rattle.wasi_p1_model.specs.Request.{Path}
-use Rattle.wasi_p1_model.specs.Row.{Row, Program, done, asking, request_ends, request_comes}
-use Rattle.wasi_p1_model.specs.Turn.{IsTurn, ReachesHost, named_by, come_to_by, used_by}
-use Rattle.wasi_p1_model.specs.CallTurn.{Turns, Causes, in_world}
+use Rattle.wasi_p1_model.specs.CallResult.{CallResult, Program, done, asking, request_ends, request_comes}
+use Rattle.wasi_p1_model.specs.Transition.{IsTransition, ReachesHost, named_by, come_to_by, used_by}
+use Rattle.wasi_p1_model.specs.CallTransition.{Turns, Causes, in_world}
 use Rattle.wasi_p1_model.proofs.Completing.{run_completes}
-use Rattle.wasi_p1_model.specs.Run.{Turned, Run, Spends, Played, Faulted, Gives, Allows, answer_of, answers_of, is_io_errno, io_in, ios, ends, ends_of, named, is_success, DidRun, StoodAt, GoOn}
+use Rattle.wasi_p1_model.specs.Trace.{TraceStep, Trace, Spends, Played, Faulted, Gives, Allows, answer_of, answers_of, is_io_errno, io_in, ios, ends, ends_of, named, is_success, RefinesTrace, StoodAt, GoOn}
 use Rattle.wasi_guest.specs.declared.answer.Answer.{Answer}
 use Rattle.wasi_guest.specs.declared.answer.Answer.TheVariants as answers
 use Rattle.wasi_guest.specs.declared.call.Call.{Call}
@@ -81,17 +81,17 @@ io_counted before xs {now} {after} {result} {a} is causes allows =
 
 -- ---- a turn that was taken is one of a run: by its row, or faulted
 
-abbrev pub turned : State → FueledCall → Answer → State → Turned
+abbrev pub turned : State → FueledCall → Answer → State → TraceStep
 turned s call answer s' = record { before = s; call = call; answer = answer; after = s' }
 
-abbrev pub TurnOf : Type 0 → Turned → Type 0
+abbrev pub TurnOf : Type 0 → TraceStep → Type 0
 TurnOf rose t = Played t ⊎ (Faulted t × rose)
 
 answer_same : {a b : Answer} → Some a ≡ Some b → b ≡ a
 answer_same e = cc
 
 pub turn_of : {rose : Type 0} {s s' : State} {a : Answer} (call : FueledCall) (r : Result Value P1Error) → answer_of r ≡ Some a
-    → IsTurn rose (ReachesHost s call) (used_by s call) s s' r (turn s call) → TurnOf rose (turned s call a s')
+    → IsTransition rose (ReachesHost s call) (used_by s call) s s' r (turn s call) → TurnOf rose (turned s call a s')
 turn_of {s = s} {s' = s'} {a = a} call (Ok x) is row =
     inl (subst (λ m. Gives m s a s') (sym row) (answer_same is, refl))
 turn_of {s = s} {s' = s'} {a = a} call (Err e) is (inl refuses) =
@@ -103,12 +103,12 @@ turn_of call (Err e) is (inr (inr faults)) =
     inr (record { came = faults.came; io = answer_same (sym io ∙ is); state = faults.state }, faults.count)
 
 -- what such a turn takes of the faults that are allowed
-pub record Takes (before after : FaultCount) (faults : ℕ) (t : Turned) : Type 0 where
+pub record Takes (before after : FaultCount) (faults : ℕ) (t : TraceStep) : Type 0 where
   pub spent : ℕ
   pub allowed : Allows before after (faults + spent)
   pub spends : (j : ℕ) → Spends (spent + j) j t
 
-takes_of : (before now after : FaultCount) {faults : ℕ} {t : Turned} → now.count ≤ after.count → Allows before now faults
+takes_of : (before now after : FaultCount) {faults : ℕ} {t : TraceStep} → now.count ≤ after.count → Allows before now faults
     → TurnOf (Rose now after) t
     → Takes before after faults t
 takes_of before now after {faults} le allowed (inl played) = record {
@@ -126,11 +126,11 @@ takes_of before now after {faults} le allowed (inr (faulted, rose)) = record {
 
 pub record SoFar (before now : FaultCount) (old : State) (calls : List FueledCall) (answered : List Answer) (new : State)
     (touched : Nodes) : Type 0 where
-  pub turns : List Turned
+  pub turns : List TraceStep
   pub faults : ℕ
   pub allowed : Allows before now faults
-  pub on : (j : ℕ) (more : List FueledCall) (rest : List Turned) (last : State) → Run j new more rest last
-      → Run (faults + j) old (calls ++ more) (turns ++ rest) last
+  pub on : (j : ℕ) (more : List FueledCall) (rest : List TraceStep) (last : State) → Trace j new more rest last
+      → Trace (faults + j) old (calls ++ more) (turns ++ rest) last
   pub answers_are : answered ≡ answers_of turns
   pub ends_touched : All (λ n. contains touched n ≡ true) (named turns)
 
@@ -149,13 +149,13 @@ pub nothing_yet_turns : (before : FaultCount) (old : State) (touched : Nodes)
 unfolding nothing_yet
 nothing_yet_turns before old touched = refl
 
-named-append : (xs ys : List Turned) → named (xs ++ ys) ≡ named xs ++ named ys
+named-append : (xs ys : List TraceStep) → named (xs ++ ys) ≡ named xs ++ named ys
 named-append [] ys = refl
 named-append (x ∷ xs) ys =
     ap (λ l. ends_of x ++ l) (named-append xs ys) ∙ sym (append_assoc (ends_of x) (named xs) (named ys))
 
 -- an answered call comes to these
-ends_come : {A : Type 0} (P : ℕ → Type 0) (t : Tree) (m : Row (Program A)) → All P (request_comes t m)
+ends_come : {A : Type 0} (P : ℕ → Type 0) (t : Tree) (m : CallResult (Program A)) → All P (request_comes t m)
     → All P (request_ends t m)
 ends_come P t (Ok (asking (Path p) next)) all = all
 ends_come P t (Ok (asking r next)) all = All-nil P
@@ -190,7 +190,7 @@ module _ {before now after : FaultCount} {start : State} {w v : World} {g g' : G
     {r : Result Value P1Error} {answer : Answer} (is : answer_of r ≡ Some answer) (cause : Causes now after r)
     (takes : Turns (Rose now after) w v g g' call r)
     (so : SoFar before now start calls answered (in_world w g) w.touched) where
-  abbrev t : Turned
+  abbrev t : TraceStep
   t = turned (in_world w g) call answer (in_world v g')
 
   still_touched : All (λ n. contains v.touched n ≡ true) (named so.turns)
@@ -205,7 +205,7 @@ module _ {before now after : FaultCount} {start : State} {w v : World} {g g' : G
 
   answers_more : answered ++ answer ∷ [] ≡ answers_of (so.turns ++ t ∷ [])
   answers_more =
-      ap (λ l. l ++ answer ∷ []) so.answers_are ∙ sym (map-append (λ (x : Turned). x.answer) so.turns (t ∷ []))
+      ap (λ l. l ++ answer ∷ []) so.answers_are ∙ sym (map-append (λ (x : TraceStep). x.answer) so.turns (t ∷ []))
 
   taken : Takes before after so.faults t
   taken = takes_of before now after cause.later so.allowed (turn_of call r is takes.turn)
@@ -228,9 +228,9 @@ module _ {before now after : FaultCount} {start : State} {w v : World} {g g' : G
 
   -- an answer ends the run
   pub ended : (more : List FueledCall) → ends answer ≡ true
-      → DidRun before after start (calls ++ call ∷ more) (answered ++ answer ∷ []) (in_world v g') v.touched
+      → RefinesTrace before after start (calls ++ call ∷ more) (answered ++ answer ∷ []) (in_world v g') v.touched
   ended more stops =
-      let run : Run (so.faults + (taken.spent + 0)) start (calls ++ call ∷ more) (so.turns ++ t ∷ []) (in_world v g') =
+      let run : Trace (so.faults + (taken.spent + 0)) start (calls ++ call ∷ more) (so.turns ++ t ∷ []) (in_world v g') =
       so.on (taken.spent + 0) (call ∷ more) (t ∷ []) (in_world v g') (0, refl, refl, taken.spends 0, rw stops (refl, refl)) in
       record {
         turns = so.turns ++ t ∷ [];
@@ -248,9 +248,9 @@ module _ {before now after : FaultCount} {start : State} {w v : World} {g g' : G
 
 -- the calls end with no answer that ends the run
 pub all_done : {before now : FaultCount} {old new : State} {calls : List FueledCall} {answered : List Answer} {touched : Nodes}
-    → SoFar before now old calls answered new touched → DidRun before now old calls answered new touched
+    → SoFar before now old calls answered new touched → RefinesTrace before now old calls answered new touched
 all_done {old = old} {new = new} {calls = calls} so =
-    let run : Run (so.faults + 0) old calls so.turns new = rw (append-nil, append-nil) at (so.on 0 [] [] new refl) in
+    let run : Trace (so.faults + 0) old calls so.turns new = rw (append-nil, append-nil) at (so.on 0 [] [] new refl) in
     record {
       turns = so.turns;
       faults = so.faults + 0;
@@ -297,7 +297,7 @@ pub stood : {before now after : FaultCount} {start : State} {w v : World} {g g' 
     → length answered ≡ n → GoOn answered → SoFar before now start (take n calls) answered (in_world w g) w.touched
     → StoodAt before after start calls n (in_world v g') v.touched
 stood {before = before} {now = now} {after = after} {start = start} {w = w} {v = v} {g' = g'} {calls = calls} {n = n} {answered = answered} is cause takes sized goes so =
-    let run : Run (so.faults + 0) start (take n calls) so.turns (in_world v g') =
+    let run : Trace (so.faults + 0) start (take n calls) so.turns (in_world v g') =
     rw (append-nil, append-nil) at (so.on 0 [] [] (in_world v g') (wanted_same is takes)) in
     record {
       answers = answered;
@@ -324,9 +324,9 @@ stood_first = record { answers = []; count = refl; go_on = tt; run = all_done no
 -- ---- the call at a place of the list
 
 -- it may want memory
-pub may_want_at : (calls : List Call) (i : ℕ) (d : Call) → i < length calls → IsTrue (may_want (get_or calls i d))
-    → option_map may_want (slice_get calls i) ≡ Some true
-may_want_at calls i d within wants = ap (option_map may_want) (slice_get-get_or calls i d within) ∙ ap Some wants
+pub may_want_at : (calls : List Call) (i : ℕ) (d : Call) → i < length calls → IsTrue (may_run_out_of_memory (get_or calls i d))
+    → option_map may_run_out_of_memory (slice_get calls i) ≡ Some true
+may_want_at calls i d within wants = ap (option_map may_run_out_of_memory) (slice_get-get_or calls i d within) ∙ ap Some wants
 
 pub call_at : (fuel : ℕ) (calls : List Call) (i : ℕ) (d : Call) → i < length calls
     → take (i + 1) (map (with_fuel fuel) calls)

@@ -3,10 +3,10 @@ use Rattle.std.proofs.Common.{ℕ, ◌≤◌, ◌≡◌, inl, true, false, Bool,
 use Rattle.wasi_host.specs.Agree.{OrMade}
 use Rattle.wasi_host.specs.Tree.{next_of}
 use Rattle.wasi_p1_model.specs.Guest.{State}
-use Rattle.wasi_p1_model.specs.Row.{Row}
+use Rattle.wasi_p1_model.specs.CallResult.{CallResult}
 use Rattle.wasi_p1_model.specs.Calls.{row, turn}
 use Rattle.wasi_p1_model.specs.StatesAgree.{Alike, AnswerAlike}
-use Rattle.wasi_p1_model.specs.Run.{Turned, Run, Gives, ends, answer_of, answers_of}
+use Rattle.wasi_p1_model.specs.Trace.{TraceStep, Trace, Gives, ends, answer_of, answers_of}
 use Rattle.wasi_guest.specs.declared.answer.Answer.{Answer}
 use Rattle.wasi_guest.specs.declared.answer.Answer.TheVariants as answers
 use Rattle.wasi_p1_model.specs.Front.{FueledCall}
@@ -43,23 +43,23 @@ alike_still {Seen} {s} {s'} mid same alike = subst (λ (z : State). AlikeAfter S
 })
 
 -- the calls have the same answers from a state that is alike, and the states after them are alike
-pub record RunAlike (Seen : ℕ → Type 0) (old old' : State) (calls : List FueledCall) (turns : List Turned)
+pub record RunAlike (Seen : ℕ → Type 0) (old old' : State) (calls : List FueledCall) (turns : List TraceStep)
     (new : State) : Type 0 where
-  pub turns' : List Turned
+  pub turns' : List TraceStep
   pub new' : State
-  pub run : Run 0 old' calls turns' new'
+  pub run : Trace 0 old' calls turns' new'
   pub same : answers_of turns' ≡ answers_of turns
   pub alike : Alike (OrMade Seen old.tree new.tree) new new'
   pub grows : next_of old.tree ≤ next_of new.tree
 
 -- a turn over a state that is alike
 pub record TurnAlike (Seen : ℕ → Type 0) (s s' mid : State) (answer : Answer)
-    (row' : Row (Value × State)) : Type 0 where
+    (row' : CallResult (Value × State)) : Type 0 where
   pub mid' : State
   pub gives : Gives row' s' answer mid'
   pub after : AlikeAfter Seen s mid mid'
 
-gives_alike : {Seen : ℕ → Type 0} {s s' mid : State} {answer : Answer} (m m' : Row (Value × State)) → Alike Seen s s'
+gives_alike : {Seen : ℕ → Type 0} {s s' mid : State} {answer : Answer} (m m' : CallResult (Value × State)) → Alike Seen s s'
     → AnswerAlike Seen s m m'
     → ((p : Value × State) → m ≡ Ok p → next_of s.tree ≤ next_of p.1.tree) → Gives m s answer mid
     → TurnAlike Seen s s' mid answer m'
@@ -77,15 +77,15 @@ gives_alike (Ok p) (Err f) start both grows given = absurd both
 gives_alike (Err e) (Ok q) start both grows given = absurd both
 
 -- the turn of an alike state, with this answer
-abbrev at : State → FueledCall → Answer → State → Turned
+abbrev at : State → FueledCall → Answer → State → TraceStep
 at s call answer mid = record { before = s; call = call; answer = answer; after = mid }
 
 -- these calls, from states that are alike
-abbrev RunsAlike : List FueledCall → State → List Turned → State → Type 1
+abbrev RunsAlike : List FueledCall → State → List TraceStep → State → Type 1
 RunsAlike calls s turns new =
-    (Seen : ℕ → Type 0) (s' : State) → Alike Seen s s' → Run 0 s calls turns new → RunAlike Seen s s' calls turns new
+    (Seen : ℕ → Type 0) (s' : State) → Alike Seen s s' → Trace 0 s calls turns new → RunAlike Seen s s' calls turns new
 
-step : {Seen : ℕ → Type 0} {old old' new : State} {calls : List FueledCall} {t : Turned} {turns : List Turned} (call : FueledCall)
+step : {Seen : ℕ → Type 0} {old old' new : State} {calls : List FueledCall} {t : TraceStep} {turns : List TraceStep} (call : FueledCall)
     (b : Bool) → ends t.answer ≡ b
     → RunsAlike calls t.after turns new → TurnAlike Seen old old' t.after t.answer (turn old' call)
     → Rest calls t turns new b
@@ -111,8 +111,8 @@ step {Seen} {old} {old'} {new} {calls} {t} {turns} call false is further one on 
       grows = let first = one.after.grows in let second = rest.grows in omega arith;
     }
 
-first_alike : {Seen : ℕ → Type 0} {old old' new : State} {call : FueledCall} {calls : List FueledCall} {t : Turned}
-    {turns : List Turned}
+first_alike : {Seen : ℕ → Type 0} {old old' new : State} {call : FueledCall} {calls : List FueledCall} {t : TraceStep}
+    {turns : List TraceStep}
     → RunsAlike calls t.after turns new → Alike Seen old old' → FirstTurn old call calls t turns new
     → RunAlike Seen old old' (call ∷ calls) (t ∷ turns) new
 first_alike {Seen} {old} {old'} {new} {call} {calls} {t} further alike first =
@@ -120,9 +120,9 @@ first_alike {Seen} {old} {old'} {new} {call} {calls} {t} further alike first =
     (λ p is. row_grows old.tree (row old.guest call) p is) first.gives in
     step call (ends t.answer) refl further one first.rest
 
-pub runs_alike : (calls : List FueledCall) {Seen : ℕ → Type 0} {old old' : State} (new : State) (turns : List Turned)
+pub runs_alike : (calls : List FueledCall) {Seen : ℕ → Type 0} {old old' : State} (new : State) (turns : List TraceStep)
     → Alike Seen old old'
-    → Run 0 old calls turns new → RunAlike Seen old old' calls turns new
+    → Trace 0 old calls turns new → RunAlike Seen old old' calls turns new
 runs_alike [] {old' = old'} new [] alike run =
     let after = alike_still new run alike in
     record { turns' = []; new' = old'; run = refl; same = refl; alike = after.alike; grows = after.grows }

@@ -13,7 +13,7 @@ use Rattle.wasi_host.specs.declared.errors.ErrorCode.{ErrorCode}
 use Rattle.wasi_host.specs.declared.errors.ErrorCode.TheVariants.{Io}
 use Rattle.wasi_host.specs.declared.errors.HostError.{HostError}
 use Rattle.wasi_host.specs.declared.errors.HostError.TheVariants.{Code}
-use Rattle.wasi_host.specs.declared.open_handle.Held.{Held}
+use Rattle.wasi_host.specs.declared.open_handle.OpenHandle.{OpenHandle}
 use Rattle.wasi_host.specs.declared.metadata.Metadata.{Metadata}
 use Rattle.wasi_host.proofs.Touching.{no_ends, touches_same, touches_through}
 use Rattle.wasi_guest.specs.declared.errno.Errno.TheVariants as errnos
@@ -22,7 +22,7 @@ use Rattle.wasi_p1_model.specs.CallParts.{Makes}
 use Rattle.wasi_p1_model.specs.Errnos.{errno_of}
 use Rattle.wasi_p1_model.specs.Polling.{OfReading, awaited_by, waited_by, nodes_in, nodes_read}
 use Rattle.wasi_p1_model.specs.Request.{Sizes, size_at}
-use Rattle.wasi_p1_model.specs.Row.{give}
+use Rattle.wasi_p1_model.specs.CallResult.{give}
 use Rattle.wasi_p1_model.specs.declared.error.P1Error.{P1Error}
 use Rattle.wasi_p1_model.specs.declared.error.P1Error.TheVariants.{Errno, Memory}
 use Rattle.wasi_p1_model.specs.declared.awaited.Awaited.{Awaited}
@@ -156,22 +156,22 @@ module _ {live new : Handles} {w v : World} {n : ℕ} (same : new ≡ live) wher
 -- handles stand for what they stood for
 held_same : (live : Handles) (w v : World) (what : Awaited) → ((h : ℕ) → contains live h ≡ true → v.held h ≡ w.held h)
     → OfReading (λ file. contains live file ≡ true) what → nodes_in (awaited_by v.held what) ≡ nodes_in (awaited_by w.held what)
-held_same live w v (awaiteds.FileToRead file position) keeps is = ap (λ (held : Held). held.node ∷ []) (keeps file is)
+held_same live w v (awaiteds.FileToRead file position) keeps is = ap (λ (held : OpenHandle). held.node ∷ []) (keeps file is)
 held_same live w v (awaiteds.Clock end) keeps is = refl
 held_same live w v awaiteds.Input keeps is = refl
 held_same live w v awaiteds.Output keeps is = refl
 held_same live w v awaiteds.FileToWrite keeps is = refl
 
 -- the nodes of those from one on
-abbrev pub nodes_from : (ℕ → Held) → List Waited → ℕ → List ℕ
+abbrev pub nodes_from : (ℕ → OpenHandle) → List Waited → ℕ → List ℕ
 nodes_from held ws i = nodes_read (map (waited_by held) (drop i ws))
 
-nodes_more : (held : ℕ → Held) (ws : List Waited) (i : ℕ) (w : Waited) → i < length ws → w ≡ slice_index_or ws i w
+nodes_more : (held : ℕ → OpenHandle) (ws : List Waited) (i : ℕ) (w : Waited) → i < length ws → w ≡ slice_index_or ws i w
     → nodes_from held ws i ≡ nodes_in (awaited_by held w.what) ++ nodes_from held ws (i + 1)
 unfolding nodes_read
 nodes_more held ws i w within is = rw (drop_more ws i w within, ← is) refl
 
-nodes_among : (held : ℕ → Held) (ws : List Waited) (i : ℕ) (n : ℕ) → Contains (nodes_from held ws i) n
+nodes_among : (held : ℕ → OpenHandle) (ws : List Waited) (i : ℕ) (n : ℕ) → Contains (nodes_from held ws i) n
     → Contains (nodes_read (map (waited_by held) ws)) n
 unfolding nodes_read
 nodes_among held ws zero n has = has
@@ -179,7 +179,7 @@ nodes_among held [] (suc i) n has = has
 nodes_among held (w ∷ ws) (suc i) n has = Contains-append_right (nodes_in (awaited_by held w.what)) (nodes_read (map (waited_by held) ws)) n
     (nodes_among held ws i n has)
 
-item_among : (held : ℕ → Held) (ws : List Waited) (i : ℕ) (item : Waited) → i < length ws → item ≡ slice_index_or ws i item
+item_among : (held : ℕ → OpenHandle) (ws : List Waited) (i : ℕ) (item : Waited) → i < length ws → item ≡ slice_index_or ws i item
     → (n : ℕ) → Contains (nodes_in (awaited_by held item.what)) n → Contains (nodes_read (map (waited_by held) ws)) n
 item_among held ws i item within is n has =
     nodes_among held ws i n (subst (λ ns. Contains ns n) (sym (nodes_more held ws i item within is))

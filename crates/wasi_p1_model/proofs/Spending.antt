@@ -11,9 +11,9 @@ use Rattle.wasi_p1_model.specs.Front.{ask}
 use Rattle.wasi_p1_model.specs.Guest.{Guest, State}
 use Rattle.wasi_p1_model.specs.Quotas.{allowance, count_on, counted_growth, counted_makings, growth_to}
 use Rattle.wasi_p1_model.specs.Request.{Request, Reply, Grow, after, reply_of, end_after, growth_at, size_at, written_by}
-use Rattle.wasi_p1_model.specs.Row.{Row, asking, give}
+use Rattle.wasi_p1_model.specs.CallResult.{CallResult, asking, give}
 use Rattle.wasi_p1_model.specs.Spending.{grown_in, growing, making, may_make, with_growth, with_making}
-use Rattle.wasi_p1_model.specs.Stock.{Stock}
+use Rattle.wasi_p1_model.specs.GuestEnvModel.{GuestEnvModel}
 use Rattle.wasi_p1_model.specs.Writing.{with_grown}
 use Rattle.wasi_p1_model.specs.declared.quotas.Allowance.{Allowance}
 use Rattle.wasi_p1_model.proofs.Alike.{row_on}
@@ -22,7 +22,7 @@ use Rattle.wasi_p1_model.proofs.Listings.{both_ok}
 use Rattle.wasi_p1_model.proofs.Moving.{Replied, replied_by}
 
 -- an answer and a guest are those that were given
-pub answer_is : {x y : Value} {g h : Guest} → (let m : Row (Value × Guest) = Ok (x, g) in m) ≡ Ok (y, h)
+pub answer_is : {x y : Value} {g h : Guest} → (let m : CallResult (Value × Guest) = Ok (x, g) in m) ≡ Ok (y, h)
     → (y ≡ x) × (h ≡ g)
 answer_is {x} {y} {g} {h} is =
     let same : ◌≡◌ {A = Value × Guest} (x, g) (y, h) = (cc) in
@@ -31,7 +31,7 @@ answer_is {x} {y} {g} {h} is =
 -- ---- what is counted
 
 -- the request was answered, and something counted in the guest that it gave
-pub record Counts (count : Guest → Guest) (t : Tree) (r : Request) (next : Reply r → Row (Value × Guest))
+pub record Counts (count : Guest → Guest) (t : Tree) (r : Request) (next : Reply r → CallResult (Value × Guest))
     (p : Value × State) : Type 0 where
   pub guest : Guest
   pub within : Replied t r next (p.0, record p.1 { guest = guest })
@@ -41,7 +41,7 @@ pub record Counts (count : Guest → Guest) (t : Tree) (r : Request) (next : Rep
 abbrev after_count : (Guest → Guest) → Value × Guest → Value × Guest
 after_count count q = (q.0, count q.1)
 
-module _ (count : Guest → Guest) {p : Value × State} {t : Tree} (r : Request) (next : Reply r → Row (Value × Guest)) where
+module _ (count : Guest → Guest) {p : Value × State} {t : Tree} (r : Request) (next : Reply r → CallResult (Value × Guest)) where
   counts : (reply : Reply r) → reply_of t r ≡ Ok reply → p.1.tree ≡ after t r
       → (next reply >>= (λ q. give (after_count count q))) ≡ Ok (p.0, p.1.guest) → Counts count t r next p
   counts reply is tree gives =
@@ -59,13 +59,13 @@ abbrev pub with_made : Bool → Guest → Guest
 with_made makes g = record g { holdings = counted_makings makes g.holdings }
 
 pub gave_making : {p : Value × State} (t : Tree) (makes : Bool) (g : Guest) (r : Request)
-    (next : Reply r → Row (Value × Guest)) (fuel : ℕ) → row_on t (making makes g (ask r next) fuel).0 ≡ Ok p
+    (next : Reply r → CallResult (Value × Guest)) (fuel : ℕ) → row_on t (making makes g (ask r next) fuel).0 ≡ Ok p
     → Counts (with_made makes) t r next p
 gave_making {p} t false g r next fuel is =
     record { guest = p.1.guest; within = replied_by t r next is; counted = refl }
 gave_making {p} t true g r next fuel is = by (may_make g.holdings) is
   where
-    by : (m : Row (Unit {0}))
+    by : (m : CallResult (Unit {0}))
         → row_on t (m >>= (λ _. Ok (asking r (λ reply. next reply >>= (λ q. give (with_making q)))))) ≡ Ok p
         → Counts (with_made true) t r next p
     by (Err e) is = absurd (cc)
@@ -80,7 +80,7 @@ growth_under None t w = 0
 growth_under (Some limit) t w = growth_at t limit w
 
 pub gave_growing : {p : Value × State} (t : Tree) (limit : Option Allowance) (w : Request)
-    (next : Reply w → Row (Value × Guest)) (fuel : ℕ) → row_on t (growing limit (ask w next) fuel).0 ≡ Ok p
+    (next : Reply w → CallResult (Value × Guest)) (fuel : ℕ) → row_on t (growing limit (ask w next) fuel).0 ≡ Ok p
     → Counts (with_grown (growth_under limit t w)) t w next p
 gave_growing t None w next fuel is =
     let did = replied_by t w _ is in counts (with_grown 0) w next did.reply did.is did.tree did.gives
@@ -101,7 +101,7 @@ abbrev pub growth_by : OpenMode → Tree → Request → ℕ
 growth_by mode t w = cond (includes (mode_bits mode) 2) (growth_to (size_at t (written_by w)) (end_after w)) 0
 
 -- that is counted
-pub growth_counted : (s : Stock) (mode : OpenMode) (t : Tree) (w : Request)
+pub growth_counted : (s : GuestEnvModel) (mode : OpenMode) (t : Tree) (w : Request)
     → counted_growth (growth_under (allowance s mode) t w) s ≡ counted_growth (growth_by mode t w) s
 growth_counted s mode t w = λ i. record s { used = record s.used { bytes = by s.quota.bytes i } }
   where
@@ -115,7 +115,7 @@ growth_counted s mode t w = λ i. record s { used = record s.used { bytes = by s
     by (Some most) = refl
 
 -- in this guest
-pub grew_to : {t : Tree} {w : Request} {next : Reply w → Row (Value × Guest)} {p : Value × State} (h : Guest)
+pub grew_to : {t : Tree} {w : Request} {next : Reply w → CallResult (Value × Guest)} {p : Value × State} (h : Guest)
     (mode : OpenMode) (grew : Counts (with_grown (growth_under (allowance h.holdings mode) t w)) t w next p)
     → grew.guest ≡ h → p.1.guest ≡ with_grown (growth_by mode t w) h
 grew_to {t} {w} h mode grew is =

@@ -11,23 +11,23 @@ use Rattle.wasi_p1_model.specs.Front.{FueledCall}
 use Rattle.wasi_guest.specs.declared.errno.Errno.TheVariants as errnos
 use Rattle.wasi_host.specs.Tree.{Tree}
 use Rattle.wasi_p1_model.specs.Guest.{Guest, State, perms_in}
-use Rattle.wasi_p1_model.specs.Row.{Row, Program, done, asking}
+use Rattle.wasi_p1_model.specs.CallResult.{CallResult, Program, done, asking}
 use Rattle.wasi_p1_model.specs.Calls.{Stem, itself, through, renumbering, stem_in, row, turn}
-use Rattle.wasi_p1_model.specs.Run.{Turned, Run, Played, Faulted, Gives, answer_of, ends, is_success}
+use Rattle.wasi_p1_model.specs.Trace.{TraceStep, Trace, Played, Faulted, Gives, answer_of, ends, is_success}
 use Rattle.wasi_p1_model.specs.Stems.{stems_by, stems_from, stem_of, HasPerms}
 use Rattle.wasi_p1_model.specs.declared.error.P1Error.{P1Error}
 use Rattle.wasi_p1_model.specs.declared.error.P1Error.TheVariants.{Errno, Trap, Exit, Memory}
 use Rattle.wasi_p1_model.proofs.Alike.{row_on}
 use Rattle.wasi_p1_model.proofs.Moving.{over_guest, replied_by, faulted_stays, turned_by}
-use Rattle.wasi_p1_model.proofs.Near.{IsNear, KeepsSlots, given_by}
+use Rattle.wasi_p1_model.proofs.LocalCalls.{IsLocal, KeepsSlots, given_by}
 use Rattle.wasi_p1_model.proofs.Locality.{row_near}
 
 -- the descriptors after an answer stem from those before it
 abbrev AllStem : Guest → Call → Answer → Guest → Type 0
 AllStem g call answer g' = (n : ℕ) (perms : FsPerms) → HasPerms g' n perms → HasPerms g (stems_from call answer n) perms
 
-row_stems : (g : Guest) (call : Call) (t : Tree) (m : Row (Program (Value × Guest))) (p : Value × State)
-    → IsNear g call m → row_on t m ≡ Ok p → AllStem g call (answers.Ok p.0) p.1.guest
+row_stems : (g : Guest) (call : Call) (t : Tree) (m : CallResult (Program (Value × Guest))) (p : Value × State)
+    → IsLocal g call m → row_on t m ≡ Ok p → AllStem g call (answers.Ok p.0) p.1.guest
 row_stems g call t (Ok (done q)) p near is =
     (subst (KeepsSlots g (stem_in call) []) (over_guest t (Ok q) is) near.slots).perms
 row_stems g call t (Ok (asking r next)) p near is =
@@ -57,11 +57,11 @@ from_itself stem e {answer} n is = by e is
     by (Exit status) given = refused given refl
     by Memory given = absurd (cc)
 
-pub turn_stems : (t : Turned) → Played t ⊎ Faulted t → (n : ℕ) (perms : FsPerms) → HasPerms t.after.guest n perms
+pub turn_stems : (t : TraceStep) → Played t ⊎ Faulted t → (n : ℕ) (perms : FsPerms) → HasPerms t.after.guest n perms
     → HasPerms t.before.guest (stems_from t.call.call t.answer n) perms
 turn_stems t (inl played) n perms has = by (turn t.before t.call) refl played
   where
-    by : (m : Row (Value × State)) → turn t.before t.call ≡ m → Gives m t.before t.answer t.after
+    by : (m : CallResult (Value × State)) → turn t.before t.call ≡ m → Gives m t.before t.answer t.after
         → HasPerms t.before.guest (stems_from t.call.call t.answer n) perms
     by (Ok p) is (answer, new) =
         let stems = row_stems t.before.guest t.call.call t.before.tree (row t.before.guest t.call) p
@@ -79,8 +79,8 @@ turn_stems t (inr faulted) n perms has =
 
 -- ---- how many numbers are given
 
-row_fits : (most : ℕ) (g : Guest) (call : Call) (t : Tree) (m : Row (Program (Value × Guest))) (p : Value × State)
-    → IsNear g call m → row_on t m ≡ Ok p → FitsTable most g → FitsTable most p.1.guest
+row_fits : (most : ℕ) (g : Guest) (call : Call) (t : Tree) (m : CallResult (Program (Value × Guest))) (p : Value × State)
+    → IsLocal g call m → row_on t m ≡ Ok p → FitsTable most g → FitsTable most p.1.guest
 row_fits most g call t (Ok (done q)) p near is =
     (subst (KeepsSlots g (stem_in call) []) (over_guest t (Ok q) is) near.slots).fits most
 row_fits most g call t (Ok (asking r next)) p near is =
@@ -91,7 +91,7 @@ row_fits most g call t (Err e) p near is = absurd (cc)
 pub numbers_fit : NumbersFit
 numbers_fit most t (inl played) fits = by (turn t.before t.call) refl played
   where
-    by : (m : Row (Value × State)) → turn t.before t.call ≡ m → Gives m t.before t.answer t.after
+    by : (m : CallResult (Value × State)) → turn t.before t.call ≡ m → Gives m t.before t.answer t.after
         → FitsTable most t.after.guest
     by (Ok p) is (answer, new) = subst (λ (s : State). FitsTable most s.guest) (sym new)
         (row_fits most t.before.guest t.call.call t.before.tree (row t.before.guest t.call) p
@@ -101,7 +101,7 @@ numbers_fit most t (inr faulted) fits = subst (FitsTable most) (sym (faulted_sta
 
 -- ---- a run
 
-pub run_stems : (calls : List FueledCall) (turns : List Turned) (k : ℕ) (old new : State) → Run k old calls turns new
+pub run_stems : (calls : List FueledCall) (turns : List TraceStep) (k : ℕ) (old new : State) → Trace k old calls turns new
     → (n : ℕ) (perms : FsPerms) → HasPerms new.guest n perms → HasPerms old.guest (stem_of turns n) perms
 run_stems [] [] k old new run n perms has = subst (λ (s : State). HasPerms s.guest n perms) run has
 run_stems [] (t ∷ turns) k old new run n perms has = absurd run
@@ -111,8 +111,8 @@ run_stems (call ∷ calls) (t ∷ turns) k old new (j, before, is, spends, rest)
     (turn_stems t (turned_by spends) (stem_of turns n) perms
     (later (λ on. run_stems calls turns j t.after new on n perms has) (ends t.answer) rest))
   where
-    later : (Run j t.after calls turns new → HasPerms t.after.guest (stem_of turns n) perms) → (b : Bool)
-        → MatchBool b ((turns ≡ []) × (new ≡ t.after)) (Run j t.after calls turns new)
+    later : (Trace j t.after calls turns new → HasPerms t.after.guest (stem_of turns n) perms) → (b : Bool)
+        → MatchBool b ((turns ≡ []) × (new ≡ t.after)) (Trace j t.after calls turns new)
         → HasPerms t.after.guest (stem_of turns n) perms
     later next true (none, last) = subst (λ ts. HasPerms t.after.guest (stem_of ts n) perms) (sym none)
         (subst (λ (s : State). HasPerms s.guest n perms) last has)

@@ -5,21 +5,21 @@ use Rattle.std.proofs.lemmas.Result.{err_from_is_err_and}
 use Rattle.wasi_host.specs.Steps.{◌>>=◌}
 use Rattle.std.specs.FinSet.{contains}
 use Rattle.wasi_host.specs.HostLaws.{World, Handles, Rose, FaultCount}
-use Rattle.wasi_host.specs.declared.open_handle.Held.{Held}
+use Rattle.wasi_host.specs.declared.open_handle.OpenHandle.{OpenHandle}
 use Rattle.wasi_host.specs.declared.lookup.Lookup.{Lookup}
 use Rattle.wasi_p1_model.specs.Slots.{View}
 use Rattle.wasi_p1_model.specs.Guest.{Guest, guest_slots, guest_of, guest_by, state_of}
 use Rattle.wasi_p1_model.specs.Request.{Request, Reply}
-use Rattle.wasi_p1_model.specs.Row.{Row, Program, give, done, asking, made_of_reply}
+use Rattle.wasi_p1_model.specs.CallResult.{CallResult, Program, give, done, asking, made_of_reply}
 use Rattle.wasi_p1_model.specs.Front.{with_fuel, ask}
 use Rattle.wasi_p1_model.specs.Parts.{with_file}
-use Rattle.wasi_p1_model.specs.Calls.{front, row, fuel_left, descriptors_named, may_want}
+use Rattle.wasi_p1_model.specs.Calls.{front, row, fuel_left, descriptors_named, may_run_out_of_memory}
 use Rattle.wasi_p1_model.specs.Owners.{handles, Owned, SlotsOfCall}
 use Rattle.wasi_p1_model.specs.CallParts.{Follows, IsReplied, Makes, WantsNoMemory, Stays, open_file_of}
 use Rattle.wasi_p1_model.specs.Asked.{Answered, Does}
 use Rattle.wasi_p1_model.specs.Spending.{spends_nothing}
-use Rattle.wasi_p1_model.specs.Turn.{used_by}
-use Rattle.wasi_p1_model.specs.CallTurn.{FollowsRow, Kept, KeptBut, Same, Quiet, AtFront, TakesTurn}
+use Rattle.wasi_p1_model.specs.Transition.{used_by}
+use Rattle.wasi_p1_model.specs.CallTransition.{FollowsRow, Kept, KeptBut, Same, Quiet, AtFront, Transitions}
 use Rattle.wasi_guest.specs.declared.call.Call.{Call}
 use Rattle.wasi_p1_model.specs.declared.error.P1Error.{P1Error}
 use Rattle.wasi_guest.specs.declared.answer.Value.{Value}
@@ -29,7 +29,7 @@ use Rattle.wasi_p1_model.specs.declared.slots.Slot.TheVariants.{File}
 use Rattle.wasi_guest.specs.declared.errno.Errno.{Errno as ErrorNumber}
 use Rattle.wasi_p1_model.specs.declared.error.P1Error.TheVariants.{Errno, Memory}
 use Rattle.wasi_host.specs.declared.errors.HostError.TheVariants.{Memory as NoMemory}
-use Rattle.wasi_p1_model.proofs.Near.{IsNear}
+use Rattle.wasi_p1_model.proofs.LocalCalls.{IsLocal}
 use Rattle.wasi_p1_model.proofs.Locality.{row_near}
 use Rattle.wasi_p1_model.proofs.Wanting.{wants_none}
 use Rattle.wasi_p1_model.proofs.TouchingNear.{turn_touches_near}
@@ -48,11 +48,11 @@ never_ok : {x : Value} → (let r : Result Value P1Error = Ok x in r) ≡ Err Me
 never_ok is = absurd (cc)
 
 -- a row, and the fuel that is left at its end
-pub row_same : {p q : Row (Program (Value × Guest)) × ℕ} → p ≡ q → p.0 ≡ q.0
-row_same at = ap (λ (p : Row (Program (Value × Guest)) × ℕ). p.0) at
+pub row_same : {p q : CallResult (Program (Value × Guest)) × ℕ} → p ≡ q → p.0 ≡ q.0
+row_same at = ap (λ (p : CallResult (Program (Value × Guest)) × ℕ). p.0) at
 
-left_same : {p q : Row (Program (Value × Guest)) × ℕ} → p ≡ q → p.1 ≡ q.1
-left_same at = ap (λ (p : Row (Program (Value × Guest)) × ℕ). p.1) at
+left_same : {p q : CallResult (Program (Value × Guest)) × ℕ} → p ≡ q → p.1 ≡ q.1
+left_same at = ap (λ (p : CallResult (Program (Value × Guest)) × ℕ). p.1) at
 
 -- a refusal before the host, which took this much of the fuel
 pub refused_at : {H : Type 0} {told : Bool} {world : H → World} {faults : H → FaultCount} {lookups : H → List Lookup}
@@ -84,7 +84,7 @@ refused_at {H} {told} {world} {faults} {lookups} {inside} {view} {memory} {call}
     is = row_same at
 
     never : WantsNoMemory e
-    never = wants_none e (subst (IsNear g call) (sym is) (row_near g (with_fuel inside.fuel call)))
+    never = wants_none e (subst (IsLocal g call) (sym is) (row_near g (with_fuel inside.fuel call)))
 
 -- one before any fuel was taken
 pub refused : {H : Type 0} {told : Bool} {world : H → World} {faults : H → FaultCount} {lookups : H → List Lookup}
@@ -111,7 +111,7 @@ on_err {result = result} is follows = let error = err_from_is_err_and result is 
 
 -- memory was wanted before anything was asked, where the row's front gives this
 wanted_by : {H : Type 0} {told : Bool} {world : H → World} {faults : H → FaultCount} {lookups : H → List Lookup}
-    {view : View H} {memory : List ℕ} {call : Call} {left : ℕ} (m : Row (Program (Value × Guest))) → IsTrue (may_want call)
+    {view : View H} {memory : List ℕ} {call : Call} {left : ℕ} (m : CallResult (Program (Value × Guest))) → IsTrue (may_run_out_of_memory call)
     → (m, left) ≡ front (guest_of world view memory) call view.fuel
     → (let new : View H = record view { fuel = left } in
     AtFront (Same view new memory memory) (Quiet faults lookups view new) (guest_of world view memory) (Err Memory) m)
@@ -134,14 +134,14 @@ wanted_by {H} {told} {world} {faults} {lookups} {view} {memory} {call} {left} m 
 
 -- in the place of an error number
 pub wanted : {H : Type 0} {told : Bool} {world : H → World} {faults : H → FaultCount} {lookups : H → List Lookup}
-    {view : View H} {memory : List ℕ} {call : Call} {number : ErrorNumber} {left : ℕ} → IsTrue (may_want call)
+    {view : View H} {memory : List ℕ} {call : Call} {number : ErrorNumber} {left : ℕ} → IsTrue (may_run_out_of_memory call)
     → (Err (Errno number), left) ≡ front (guest_of world view memory) call view.fuel
     → FollowsRow told world faults lookups view (record view { fuel = left }) memory memory call (Err Memory)
 wanted {number = number} may at = wanted_by (Err (Errno number)) may at (inr (refl, refl), (refl, refl))
 
 -- where no refusal is left
 pub wanted_late : {H : Type 0} {told : Bool} {world : H → World} {faults : H → FaultCount} {lookups : H → List Lookup}
-    {view : View H} {memory : List ℕ} {call : Call} {left : ℕ} (program : Program (Value × Guest)) → IsTrue (may_want call)
+    {view : View H} {memory : List ℕ} {call : Call} {left : ℕ} (program : Program (Value × Guest)) → IsTrue (may_run_out_of_memory call)
     → (Ok program, left) ≡ front (guest_of world view memory) call view.fuel
     → FollowsRow told world faults lookups view (record view { fuel = left }) memory memory call (Err Memory)
 wanted_late (done p) may at = wanted_by (Ok (done p)) may at (refl, (refl, refl))
@@ -180,24 +180,24 @@ same_guest world kept slots = rw (slots, kept.table_max, kept.holdings, kept.mem
 
 -- the row without the tree, and the turn over a host that tells
 abbrev AtHost : {H : Type 0} → (H → World) → (H → FaultCount) → (H → List Lookup) → View H → View H → List ℕ → List ℕ
-    → Result Value P1Error → Row (Program (Value × Guest)) → Type 0
+    → Result Value P1Error → CallResult (Program (Value × Guest)) → Type 0
 AtHost world faults lookups old new before after result m =
     AtFront (Same old new before after) (Quiet faults lookups old new) (guest_then world old new after) result m
 
 abbrev Turn : {H : Type 0} → (H → World) → (H → FaultCount) → View H → View H → List ℕ → List ℕ → Call → Result Value P1Error
     → Type 0
 Turn world faults old new before after call result =
-    TakesTurn world (Rose (faults old.host) (faults new.host)) old new before after (with_fuel old.fuel call) result
+    Transitions world (Rose (faults old.host) (faults new.host)) old new before after (with_fuel old.fuel call) result
 
 -- what came of a request
-abbrev pub Did : {H A : Type 0} → (H → World) → (H → FaultCount) → View H → View H → (r : Request) → (Reply r → Row A) → Row A
+abbrev pub Did : {H A : Type 0} → (H → World) → (H → FaultCount) → View H → View H → (r : Request) → (Reply r → CallResult A) → CallResult A
     → Type 0
 Did world faults old new r next result =
     Does (Rose (faults old.host) (faults new.host)) (world old.host) (world new.host) r next result
 
 -- the same, of one that leaves what these handles stand for
-abbrev pub Made : {H A : Type 0} → (H → World) → (H → FaultCount) → View H → View H → Handles → (r : Request) → (Reply r → Row A)
-    → Row A → Type 0
+abbrev pub Made : {H A : Type 0} → (H → World) → (H → FaultCount) → View H → View H → Handles → (r : Request) → (Reply r → CallResult A)
+    → CallResult A → Type 0
 Made world faults old new live r next result =
     Makes (Rose (faults old.host) (faults new.host)) live (world old.host) (world new.host) r next result
 
@@ -207,11 +207,11 @@ pub record PutBack {H : Type 0} (old new : View H) (fd : ℕ) (f : FileSlot) : T
   pub table_max : new.table_max ≡ old.table_max
   pub holdings : new.holdings ≡ old.holdings
 
-abbrev pub guest_put : {H : Type 0} → (ℕ → Held) → View H → ℕ → FileSlot → List ℕ → Guest
+abbrev pub guest_put : {H : Type 0} → (ℕ → OpenHandle) → View H → ℕ → FileSlot → List ℕ → Guest
 guest_put held old fd f after = with_file (guest_by held old after) fd (open_file_of held f)
 
 -- that is the guest after it, by what the handles stand for then
-pub put_guest : {H : Type 0} {old new : View H} {fd : ℕ} {f : FileSlot} {after : List ℕ} (y : Value) (held stands : ℕ → Held)
+pub put_guest : {H : Type 0} {old new : View H} {fd : ℕ} {f : FileSlot} {after : List ℕ} (y : Value) (held stands : ℕ → OpenHandle)
     → PutBack old new fd f → stands f.file.file ≡ held f.file.file
     → guest_slots stands old.slots ≡ guest_slots held old.slots
     → ◌≡◌ {A = Value × Guest} (y, guest_put held old fd f after) (y, guest_by stands new after)
@@ -228,7 +228,7 @@ put_guest {old = old} {new = new} {fd = fd} {f = f} {after = after} y held stand
     )
 
 -- what a reply leads to, as a row's answer
-abbrev as_answer : {A : Type 0} → (A → Value × Guest) → Row A → Row (Value × Guest)
+abbrev as_answer : {A : Type 0} → (A → Value × Guest) → CallResult A → CallResult (Value × Guest)
 as_answer shown m = m >>= (λ x. give (shown x))
 
 module _ {H : Type 0} {told : Bool} {world : H → World} {faults : H → FaultCount} {lookups : H → List Lookup}
@@ -275,7 +275,7 @@ module _ {H : Type 0} {told : Bool} {world : H → World} {faults : H → FaultC
       → FollowsRow told world faults lookups old new before after call (Ok x)
   put_answered {x} {fd} {f} at size put named is same host =
       let held = (world old.host).held in
-      let ends : Value × Guest → Row (Program (Value × Guest)) × ℕ = λ p. (Ok (done p), new.fuel) in
+      let ends : Value × Guest → CallResult (Program (Value × Guest)) × ℕ = λ p. (Ok (done p), new.fuel) in
       answered (ap ends (sym (put_guest {after = after} x held held put refl refl)) ∙ at) size
       (put_stays fd _ named is (ap (λ (file : OpenedFile). Some file.file) same) put.slots)
       (record { failed = ap faults host; looked = ap lookups host }) (λ told. record {
@@ -285,11 +285,11 @@ module _ {H : Type 0} {told : Bool} {world : H → World} {faults : H → FaultC
       })
 
   -- what follows of a request's reply, as a row's answer
-  module _ {r : Request} {A : Type 0} (next : Reply r → Row A) (shown : Guest → A → Value × Guest)
+  module _ {r : Request} {A : Type 0} (next : Reply r → CallResult A) (shown : Guest → A → Value × Guest)
       (at : ask r (made_of_reply r next (shown (guest_of world old before))) new.fuel
       ≡ front (guest_of world old before) call old.fuel) where
     -- it wasn't answered
-    err_follows : {e : P1Error} → IsReplied r next (Err e) → (e ≡ Memory → IsTrue (may_want call))
+    err_follows : {e : P1Error} → IsReplied r next (Err e) → (e ≡ Memory → IsTrue (may_run_out_of_memory call))
         → KeptBut call e old new before after → (IsTrue told → Turn world faults old new before after call (Err e))
         → FollowsRow told world faults lookups old new before after call (Err e)
     err_follows {e} replied wants kept turn = record {
@@ -308,7 +308,7 @@ module _ {H : Type 0} {told : Bool} {world : H → World} {faults : H → FaultC
     }
 
     -- the host refused, or failed, or wanted memory; or the row refused the reply
-    pub settled_err : {e : P1Error} → IsReplied r next (Err e) → (e ≡ Memory → IsTrue (may_want call))
+    pub settled_err : {e : P1Error} → IsReplied r next (Err e) → (e ≡ Memory → IsTrue (may_run_out_of_memory call))
         → KeptBut call e old new before after
         → (IsTrue told → SettledAt world faults old new before after call e)
         → (IsTrue told → Did world faults old new r next (Err e))
@@ -320,7 +320,7 @@ module _ {H : Type 0} {told : Bool} {world : H → World} {faults : H → FaultC
     ])
 
     -- the same of a call that has no use
-    pub does_err : {e : P1Error} → IsReplied r next (Err e) → (e ≡ Memory → IsTrue (may_want call))
+    pub does_err : {e : P1Error} → IsReplied r next (Err e) → (e ≡ Memory → IsTrue (may_run_out_of_memory call))
         → IsTrue (spends_nothing call r) → Kept old new before after → GuestSlotsStay told world old new
         → (IsTrue told → Did world faults old new r next (Err e))
         → FollowsRow told world faults lookups old new before after call (Err e)
@@ -328,7 +328,7 @@ module _ {H : Type 0} {told : Bool} {world : H → World} {faults : H → FaultC
         (λ told. turns.unused (no_use _ _ (row_same at) none) (same_guest world kept (slots told)))
 
     -- the row refused the reply
-    pub does_refused : {e : P1Error} → Follows r next (Err e) → (e ≡ Memory → IsTrue (may_want call))
+    pub does_refused : {e : P1Error} → Follows r next (Err e) → (e ≡ Memory → IsTrue (may_run_out_of_memory call))
         → Kept old new before after → GuestSlotsStay told world old new
         → (IsTrue told → Answered (Rose (faults old.host) (faults new.host)) (world old.host) (world new.host) r next
         (Err e))
@@ -353,7 +353,7 @@ module _ {H : Type 0} {told : Bool} {world : H → World} {faults : H → FaultC
     -- ---- of a request that leaves what live handles stand for
 
     module _ {live : Handles} (owned : Owned live (handles old.slots)) where
-      pub makes_err : {e : P1Error} → IsReplied r next (Err e) → (e ≡ Memory → IsTrue (may_want call))
+      pub makes_err : {e : P1Error} → IsReplied r next (Err e) → (e ≡ Memory → IsTrue (may_run_out_of_memory call))
           → IsTrue (spends_nothing call r) → Kept old new before after
           → (IsTrue told → Made world faults old new live r next (Err e))
           → FollowsRow told world faults lookups old new before after call (Err e)

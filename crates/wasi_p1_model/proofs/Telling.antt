@@ -5,7 +5,7 @@ use Rattle.wasi_guest.specs.Event.{event_bytes}
 use Rattle.wasi_guest.specs.Range.{with_bytes}
 use Rattle.wasi_guest.specs.declared.event.Event.{Event}
 use Rattle.wasi_guest.proofs.Ranges.{with_bytes_length}
-use Rattle.wasi_host.specs.declared.open_handle.Held.{Held}
+use Rattle.wasi_host.specs.declared.open_handle.OpenHandle.{OpenHandle}
 use Rattle.wasi_p1_model.specs.Polling.{awaited_by, waited_by, comes_at, event_of, events, first_size, nodes_in, nodes_read, with_events}
 use Rattle.wasi_p1_model.specs.declared.awaited.Awaited.{Awaited}
 use Rattle.wasi_p1_model.specs.declared.awaited.Awaited.TheVariants as awaiteds
@@ -111,7 +111,7 @@ all_put {moment} {at} {i} {read} {place} {ws} {sizes} {before} {memory} behind p
 -- ---- what a handle stands for doesn't matter
 
 -- so the events are those of the code
-pub events_by : (held : ℕ → Held) (moment : ℕ) (ws : List Waited) (sizes : List ℕ)
+pub events_by : (held : ℕ → OpenHandle) (moment : ℕ) (ws : List Waited) (sizes : List ℕ)
     → events moment (map (waited_by held) ws) sizes ≡ events moment ws sizes
 unfolding events
 events_by held moment [] sizes = refl
@@ -127,7 +127,7 @@ events_by held moment (w ∷ ws) sizes = by w.what (λ sizes. events_by held mom
     by (awaiteds.FileToRead file position) rest = rw (rest (drop 1 sizes)) refl
 
 -- nor are fewer files read
-pub reads_by : (held : ℕ → Held) (ws : List Waited) → length (nodes_read (map (waited_by held) ws)) ≡ length (nodes_read ws)
+pub reads_by : (held : ℕ → OpenHandle) (ws : List Waited) → length (nodes_read (map (waited_by held) ws)) ≡ length (nodes_read ws)
 unfolding nodes_read
 reads_by held [] = refl
 reads_by held (w ∷ ws) = by w.what (reads_by held ws)

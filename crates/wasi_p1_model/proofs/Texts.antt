@@ -5,7 +5,7 @@ use Rattle.std.proofs.lemmas.List.{map_more, drop_more, drop_all, take_at, drop_
 use Rattle.std.proofs.lemmas.List.Sums.{sum_by_push, sum_by-cons}
 use Rattle.wasi_guest.specs.Range.{with_bytes}
 use Rattle.wasi_guest.proofs.Ranges.{with_whole, with_bytes_length}
-use Rattle.wasi_p1_model.specs.Row.{Row}
+use Rattle.wasi_p1_model.specs.CallResult.{CallResult}
 use Rattle.wasi_p1_model.specs.Services.{total_of, with_text, with_texts, with_unit}
 use Rattle.wasi_p1_model.specs.declared.error.P1Error.{P1Error}
 
@@ -100,6 +100,6 @@ all_written f xs i {place} {address} {memory} {whole} behind left =
     subst (λ texts. with_texts memory texts place address ≡ whole) none left.gives
 
 -- a refusal where nothing is answered beside a memory
-pub unit_refused : {e : P1Error} (m : Row (List ℕ)) → Err e ≡ with_unit m → Err e ≡ m
+pub unit_refused : {e : P1Error} (m : CallResult (List ℕ)) → Err e ≡ with_unit m → Err e ≡ m
 unit_refused {e} (Ok memory) is = absurd (cc)
 unit_refused {e} (Err f) is = let same : e ≡ f = (cc) in rw same refl

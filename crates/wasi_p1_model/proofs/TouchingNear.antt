@@ -7,16 +7,16 @@ use Rattle.wasi_host.specs.HostLaws.{World}
 use Rattle.wasi_host.specs.ValidTree.{root}
 use Rattle.wasi_guest.specs.declared.answer.Value.{Value}
 use Rattle.wasi_guest.specs.declared.call.Call.{Call}
-use Rattle.wasi_p1_model.specs.CallTurn.{Turns}
+use Rattle.wasi_p1_model.specs.CallTransition.{Turns}
 use Rattle.wasi_p1_model.specs.Front.{FueledCall}
 use Rattle.wasi_p1_model.specs.Guest.{Guest, node_in}
-use Rattle.wasi_p1_model.specs.Near.{nodes_named, TouchesOnlyNear}
-use Rattle.wasi_p1_model.specs.Row.{Row, Program, done, asking, starts}
+use Rattle.wasi_p1_model.specs.Locality.{nodes_named, TouchesOnlyNear}
+use Rattle.wasi_p1_model.specs.CallResult.{CallResult, Program, done, asking, starts}
 use Rattle.wasi_p1_model.specs.Calls.{row}
 use Rattle.wasi_p1_model.specs.declared.error.P1Error.{P1Error}
 use Rattle.wasi_host.proofs.Agreeing.{one}
 use Rattle.wasi_host.proofs.Touching.{reached_through}
-use Rattle.wasi_p1_model.proofs.Near.{IsNear, IsNamed}
+use Rattle.wasi_p1_model.proofs.LocalCalls.{IsLocal, IsNamed}
 use Rattle.wasi_p1_model.proofs.Locality.{row_near}
 
 -- a member of one of the lists is one of them all
@@ -31,7 +31,7 @@ pub is_among_named : {g : Guest} {call : Call} {n : ℕ} → IsNamed g call n �
 is_among_named {g} {call} {n} is = among_all (λ fd. node_in (slice_get g.slots fd)) _ is.fd n is.named is.node
 
 -- a row starts from nodes that its call names
-starts_named : (g : Guest) (call : Call) (m : Row (Program (Value × Guest))) → IsNear g call m → (n : ℕ)
+starts_named : (g : Guest) (call : Call) (m : CallResult (Program (Value × Guest))) → IsLocal g call m → (n : ℕ)
     → Contains (starts m) n → Contains (nodes_named g call) n
 starts_named g call (Ok (asking r next)) near n has = is_among_named (near.starts n has)
 starts_named g call (Ok (done p)) near n has = absurd (omega (arith, has.1))

@@ -7,10 +7,10 @@ use Rattle.wasi_host.specs.declared.errors.ErrorCode.{ErrorCode}
 use Rattle.wasi_p1_model.specs.Guest.{Guest, State}
 use Rattle.wasi_p1_model.specs.Request.{Request, Reply, reply_of, after}
 use Rattle.wasi_host.specs.Steps.{◌>>=◌}
-use Rattle.wasi_p1_model.specs.Row.{Row, Program, done, asking, from_host, Asks, starts, request_comes}
+use Rattle.wasi_p1_model.specs.CallResult.{CallResult, Program, done, asking, from_host, Asks, starts, request_comes}
 use Rattle.wasi_p1_model.specs.Calls.{row}
-use Rattle.wasi_p1_model.specs.Turn.{IsTurn, Faults, AfterFault, used_by}
-use Rattle.wasi_p1_model.specs.CallTurn.{Turns, in_world}
+use Rattle.wasi_p1_model.specs.Transition.{IsTransition, Faults, AfterFault, used_by}
+use Rattle.wasi_p1_model.specs.CallTransition.{Turns, in_world}
 use Rattle.wasi_p1_model.specs.Asked.{Asked, Hidden, GivesOrElse, TreeAfterRequest}
 use Rattle.wasi_guest.specs.declared.call.Call.{Call}
 use Rattle.wasi_p1_model.specs.Front.{FueledCall}
@@ -18,20 +18,20 @@ use Rattle.wasi_guest.specs.declared.errno.Errno.TheVariants as errnos
 use Rattle.wasi_p1_model.specs.declared.error.P1Error.{P1Error}
 use Rattle.wasi_p1_model.specs.declared.error.P1Error.TheVariants.{Errno, Memory}
 use Rattle.wasi_guest.specs.declared.answer.Value.{Value}
-use Rattle.wasi_p1_model.proofs.Near.{Ends, IsNear, AsksNear}
+use Rattle.wasi_p1_model.proofs.LocalCalls.{Ends, IsLocal, AsksNear}
 use Rattle.wasi_host.proofs.Touching.{touches_same, no_ends}
 use Rattle.wasi_p1_model.proofs.Alike.{over, replied, row_on}
 use Rattle.wasi_p1_model.proofs.Locality.{row_near}
 
 -- the turn of a row
-abbrev RowTurns : Type 0 → World → World → Guest → Guest → Guest → Row (Program (Value × Guest)) → Result Value P1Error
+abbrev RowTurns : Type 0 → World → World → Guest → Guest → Guest → CallResult (Program (Value × Guest)) → Result Value P1Error
     → Type 0
 RowTurns rose w v g g' used m result =
-    IsTurn rose (Asks m) used (in_world w g) (in_world v g') result (row_on w.tree m)
+    IsTransition rose (Asks m) used (in_world w g) (in_world v g') result (row_on w.tree m)
     × Touches w.tree v.tree (starts m) (if is_ok result then request_comes w.tree m else []) w.touched v.touched
 
 turns : {rose : Type 0} {w v : World} {g g' : Guest} {call : FueledCall} {result : Result Value P1Error}
-    (m : Row (Program (Value × Guest)))
+    (m : CallResult (Program (Value × Guest)))
     → m ≡ row g call → RowTurns rose w v g g' (used_by (in_world w g) call) m result → Turns rose w v g g' call result
 turns {rose} {w} {v} {g} {g'} {call} {result} m is both =
     let used = used_by (in_world w g) call in
@@ -61,7 +61,7 @@ answered {g' = g'} {x = x} is tree touched = turns (Ok (done (x, g'))) is (
 -- ---- a reply
 
 -- an answer that was given is the row's
-given : {rose A : Type 0} {x : A} {m : Row A} → GivesOrElse rose (Ok x) m → m ≡ Ok x
+given : {rose A : Type 0} {x : A} {m : CallResult A} → GivesOrElse rose (Ok x) m → m ≡ Ok x
 given (inl is) = sym is
 given (inr (inl wrong)) = absurd (cc)
 given (inr (inr wrong)) = let io = wrong.0 in absurd (cc)
@@ -96,25 +96,25 @@ module _ {rose : Type 0} {s s' : State} {used : Guest} {e : P1Error} where
   unstepped (counted io up is) tree = used_up io up (λ i. record { tree = tree i; guest = is i })
 
   -- the row's refusal; or the host failed
-  refuses : {m : Row (Value × State)} → m ≡ Err e → Still rose s s' used e
-      → IsTurn rose (Unit {0}) used s s' (Err e) m
+  refuses : {m : CallResult (Value × State)} → m ≡ Err e → Still rose s s' used e
+      → IsTransition rose (Unit {0}) used s s' (Err e) m
   refuses is (still same) = inl (record { stays = same; row_is = is })
   refuses is (used_up io up counts) =
       inr (inr (record { io = io; count = up; came = tt; state = inr (inl counts) }))
 
-  wanted : {m : Row (Value × State)} → e ≡ Memory → Still rose s s' used e
-      → IsTurn rose (Unit {0}) used s s' (Err e) m
+  wanted : {m : CallResult (Value × State)} → e ≡ Memory → Still rose s s' used e
+      → IsTransition rose (Unit {0}) used s s' (Err e) m
   wanted is (still same) = inr (inl (record { memory = is; stays = same }))
   wanted is (used_up io up counts) = absurd (cc)
 
-  unstepped_fault : (m : Row (Value × State)) → Still rose s s' used e → AfterFault used s s' m
+  unstepped_fault : (m : CallResult (Value × State)) → Still rose s s' used e → AfterFault used s s' m
   unstepped_fault m (still same) = inl same
   unstepped_fault m (used_up io up counts) = inr (inl counts)
 
   -- what came of a request that wasn't answered Ok
-  module _ {call : Call} {r : Request} {next : Reply r → Row (Value × Guest)} (near : AsksNear s.guest call r next)
+  module _ {call : Call} {r : Request} {next : Reply r → CallResult (Value × Guest)} (near : AsksNear s.guest call r next)
       (settled : Settled rose s s' used e) where
-    abbrev is_replied : Row (Value × State)
+    abbrev is_replied : CallResult (Value × State)
     is_replied = replied s.tree r next (reply_of s.tree r)
 
     -- a hidden step is the row's
@@ -129,21 +129,21 @@ module _ {rose : Type 0} {s s' : State} {used : Guest} {e : P1Error} where
     hidden io hid = subst (λ a. AfterFault used s s' (replied s.tree r next a)) (sym hid.answered)
         (by (next hid.reply) refl)
       where
-        by : (m : Row (Value × Guest)) → next hid.reply ≡ m → AfterFault used s s' (over (after s.tree r) m)
+        by : (m : CallResult (Value × Guest)) → next hid.reply ≡ m → AfterFault used s s' (over (after s.tree r) m)
         by (Ok p) gives = stepped io hid.stepped p settled
         by (Err f) gives =
             let kept = subst (Ends (after s.tree r ≡ s.tree)) gives (near.ends s.tree hid.reply hid.answered) in
             unstepped_fault (over (after s.tree r) (Err f)) (unstepped settled (hid.stepped ∙ kept.1))
 
     refused_here : (a : Result (Reply r) ErrorCode) → reply_of s.tree r ≡ a → TreeAfterRequest s.tree s'.tree r (Err e)
-        → Err e ≡ from_host a → IsTurn rose (Unit {0}) used s s' (Err e) (replied s.tree r next a)
+        → Err e ≡ from_host a → IsTransition rose (Unit {0}) used s s' (Err e) (replied s.tree r next a)
     refused_here (Ok reply) at tree is = absurd (cc)
     refused_here (Err code) at (inl tree) is =
         refuses (ap (λ m. over (after s.tree r) (m >>= next)) (sym is)) (unstepped settled tree)
     refused_here (Err code) at (inr hid) is = let answered = hid.1.answered in absurd (cc)
 
     wanted_here : TreeAfterRequest s.tree s'.tree r (Err e) → e ≡ Memory
-        → IsTurn rose (Unit {0}) used s s' (Err e) is_replied
+        → IsTransition rose (Unit {0}) used s s' (Err e) is_replied
     wanted_here (inl tree) is = wanted is (unstepped settled tree)
     wanted_here (inr hid) is = let io = hid.0 in absurd (cc)
 
@@ -154,16 +154,16 @@ module _ {rose : Type 0} {s s' : State} {used : Guest} {e : P1Error} where
     failed (inr hid) is up = record { io = is; count = up; came = tt; state = hidden is hid.1 }
 
     err_turns : TreeAfterRequest s.tree s'.tree r (Err e) → GivesOrElse rose (Err e) (from_host (reply_of s.tree r))
-        → IsTurn rose (Unit {0}) used s s' (Err e) is_replied
+        → IsTransition rose (Unit {0}) used s s' (Err e) is_replied
     err_turns tree (inl is) = refused_here (reply_of s.tree r) refl tree is
     err_turns tree (inr (inl is)) = wanted_here tree (cc)
     err_turns tree (inr (inr is)) = let io = is.0 in inr (inr (failed tree (cc) is.1))
 
-near_at : (g : Guest) (call : FueledCall) {r : Request} {next : Reply r → Row (Value × Guest)}
+near_at : (g : Guest) (call : FueledCall) {r : Request} {next : Reply r → CallResult (Value × Guest)}
     → Ok (asking r next) ≡ row g call → AsksNear g call.call r next
-near_at g call front = subst (IsNear g call.call) (sym front) (row_near g call)
+near_at g call front = subst (IsLocal g call.call) (sym front) (row_near g call)
 
-module _ {rose : Type 0} {w v : World} {g g' : Guest} {call : FueledCall} {r : Request} {next : Reply r → Row (Value × Guest)}
+module _ {rose : Type 0} {w v : World} {g g' : Guest} {call : FueledCall} {r : Request} {next : Reply r → CallResult (Value × Guest)}
     (front : Ok (asking r next) ≡ row g call) where
   -- the host answered
   pub asked_ok : {reply : Reply r} {x : Value} → Asked rose w v r (Ok reply) → next reply ≡ Ok (x, g')

@@ -5,7 +5,7 @@ use Rattle.wasi_host.specs.declared.lookup.Lookup.{Lookup}
 use Rattle.wasi_guest.specs.declared.answer.Value.{Value}
 use Rattle.wasi_guest.specs.declared.call.Call.{Call}
 use Rattle.wasi_guest.specs.declared.errno.Errno.TheVariants.{Io}
-use Rattle.wasi_p1_model.specs.CallTurn.{FollowsRow, Kept, KeptBut, Turns, in_world}
+use Rattle.wasi_p1_model.specs.CallTransition.{FollowsRow, Kept, KeptBut, Turns, in_world}
 use Rattle.wasi_p1_model.specs.Front.{FueledCall}
 use Rattle.wasi_p1_model.specs.Guest.{Guest, State}
 use Rattle.wasi_p1_model.specs.Slots.{View}

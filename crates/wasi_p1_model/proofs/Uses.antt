@@ -9,11 +9,11 @@ use Rattle.wasi_p1_model.specs.Front.{FueledCall}
 use Rattle.wasi_p1_model.specs.Guest.{Guest, State}
 use Rattle.wasi_p1_model.specs.Quotas.{count_on, counted_growth, counted_makings}
 use Rattle.wasi_p1_model.specs.Request.{Request, Reply, Path, Direct, Behind, ListDirectory, Sizes, Grow, growth_in}
-use Rattle.wasi_p1_model.specs.Row.{Row, Program, asking}
+use Rattle.wasi_p1_model.specs.CallResult.{CallResult, Program, asking}
 use Rattle.wasi_p1_model.specs.Calls.{row}
 use Rattle.wasi_p1_model.specs.Spending.{growth_of, grows, makes, spends_nothing, spent}
-use Rattle.wasi_p1_model.specs.Stock.{Stock}
-use Rattle.wasi_p1_model.specs.Turn.{used_by}
+use Rattle.wasi_p1_model.specs.GuestEnvModel.{GuestEnvModel}
+use Rattle.wasi_p1_model.specs.Transition.{used_by}
 
 -- ---- counts
 
@@ -21,7 +21,7 @@ use Rattle.wasi_p1_model.specs.Turn.{used_by}
 abbrev pub with_counts : QuotaUsed → Guest → Guest
 with_counts used g = record g { holdings = record g.holdings { used = used } }
 
-spent_counts : (makes : Bool) (growth : ℕ) (stock : Stock)
+spent_counts : (makes : Bool) (growth : ℕ) (stock : GuestEnvModel)
     → spent makes growth stock ≡ record stock { used = (spent makes growth stock).used }
 spent_counts true growth stock = refl
 spent_counts false growth stock = refl
@@ -29,7 +29,7 @@ spent_counts false growth stock = refl
 -- the use of a call is counted, and all else of the guest stays
 pub used_counts : (s : State) (call : FueledCall)
     → used_by s call ≡ with_counts (used_by s call).holdings.used s.guest
-used_counts s call = ap (λ (stock : Stock). let g : Guest = record s.guest { holdings = stock } in g)
+used_counts s call = ap (λ (stock : GuestEnvModel). let g : Guest = record s.guest { holdings = stock } in g)
     (spent_counts (makes call.call) (growth_of s.tree (row s.guest call)) s.guest.holdings)
 
 count_none : (most : Option ℕ) (used : ℕ) → count_on most used 0 ≡ used
@@ -37,12 +37,12 @@ count_none None used = refl
 count_none (Some most) used = add-zero used
 
 -- no grown byte is no use
-pub growth_none : (stock : Stock) → counted_growth 0 stock ≡ stock
-growth_none stock = ap (λ bytes. let s : Stock = record stock { used = record stock.used { bytes = bytes } } in s)
+pub growth_none : (stock : GuestEnvModel) → counted_growth 0 stock ≡ stock
+growth_none stock = ap (λ bytes. let s : GuestEnvModel = record stock { used = record stock.used { bytes = bytes } } in s)
     (count_none stock.quota.bytes stock.used.bytes)
 
 -- and a making alone is what it counts
-pub spent_making : (makes : Bool) (stock : Stock) → spent makes 0 stock ≡ counted_makings makes stock
+pub spent_making : (makes : Bool) (stock : GuestEnvModel) → spent makes 0 stock ≡ counted_makings makes stock
 spent_making true stock = growth_none (counted_makings true stock)
 spent_making false stock = growth_none stock
 
@@ -58,11 +58,11 @@ growth_nothing t (Grow limit w) none = absurd (cc)
 
 -- ---- the guest with the use of a call, whose row asks for this
 
-module _ (s : State) (call : FueledCall) {r : Request} {next : Reply r → Row (Value × Guest)}
+module _ (s : State) (call : FueledCall) {r : Request} {next : Reply r → CallResult (Value × Guest)}
     (asks : Ok (asking r next) ≡ row s.guest call) where
   pub used_is : used_by s call
       ≡ record s.guest { holdings = spent (makes call.call) (growth_in s.tree r) s.guest.holdings }
-  used_is = ap (λ (m : Row (Program (Value × Guest))).
+  used_is = ap (λ (m : CallResult (Program (Value × Guest))).
       let g : Guest = record s.guest { holdings = spent (makes call.call) (growth_of s.tree m) s.guest.holdings } in g)
       (sym asks)
 
@@ -70,7 +70,7 @@ module _ (s : State) (call : FueledCall) {r : Request} {next : Reply r → Row (
   pub made_use : grows r ≡ false → used_by s call ≡ record s.guest { holdings = counted_makings (makes call.call) s.guest.holdings }
   made_use none = used_is ∙ ap (λ growth. let g : Guest = record s.guest {
     holdings = spent (makes call.call) growth s.guest.holdings;
-  } in g) (growth_nothing s.tree r none) ∙ ap (λ (stock : Stock). let g : Guest = record s.guest { holdings = stock } in g)
+  } in g) (growth_nothing s.tree r none) ∙ ap (λ (stock : GuestEnvModel). let g : Guest = record s.guest { holdings = stock } in g)
       (spent_making (makes call.call) s.guest.holdings)
 
   -- nothing

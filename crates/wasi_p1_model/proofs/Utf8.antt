@@ -3,7 +3,7 @@ use Rattle.std.proofs.Math.Utf8.{encode, encodes, scalar, scalars, scalar_cases}
 use Rattle.std.proofs.lemmas.Bool.{cases_lt, and_parts}
 use Rattle.std.proofs.lemmas.Bool.Decides.{nat_tests}
 use Rattle.wasi_p1_model.proofs.Bytes.{joined}
-use Rattle.wasi_p1_model.proofs.Near.{AreBytes}
+use Rattle.wasi_p1_model.proofs.LocalCalls.{AreBytes}
 use Rattle.std.specs.Prelude.{IsUtf8}
 
 -- ---- a text's bytes are bytes

@@ -16,18 +16,18 @@ use Rattle.wasi_host.specs.ValidTree.{IsValidTree, IsValidContent, IsEntry, are_
 use Rattle.wasi_host.proofs.Changes.{node_at-past}
 use Rattle.wasi_host.proofs.EntryLemmas.{All-no_names}
 use Rattle.wasi_host.proofs.ValidSteps.{valid-step}
-use Rattle.wasi_p1_model.specs.CallTurn.{Turns, in_world}
+use Rattle.wasi_p1_model.specs.CallTransition.{Turns, in_world}
 use Rattle.wasi_p1_model.specs.Guest.{Guest, State}
 use Rattle.wasi_host.specs.HostCall.{Append, OpenAt, Pread}
 use Rattle.wasi_host.specs.HostCall as calls
-use Rattle.wasi_host.specs.declared.open_handle.Held.{Held}
+use Rattle.wasi_host.specs.declared.open_handle.OpenHandle.{OpenHandle}
 use Rattle.wasi_host.specs.Steps.{◌>>=◌}
 use Rattle.wasi_host.specs.declared.errors.ErrorCode.{ErrorCode}
 use Rattle.wasi_host.specs.Answer.{Listed, unless, link_text, listed, listing, open_answer, stat_answer}
 use Rattle.wasi_host.specs.Refusal.{refusal}
 use Rattle.wasi_host.proofs.Chain.{free}
 use Rattle.wasi_host.proofs.Refusals.{free_of}
-use Rattle.wasi_resolve.specs.EntryOps.{PlaceCall, PlaceAnswer, CreateDir, RemoveFile, RemoveDir, Symlink, ReadLink, call_at, unrooted, answer_in, place_for, step_in}
+use Rattle.wasi_resolve.specs.EntryOps.{EntryOp, PlaceAnswer, CreateDir, RemoveFile, RemoveDir, Symlink, ReadLink, call_at, unrooted, answer_in, place_for, step_in}
 use Rattle.wasi_resolve.specs.EntryOps as at_place
 use Rattle.wasi_resolve.specs.TwoPathOps.{Places, places_for, asks_directory, call_at_two, answer_at_two, step_at_two}
 use Rattle.wasi_resolve.specs.Paths.{Opening, Place, opening, step_of, timed}
@@ -36,7 +36,7 @@ use Rattle.wasi_resolve.specs.PathRequest.{PathRequest, OpenPath, LookPath, AtPl
 use Rattle.wasi_resolve.proofs.Requests.{as_opened}
 use Rattle.wasi_p1_model.specs.Listing.{Entry, dots, numbered_at, all_numbered_at, listing_at}
 use Rattle.wasi_p1_model.specs.Request.{Request, Reply, Path, Direct, Behind, ListDirectory, Sizes, Grow, reply_of, after}
-use Rattle.wasi_p1_model.specs.Row.{Row, Program, done, asking}
+use Rattle.wasi_p1_model.specs.CallResult.{CallResult, Program, done, asking}
 use Rattle.wasi_p1_model.specs.Calls.{row, turn}
 use Rattle.wasi_p1_model.specs.Validity.{RunsStayValid, HasBytes, IsValidState}
 use Rattle.wasi_p1_model.specs.declared.error.P1Error.{P1Error}
@@ -50,7 +50,7 @@ use Rattle.wasi_p1_model.proofs.Listings.{both_ok}
 use Rattle.wasi_p1_model.proofs.Paging.{dots_bytes}
 use Rattle.wasi_p1_model.proofs.Utf8.{text_bytes}
 use Rattle.wasi_p1_model.proofs.Moving.{Moves, turn_moves, turned_moves, run_keeps, over_tree, over_guest, replied_by}
-use Rattle.wasi_p1_model.proofs.Near.{AreBytes, AreTexts, PathGivesBytes, HasByteNames, GivesBytes, KeepsBytes, MayBeAsked, IsNear}
+use Rattle.wasi_p1_model.proofs.LocalCalls.{AreBytes, AreTexts, PathGivesBytes, HasByteNames, GivesBytes, KeepsBytes, MayBeAsked, IsLocal}
 use Rattle.wasi_p1_model.proofs.Locality.{row_near}
 use Rattle.wasi_p1_model.proofs.Uses.{with_counts}
 use Rattle.wasi_resolve.proofs.Asking.{HasUtf8Target, opening_asked, place_asked, places_asked, link_utf8}
@@ -152,7 +152,7 @@ gives_bytes t r reply valid is = tt
 -- ---- a request
 
 -- what is answered at a place wasn't refused there
-place_free : (t : Tree) (what : PlaceCall) (p : Place) {reply : PlaceAnswer what} → answer_in t what p ≡ Ok reply
+place_free : (t : Tree) (what : EntryOp) (p : Place) {reply : PlaceAnswer what} → answer_in t what p ≡ Ok reply
     → refusal t (call_at what p) ≡ None
 place_free t CreateDir p is = free _ _ _ is
 place_free t RemoveFile p is = free _ _ _ is
@@ -167,7 +167,7 @@ place_free t ReadLink p is = by (refusal t (call_at ReadLink p)) is
     by (Some code) is = absurd (cc)
 
 -- what is done at a place leads to a valid tree
-place_valid : (t : Tree) (s : ℕ) (text : List ℕ) (what : PlaceCall) {reply : PlaceAnswer what} → IsValidTree t
+place_valid : (t : Tree) (s : ℕ) (text : List ℕ) (what : EntryOp) {reply : PlaceAnswer what} → IsValidTree t
     → IsUtf8 text → HasUtf8Target what → place_for t s text what >>= answer_in t what ≡ Ok reply
     → IsValidTree (step_in t what (place_for t s text what))
 place_valid t s text what {reply} valid utf8 target answered = by (place_for t s text what) refl answered
@@ -201,7 +201,7 @@ path_valid t (LookPath s text follow) valid utf8 answered = valid
 path_valid t (AtPlace s text what) valid texts answered = place_valid t s text what valid texts.0 texts.1 answered
 path_valid t (TimesPath s text true atime mtime) valid utf8 answered = by (timed t s text)
   where
-    by : (m : Result Held ErrorCode) → IsValidTree (times_through t atime mtime m)
+    by : (m : Result OpenHandle ErrorCode) → IsValidTree (times_through t atime mtime m)
     by (Ok held) = times_valid t held.node atime mtime valid
     by (Err code) = valid
 path_valid t (TimesPath s text false atime mtime) valid utf8 answered =
@@ -235,8 +235,8 @@ request_valid t (Grow limit w) {reply = Some grown} valid may is =
 
 -- ---- a turn
 
-row_valid : (s : State) (call : Call) (m : Row (Program (Value × Guest))) (p : Value × State) → IsValidState s
-    → IsNear s.guest call m → row_on s.tree m ≡ Ok p → IsValidState p.1
+row_valid : (s : State) (call : Call) (m : CallResult (Program (Value × Guest))) (p : Value × State) → IsValidState s
+    → IsLocal s.guest call m → row_on s.tree m ≡ Ok p → IsValidState p.1
 row_valid s call (Ok (done q)) p valid near is = record {
   tree = subst IsValidTree (sym (over_tree (Ok q) is)) valid.tree;
   bytes = subst KeepsBytes (over_guest s.tree (Ok q) is) (near.bytes valid.bytes);

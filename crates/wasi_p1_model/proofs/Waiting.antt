@@ -1,15 +1,15 @@
 -- From what the parts of a poll give to its row.
 use Rattle.std.proofs.Common.{ℕ, ◌+◌, ◌*◌, ◌≡◌, ◌∙◌, true, false, Bool, List, [], ◌∷◌, length, map, refl, ap, sym, subst, Ok, arith}
 use Rattle.std.specs.Prelude.{◌==◌, not}
-use Rattle.wasi_host.specs.declared.open_handle.Held.{Held}
+use Rattle.wasi_host.specs.declared.open_handle.OpenHandle.{OpenHandle}
 use Rattle.wasi_p1_model.specs.Front.{ask, charge}
 use Rattle.wasi_p1_model.specs.Guest.{Guest}
 use Rattle.wasi_p1_model.specs.Parts.{room_for}
 use Rattle.wasi_p1_model.specs.Polling.{some_asked, lists_within, all_waited, earliest, files_named, nodes_read, clocks_at, judged_in, judged_of, waited_by}
 use Rattle.wasi_p1_model.specs.Request.{Sizes}
-use Rattle.wasi_p1_model.specs.Row.{Program, done, made_of_reply, give}
+use Rattle.wasi_p1_model.specs.CallResult.{Program, done, made_of_reply, give}
 use Rattle.wasi_p1_model.specs.Calls.{look_and_tell, poll_oneoff, tell_events, tell_ready}
-use Rattle.wasi_p1_model.specs.declared.holdings.Clocks.{Clocks}
+use Rattle.wasi_p1_model.specs.declared.guest_env.Clocks.{Clocks}
 use Rattle.wasi_p1_model.specs.declared.awaited.Judged.{Judged}
 use Rattle.wasi_p1_model.specs.declared.awaited.Waited.{Waited}
 use Rattle.wasi_guest.specs.declared.answer.Value.{Value}
@@ -57,7 +57,7 @@ reads_front g at ws clocks left some = by (nodes_read ws) some
     by (n ∷ ns) some = refl
 
 -- and of another an answer
-pub none_read : (held : ℕ → Held) (ws : List Waited) → (length (nodes_read ws) == 0) ≡ true → nodes_read (map (waited_by held) ws) ≡ []
+pub none_read : (held : ℕ → OpenHandle) (ws : List Waited) → (length (nodes_read ws) == 0) ≡ true → nodes_read (map (waited_by held) ws) ≡ []
 none_read held ws none = by (nodes_read (map (waited_by held) ws)) (reads_by held ws ∙ zero_is (length (nodes_read ws)) none)
   where
     zero_is : (n : ℕ) → (n == 0) ≡ true → n ≡ 0
@@ -67,7 +67,7 @@ none_read held ws none = by (nodes_read (map (waited_by held) ws)) (reads_by hel
     by [] is = refl
     by (n ∷ ns) is = absurd (omega (arith, is))
 
-pub some_read : (held : ℕ → Held) (ws : List Waited) → (length (nodes_read ws) == 0) ≡ false
+pub some_read : (held : ℕ → OpenHandle) (ws : List Waited) → (length (nodes_read ws) == 0) ≡ false
     → (length (nodes_read (map (waited_by held) ws)) == 0) ≡ false
 some_read held ws some = ap (λ n. n == 0) (reads_by held ws) ∙ some
 
@@ -87,7 +87,7 @@ module _ {g : Guest} {subscriptions at count fuel left : ℕ} {judged : Judged} 
   wanted_front ws ready waited =
       let (p, is) = look_gives g at ws clocks (nodes_read ws) left in (p, is ∙ ready_front ws ready waited)
 
-  module _ (held : ℕ → Held) (items : List Waited) (ready : IsReady g subscriptions at count fuel left judged clocks)
+  module _ (held : ℕ → OpenHandle) (items : List Waited) (ready : IsReady g subscriptions at count fuel left judged clocks)
       (waited : Ok (map (waited_by held) items) ≡ all_waited g.holdings g.slots g.memory subscriptions count) where
     -- no file is read
     pub answer_front : (length (nodes_read items) == 0) ≡ true

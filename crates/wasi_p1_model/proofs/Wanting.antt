@@ -28,7 +28,7 @@ use Rattle.wasi_p1_model.specs.Guest.{GuestSlot, stream, directory, file, is_clo
 use Rattle.wasi_p1_model.specs.Numbering.{live_count}
 use Rattle.wasi_p1_model.specs.NewTimes.{time_of, new_time, times_asked}
 use Rattle.wasi_p1_model.specs.RawFlags.{or_inval, open_how, follow_asked}
-use Rattle.wasi_p1_model.specs.Row.{Row}
+use Rattle.wasi_p1_model.specs.CallResult.{CallResult}
 use Rattle.wasi_p1_model.specs.Parts.{live_in, directory_in, start_in, source_in, sink_in, open_node_in, range, may_write, room_for, permit, guest_fault, from_guest}
 use Rattle.wasi_p1_model.specs.declared.error.P1Error.{P1Error}
 use Rattle.wasi_guest.specs.Enums.{clockid_of, is_signal}
@@ -39,7 +39,7 @@ use Rattle.wasi_guest.specs.declared.answer.TrapKind.TheVariants.{ExitStatus}
 use Rattle.wasi_p1_model.specs.declared.slots.Stream.TheVariants as streams
 use Rattle.wasi_guest.specs.declared.iovec.Iovec.{Iovec}
 use Rattle.wasi_p1_model.specs.Services.{next_input, input_into, fits_32, total_of, sizes_of, aligned, put_texts, texts_at, moment_of, clock_res, clock_time, exit_with, known_signal}
-use Rattle.wasi_p1_model.specs.Stock.{Stock}
+use Rattle.wasi_p1_model.specs.GuestEnvModel.{GuestEnvModel}
 use Rattle.wasi_p1_model.specs.declared.error.P1Error.TheVariants.{Errno, Trap, Exit, Memory}
 use Rattle.wasi_p1_model.specs.declared.usage.FileUse.{FileUse}
 use Rattle.wasi_p1_model.specs.declared.usage.FileUse.TheVariants.{Itself, Position, ReadAt, WriteAt}
@@ -60,10 +60,10 @@ wants_none Memory wrong is = wrong
 wants_none e refuses is = absurd (cc)
 
 -- nothing else refuses
-abbrev pub Never : {A : Type 0} → Row A → Type 0
+abbrev pub Never : {A : Type 0} → CallResult A → Type 0
 Never m = IfErr m IsRefusal
 
-pub after : {A B : Type 0} (m : Row A) (next : A → Row B) → Never m → ((x : A) → Never (next x)) → Never (m >>= next)
+pub after : {A B : Type 0} (m : CallResult A) (next : A → CallResult B) → Never m → ((x : A) → Never (next x)) → Never (m >>= next)
 after (Ok x) next first then = then x
 after (Err e) next first then = first
 
@@ -135,7 +135,7 @@ pub write_never : (perms : FsPerms) → Never (may_write perms)
 unfolding may_write
 write_never perms = by (is_read_only perms)
   where
-    by : (b : Bool) → Never (let m : Row (Unit {0}) = cond b (Err (Errno errnos.Badf)) (Ok tt) in m)
+    by : (b : Bool) → Never (let m : CallResult (Unit {0}) = cond b (Err (Errno errnos.Badf)) (Ok tt) in m)
     by true = refl
     by false = tt
 
@@ -232,7 +232,7 @@ pub synchronized_never : (fdflags : ℕ) → Never (not_synchronized fdflags)
 unfolding not_synchronized
 synchronized_never fdflags = by (has fdflags flag.dsync || has fdflags flag.rsync || has fdflags flag.sync)
   where
-    by : (b : Bool) → Never (let m : Row (Unit {0}) = cond b (Err (Errno errnos.Inval)) (Ok tt) in m)
+    by : (b : Bool) → Never (let m : CallResult (Unit {0}) = cond b (Err (Errno errnos.Inval)) (Ok tt) in m)
     by true = refl
     by false = tt
 
@@ -240,7 +240,7 @@ pub append_never : (perms : FsPerms) (modes : FileModes) → Never (keeps_append
 unfolding keeps_append
 append_never perms modes = by (is_append_only perms && not modes.append)
   where
-    by : (b : Bool) → Never (let m : Row (Unit {0}) = cond b (Err (Errno errnos.Perm)) (Ok tt) in m)
+    by : (b : Bool) → Never (let m : CallResult (Unit {0}) = cond b (Err (Errno errnos.Perm)) (Ok tt) in m)
     by true = refl
     by false = tt
 
@@ -272,14 +272,14 @@ sizes_never texts = after (fits_32 (length texts)) _ (fits_never (length texts))
     after (fits_32 (total_of texts)) _ (fits_never (total_of texts)) (λ total. tt))
 
 -- the standard input is read into a buffer
-pub input_never : (memory : List ℕ) (stock : Stock) (buffer : Iovec) → Never (input_into memory stock buffer)
+pub input_never : (memory : List ℕ) (stock : GuestEnvModel) (buffer : Iovec) → Never (input_into memory stock buffer)
 unfolding input_into
 input_never memory stock buffer = after (next_input stock.stdin buffer.buf_len) _ (by (length stock.stdin == 0)) (λ bytes. tt)
   where
-    some : Row (List ℕ)
+    some : CallResult (List ℕ)
     some = cond (buffer.buf_len == 0) (Err (Errno errnos.Intr)) (Ok (take buffer.buf_len stock.stdin))
 
-    takes : (b : Bool) → Never (let m : Row (List ℕ) = cond b (Err (Errno errnos.Intr)) (Ok (take buffer.buf_len stock.stdin)) in m)
+    takes : (b : Bool) → Never (let m : CallResult (List ℕ) = cond b (Err (Errno errnos.Intr)) (Ok (take buffer.buf_len stock.stdin)) in m)
     takes true = refl
     takes false = tt
 
@@ -308,12 +308,12 @@ moment_never wall monotonic clocks.Realtime = when (nat_lt (wall.seconds * 10 ^ 
 moment_never wall monotonic clocks.Monotonic = tt
 moment_never wall monotonic clock = refl
 
-pub clock_res_never : (stock : Stock) (id : ℕ) → Never (clock_res stock id)
+pub clock_res_never : (stock : GuestEnvModel) (id : ℕ) → Never (clock_res stock id)
 unfolding clock_res
 clock_res_never stock id = after (or_inval (clockid_of id)) _ (inval_never (clockid_of id))
     (moment_never stock.wall_resolution stock.monotonic_resolution)
 
-pub clock_time_never : (stock : Stock) (id : ℕ) → Never (clock_time stock id)
+pub clock_time_never : (stock : GuestEnvModel) (id : ℕ) → Never (clock_time stock id)
 unfolding clock_time
 clock_time_never stock id = after (or_inval (clockid_of id)) _ (inval_never (clockid_of id))
     (moment_never stock.wall stock.monotonic)

@@ -14,13 +14,13 @@ use Rattle.wasi_p1_model.specs.Guest.{Guest, State}
 use Rattle.wasi_p1_model.specs.Putting.{put_answer, put_end, put_in, put_request}
 use Rattle.wasi_p1_model.specs.Quotas.{allowance, growth_to}
 use Rattle.wasi_p1_model.specs.Request.{Reply, Direct, Behind, size_at}
-use Rattle.wasi_p1_model.specs.Row.{Row, done, give}
+use Rattle.wasi_p1_model.specs.CallResult.{CallResult, done, give}
 use Rattle.wasi_p1_model.specs.Parts.{Sink, output, into, sink_in, range, may_write, held_by, at_position, with_file}
 use Rattle.wasi_p1_model.specs.Front.{ask, charged_buffer}
 use Rattle.wasi_p1_model.specs.Calls.{fd_write, write_to}
 use Rattle.wasi_p1_model.specs.Spending.{growing}
 use Rattle.wasi_p1_model.specs.Writing.{WritesWhole, with_grown, written_to}
-use Rattle.wasi_p1_model.specs.declared.holdings.Output.{Output}
+use Rattle.wasi_p1_model.specs.declared.guest_env.Output.{Output}
 use Rattle.wasi_host.proofs.Agreeing.{unless_value}
 use Rattle.wasi_p1_model.proofs.Alike.{row_on}
 use Rattle.wasi_p1_model.proofs.Appending.{behind_reply}
@@ -82,7 +82,7 @@ writes_whole s s' fuel fd iovs n x is =
         moved : ℕ → Guest
         moved position = with_file s.guest fd (at_position f position)
 
-        next : (b : Bool) → Reply (put_request b (held_by f) f.position piece) → Row (Value × Guest)
+        next : (b : Bool) → Reply (put_request b (held_by f) f.position piece) → CallResult (Value × Guest)
         next b reply = give (put_answer s.guest fd f (put_in b (held_by f) f.position piece reply))
 
         by : (b : Bool) → f.modes.append ≡ b

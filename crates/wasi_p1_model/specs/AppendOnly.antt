@@ -10,10 +10,10 @@ use Rattle.wasi_host.specs.Step.{file_made, directory_made, link_made, name_adde
 use Rattle.wasi_host.specs.Time.{zero_time}
 use Rattle.wasi_host.specs.Tree.{Tree, Node, Names, Content, File, Directory, Link, node_at, next_of, names_of, child, default_bits, is_directory, is_file}
 use Rattle.wasi_host.specs.ValidTree.{IsValidTree}
-use Rattle.wasi_p1_model.specs.CallTurn.{NamesUnder}
+use Rattle.wasi_p1_model.specs.CallTransition.{NamesUnder}
 use Rattle.wasi_p1_model.specs.Front.{FueledCall}
 use Rattle.wasi_p1_model.specs.Guest.{Guest, State, OpenFile, file, node_in}
-use Rattle.wasi_p1_model.specs.Run.{Turned, Run, Played, Faulted}
+use Rattle.wasi_p1_model.specs.Trace.{TraceStep, Trace, Played, Faulted}
 use Rattle.wasi_p1_model.specs.Stems.{HasPerms}
 
 -- ---- the steps that add
@@ -99,26 +99,26 @@ NodesAreThere s = (fd n : ℕ) → Contains (node_in (slice_get s.guest.slots fd
 -- faulted or not
 abbrev pub AppendOnlyTurnsAdd : Type 0
 AppendOnlyTurnsAdd =
-    (t : Turned) → Played t ⊎ Faulted t → AppendsAtEnd t.before.guest → NamesUnder AppendOnly t.before.guest t.call.call
+    (t : TraceStep) → Played t ⊎ Faulted t → AppendsAtEnd t.before.guest → NamesUnder AppendOnly t.before.guest t.call.call
     → Adds t.before.tree t.after.tree
 
 -- files under append-only permissions are appended to after a run, where they were before it
 abbrev pub AppendingStays : Type 0
 AppendingStays =
-    (k : ℕ) (old new : State) (calls : List FueledCall) (turns : List Turned) → Run k old calls turns new
+    (k : ℕ) (old new : State) (calls : List FueledCall) (turns : List TraceStep) → Trace k old calls turns new
     → AppendsAtEnd old.guest → AppendsAtEnd new.guest
 
 -- whatever a guest calls that may alter nothing, what was there stays, however many turns are faulted
 abbrev pub RunsOnlyGrow : Type 0
 RunsOnlyGrow =
-    (k : ℕ) (old new : State) (calls : List FueledCall) (turns : List Turned) → Run k old calls turns new
+    (k : ℕ) (old new : State) (calls : List FueledCall) (turns : List TraceStep) → Trace k old calls turns new
     → AppendsAtEnd old.guest → MayAlterNothing old.guest → OnlyGrows old.tree new.tree
 
 -- and of a guest that may alter something, what is not reached from there stays, where that is apart from what it may
 -- add to
 abbrev pub RunsKeepWhatIsApart : Type 0
 RunsKeepWhatIsApart =
-    (k : ℕ) (old new : State) (calls : List FueledCall) (turns : List Turned) → Run k old calls turns new
+    (k : ℕ) (old new : State) (calls : List FueledCall) (turns : List TraceStep) → Trace k old calls turns new
     → IsValidTree old.tree → NodesAreThere old → AppendsAtEnd old.guest → AreApart old
     → (n : ℕ) → n < next_of old.tree → (ReachedUnder old ReadWrite n → ⊥)
     → (n < next_of new.tree) × KeepsNode old.tree new.tree n

@@ -5,7 +5,7 @@ use Rattle.wasi_guest.specs.declared.call.Call.{Call}
 use Rattle.wasi_guest.specs.declared.call.Call.TheVariants as calls
 use Rattle.wasi_p1_model.specs.Front.{CallFront, FueledCall}
 use Rattle.wasi_p1_model.specs.Guest.{Guest, State}
-use Rattle.wasi_p1_model.specs.Row.{Row, Program, row_on}
+use Rattle.wasi_p1_model.specs.CallResult.{CallResult, Program, row_on}
 use Rattle.wasi_p1_model.specs.Subscriptions.{waited_for}
 pub mod Opening
 pub mod ReadingAndWriting
@@ -83,14 +83,14 @@ front g (calls.SockSend fd iovs iovs_len si_flags) = sock_send g fd iovs iovs_le
 front g (calls.SockShutdown fd how) = sock_shutdown g fd how
 
 -- the row of a call, and the fuel that is left at its end
-abbrev pub row : Guest → FueledCall → Row (Program (Value × Guest))
+abbrev pub row : Guest → FueledCall → CallResult (Program (Value × Guest))
 row g call = (front g call.call call.fuel).0
 
 abbrev pub fuel_left : Guest → FueledCall → ℕ
 fuel_left g call = (front g call.call call.fuel).1
 
 -- the answer of a call, and the state after it
-abbrev pub turn : State → FueledCall → Row (Value × State)
+abbrev pub turn : State → FueledCall → CallResult (Value × State)
 turn s call = row_on s.tree (row s.guest call)
 
 -- ---- what a call says by its arguments
@@ -154,23 +154,23 @@ stem_in (calls.FdRenumber from to) = renumbering from to
 stem_in call = itself
 
 -- the calls that take memory; the others are never answered that it was wanted
-abbrev pub may_want : Call → Bool
-may_want (calls.FdFilestatSetSize _ _) = true
-may_want (calls.FdPwrite _ _ _ _) = true
-may_want (calls.FdReaddir _ _ _ _) = true
-may_want (calls.FdWrite _ _ _) = true
-may_want (calls.PathCreateDirectory _ _ _) = true
-may_want (calls.PathFilestatGet _ _ _ _) = true
-may_want (calls.PathFilestatSetTimes _ _ _ _ _ _ _) = true
-may_want (calls.PathLink _ _ _ _ _ _ _) = true
-may_want (calls.PathOpen _ _ _ _ _ _ _ _) = true
-may_want (calls.PathReadlink _ _ _ _ _) = true
-may_want (calls.PathRemoveDirectory _ _ _) = true
-may_want (calls.PathUnlinkFile _ _ _) = true
-may_want (calls.PathRename _ _ _ _ _ _) = true
-may_want (calls.PathSymlink _ _ _ _ _) = true
-may_want (calls.PollOneoff _ _ _) = true
-may_want call = false
+abbrev pub may_run_out_of_memory : Call → Bool
+may_run_out_of_memory (calls.FdFilestatSetSize _ _) = true
+may_run_out_of_memory (calls.FdPwrite _ _ _ _) = true
+may_run_out_of_memory (calls.FdReaddir _ _ _ _) = true
+may_run_out_of_memory (calls.FdWrite _ _ _) = true
+may_run_out_of_memory (calls.PathCreateDirectory _ _ _) = true
+may_run_out_of_memory (calls.PathFilestatGet _ _ _ _) = true
+may_run_out_of_memory (calls.PathFilestatSetTimes _ _ _ _ _ _ _) = true
+may_run_out_of_memory (calls.PathLink _ _ _ _ _ _ _) = true
+may_run_out_of_memory (calls.PathOpen _ _ _ _ _ _ _ _) = true
+may_run_out_of_memory (calls.PathReadlink _ _ _ _ _) = true
+may_run_out_of_memory (calls.PathRemoveDirectory _ _ _) = true
+may_run_out_of_memory (calls.PathUnlinkFile _ _ _) = true
+may_run_out_of_memory (calls.PathRename _ _ _ _ _ _) = true
+may_run_out_of_memory (calls.PathSymlink _ _ _ _ _) = true
+may_run_out_of_memory (calls.PollOneoff _ _ _) = true
+may_run_out_of_memory call = false
 
 -- a call that looks up names: by its paths, or as it lists a directory
 abbrev pub looks_up : Call → Bool

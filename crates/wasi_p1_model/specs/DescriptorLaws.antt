@@ -7,7 +7,7 @@ use Rattle.wasi_guest.specs.declared.call.Call.TheVariants as calls
 use Rattle.wasi_p1_model.specs.Front.{with_fuel}
 use Rattle.wasi_p1_model.specs.Guest.{Guest, GuestSlot, State, closed, is_closed}
 use Rattle.wasi_p1_model.specs.Calls.{turn}
-use Rattle.wasi_p1_model.specs.Run.{Turned, Played, Faulted}
+use Rattle.wasi_p1_model.specs.Trace.{TraceStep, Played, Faulted}
 
 -- ---- numbers
 
@@ -44,7 +44,7 @@ FitsTable most g = (length g.slots ≤ most) × (g.table_max ≡ most)
 
 -- and each turn keeps it so: a number is new only where none is closed
 abbrev pub NumbersFit : Type 0
-NumbersFit = (most : ℕ) (t : Turned) → Played t ⊎ Faulted t → FitsTable most t.before.guest → FitsTable most t.after.guest
+NumbersFit = (most : ℕ) (t : TraceStep) → Played t ⊎ Faulted t → FitsTable most t.before.guest → FitsTable most t.after.guest
 
 -- ---- positions
 

@@ -18,7 +18,7 @@ use Rattle.wasi_host.specs.declared.advice.Advice.{Advice as HostAdvice}
 use Rattle.wasi_host.specs.declared.advice.Advice.TheVariants as host_advices
 use Rattle.wasi_p1_model.specs.Guest.{Guest, GuestSlot, OpenFile, closed, stream, directory, file}
 use Rattle.wasi_p1_model.specs.Parts.{at_position, range, room_for, with_file}
-use Rattle.wasi_p1_model.specs.Row.{Row, give}
+use Rattle.wasi_p1_model.specs.CallResult.{CallResult, give}
 use Rattle.wasi_p1_model.specs.declared.slots.FileModes.{FileModes}
 use Rattle.wasi_p1_model.specs.declared.slots.Stream.{Stream as StandardStream}
 use Rattle.wasi_p1_model.specs.declared.slots.Stream.TheVariants as streams
@@ -41,7 +41,7 @@ stream_refused WriteAt streams.Output = errnos.Spipe
 stream_refused WriteAt streams.Error = errnos.Spipe
 
 -- the file that a number stands for
-abbrev pub file_in : FileUse → Option GuestSlot → Row OpenFile
+abbrev pub file_in : FileUse → Option GuestSlot → CallResult OpenFile
 file_in wanted (Some (file f)) = Ok f
 file_in wanted (Some (stream s)) = Err (Errno (stream_refused wanted s))
 file_in wanted (Some (directory d)) = Err (Errno errnos.Badf)
@@ -49,7 +49,7 @@ file_in wanted (Some closed) = Err (Errno errnos.Badf)
 file_in wanted None = Err (Errno errnos.Badf)
 
 -- one that is read at an offset, where there is room for a stream of it
-abbrev pub read_place_in : List GuestSlot → ℕ → Option GuestSlot → Row OpenFile
+abbrev pub read_place_in : List GuestSlot → ℕ → Option GuestSlot → CallResult OpenFile
 read_place_in slots table_max slot = do
   f ← file_in ReadAt slot
   _ ← room_for slots table_max 1
@@ -58,12 +58,12 @@ read_place_in slots table_max slot = do
 -- ---- positions
 
 -- an integer as a position, which has 64 bits
-abbrev pub position_of : ℤ → Row ℕ
+abbrev pub position_of : ℤ → CallResult ℕ
 position_of (pos n) = if nat_lt n (2 ^ 64) then Ok n else Err (Errno errnos.Inval)
 position_of (negsuc n) = Err (Errno errnos.Inval)
 
 -- so far from another one
-unfoldable pub position_from : ℕ → ℤ → Row ℕ
+unfoldable pub position_from : ℕ → ℤ → CallResult ℕ
 position_from base offset = position_of (pos base +ℤ offset)
 
 -- from where a position is counted, but for the end of the file
@@ -88,14 +88,14 @@ host_advice advices.DontNeed = host_advices.DontNeed
 host_advice advices.NoReuse = host_advices.NoReuse
 
 -- a flag of integrity is refused
-unfoldable pub not_synchronized : ℕ → Row (Unit {0})
+unfoldable pub not_synchronized : ℕ → CallResult (Unit {0})
 not_synchronized fdflags =
     if has fdflags flag.dsync || has fdflags flag.rsync || has fdflags flag.sync
     then Err (Errno errnos.Inval)
     else Ok tt
 
 -- a file under append-only permissions goes on to be appended to
-unfoldable pub keeps_append : FsPerms → FileModes → Row (Unit {0})
+unfoldable pub keeps_append : FsPerms → FileModes → CallResult (Unit {0})
 keeps_append perms modes = if is_append_only perms && not modes.append then Err (Errno errnos.Perm) else Ok tt
 
 -- ---- preopens
@@ -114,16 +114,16 @@ name_at names (Some closed) = None
 name_at names None = None
 
 -- and of a number that isn't such a directory's a refusal
-abbrev pub or_refused : {A : Type 0} → ErrorNumber → Option A → Row A
+abbrev pub or_refused : {A : Type 0} → ErrorNumber → Option A → CallResult A
 or_refused e (Some x) = Ok x
 or_refused e None = Err (Errno e)
 
 -- a name that is longer than may be is refused
-unfoldable pub name_within : List ℕ → ℕ → Row (List ℕ)
+unfoldable pub name_within : List ℕ → ℕ → CallResult (List ℕ)
 name_within name most = if nat_lt most (length name) then Err (Errno errnos.Nametoolong) else Ok name
 
 -- the memory with a name, where there is room for it
-unfoldable pub name_into : List ℕ → ℕ → List ℕ → ℕ → Row (List ℕ)
+unfoldable pub name_into : List ℕ → ℕ → List ℕ → ℕ → CallResult (List ℕ)
 name_into memory at name most = do
   bytes ← name_within name most
   _ ← range memory at (length bytes)

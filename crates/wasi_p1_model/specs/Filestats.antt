@@ -13,7 +13,7 @@ use Rattle.wasi_guest.specs.declared.filetype.Filetype.{Filetype}
 use Rattle.wasi_guest.specs.declared.filetype.Filetype.TheVariants as filetypes
 use Rattle.wasi_guest.specs.declared.errno.Errno.TheVariants as errnos
 use Rattle.wasi_host.specs.Steps.{◌>>=◌}
-use Rattle.wasi_p1_model.specs.Row.{Row, give}
+use Rattle.wasi_p1_model.specs.CallResult.{CallResult, give}
 use Rattle.wasi_p1_model.specs.declared.error.P1Error.TheVariants.{Errno}
 
 -- what is told of one node
@@ -38,11 +38,11 @@ abbrev pub since_epoch : ℤ → ℕ → ℕ
 since_epoch (pos seconds) nanoseconds = seconds * 10 ^ 9 + nanoseconds
 since_epoch (negsuc seconds) nanoseconds = 0
 
-abbrev pub or_overflow : ℕ → Row ℕ
+abbrev pub or_overflow : ℕ → CallResult ℕ
 or_overflow n = if nat_lt n (2 ^ 64) then Ok n else Err (Errno errnos.Overflow)
 
 -- a moment in nanoseconds, of which 64 bits hold no more than some 584 years; a time that isn't kept is the epoch
-abbrev pub nanoseconds_in : Option Datetime → Row ℕ
+abbrev pub nanoseconds_in : Option Datetime → CallResult ℕ
 nanoseconds_in (Some moment) = or_overflow (since_epoch moment.seconds moment.nanoseconds)
 nanoseconds_in None = Ok 0
 
@@ -52,7 +52,7 @@ stream_filestat =
     record { dev = 0; ino = 0; filetype = 0; nlink = 0; size = 0; atim = 0; mtim = 0; ctim = 0 }
 
 -- there is one device; a time past what 64 bits hold is refused `overflow`
-unfoldable pub filestat_in : StatBoth → Row Filestat
+unfoldable pub filestat_in : StatBoth → CallResult Filestat
 filestat_in both = do
   atim ← nanoseconds_in both.stat.data_access_timestamp
   mtim ← nanoseconds_in both.stat.data_modification_timestamp

@@ -11,7 +11,7 @@ use Rattle.wasi_guest.specs.declared.iovec.Iovec.{Iovec}
 use Rattle.wasi_p1_model.specs.Guest.{Guest}
 use Rattle.wasi_p1_model.specs.Parts.{OpenNode, from_guest, permit, range, start_in}
 use Rattle.wasi_p1_model.specs.Request.{Request, Reply}
-use Rattle.wasi_p1_model.specs.Row.{Row, give, Program, done, asking, made_of_reply}
+use Rattle.wasi_p1_model.specs.CallResult.{CallResult, give, Program, done, asking, made_of_reply}
 use Rattle.wasi_p1_model.specs.declared.error.P1Error.TheVariants.{Errno}
 
 -- a call, and the fuel that it may take
@@ -24,9 +24,9 @@ with_fuel fuel call = record { call = call; fuel = fuel }
 
 -- from the fuel that there is: what is given, or the first refusal, and the fuel that is left then
 abbrev pub Front : Type 0 → Type 0
-Front A = ℕ → Row A × ℕ
+Front A = ℕ → CallResult A × ℕ
 
-abbrev pub onward : {A B : Type 0} → Row A → ℕ → (A → Front B) → Row B × ℕ
+abbrev pub onward : {A B : Type 0} → CallResult A → ℕ → (A → Front B) → CallResult B × ℕ
 onward (Ok x) fuel next = next x fuel
 onward (Err e) fuel next = (Err e, fuel)
 
@@ -35,7 +35,7 @@ abbrev pub ◌>>=◌ : {A B : Type 0} → Front A → (A → Front B) → Front 
 part >>= next = λ fuel. onward (part fuel).0 (part fuel).1 next
 
 -- a part that takes no fuel
-abbrev pub free : {A : Type 0} → Row A → Front A
+abbrev pub free : {A : Type 0} → CallResult A → Front A
 free part = λ fuel. (part, fuel)
 
 -- that of a call: it ends in an answer and the guest after it, or in a request
@@ -51,11 +51,11 @@ abbrev pub answer : {A : Type 0} → A → Front (Program A)
 answer x = free (give (done x))
 
 -- the end of a row that asks the tree
-abbrev pub ask : {A : Type 0} → (r : Request) → (Reply r → Row A) → Front (Program A)
+abbrev pub ask : {A : Type 0} → (r : Request) → (Reply r → CallResult A) → Front (Program A)
 ask r next = free (give (asking r next))
 
 -- the end of a row that asks the tree only where something isn't known of which the answer is made
-abbrev pub known_or_asked : {A B : Type 0} → Option B → (B → Row A) → (r : Request) → (Reply r → Row A)
+abbrev pub known_or_asked : {A B : Type 0} → Option B → (B → CallResult A) → (r : Request) → (Reply r → CallResult A)
     → (A → Value × Guest) → CallFront
 known_or_asked (Some known) part r next shown = do
   x ← free (part known)
@@ -90,7 +90,7 @@ at_path g fd path len next = do
 -- A buffer, and what a number stands for: records of more bytes than the fuel are refused `nomem`; one that isn't
 -- aligned or leaves the memory traps; a buffer of more bytes than the fuel that is left is refused `nomem`; then the
 -- number, where it doesn't stand for such a thing; then a buffer that leaves the memory traps
-abbrev pub at_buffer : {A : Type 0} → Guest → Row A → ℕ → ℕ → (A → Iovec → List ℕ → CallFront) → CallFront
+abbrev pub at_buffer : {A : Type 0} → Guest → CallResult A → ℕ → ℕ → (A → Iovec → List ℕ → CallFront) → CallFront
 at_buffer g named iovs n next = do
   buffer ← charged_buffer g.memory iovs n
   what ← free named
@@ -98,7 +98,7 @@ at_buffer g named iovs n next = do
   next what buffer bytes
 
 -- the end of a row that changes nothing: the answer is made of what a part gives
-abbrev pub tells : {A : Type 0} → Guest → Row A → (A → Value) → CallFront
+abbrev pub tells : {A : Type 0} → Guest → CallResult A → (A → Value) → CallFront
 tells g part shown = do
   x ← free part
   answer (shown x, g)

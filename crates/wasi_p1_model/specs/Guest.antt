@@ -6,8 +6,8 @@ use Rattle.wasi_fs.specs.declared.open_mode.OpenMode.{OpenMode}
 use Rattle.wasi_fs.specs.declared.perms.FsPerms.{FsPerms}
 use Rattle.wasi_host.specs.HostLaws.{World}
 use Rattle.wasi_host.specs.declared.open_handle.AccessMode.{AccessMode}
-use Rattle.wasi_host.specs.declared.open_handle.Held.{Held}
-use Rattle.wasi_p1_model.specs.Stock.{Stock}
+use Rattle.wasi_host.specs.declared.open_handle.OpenHandle.{OpenHandle}
+use Rattle.wasi_p1_model.specs.GuestEnvModel.{GuestEnvModel}
 use Rattle.wasi_p1_model.specs.declared.slots.DirectorySlot.{DirectorySlot}
 use Rattle.wasi_p1_model.specs.declared.slots.FileModes.{FileModes}
 use Rattle.wasi_p1_model.specs.declared.slots.FileSlot.{FileSlot}
@@ -45,18 +45,18 @@ pub record Guest : Type 0 where
   -- how many descriptors may be live: the largest size of the resource table
   pub table_max : ℕ
   pub memory : List ℕ
-  pub holdings : Stock
+  pub holdings : GuestEnvModel
 
 pub record State : Type 0 where
   pub tree : Tree
   pub guest : Guest
 
 -- a directory's or file's descriptor, with what its handle stands for in place of the handle
-abbrev pub directory_by : Held → DirectorySlot → OpenDirectory
+abbrev pub directory_by : OpenHandle → DirectorySlot → OpenDirectory
 directory_by held d =
     record { node = held.node; perms = d.dir.perms; open_mode = d.dir.open_mode; preopen = d.preopen }
 
-abbrev pub file_by : Held → FileSlot → OpenFile
+abbrev pub file_by : OpenHandle → FileSlot → OpenFile
 file_by held f = record {
   node = held.node;
   mode = held.mode;
@@ -67,18 +67,18 @@ file_by held f = record {
 }
 
 -- a descriptor so
-abbrev pub guest_slot : (ℕ → Held) → Slot → GuestSlot
+abbrev pub guest_slot : (ℕ → OpenHandle) → Slot → GuestSlot
 guest_slot held slots.Closed = closed
 guest_slot held (slots.Stream s) = stream s
 guest_slot held (slots.Directory d) = directory (directory_by (held d.dir.dir) d)
 guest_slot held (slots.File f) = file (file_by (held f.file.file) f)
 
 -- the descriptors without their handles
-abbrev pub guest_slots : (ℕ → Held) → List Slot → List GuestSlot
+abbrev pub guest_slots : (ℕ → OpenHandle) → List Slot → List GuestSlot
 guest_slots held table = map (guest_slot held) table
 
 -- the guest of a context and a memory, where the handles stand for these
-abbrev pub guest_by : {H : Type 0} → (ℕ → Held) → View H → List ℕ → Guest
+abbrev pub guest_by : {H : Type 0} → (ℕ → OpenHandle) → View H → List ℕ → Guest
 guest_by held context memory = record {
   slots = guest_slots held context.slots;
   table_max = context.table_max;

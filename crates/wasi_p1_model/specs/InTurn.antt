@@ -4,10 +4,10 @@ use Rattle.wasi_host.specs.declared.host.Host.{Ghosts}
 use Rattle.wasi_guest.specs.declared.answer.Answer.{Answer}
 use Rattle.wasi_guest.specs.declared.answer.Value.{Value}
 use Rattle.wasi_guest.specs.declared.call.Call.{Call}
-use Rattle.wasi_p1_model.specs.Method.{DoesItsRow, StaysInBounds}
+use Rattle.wasi_p1_model.specs.Method.{MeetsSpec, KeepsHostLaws}
 use Rattle.wasi_p1_model.specs.Owners.{ClosedBy, SlotsStay}
 use Rattle.wasi_p1_model.specs.Calls.{descriptors_named}
-use Rattle.wasi_p1_model.specs.Run.{answer_of, ends, GoOn}
+use Rattle.wasi_p1_model.specs.Trace.{answer_of, ends, GoOn}
 use Rattle.wasi_p1_model.specs.Slots.{View}
 use Rattle.wasi_p1_model.specs.Unchanged.{AsBefore}
 use Rattle.wasi_p1_model.specs.declared.error.P1Error.{P1Error}
@@ -17,8 +17,8 @@ use Rattle.wasi_p1_model.specs.declared.error.P1Error.TheVariants.{Memory}
 -- one call with this fuel, from a context and a memory to those after it: it does its row, and stays in its bounds
 pub record DoesCall {H : Type 0} (host : Ghosts H) (fuel : ℕ) (old new : View H) (before after : List ℕ) (call : Call)
     (result : Result Value P1Error) : Type 0 where
-  pub row : DoesItsRow host (record old { fuel = fuel }) new before after call result
-  pub bounds : StaysInBounds host (record old { fuel = fuel }) new before call result
+  pub row : MeetsSpec host (record old { fuel = fuel }) new before after call result
+  pub bounds : KeepsHostLaws host (record old { fuel = fuel }) new before call result
 
 -- it is answered so, and leaves a context and a memory
 pub record IsAnsweredSo {H : Type 0} (host : Ghosts H) (fuel : ℕ) (old : View H) (before : List ℕ) (call : Call)

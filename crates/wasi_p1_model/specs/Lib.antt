@@ -1,4 +1,4 @@
-pub mod Stock
+pub mod GuestEnvModel
 pub mod Quotas
 pub mod Slots
 pub mod Numbering
@@ -8,7 +8,7 @@ pub mod Errnos
 pub mod ViewErrors
 pub mod Listing
 pub mod Request
-pub mod Row
+pub mod CallResult
 pub mod RawFlags
 pub mod NewTimes
 pub mod SinceEpoch
@@ -26,11 +26,11 @@ pub mod Services
 pub mod Subscriptions
 pub mod Polling
 pub mod Calls
-pub mod Turn
-pub mod Near
-pub mod CallTurn
+pub mod Transition
+pub mod Locality
+pub mod CallTransition
 pub mod Method
-pub mod Run
+pub mod Trace
 pub mod Unchanged
 pub mod InTurn
 pub mod Reach

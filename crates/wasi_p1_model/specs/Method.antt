@@ -3,7 +3,7 @@ use Rattle.std.specs.Prelude.{ℕ, List, Result}
 use Rattle.wasi_host.specs.declared.host.Host.{Ghosts}
 use Rattle.wasi_guest.specs.declared.answer.Value.{Value}
 use Rattle.wasi_guest.specs.declared.call.Call.{Call}
-use Rattle.wasi_p1_model.specs.CallTurn.{Causes, OthersStay, Looks, LooksByNames, FollowsRow}
+use Rattle.wasi_p1_model.specs.CallTransition.{Causes, OthersStay, Looks, LooksByNames, FollowsRow}
 use Rattle.wasi_p1_model.specs.Calls.{looks_up}
 use Rattle.wasi_p1_model.specs.Slots.{View}
 use Rattle.wasi_p1_model.specs.declared.error.P1Error.{P1Error}
@@ -11,7 +11,7 @@ use Rattle.wasi_p1_model.specs.declared.error.P1Error.{P1Error}
 -- whatever its row: the host fails only where its count of faults rises, the live handles that belong to no descriptor
 -- stay, and look-ups begin from the descriptors that the call names; a call without a path that lists no directory makes
 -- none
-pub record StaysInBounds {H : Type 0} (host : Ghosts H) (old new : View H) (memory : List ℕ) (call : Call)
+pub record KeepsHostLaws {H : Type 0} (host : Ghosts H) (old new : View H) (memory : List ℕ) (call : Call)
     (result : Result Value P1Error) : Type 0 where
   pub cause : Causes (host.faults old.host) (host.faults new.host) result
   pub handles : OthersStay host.live old new
@@ -19,7 +19,7 @@ pub record StaysInBounds {H : Type 0} (host : Ghosts H) (old new : View H) (memo
   pub logged : LooksByNames (looks_up call) (host.lookups old.host) (host.lookups new.host)
 
 -- from a context and a memory to those after it, by its row
-abbrev pub DoesItsRow : {H : Type 0} → Ghosts H → View H → View H → List ℕ → List ℕ → Call → Result Value P1Error
+abbrev pub MeetsSpec : {H : Type 0} → Ghosts H → View H → View H → List ℕ → List ℕ → Call → Result Value P1Error
     → Type 0
-DoesItsRow host old new before after call result =
+MeetsSpec host old new before after call result =
     FollowsRow host.told host.world host.faults host.lookups old new before after call result

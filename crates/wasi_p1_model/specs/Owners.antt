@@ -3,7 +3,7 @@ use Rattle.std.specs.Prelude.{ℕ, ◌≤◌, ◌==◌, ◌≡◌, Bool, true, f
 use Rattle.std.specs.List.{flat_map}
 use Rattle.std.specs.FinSet.{contains, insert, remove, retain}
 use Rattle.wasi_host.specs.HostLaws.{Handles}
-use Rattle.wasi_host.specs.Lineage.{Traced}
+use Rattle.wasi_host.specs.Lineage.{HasProvenance}
 use Rattle.wasi_host.specs.declared.lookup.Lookup.{Lookup}
 use Rattle.wasi_p1_model.specs.Slots.{is_closed_slot}
 use Rattle.wasi_p1_model.specs.declared.slots.Slot.{Slot}
@@ -68,7 +68,7 @@ under os fds = flat_map (λ fd. option_to_list (slice_get os fd)) fds
 -- The look-ups that are added begin from these handles, or from what an earlier one got; and a descriptor's handle was
 -- a descriptor's before, or one of them got it
 abbrev pub SlotsTraced : (ℕ → Type 0) → List Slot → List Slot → List Lookup → List Lookup → Type 0
-SlotsTraced Given table table' old new = Traced Given (IsHandle (handles table)) (IsHandle (handles table')) old new
+SlotsTraced Given table table' old new = HasProvenance Given (IsHandle (handles table)) (IsHandle (handles table')) old new
 
 -- those of a call begin from the descriptors that it names
 abbrev pub CallTraced : List Slot → List Slot → List ℕ → Call → List Lookup → List Lookup → Type 0

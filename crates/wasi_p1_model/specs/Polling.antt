@@ -1,7 +1,7 @@
 -- What a poll waits for, when each of it comes, and what is told of it.
 use Rattle.std.specs.Prelude.{ℕ, zero, suc, ◌+◌, ◌-◌, ◌*◌, ◌/◌, ◌%◌, ◌^◌, ◌==◌, ◌&&◌, nat_le, nat_lt, min, Bool, true, false, if◌then◌else◌, List, [], ◌∷◌, ◌++◌, length, drop, slice_get, Ok, Err}
 use Rattle.wasi_host.specs.Steps.{◌>>=◌}
-use Rattle.wasi_host.specs.declared.open_handle.Held.{Held}
+use Rattle.wasi_host.specs.declared.open_handle.OpenHandle.{OpenHandle}
 use Rattle.wasi_fs.specs.Perms.{is_read_only}
 use Rattle.wasi_guest.specs.Enums.{clockid_of}
 use Rattle.wasi_guest.specs.Event.{event_bytes}
@@ -20,11 +20,11 @@ use Rattle.wasi_guest.specs.declared.subscription.SubscriptionKind.TheVariants a
 use Rattle.wasi_p1_model.specs.Guest.{GuestSlot}
 use Rattle.wasi_p1_model.specs.Parts.{from_guest, Source, input, from, source_in, Sink, output, into, sink_in}
 use Rattle.wasi_p1_model.specs.RawFlags.{or_inval}
-use Rattle.wasi_p1_model.specs.Row.{Row, give}
+use Rattle.wasi_p1_model.specs.CallResult.{CallResult, give}
 use Rattle.wasi_p1_model.specs.Services.{nanoseconds_of}
-use Rattle.wasi_p1_model.specs.Stock.{Stock}
+use Rattle.wasi_p1_model.specs.GuestEnvModel.{GuestEnvModel}
 use Rattle.wasi_p1_model.specs.declared.error.P1Error.TheVariants.{Errno, Trap}
-use Rattle.wasi_p1_model.specs.declared.holdings.Clocks.{Clocks}
+use Rattle.wasi_p1_model.specs.declared.guest_env.Clocks.{Clocks}
 use Rattle.wasi_p1_model.specs.declared.awaited.Awaited.{Awaited}
 use Rattle.wasi_p1_model.specs.declared.awaited.Awaited.TheVariants as awaiteds
 use Rattle.wasi_p1_model.specs.declared.awaited.Judged.{Judged}
@@ -33,11 +33,11 @@ use Rattle.wasi_p1_model.specs.declared.awaited.Waited.{Waited}
 -- ---- where both lists stand
 
 -- a poll of nothing is refused
-unfoldable pub some_asked : ℕ → Row (Unit {0})
+unfoldable pub some_asked : ℕ → CallResult (Unit {0})
 some_asked n = if n == 0 then Err (Errno errnos.Inval) else Ok tt
 
 -- so many subscriptions, and as many events, stand in memory at multiples of 8, or it traps
-unfoldable pub lists_within : List ℕ → ℕ → ℕ → ℕ → Row (Unit {0})
+unfoldable pub lists_within : List ℕ → ℕ → ℕ → ℕ → CallResult (Unit {0})
 lists_within memory subscriptions events n =
     if (subscriptions % 8 == 0) && ((events % 8 == 0)
     && (in_memory memory subscriptions (48 * n) && in_memory memory events (32 * n)))
@@ -47,12 +47,12 @@ lists_within memory subscriptions events n =
 -- ---- the ends of clocks
 
 -- so long from now, and no later than the last moment of the monotonic clock
-abbrev pub end_after : Stock → ℕ → ℕ
+abbrev pub end_after : GuestEnvModel → ℕ → ℕ
 end_after stock wait = min (stock.monotonic + wait) (2 ^ 64 - 1)
 
 -- Until a moment of the wall clock, or of the monotonic one, or so long from now on. What the wall clock stands at is
 -- refused `overflow` where 64 bits of nanoseconds don't hold it. A clock of processor time is refused
-abbrev pub end_of : Stock → ℕ → Bool → Clockid → Row ℕ
+abbrev pub end_of : GuestEnvModel → ℕ → Bool → Clockid → CallResult ℕ
 end_of stock timeout true clocks.Realtime = nanoseconds_of stock.wall >>= (λ now. give (end_after stock (timeout - now)))
 end_of stock timeout true clocks.Monotonic = Ok timeout
 end_of stock timeout false clocks.Realtime = Ok (end_after stock timeout)
@@ -61,7 +61,7 @@ end_of stock timeout absolute clocks.ProcessCputimeId = Err (Errno errnos.Inval)
 end_of stock timeout absolute clocks.ThreadCputimeId = Err (Errno errnos.Inval)
 
 -- the moment of the monotonic clock at which a clock is at its end, by raw numbers
-unfoldable pub clock_end : Stock → ℕ → ℕ → ℕ → Row ℕ
+unfoldable pub clock_end : GuestEnvModel → ℕ → ℕ → ℕ → CallResult ℕ
 clock_end stock id timeout flags = do
   clock ← or_inval (clockid_of id)
   set ← or_inval (flags_in known_subclockflags flags)
@@ -77,26 +77,26 @@ waiting_to_read input = awaiteds.Input
 waiting_to_read (from f) = awaiteds.FileToRead f.node f.position
 
 -- nothing is written under read-only permissions
-abbrev pub waiting_to_write : Sink → Row Awaited
+abbrev pub waiting_to_write : Sink → CallResult Awaited
 waiting_to_write (output o) = Ok awaiteds.Output
 waiting_to_write (into f) = if is_read_only f.perms then Err (Errno errnos.Perm) else Ok awaiteds.FileToWrite
 
 -- by what a subscription asks for
-abbrev pub waiting_for : Stock → List GuestSlot → SubscriptionKind → Row Awaited
+abbrev pub waiting_for : GuestEnvModel → List GuestSlot → SubscriptionKind → CallResult Awaited
 waiting_for stock slots (kinds.Clock id timeout precision flags) =
     clock_end stock id timeout flags >>= (λ end. give (awaiteds.Clock end))
 waiting_for stock slots (kinds.FdRead fd) = source_in (slice_get slots fd) >>= (λ source. give (waiting_to_read source))
 waiting_for stock slots (kinds.FdWrite fd) = sink_in (slice_get slots fd) >>= waiting_to_write
 
 -- one subscription at an address: as it can't be read, then by its rule
-unfoldable pub waited_at : Stock → List GuestSlot → List ℕ → ℕ → Row Waited
+unfoldable pub waited_at : GuestEnvModel → List GuestSlot → List ℕ → ℕ → CallResult Waited
 waited_at stock slots memory at = do
   asked ← from_guest (subscription_in memory at)
   what ← waiting_for stock slots asked.what
   give (record { userdata = asked.userdata; what = what })
 
 -- so many from an address on, in order
-unfoldable pub all_waited : Stock → List GuestSlot → List ℕ → ℕ → ℕ → Row (List Waited)
+unfoldable pub all_waited : GuestEnvModel → List GuestSlot → List ℕ → ℕ → ℕ → CallResult (List Waited)
 all_waited stock slots memory at zero = give []
 all_waited stock slots memory at (suc n) = do
   first ← waited_at stock slots memory at
@@ -160,7 +160,7 @@ nodes_read (w ∷ ws) = nodes_in w.what ++ nodes_read ws
 
 -- the wall clock so many nanoseconds later, where whole seconds are carried out of them; seconds that 63 bits don't hold
 -- are refused `overflow`
-abbrev pub wall_later : WallDatetime → ℕ → Row WallDatetime
+abbrev pub wall_later : WallDatetime → ℕ → CallResult WallDatetime
 wall_later wall by =
     if nat_lt (wall.seconds + (wall.nanoseconds + by) / 10 ^ 9) (2 ^ 63)
     then Ok (record {
@@ -171,14 +171,14 @@ wall_later wall by =
 
 -- What both clocks stand at when the monotonic one has come to a moment: as they do where it has already, and else both
 -- have gone on alike
-unfoldable pub clocks_at : Stock → ℕ → Row Clocks
+unfoldable pub clocks_at : GuestEnvModel → ℕ → CallResult Clocks
 clocks_at stock moment =
     if nat_le moment stock.monotonic
     then Ok (record { wall = stock.wall; monotonic = stock.monotonic })
     else wall_later stock.wall (moment - stock.monotonic) >>= (λ wall. give (record { wall = wall; monotonic = moment }))
 
 -- the clocks stand so
-abbrev pub with_clocks : Stock → Clocks → Stock
+abbrev pub with_clocks : GuestEnvModel → Clocks → GuestEnvModel
 with_clocks stock clocks = record stock { wall = clocks.wall; monotonic = clocks.monotonic }
 
 -- ---- what is told
@@ -213,11 +213,11 @@ with_events memory at (e ∷ es) = with_events (with_bytes memory at (event_byte
 -- ---- what the code has of it
 
 -- the node that a handle stands for in place of the handle
-abbrev pub awaited_by : (ℕ → Held) → Awaited → Awaited
+abbrev pub awaited_by : (ℕ → OpenHandle) → Awaited → Awaited
 awaited_by held (awaiteds.FileToRead file position) = awaiteds.FileToRead (held file).node position
 awaited_by held what = what
 
-abbrev pub waited_by : (ℕ → Held) → Waited → Waited
+abbrev pub waited_by : (ℕ → OpenHandle) → Waited → Waited
 waited_by held w = record w { what = awaited_by held w.what }
 
 -- what holds of the file whose size is asked for
@@ -234,5 +234,5 @@ abbrev pub judged_of : List Waited → Judged
 judged_of ws = record { files = files_named ws; earliest = earliest ws }
 
 -- the same of so many from an address on, or the first refusal among them
-abbrev pub judged_in : Stock → List GuestSlot → List ℕ → ℕ → ℕ → Row Judged
+abbrev pub judged_in : GuestEnvModel → List GuestSlot → List ℕ → ℕ → ℕ → CallResult Judged
 judged_in stock slots memory at n = all_waited stock slots memory at n >>= (λ ws. give (judged_of ws))

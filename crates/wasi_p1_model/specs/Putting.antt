@@ -2,7 +2,7 @@
 use Rattle.std.specs.Prelude.{ℕ, ◌+◌, Bool, true, false, List, length}
 use Rattle.wasi_host.specs.Answer.{HostAnswer}
 use Rattle.wasi_host.specs.HostCall.{HostCall, Append, Pwrite}
-use Rattle.wasi_host.specs.declared.open_handle.Held.{Held}
+use Rattle.wasi_host.specs.declared.open_handle.OpenHandle.{OpenHandle}
 use Rattle.wasi_host.specs.declared.metadata.Metadata.{Metadata}
 use Rattle.wasi_guest.specs.declared.answer.Value.{Value}
 use Rattle.wasi_guest.specs.declared.answer.Value.TheVariants.{Number}
@@ -15,18 +15,18 @@ use Rattle.wasi_p1_model.specs.declared.quotas.FileEnd.TheVariants as ends
 use Rattle.wasi_p1_model.specs.declared.usage.Put.{Put}
 
 -- where the file's position stays: one call of the host
-abbrev pub put_call : Bool → Held → ℕ → List ℕ → HostCall
+abbrev pub put_call : Bool → OpenHandle → ℕ → List ℕ → HostCall
 put_call true f offset piece = Append f piece
 put_call false f offset piece = Pwrite f offset piece
 
 -- whose answer is how many bytes the file took
-abbrev pub count_in : (append : Bool) (f : Held) (offset : ℕ) (piece : List ℕ)
+abbrev pub count_in : (append : Bool) (f : OpenHandle) (offset : ℕ) (piece : List ℕ)
     → HostAnswer (put_call append f offset piece) → ℕ
 count_in true f offset piece count = count
 count_in false f offset piece count = count
 
 -- where its position goes along: in append mode the file's size is looked at then
-abbrev pub put_request : Bool → Held → ℕ → List ℕ → Request
+abbrev pub put_request : Bool → OpenHandle → ℕ → List ℕ → Request
 put_request true f offset piece = Behind f piece
 put_request false f offset piece = Direct (Pwrite f offset piece)
 
@@ -34,7 +34,7 @@ abbrev pub appended_in : ℕ × Metadata → Put
 appended_in put = record { count = put.0; position = put.1.size }
 
 -- how many bytes the file took, and its position: in append mode its size, and else behind the bytes
-abbrev pub put_in : (append : Bool) (f : Held) (offset : ℕ) (piece : List ℕ)
+abbrev pub put_in : (append : Bool) (f : OpenHandle) (offset : ℕ) (piece : List ℕ)
     → Reply (put_request append f offset piece) → Put
 put_in true f offset piece put = appended_in put
 put_in false f offset piece count = record { count = count; position = offset + count }

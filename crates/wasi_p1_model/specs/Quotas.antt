@@ -6,7 +6,7 @@ use Rattle.wasi_fs.specs.declared.open_mode.OpenMode.{OpenMode}
 use Rattle.wasi_guest.specs.Quotas.{nothing_used}
 use Rattle.wasi_guest.specs.declared.quota.Quota.{Quota}
 use Rattle.wasi_guest.specs.declared.quota.QuotaUsed.{QuotaUsed}
-use Rattle.wasi_p1_model.specs.Stock.{Stock}
+use Rattle.wasi_p1_model.specs.GuestEnvModel.{GuestEnvModel}
 use Rattle.wasi_p1_model.specs.declared.quotas.Allowance.{Allowance}
 use Rattle.wasi_p1_model.specs.declared.quotas.FileEnd.{FileEnd}
 use Rattle.wasi_p1_model.specs.declared.quotas.FileEnd.TheVariants.{Behind, At}
@@ -19,16 +19,16 @@ count_on None used more = used
 count_on (Some most) used more = used + more
 
 -- one making more is counted
-abbrev pub counted_making : Stock → Stock
+abbrev pub counted_making : GuestEnvModel → GuestEnvModel
 counted_making s = record s { used = record s.used { nodes = count_on s.quota.nodes s.used.nodes 1 } }
 
 -- one more where something is made
-abbrev pub counted_makings : Bool → Stock → Stock
+abbrev pub counted_makings : Bool → GuestEnvModel → GuestEnvModel
 counted_makings true s = counted_making s
 counted_makings false s = s
 
 -- so many grown bytes more are
-abbrev pub counted_growth : ℕ → Stock → Stock
+abbrev pub counted_growth : ℕ → GuestEnvModel → GuestEnvModel
 counted_growth growth s = record s { used = record s.used { bytes = count_on s.quota.bytes s.used.bytes growth } }
 
 -- the bound is set, and as much as it is used
@@ -46,7 +46,7 @@ pub record IsWithinQuota (quota : Quota) (used : QuotaUsed) : Type 0 where
   pub bytes : IsWithin quota.bytes used.bytes
 
 -- a quota is set, of which nothing is used
-abbrev pub with_quota : Quota → Stock → Stock
+abbrev pub with_quota : Quota → GuestEnvModel → GuestEnvModel
 with_quota quota s = record s { quota = quota; used = nothing_used }
 
 -- ---- growth
@@ -71,6 +71,6 @@ abbrev pub is_above : Allowance → ℕ → Bool
 is_above limit growth = nat_lt limit.most (limit.used + growth)
 
 -- what the bound on bytes leaves to a descriptor, where it is set
-abbrev pub allowance : Stock → OpenMode → Option Allowance
+abbrev pub allowance : GuestEnvModel → OpenMode → Option Allowance
 allowance s mode = option_map
     (λ most. record { most = most; used = s.used.bytes; may_grow = includes (mode_bits mode) 2 }) s.quota.bytes

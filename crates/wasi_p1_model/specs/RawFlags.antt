@@ -7,12 +7,12 @@ use Rattle.wasi_guest.specs.Flags as flag
 use Rattle.wasi_guest.specs.Flags.{has, flags_in, known_lookupflags, known_oflags, known_fdflags, known_rights}
 use Rattle.wasi_host.specs.Steps.{◌>>=◌}
 use Rattle.wasi_guest.specs.declared.errno.Errno.TheVariants as errnos
-use Rattle.wasi_p1_model.specs.Row.{Row, give}
+use Rattle.wasi_p1_model.specs.CallResult.{CallResult, give}
 use Rattle.wasi_p1_model.specs.declared.slots.FileModes.{FileModes}
 use Rattle.wasi_p1_model.specs.declared.error.P1Error.TheVariants.{Errno}
 
 -- what a raw number is or names, and refused where that is nothing, as a set of flags with an unknown bit is
-abbrev pub or_inval : {A : Type 0} → Option A → Row A
+abbrev pub or_inval : {A : Type 0} → Option A → CallResult A
 or_inval (Some x) = Ok x
 or_inval None = Err (Errno errnos.Inval)
 
@@ -30,7 +30,7 @@ how_by lookups oflags rights fdflags = record {
 }
 
 -- the same of raw numbers: an unknown bit in any of them is refused `inval`
-unfoldable pub open_how : ℕ → ℕ → ℕ → ℕ → ℕ → Row OpenHow
+unfoldable pub open_how : ℕ → ℕ → ℕ → ℕ → ℕ → CallResult OpenHow
 open_how dirflags oflags base inheriting fdflags = do
   lookups ← or_inval (flags_in known_lookupflags dirflags)
   flags ← or_inval (flags_in known_oflags oflags)
@@ -48,5 +48,5 @@ abbrev pub modes_under : FsPerms → FileModes → FileModes
 modes_under perms modes = record modes { append = modes.append || is_append_only perms }
 
 -- whether a link under the last name is followed, by a raw number
-unfoldable pub follow_asked : ℕ → Row Bool
+unfoldable pub follow_asked : ℕ → CallResult Bool
 follow_asked flags = or_inval (flags_in known_lookupflags flags) >>= (λ set. give (has set flag.symlink_follow))

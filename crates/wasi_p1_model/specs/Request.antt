@@ -7,7 +7,7 @@ use Rattle.wasi_host.specs.Step.{step, starts_of, found_by}
 use Rattle.wasi_host.specs.Steps.{◌>>=◌}
 use Rattle.wasi_host.specs.Answer.{HostAnswer, host_answer, metadata_of}
 use Rattle.wasi_host.specs.declared.errors.ErrorCode.{ErrorCode}
-use Rattle.wasi_host.specs.declared.open_handle.Held.{Held}
+use Rattle.wasi_host.specs.declared.open_handle.OpenHandle.{OpenHandle}
 use Rattle.wasi_host.specs.declared.metadata.Metadata.{Metadata}
 use Rattle.wasi_host.specs.Numbers.{longest_link}
 use Rattle.wasi_resolve.specs.EntryOps.{ReadLink}
@@ -25,7 +25,7 @@ pub data Request : Type 0 where
   -- one call of the host, on what a descriptor stands for
   Direct : HostCall → Request
   -- a piece is put behind a file's last byte, and then the file is looked at
-  Behind : Held → List ℕ → Request
+  Behind : OpenHandle → List ℕ → Request
   -- a directory is listed, with the number of each node: the directory's node
   ListDirectory : ℕ → Request
   -- these nodes are looked at one after another, for their sizes

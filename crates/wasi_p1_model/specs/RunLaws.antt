@@ -3,11 +3,11 @@ use Rattle.std.specs.Prelude.{◌≡◌, ℕ, List, All, IsTrue, Result}
 use Rattle.wasi_host.specs.HostLaws.{World, Rose, FaultCount}
 use Rattle.wasi_guest.specs.declared.call.Call.{Call}
 use Rattle.wasi_host.specs.declared.host.Host.{Ghosts}
-use Rattle.wasi_p1_model.specs.CallTurn.{IsAnswered, IsValidCall, TakesTurn}
-use Rattle.wasi_p1_model.specs.Method.{DoesItsRow}
+use Rattle.wasi_p1_model.specs.CallTransition.{IsAnswered, IsValidCall, Transitions}
+use Rattle.wasi_p1_model.specs.Method.{MeetsSpec}
 use Rattle.wasi_p1_model.specs.Reach.{Confined}
 use Rattle.wasi_p1_model.specs.ErrorNumbers.{MayCome}
-use Rattle.wasi_p1_model.specs.Run.{Turned, Run, IsComplete, answers_of}
+use Rattle.wasi_p1_model.specs.Trace.{TraceStep, Trace, IsComplete, answers_of}
 use Rattle.wasi_p1_model.specs.Slots.{View}
 use Rattle.wasi_p1_model.specs.Guest.{State, state_of}
 use Rattle.wasi_p1_model.specs.Front.{FueledCall, with_fuel}
@@ -17,28 +17,28 @@ use Rattle.wasi_guest.specs.declared.answer.Value.{Value}
 -- where no turn is faulted, a state and calls have one run
 abbrev pub RunsAreFunctions : Type 0
 RunsAreFunctions =
-    (old : State) (calls : List FueledCall) (turns turns' : List Turned) (new new' : State) → Run 0 old calls turns new
-    → Run 0 old calls turns' new'
+    (old : State) (calls : List FueledCall) (turns turns' : List TraceStep) (new new' : State) → Trace 0 old calls turns new
+    → Trace 0 old calls turns' new'
     → (turns ≡ turns') × (new ≡ new')
 
 -- a call that does its row, as each method does, is answered where it is valid, unless the host's count rose in it
 abbrev pub RowsAreComplete : {H : Type 0} → Ghosts H → Type 0
 RowsAreComplete {H} host =
     (old new : View H) (before after : List ℕ) (call : Call) (result : Result Value P1Error)
-    → DoesItsRow host old new before after call result → IsTrue host.told
+    → MeetsSpec host old new before after call result → IsTrue host.told
     → (Rose (host.faults old.host) (host.faults new.host) → ⊥)
     → IsValidCall (state_of host.world old before) (with_fuel old.fuel call) → IsAnswered call result
 
 -- each call of a run that is valid in the state before it is answered Ok, unless the host failed in it
 abbrev pub RunsAreComplete : Type 0
 RunsAreComplete =
-    (k : ℕ) (old new : State) (calls : List FueledCall) (turns : List Turned) → Run k old calls turns new
+    (k : ℕ) (old new : State) (calls : List FueledCall) (turns : List TraceStep) → Trace k old calls turns new
     → All IsComplete turns
 
 -- no call of a run is answered another error number
 abbrev pub OtherErrorsNeverCome : Type 0
 OtherErrorsNeverCome =
-    (k : ℕ) (old new : State) (calls : List FueledCall) (turns : List Turned) → Run k old calls turns new
+    (k : ℕ) (old new : State) (calls : List FueledCall) (turns : List TraceStep) → Trace k old calls turns new
     → All MayCome (answers_of turns)
 
 -- each turn over a told host keeps what was come to in reach of the start
@@ -46,6 +46,6 @@ abbrev pub TurnsAreConfined : {H : Type 0} → (H → World) → Type 0
 TurnsAreConfined {H} world =
     (start : State) (old new : View H) (before after : List ℕ) (call : FueledCall) (result : Result Value P1Error)
     (faults faults' : FaultCount)
-    → TakesTurn world (Rose faults faults') old new before after call result
+    → Transitions world (Rose faults faults') old new before after call result
     → Confined start (state_of world old before) (world old.host).touched
     → Confined start (state_of world new after) (world new.host).touched

@@ -15,10 +15,10 @@ use Rattle.wasi_guest.specs.declared.answer.Value.TheVariants.{Pair}
 use Rattle.wasi_guest.specs.declared.errno.Errno.TheVariants as errnos
 use Rattle.wasi_p1_model.specs.Parts.{range}
 use Rattle.wasi_p1_model.specs.RawFlags.{or_inval}
-use Rattle.wasi_p1_model.specs.Row.{Row, give}
-use Rattle.wasi_p1_model.specs.Stock.{Stock}
-use Rattle.wasi_p1_model.specs.declared.holdings.Output.{Output}
-use Rattle.wasi_p1_model.specs.declared.holdings.Output.TheVariants as outputs
+use Rattle.wasi_p1_model.specs.CallResult.{CallResult, give}
+use Rattle.wasi_p1_model.specs.GuestEnvModel.{GuestEnvModel}
+use Rattle.wasi_p1_model.specs.declared.guest_env.Output.{Output}
+use Rattle.wasi_p1_model.specs.declared.guest_env.Output.TheVariants as outputs
 use Rattle.wasi_p1_model.specs.declared.error.P1Error.{P1Error}
 use Rattle.wasi_p1_model.specs.declared.error.P1Error.TheVariants.{Errno, Trap, Exit}
 
@@ -29,17 +29,17 @@ unfoldable pub total_of : List (List ℕ) → ℕ
 total_of texts = sum_by (λ text. length text + 1) texts
 
 -- what 32 bits don't hold is refused `overflow`
-abbrev pub fits_32 : ℕ → Row ℕ
+abbrev pub fits_32 : ℕ → CallResult ℕ
 fits_32 n = if nat_lt n (2 ^ 32) then Ok n else Err (Errno errnos.Overflow)
 
-unfoldable pub sizes_of : List (List ℕ) → Row Value
+unfoldable pub sizes_of : List (List ℕ) → CallResult Value
 sizes_of texts = do
   count ← fits_32 (length texts)
   total ← fits_32 (total_of texts)
   give (Pair count total)
 
 -- an address that is no multiple of 4 traps
-abbrev pub aligned : ℕ → Row ℕ
+abbrev pub aligned : ℕ → CallResult ℕ
 aligned at = if at % 4 == 0 then Ok at else Err (Trap Pointer)
 
 -- the address of a text at one place, and at that address the text with a zero behind it
@@ -52,7 +52,7 @@ with_texts memory [] at buf = memory
 with_texts memory (text ∷ texts) at buf =
     with_texts (with_text memory text at buf) texts (at + 4) (buf + length text + 1)
 
-abbrev pub put_texts : List ℕ → List (List ℕ) → ℕ → ℕ → Row (List ℕ)
+abbrev pub put_texts : List ℕ → List (List ℕ) → ℕ → ℕ → CallResult (List ℕ)
 put_texts memory texts at buf = do
   _ ← aligned at
   _ ← range memory at (4 * length texts)
@@ -60,34 +60,34 @@ put_texts memory texts at buf = do
   give (with_texts memory texts at buf)
 
 -- nothing is looked at where there are none
-unfoldable pub texts_at : List ℕ → List (List ℕ) → ℕ → ℕ → Row (List ℕ)
+unfoldable pub texts_at : List ℕ → List (List ℕ) → ℕ → ℕ → CallResult (List ℕ)
 texts_at memory texts at buf = if length texts == 0 then Ok memory else put_texts memory texts at buf
 
 -- nothing is answered beside it
-abbrev pub with_unit : Row (List ℕ) → Row (Unit {0} × List ℕ)
+abbrev pub with_unit : CallResult (List ℕ) → CallResult (Unit {0} × List ℕ)
 with_unit (Ok memory) = Ok (tt, memory)
 with_unit (Err e) = Err e
 
 -- ---- clocks
 
 -- in nanoseconds, of which 64 bits hold no more than some 584 years
-abbrev pub nanoseconds_of : WallDatetime → Row ℕ
+abbrev pub nanoseconds_of : WallDatetime → CallResult ℕ
 nanoseconds_of moment =
     if nat_lt (moment.seconds * 10 ^ 9 + moment.nanoseconds) (2 ^ 64)
     then Ok (moment.seconds * 10 ^ 9 + moment.nanoseconds)
     else Err (Errno errnos.Overflow)
 
 -- the wall clock's moment, or the monotonic clock's; a guest is told of no processor's
-abbrev pub moment_of : WallDatetime → ℕ → Clockid → Row ℕ
+abbrev pub moment_of : WallDatetime → ℕ → Clockid → CallResult ℕ
 moment_of wall monotonic clocks.Realtime = nanoseconds_of wall
 moment_of wall monotonic clocks.Monotonic = Ok monotonic
 moment_of wall monotonic clocks.ProcessCputimeId = Err (Errno errnos.Badf)
 moment_of wall monotonic clocks.ThreadCputimeId = Err (Errno errnos.Badf)
 
-unfoldable pub clock_res : Stock → ℕ → Row ℕ
+unfoldable pub clock_res : GuestEnvModel → ℕ → CallResult ℕ
 clock_res stock id = or_inval (clockid_of id) >>= moment_of stock.wall_resolution stock.monotonic_resolution
 
-unfoldable pub clock_time : Stock → ℕ → Row ℕ
+unfoldable pub clock_time : GuestEnvModel → ℕ → CallResult ℕ
 clock_time stock id = or_inval (clockid_of id) >>= moment_of stock.wall stock.monotonic
 
 -- ---- ends and signals
@@ -95,19 +95,19 @@ clock_time stock id = or_inval (clockid_of id) >>= moment_of stock.wall stock.mo
 abbrev pub exit_with : ℕ → P1Error
 exit_with status = if nat_le 126 status then Trap ExitStatus else Exit status
 
-unfoldable pub known_signal : ℕ → Row ℕ
+unfoldable pub known_signal : ℕ → CallResult ℕ
 known_signal signal = if is_signal signal then Ok signal else Err (Errno errnos.Inval)
 
 -- ---- the standard streams
 
 -- the next bytes of the standard input, as many as a buffer takes: none where none are left, and where some are an empty
 -- buffer is refused `intr`
-abbrev pub next_input : List ℕ → ℕ → Row (List ℕ)
+abbrev pub next_input : List ℕ → ℕ → CallResult (List ℕ)
 next_input left size =
     if length left == 0 then Ok [] else if size == 0 then Err (Errno errnos.Intr) else Ok (take size left)
 
 -- they stand in the buffer: how many, the memory after it, and what is left
-unfoldable pub input_into : List ℕ → Stock → Iovec → Row (ℕ × (List ℕ × Stock))
+unfoldable pub input_into : List ℕ → GuestEnvModel → Iovec → CallResult (ℕ × (List ℕ × GuestEnvModel))
 input_into memory stock buffer =
     next_input stock.stdin buffer.buf_len >>= (λ bytes. give (
       length bytes,
@@ -115,18 +115,18 @@ input_into memory stock buffer =
     ))
 
 -- a piece behind what was written to an output
-abbrev pub written : Stock → Output → List ℕ → Stock
+abbrev pub written : GuestEnvModel → Output → List ℕ → GuestEnvModel
 written stock outputs.Stdout piece = record stock { stdout = stock.stdout ++ piece }
 written stock outputs.Stderr piece = record stock { stderr = stock.stderr ++ piece }
 
 -- ---- random bytes
 
 -- the next ones, round and round; zeros where there are none
-unfoldable pub random_bytes : Stock → ℕ → List ℕ
+unfoldable pub random_bytes : GuestEnvModel → ℕ → List ℕ
 random_bytes stock n =
     map (λ i. slice_index_or stock.random ((stock.random_at + i) % length stock.random) 0) (range_with_len 0 n)
 
-unfoldable pub random_taken : Stock → ℕ → Stock
+unfoldable pub random_taken : GuestEnvModel → ℕ → GuestEnvModel
 random_taken stock n = record stock {
   random_at = if length stock.random == 0 then 0 else (stock.random_at + n) % length stock.random;
 }

@@ -9,7 +9,7 @@ use Rattle.wasi_fs.specs.declared.descriptor.Dir.{Dir}
 use Rattle.wasi_fs.specs.declared.descriptor.File.{File as OpenedFile}
 use Rattle.wasi_fs.specs.declared.open_mode.OpenMode.{OpenMode}
 use Rattle.wasi_fs.specs.declared.perms.FsPerms.{FsPerms}
-use Rattle.wasi_p1_model.specs.Stock.{Stock}
+use Rattle.wasi_p1_model.specs.GuestEnvModel.{GuestEnvModel}
 use Rattle.wasi_p1_model.specs.declared.slots.FileModes.{FileModes}
 use Rattle.wasi_p1_model.specs.declared.slots.P1Preopen.{P1Preopen}
 use Rattle.wasi_p1_model.specs.declared.slots.Stream.TheVariants.{Input, Output, Error}
@@ -22,7 +22,7 @@ pub record View (H : Type 0) : Type 0 where
   pub host : H
   pub slots : List Slot
   pub table_max : ℕ
-  pub holdings : Stock
+  pub holdings : GuestEnvModel
   pub fuel : ℕ
 
 -- a directory that the guest is given may be read, and written unless it is read-only

@@ -2,10 +2,10 @@
 use Rattle.std.specs.Prelude.{ℕ, ◌≡◌, ◌↔◌, List, Contains, Ok, Err}
 use Rattle.wasi_host.specs.Agree.{AgreeOn, IsClosed, OrMade}
 use Rattle.wasi_p1_model.specs.Guest.{State, open_nodes}
-use Rattle.wasi_p1_model.specs.Row.{Row}
+use Rattle.wasi_p1_model.specs.CallResult.{CallResult}
 use Rattle.wasi_p1_model.specs.Calls.{turn}
 use Rattle.wasi_p1_model.specs.Reach.{Inside, InReach}
-use Rattle.wasi_p1_model.specs.Run.{Turned, Run, answers_of}
+use Rattle.wasi_p1_model.specs.Trace.{TraceStep, Trace, answers_of}
 use Rattle.wasi_p1_model.specs.Front.{FueledCall}
 use Rattle.wasi_guest.specs.declared.answer.Answer.{Answer}
 use Rattle.wasi_guest.specs.declared.answer.Value.{Value}
@@ -28,7 +28,7 @@ pub record Alike (Seen : ℕ → Type 0) (s s' : State) : Type 0 where
   pub slots : (n : ℕ) → Contains (open_nodes s.guest.slots) n → Seen n
 
 -- two rows with the same answer, and states after them that are alike
-abbrev pub AnswerAlike : (ℕ → Type 0) → State → Row (Value × State) → Row (Value × State) → Type 0
+abbrev pub AnswerAlike : (ℕ → Type 0) → State → CallResult (Value × State) → CallResult (Value × State) → Type 0
 AnswerAlike Seen s (Ok p) (Ok q) = (p.0 ≡ q.0) × Alike (OrMade Seen s.tree p.1.tree) p.1 q.1
 AnswerAlike Seen s (Err e) (Err f) = e ≡ f
 AnswerAlike Seen s (Ok p) (Err f) = ⊥
@@ -43,19 +43,19 @@ TurnsAgree =
 -- memory and its outputs among it, and with a tree that has the same next number, the same limits, and equal nodes on what
 -- was in reach at the start or was made
 pub record RunsSame (old other : State) (calls : List FueledCall) (answers : List Answer) (new : State) : Type 0 where
-  pub turns : List Turned
+  pub turns : List TraceStep
   pub last : State
-  pub run : Run 0 other calls turns last
+  pub run : Trace 0 other calls turns last
   pub answers_are : answers ≡ answers_of turns
   pub guest : new.guest ≡ last.guest
   pub trees : AgreeOn (InReach old new) new.tree last.tree
 
 -- from whatever state that agrees with the first
-abbrev pub SeesOnlyReach : State → List FueledCall → List Answer → State → Type 0
-SeesOnlyReach old calls answers new = (other : State) → Agrees old other → RunsSame old other calls answers new
+abbrev pub Noninterferes : State → List FueledCall → List Answer → State → Type 0
+Noninterferes old calls answers new = (other : State) → Agrees old other → RunsSame old other calls answers new
 
 -- what the calls of a run answer, and do to what is in reach, rests on the guest and on what is in reach at the start
 abbrev pub RunsAgree : Type 0
 RunsAgree =
-    (old new : State) (calls : List FueledCall) (turns : List Turned) → Run 0 old calls turns new
-    → SeesOnlyReach old calls (answers_of turns) new
+    (old new : State) (calls : List FueledCall) (turns : List TraceStep) → Trace 0 old calls turns new
+    → Noninterferes old calls (answers_of turns) new

@@ -8,7 +8,7 @@ use Rattle.wasi_guest.specs.declared.call.Call.{Call}
 use Rattle.wasi_p1_model.specs.Front.{FueledCall}
 use Rattle.wasi_p1_model.specs.Calls.{Stem, through, renumbering, stem_in}
 use Rattle.wasi_p1_model.specs.Guest.{Guest, State, perms_in}
-use Rattle.wasi_p1_model.specs.Run.{Turned, Run}
+use Rattle.wasi_p1_model.specs.Trace.{TraceStep, Trace}
 
 abbrev pub stems_by : Stem → Answer → ℕ → ℕ
 stems_by (through fd) (answers.Ok (Number new)) n = if n == new then fd else n
@@ -22,7 +22,7 @@ abbrev pub stems_from : Call → Answer → ℕ → ℕ
 stems_from call answer n = stems_by (stem_in call) answer n
 
 -- the same before all of these turns
-abbrev pub stem_of : List Turned → ℕ → ℕ
+abbrev pub stem_of : List TraceStep → ℕ → ℕ
 stem_of [] n = n
 stem_of (t ∷ turns) n = stems_from t.call.call t.answer (stem_of turns n)
 
@@ -34,5 +34,5 @@ HasPerms g n perms = perms_in (slice_get g.slots n) ≡ Some perms
 -- directory that the guest is given has its permissions, for good
 abbrev pub PermissionsStem : Type 0
 PermissionsStem =
-    (k : ℕ) (old new : State) (calls : List FueledCall) (turns : List Turned) → Run k old calls turns new
+    (k : ℕ) (old new : State) (calls : List FueledCall) (turns : List TraceStep) → Trace k old calls turns new
     → (n : ℕ) (perms : FsPerms) → HasPerms new.guest n perms → HasPerms old.guest (stem_of turns n) perms

@@ -3,7 +3,7 @@ use Rattle.std.specs.Prelude.{ℕ, ◌≡◌, Bool, IsTrue, List, Result, IfErr}
 use Rattle.wasi_host.specs.HostLaws.{World}
 use Rattle.wasi_guest.specs.declared.answer.Value.{Value}
 use Rattle.wasi_guest.specs.declared.errno.Errno.TheVariants.{Io}
-use Rattle.wasi_p1_model.specs.CallTurn.{Kept}
+use Rattle.wasi_p1_model.specs.CallTransition.{Kept}
 use Rattle.wasi_p1_model.specs.Slots.{View}
 use Rattle.wasi_p1_model.specs.declared.error.P1Error.{P1Error}
 use Rattle.wasi_p1_model.specs.declared.error.P1Error.TheVariants.{Errno}

@@ -3,14 +3,14 @@ use Rattle.std.specs.Prelude.{ℕ, List, All, IsTrue}
 use Rattle.wasi_host.specs.ValidTree.{IsValidTree, are_bytes}
 use Rattle.wasi_p1_model.specs.Front.{FueledCall}
 use Rattle.wasi_p1_model.specs.Guest.{Guest, State}
-use Rattle.wasi_p1_model.specs.Stock.{Stock}
-use Rattle.wasi_p1_model.specs.Run.{Turned, Run}
+use Rattle.wasi_p1_model.specs.GuestEnvModel.{GuestEnvModel}
+use Rattle.wasi_p1_model.specs.Trace.{TraceStep, Trace}
 
 abbrev pub AreBytes : List ℕ → Type 0
 AreBytes bytes = IsTrue (are_bytes bytes)
 
 -- what a guest was handed in are bytes
-pub record IsStock (stock : Stock) : Type 0 where
+pub record IsStock (stock : GuestEnvModel) : Type 0 where
   pub preopens : All AreBytes stock.preopens
   pub args : All AreBytes stock.args
   pub environ : All AreBytes stock.environ
@@ -29,5 +29,5 @@ pub record IsValidState (s : State) : Type 0 where
 -- a run from a valid state leads to one, however many of its turns are faulted
 abbrev pub RunsStayValid : Type 0
 RunsStayValid =
-    (k : ℕ) (old new : State) (calls : List FueledCall) (turns : List Turned) → Run k old calls turns new
+    (k : ℕ) (old new : State) (calls : List FueledCall) (turns : List TraceStep) → Trace k old calls turns new
     → IsValidState old → IsValidState new

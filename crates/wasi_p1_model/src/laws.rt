@@ -25,7 +25,7 @@ pub fn runs_are_functions()
     ensures one_run { RunsAreFunctions }
 {}
 
-/// What a method's clause `turn` says makes it complete: a call that is valid in the state before it, where its row
+/// What a method's clause `spec` says makes it complete: a call that is valid in the state before it, where its row
 /// answers it, is answered, unless the host's count of faults rose in it, or memory was wanted by a call that takes some.
 pub fn methods_are_complete<H: Host>()
     ensures complete { RowsAreComplete H.Host }

@@ -5,7 +5,7 @@
 mod awaited;
 mod error;
 mod fdstats;
-mod holdings;
+mod guest_env;
 mod laws;
 mod looked;
 mod memory_parts;
@@ -18,7 +18,7 @@ mod usage;
 pub use awaited::{Awaited, Judged, Waited};
 pub use error::{CtxError, P1Error, RunError, errno_of};
 pub use fdstats::{directory_fdstat, file_fdstat, preopen_fdstat, stream_fdstat};
-pub use holdings::{Clocks, Holdings, Output, Outputs, nanoseconds_of};
+pub use guest_env::{Clocks, GuestEnv, Output, Outputs, nanoseconds_of};
 pub use laws::{
     append_only_runs_keep, append_only_turns_add, bytes_put_are_got, descriptor_numbers,
     live_handles_stay, methods_are_complete, other_errors_never_come, pages_list_each_entry_once,

@@ -1,6 +1,6 @@
 //! What is read or written by a number, and what came of it.
 
-use crate::holdings::Output;
+use crate::guest_env::Output;
 use crate::slots::FileSlot;
 
 /// What is read by a number.

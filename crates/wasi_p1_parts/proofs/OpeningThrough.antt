@@ -7,7 +7,7 @@ use Rattle.wasi_fs.specs.OpenHow.{OpenHow}
 use Rattle.wasi_fs.specs.declared.descriptor.Descriptor.{Descriptor}
 use Rattle.wasi_fs.specs.declared.descriptor.Descriptor.TheVariants as descriptors
 use Rattle.wasi_fs.specs.declared.descriptor.Dir.{Dir}
-use Rattle.wasi_host.specs.Lineage.{Traced, Only, Nothing}
+use Rattle.wasi_host.specs.Lineage.{HasProvenance, Only, Nothing}
 use Rattle.wasi_host.specs.HostLaws.{FaultCount}
 use Rattle.wasi_host.specs.declared.errors.HostError.{HostError}
 use Rattle.wasi_host.specs.declared.host.Host.{Ghosts}
@@ -34,9 +34,9 @@ module _ {H : Type 0} (host : Ghosts H) (old new : Files H) (fd : ℕ) (dir : Di
   -- the look-ups begin from the directory, and the new handle was got
   looks_below : (r : Result Resource FsError) (answer : Result Descriptor HostError)
       → ((q : ℕ) → GotOpened answer q → GotFor new.table.entries r q)
-      → Traced (HasIt old.table.entries fd) Nothing (GotFor new.table.entries r) (host.lookups old.ctx.host)
+      → HasProvenance (HasIt old.table.entries fd) Nothing (GotFor new.table.entries r) (host.lookups old.ctx.host)
       (host.lookups new.ctx.host)
-      → Traced (Only dir.dir) Nothing (GotOpened answer) (host.lookups old.ctx.host) (host.lookups new.ctx.host)
+      → HasProvenance (Only dir.dir) Nothing (GotOpened answer) (host.lookups old.ctx.host) (host.lookups new.ctx.host)
   looks_below r answer got traced =
       traced_given (Only dir.dir) (λ q has. one (sym (sym (ap entry_handle stands) ∙ has)))
       (traced_kept Nothing (GotOpened answer) (λ q is. inr (got q is)) traced)
@@ -53,7 +53,7 @@ module _ {H : Type 0} (host : Ghosts H) (old new : Files H) (fd : ℕ) (dir : Di
       → StandsFor AnOpened new.table.entries result answer
       → OpensBelow host old new dir.dir dir.perms path how answer
       → AddsEntry (host.live old.ctx.host) old.table.entries result (host.live new.ctx.host) new.table.entries
-      → Traced (HasIt old.table.entries fd) Nothing (GotFor new.table.entries result) (host.lookups old.ctx.host)
+      → HasProvenance (HasIt old.table.entries fd) Nothing (GotFor new.table.entries result) (host.lookups old.ctx.host)
       (host.lookups new.ctx.host)
       → Opens host old.ctx.host new.ctx.host dir path how (PutEntry old.table.entries new.table.entries)
       (new.table.entries ≡ old.table.entries) result

@@ -7,7 +7,7 @@ use Rattle.wasi_host.specs.HostLaws.{World, Handles, FaultCount, HasCause}
 use Rattle.wasi_host.specs.declared.errors.ErrorCode.TheVariants.{Io as HostIo}
 use Rattle.wasi_host.specs.declared.errors.HostError.{HostError}
 use Rattle.wasi_host.specs.declared.errors.HostError.TheVariants.{Code as Failed}
-use Rattle.wasi_host.specs.declared.open_handle.Held.{Held}
+use Rattle.wasi_host.specs.declared.open_handle.OpenHandle.{OpenHandle}
 use Rattle.wasi_resolve.specs.Resolved.{Resolved}
 use Rattle.wasi_p1_parts.specs.Viewed.{LoweredTo}
 use Rattle.wasi_p2_types.specs.FsErrors.{fs_error, raised, FsCause}
@@ -17,10 +17,10 @@ use Rattle.wasi_p2_types.specs.declared.error_code.ErrorCode.{ErrorCode}
 use Rattle.wasi_p2_types.specs.declared.error_code.ErrorCode.TheVariants as codes
 use Rattle.wasi_streams.specs.declared.errors.TableError.TheVariants as tables
 use Rattle.wasi_p1_model.specs.CallParts.{IsReplied, Makes}
-use Rattle.wasi_p1_model.specs.CallTurn.{Causes}
+use Rattle.wasi_p1_model.specs.CallTransition.{Causes}
 use Rattle.wasi_p1_model.specs.Errnos.{error_of}
 use Rattle.wasi_p1_model.specs.Request.{Direct}
-use Rattle.wasi_p1_model.specs.Row.{give}
+use Rattle.wasi_p1_model.specs.CallResult.{give}
 use Rattle.wasi_p1_model.specs.ViewErrors.{errno_named, view_error_of, view_raised}
 use Rattle.wasi_p1_model.specs.declared.error.P1Error.{P1Error}
 use Rattle.wasi_p1_model.specs.declared.error.P1Error.TheVariants.{Errno}
@@ -93,13 +93,13 @@ lowered_to_ok Did (Err error, is, did) = absurd (cc)
 -- ---- a new size
 
 -- over any host: what its lower call answers is what may be replied
-pub size_replied : (f : Held) (size : ℕ) (answer : Result (Unit {0}) HostError)
+pub size_replied : (f : OpenHandle) (size : ℕ) (answer : Result (Unit {0}) HostError)
     → IsReplied (Direct (SetSize f size)) (λ _. give tt) (view_raised (raised (λ unit. unit) answer))
 size_replied f size (Ok done) = (tt, tt, refl)
 size_replied f size (Err e) = rw (same_error e) (inl (e, refl))
 
 -- over one that tells: it is the request
-pub size_made : {rose : Type 0} {live : Handles} {w v : World} {f : Held} {size : ℕ} (answer : Result (Unit {0}) HostError)
+pub size_made : {rose : Type 0} {live : Handles} {w v : World} {f : OpenHandle} {size : ℕ} (answer : Result (Unit {0}) HostError)
     → ((e : HostError) → answer ≡ Err e → e ≡ Failed HostIo → rose)
     → Resolved live w v (asks_at w.tree (SetSize f size) f.node) (λ unit. unit) answer
     → Makes rose live w v (Direct (SetSize f size)) (λ _. give tt) (view_raised (raised (λ unit. unit) answer))

@@ -14,7 +14,7 @@ use Rattle.wasi_p2_types.specs.declared.error.FsError.{FsError}
 use Rattle.wasi_p1_model.specs.CallParts.{Makes}
 use Rattle.wasi_p1_model.specs.Errnos.{error_of}
 use Rattle.wasi_p1_model.specs.Request.{Reply, Request}
-use Rattle.wasi_p1_model.specs.Row.{Row}
+use Rattle.wasi_p1_model.specs.CallResult.{CallResult}
 use Rattle.wasi_p1_model.specs.ViewErrors.{view_error_of}
 use Rattle.wasi_p1_parts.specs.ViewedStats.{filetype_named, viewed, viewed_filestat, wall_nanoseconds, LookMakes}
 use Rattle.wasi_fs.specs.declared.open_mode.OpenMode.{OpenMode}
@@ -58,7 +58,7 @@ same_filestat both = rw (
 ) refl
 
 -- so what is made of the one is made of the other
-pub shown_row : {both : ViewedStat} {m : Row Filestat} (b : StatBoth) → both ≡ viewed b → m ≡ viewed_filestat both
+pub shown_row : {both : ViewedStat} {m : CallResult Filestat} (b : StatBoth) → both ≡ viewed b → m ≡ viewed_filestat both
     → filestat_in b ≡ m
 shown_row b is row = sym (same_filestat b) ∙ ap viewed_filestat (sym is) ∙ sym row
 
@@ -79,8 +79,8 @@ told_fdstat mode modes lower_kind is named =
     }) (is ∙ ap filetype_named named ∙ same_type lower_kind)
 
 -- a look that a lower call refused
-pub look_refused : {H A B : Type 0} {host : Ghosts H} {old new : H} {r : Request} {next : Reply r → Row A}
-    {first last : FaultCount} {Did : Result B HostError → Type 0} {e : FsError} {result : Row A}
+pub look_refused : {H A B : Type 0} {host : Ghosts H} {old new : H} {r : Request} {next : Reply r → CallResult A}
+    {first last : FaultCount} {Did : Result B HostError → Type 0} {e : FsError} {result : CallResult A}
     (lower : LowerRefusal first last Did e) → IsErrAnd result (λ f. f ≡ view_error_of e) → NotMemory lower.error
     → (IsTrue host.told → Makes (Rose (host.faults old) (host.faults new)) (host.live old) (host.world old)
     (host.world new) r next (Err (error_of lower.error))) → LookMakes host old new r next result

@@ -9,7 +9,7 @@ use Rattle.std.specs.FinSet.{contains}
 use Rattle.wasi_fs.specs.Calls.{handle_of, syncs, NotMemory}
 use Rattle.wasi_fs.specs.declared.descriptor.Descriptor.{Descriptor}
 use Rattle.wasi_fs.specs.declared.descriptor.Descriptor.TheVariants as descriptors
-use Rattle.wasi_host.specs.Lineage.{Traced, Only, OneOf}
+use Rattle.wasi_host.specs.Lineage.{HasProvenance, Only, OneOf}
 use Rattle.wasi_host.specs.declared.system_time.SystemTime.{SystemTime}
 use Rattle.wasi_host.specs.HostLaws.{World, Handles, FaultCount, HasCause}
 use Rattle.wasi_host.specs.declared.errors.ErrorCode.{ErrorCode}
@@ -38,7 +38,7 @@ use Rattle.wasi_p2_calls.specs.Views.{CallsOn, Files, Passes, Performs, tree_in}
 use Rattle.wasi_p2_calls.specs.declared.context.Preopen.{Preopen}
 use Rattle.wasi_p2_types.specs.declared.error.FsError.{FsError}
 use Rattle.wasi_p2_types.specs.declared.error_code.ErrorCode.TheVariants.{BadDescriptor}
-use Rattle.wasi_p1_model.specs.CallTurn.{FollowsRow}
+use Rattle.wasi_p1_model.specs.CallTransition.{FollowsRow}
 use Rattle.wasi_p1_parts.specs.Descriptors.{AreKept, SlotTable}
 use Rattle.wasi_p1_model.specs.Errnos.{errno_of, error_of}
 use Rattle.wasi_p1_parts.specs.Held.{HoldsHandles}
@@ -235,8 +235,8 @@ directories_stand {dir} {dir'} table m n first second =
 
 -- look-ups that begin from it
 pub traced_only : {d : Descriptor} {Kept Kept' : ℕ → Type 0} {old new : List Lookup} (table : Entries) (n : ℕ)
-    → get table n ≡ Some (entries.Descriptor d) → Traced (HasIt table n) Kept Kept' old new
-    → Traced (Only (handle_of d)) Kept Kept' old new
+    → get table n ≡ Some (entries.Descriptor d) → HasProvenance (HasIt table n) Kept Kept' old new
+    → HasProvenance (Only (handle_of d)) Kept Kept' old new
 traced_only {d = d} table n is traced =
     traced_given (Only (handle_of d)) (λ q has. one (sym (sym (ap entry_handle is) ∙ has))) traced
 
@@ -285,7 +285,7 @@ timed {old = old} {atime = atime} {mtime = mtime} (Ok x) atim mtim first second 
 -- look-ups that begin from one of two
 pub traced_either : {g h : ℕ} {Kept Kept' : ℕ → Type 0} {old new : List Lookup} (table : Entries) (m n : ℕ)
     → entry_handle (get table m) ≡ Some g → entry_handle (get table n) ≡ Some h
-    → Traced (OneHasIt table m n) Kept Kept' old new → Traced (OneOf g h) Kept Kept' old new
+    → HasProvenance (OneHasIt table m n) Kept Kept' old new → HasProvenance (OneOf g h) Kept Kept' old new
 traced_either {g} {h} table m n first second traced = traced_given (OneOf g h) (λ q is. elim is [
   | inl has ↦ inl (one (sym has ∙ first))
   | inr has ↦ inr (one (sym has ∙ second))

@@ -11,7 +11,7 @@ use Rattle.wasi_host.specs.declared.host.Host.{Ghosts}
 use Rattle.wasi_p1_model.specs.CallParts.{IsReplied, Makes, WantsNoMemory}
 use Rattle.wasi_p1_model.specs.Filestats.{or_overflow}
 use Rattle.wasi_p1_model.specs.Request.{Reply, Request}
-use Rattle.wasi_p1_model.specs.Row.{Row, give}
+use Rattle.wasi_p1_model.specs.CallResult.{CallResult, give}
 use Rattle.wasi_p1_model.specs.declared.looked.StatBoth.{StatBoth}
 use Rattle.wasi_p1_parts.specs.declared.filestats.ViewedStat.{ViewedStat}
 use Rattle.wasi_p2_types.specs.Stats.{hash_named, stat_named}
@@ -20,8 +20,8 @@ use Rattle.wasi_p2_types.specs.declared.descriptor_stat.DescriptorType.TheVarian
 
 -- What a part makes of the reply to its look, for which it takes no memory: over every host, and over one that tells its
 -- world
-pub record LookMakes {H A : Type 0} (host : Ghosts H) (old new : H) (r : Request) (next : Reply r → Row A)
-    (result : Row A) : Type 0 where
+pub record LookMakes {H A : Type 0} (host : Ghosts H) (old new : H) (r : Request) (next : Reply r → CallResult A)
+    (result : CallResult A) : Type 0 where
   pub never_wants : IfErr result WantsNoMemory
   pub front : IsReplied r next result
   pub told : IsTrue host.told → Makes (Rose (host.faults old) (host.faults new)) (host.live old)
@@ -43,12 +43,12 @@ filetype_named types.RegularFile = filetypes.RegularFile
 filetype_named types.Socket = filetypes.Unknown
 
 -- a moment in nanoseconds; a time that isn't kept is the epoch
-abbrev pub wall_nanoseconds : Option WallDatetime → Row ℕ
+abbrev pub wall_nanoseconds : Option WallDatetime → CallResult ℕ
 wall_nanoseconds (Some moment) = or_overflow (moment.seconds * 10 ^ 9 + moment.nanoseconds)
 wall_nanoseconds None = Ok 0
 
 -- there is one device; a time past what 64 bits hold is refused `overflow`
-unfoldable pub viewed_filestat : ViewedStat → Row Filestat
+unfoldable pub viewed_filestat : ViewedStat → CallResult Filestat
 viewed_filestat both = do
   atim ← wall_nanoseconds both.stat.data_access_timestamp
   mtim ← wall_nanoseconds both.stat.data_modification_timestamp

@@ -4,8 +4,8 @@ ghost use Rattle.std.specs.Result.{result_map_both};
 ghost use Rattle.std.specs.FinSet.{contains};
 ghost use Rattle.wasi_host.specs.HostCall.{Pread, Pwrite};
 ghost use Rattle.wasi_host.specs.HostLaws.{Rose};
-ghost use Rattle.wasi_host.specs.Lineage.{Traced, Only, Nothing};
-ghost use Rattle.wasi_p1_model.specs.CallTurn.{Causes};
+ghost use Rattle.wasi_host.specs.Lineage.{HasProvenance, Only, Nothing};
+ghost use Rattle.wasi_p1_model.specs.CallTransition.{Causes};
 ghost use Rattle.wasi_p1_parts.specs.Held.{HoldsHandles};
 ghost use Rattle.wasi_p1_model.specs.Owners.{handles, HasHandle, Owned, Owns, SlotsTraced, SlotsStay};
 ghost use Rattle.wasi_p1_model.specs.Guest.{guest_slot, guest_slots};
@@ -20,7 +20,7 @@ ghost use Rattle.wasi_p1_model.specs.Numbering.{passes_at, live_count, renumbere
 ghost use Rattle.wasi_p1_model.specs.Slots.{file_under, is_closed_slot};
 ghost use Rattle.wasi_guest.specs.Range.{IsInMemory};
 ghost use Rattle.wasi_p1_model.specs.CallParts.{open_directory_of, source_of, sink_of, OfSource, OfSink, open_node_of, Refused, ReadsInto, WritesPiece, OpensInto, filled_at, with_after, Stays, IsReplied, WantsNoMemory, is_failure};
-ghost use Rattle.wasi_p1_model.specs.Row.{give};
+ghost use Rattle.wasi_p1_model.specs.CallResult.{give};
 ghost use Rattle.wasi_p1_parts.specs.Viewed.{descriptor_under, Lowered};
 ghost use Rattle.wasi_p1_parts.specs.ViewedStats.{viewed};
 ghost use Rattle.wasi_p2_types.specs.FlagNames.{path_flags_named};
@@ -305,7 +305,7 @@ pub fn stat_both<H: Host>(
     ensures same { descriptors.new ≡ descriptors.old }
     ensures cause { FsCause (H.faults fs.old.host) (H.faults fs.new.host) result }
     ensures live { H.live fs.new.host ≡ H.live fs.old.host }
-    ensures lineage { Traced (Only dir.now.dir) Nothing Nothing (H.lookups fs.old.host) (H.lookups fs.new.host) }
+    ensures lineage { HasProvenance (Only dir.now.dir) Nothing Nothing (H.lookups fs.old.host) (H.lookups fs.new.host) }
     ensures did { Lowered viewed (λ answer. IfOk answer IsStated × Performs H.Host fs.old.host fs.new.host None
         (meant_as stat_both (meant_by (H.world fs.old.host).tree
         (looks ((H.world fs.old.host).held dir.now.dir).node text.now (path_flags_named flags))))

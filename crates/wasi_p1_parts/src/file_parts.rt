@@ -6,7 +6,7 @@ ghost use Rattle.wasi_guest.specs.FlagSets.{fdflag_bits};
 ghost use Rattle.wasi_host.specs.HostCall.{Append, Stat};
 ghost use Rattle.wasi_host.specs.HostLaws.{Rose};
 ghost use Rattle.wasi_p1_model.specs.CallParts.{IsReplied, Knows, Makes, WantsNoMemory, is_failure, open_file_of};
-ghost use Rattle.wasi_p1_model.specs.CallTurn.{Causes};
+ghost use Rattle.wasi_p1_model.specs.CallTransition.{Causes};
 ghost use Rattle.wasi_p1_model.specs.Files.{base_in, file_in, host_advice, keeps_append, name_at, name_into, not_synchronized, or_refused, position_from, read_place_in, stream_refused};
 ghost use Rattle.wasi_p1_model.specs.Guest.{guest_slots};
 ghost use Rattle.wasi_p1_model.specs.Owners.{handles, Owned};
@@ -17,7 +17,7 @@ ghost use Rattle.wasi_p1_model.specs.Spending.{growth_from};
 ghost use Rattle.wasi_fs.specs.Calls.{may_do};
 ghost use Rattle.wasi_fs.specs.declared.perms.Act.TheVariants.{Alter};
 ghost use Rattle.wasi_p1_model.specs.Request.{Direct, Behind};
-ghost use Rattle.wasi_p1_model.specs.Row.{give};
+ghost use Rattle.wasi_p1_model.specs.CallResult.{give};
 ghost use Rattle.wasi_p1_model.specs.Services.{with_unit};
 ghost use Rattle.wasi_p1_parts.specs.Viewed.{descriptor_under};
 ghost use Rattle.wasi_p2_types.specs.Advices.{advice_named};
@@ -34,7 +34,7 @@ use wasi_guest::{Advice, Errno, FdFlags, Whence, write_bytes};
 use wasi_host::{Handle, Host};
 use wasi_p2_calls::types;
 use wasi_p1_model::{
-    Allowance, FileEnd, FileModes, FileSlot, FileUse, Holdings, INVALID, P1Error, Put, Slot,
+    Allowance, FileEnd, FileModes, FileSlot, FileUse, GuestEnv, INVALID, P1Error, Put, Slot,
     Stream, bytes_at,
 };
 
@@ -320,7 +320,7 @@ fn growth_of<H: Host>(
 /// Refusal: Dquot where the bound would be passed.
 pub fn check_growth<H: Host>(
     host: &mut H,
-    holdings: &Holdings,
+    holdings: &GuestEnv,
     file: &File,
     end: FileEnd,
 ) -> Result<u64, P1Error>
@@ -407,7 +407,7 @@ pub fn keeps_append(perms: FsPerms, modes: FileModes) -> Result<(), P1Error>
 fn preopen_name<'h, H: Host>(
     host: &H,
     descriptors: &Descriptors,
-    holdings: &'h Holdings,
+    holdings: &'h GuestEnv,
     fd: u32,
 ) -> Option<&'h str>
     ensures name { option_map (λ name. name.now) result ≡ name_at holdings.now.preopens
@@ -423,7 +423,7 @@ fn preopen_name<'h, H: Host>(
 pub fn preopen_at<'h, H: Host>(
     host: &H,
     descriptors: &Descriptors,
-    holdings: &'h Holdings,
+    holdings: &'h GuestEnv,
     fd: u32,
     refusal: Errno,
 ) -> Result<&'h str, P1Error>

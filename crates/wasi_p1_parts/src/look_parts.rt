@@ -3,13 +3,13 @@ ghost use Rattle.std.specs.Prelude.{◌≡◌, slice_get, IfOk, IfErr, None, Som
 ghost use Rattle.wasi_fs.specs.Calls.{handle_of, meant_as, stats, NotMemory};
 ghost use Rattle.wasi_host.specs.HostCall.{Flags, Stat};
 ghost use Rattle.wasi_p1_model.specs.CallParts.{open_file_of};
-ghost use Rattle.wasi_p1_model.specs.CallTurn.{Causes};
+ghost use Rattle.wasi_p1_model.specs.CallTransition.{Causes};
 ghost use Rattle.wasi_p1_model.specs.Fdstats.{directory_fdstat, file_told};
 ghost use Rattle.wasi_p1_model.specs.Filestats.{filestat_in, stat_both, IsStated};
 ghost use Rattle.wasi_p1_parts.specs.Held.{HoldsHandles};
 ghost use Rattle.wasi_p1_model.specs.Owners.{handles};
 ghost use Rattle.wasi_p1_model.specs.Request.{Direct};
-ghost use Rattle.wasi_p1_model.specs.Row.{give};
+ghost use Rattle.wasi_p1_model.specs.CallResult.{give};
 ghost use Rattle.wasi_p1_parts.specs.Viewed.{descriptor_under, Lowered};
 ghost use Rattle.wasi_p1_parts.specs.ViewedStats.{viewed, LookMakes};
 ghost use Rattle.wasi_p2_types.specs.FsErrors.{FsCause};

@@ -3,29 +3,29 @@ ghost use Rattle.std.specs.Prelude.{◌≡◌, false, true, slice_get, IfErr, On
 ghost use Rattle.wasi_fs.specs.Calls.{may_do, may_link};
 ghost use Rattle.wasi_fs.specs.OpenHow.{may_open};
 ghost use Rattle.wasi_fs.specs.declared.perms.Act.TheVariants.{Make};
-ghost use Rattle.wasi_host.specs.Lineage.{Traced, Only, Nothing};
+ghost use Rattle.wasi_host.specs.Lineage.{HasProvenance, Only, Nothing};
 ghost use Rattle.wasi_p1_parts.specs.Held.{HoldsHandles};
 ghost use Rattle.wasi_p1_parts.specs.Viewed.{descriptor_under, LoweredTo};
 ghost use Rattle.wasi_p2_types.specs.FlagNames.{how_named};
 ghost use Rattle.wasi_p1_model.specs.CallParts.{is_failure};
-ghost use Rattle.wasi_p1_model.specs.CallTurn.{Causes};
+ghost use Rattle.wasi_p1_model.specs.CallTransition.{Causes};
 ghost use Rattle.wasi_p1_model.specs.Owners.{handles};
 ghost use Rattle.wasi_p1_model.specs.Quotas.{counted_making};
 ghost use Rattle.wasi_p1_model.specs.Spending.{check_to_make, may_make, on_outcome};
 
 use crate::descriptors::Descriptors;
-use crate::view_parts::{PlaceCall, below, raised};
+use crate::view_parts::{EntryOp, below, raised};
 use wasi_fs::{Act, Descriptor, Dir, FsPerms};
 use wasi_guest::Errno;
 use wasi_host::Host;
 use wasi_p1_types::open_with::OpenWith;
 use wasi_p2_calls::WasiFilesystemCtx;
 use wasi_paths::has_root;
-use wasi_p1_model::{Holdings, P1Error};
+use wasi_p1_model::{GuestEnv, P1Error};
 
 /// Whether a directory may be made: Perm where making isn't permitted, and then Dquot where no making is left.
 #[tactic(auto, unfolding(wasi_fs::specs::Calls::may_do))]
-pub fn check_make(holdings: &Holdings, perms: FsPerms) -> Result<(), P1Error>
+pub fn check_make(holdings: &GuestEnv, perms: FsPerms) -> Result<(), P1Error>
     ensures row { result ≡ check_to_make true (may_do perms Make) holdings.now }
     ensures left { OnOk result (may_make holdings.now ≡ Ok tt) }
     ensures refusal { IfErr result (λ e. is_failure e ≡ false) }
@@ -39,7 +39,7 @@ pub fn check_make(holdings: &Holdings, perms: FsPerms) -> Result<(), P1Error>
 /// Whether a link of this text may be made: Perm where making isn't permitted, or the text has a root, and then Dquot
 /// where no making is left.
 #[tactic(auto, unfolding(wasi_fs::specs::Calls::may_link))]
-pub fn check_link(holdings: &Holdings, perms: FsPerms, target: &str) -> Result<(), P1Error>
+pub fn check_link(holdings: &GuestEnv, perms: FsPerms, target: &str) -> Result<(), P1Error>
     ensures row { result ≡ check_to_make true (may_link perms target.now) holdings.now }
     ensures left { OnOk result (may_make holdings.now ≡ Ok tt) }
     ensures refusal { IfErr result (λ e. is_failure e ≡ false) }
@@ -52,7 +52,7 @@ pub fn check_link(holdings: &Holdings, perms: FsPerms, target: &str) -> Result<(
 
 /// Whether this may be opened below a directory of these permissions: as `OpenWith::check` refuses, and then Dquot where
 /// a missing file is made and no making is left.
-pub fn check_open(holdings: &Holdings, perms: FsPerms, with: OpenWith) -> Result<(), P1Error>
+pub fn check_open(holdings: &GuestEnv, perms: FsPerms, with: OpenWith) -> Result<(), P1Error>
     ensures row { result ≡ check_to_make (how_named with.path_flags with.open_flags with.flags).create
         (may_open (how_named with.path_flags with.open_flags with.flags) perms) holdings.now }
     ensures refusal { IfErr result (λ e. is_failure e ≡ false) }
@@ -67,10 +67,10 @@ pub fn check_open(holdings: &Holdings, perms: FsPerms, with: OpenWith) -> Result
 /// Makes a call that makes something below the directory of a number, as `below` does, and counts it, where a making is
 /// left.
 #[tactic(auto, using(crate::proofs::Raising::raised_causes))]
-pub fn make_below<H: Host, C: PlaceCall<H>>(
+pub fn make_below<H: Host, C: EntryOp<H>>(
     fs: &mut WasiFilesystemCtx<H>,
     descriptors: &mut Descriptors,
-    holdings: &mut Holdings,
+    holdings: &mut GuestEnv,
     fd: u32,
     dir: &Dir,
     call: C,
@@ -84,7 +84,7 @@ pub fn make_below<H: Host, C: PlaceCall<H>>(
     ensures counted { holdings.new ≡ on_outcome result (counted_making holdings.old) holdings.old }
     ensures cause { Causes (H.faults fs.old.host) (H.faults fs.new.host) result }
     ensures live { H.live fs.new.host ≡ H.live fs.old.host }
-    ensures lineage { Traced (Only dir.now.dir) Nothing Nothing (H.lookups fs.old.host) (H.lookups fs.new.host) }
+    ensures lineage { HasProvenance (Only dir.now.dir) Nothing Nothing (H.lookups fs.old.host) (H.lookups fs.new.host) }
     ensures did { LoweredTo C.shown (C.Did call fs.old.host fs.new.host dir.now) result }
 {
     let made = raised(below(fs, descriptors, fd, dir, call));

@@ -7,12 +7,12 @@ ghost use Rattle.wasi_guest.specs.Event.{event_bytes};
 ghost use Rattle.wasi_guest.specs.Range.{IsInMemory, with_bytes};
 ghost use Rattle.wasi_host.specs.HostLaws.{Rose};
 ghost use Rattle.wasi_p1_model.specs.CallParts.{IsFromHost, IsReplied, Makes, is_failure, source_of, sink_of, OfSource};
-ghost use Rattle.wasi_p1_model.specs.CallTurn.{Causes};
+ghost use Rattle.wasi_p1_model.specs.CallTransition.{Causes};
 ghost use Rattle.wasi_p1_model.specs.Guest.{guest_slots};
 ghost use Rattle.wasi_p1_model.specs.Owners.{handles, Owned};
 ghost use Rattle.wasi_p1_model.specs.Polling.{OfReading, all_waited, awaited_by, comes_at, event_of, events, first_size, judged_in, lists_within, nodes_in, nodes_read, some_asked, waited_at, waited_by, waiting_for, waiting_to_read, waiting_to_write, with_clocks, with_events};
 ghost use Rattle.wasi_p1_model.specs.Request.{Sizes};
-ghost use Rattle.wasi_p1_model.specs.Row.{give};
+ghost use Rattle.wasi_p1_model.specs.CallResult.{give};
 ghost use Rattle.wasi_guest.specs.declared.answer.Value.TheVariants.{Number};
 ghost use Rattle.wasi_p1_model.specs.declared.error.P1Error.TheVariants.{Memory};
 
@@ -23,7 +23,7 @@ use wasi_guest::{
     Errno, Event, Subscription, SubscriptionKind, TrapKind, Value, subscription_in, write_bytes,
 };
 use wasi_host::Host;
-use wasi_p1_model::{Awaited, Clocks, Holdings, INVALID, Judged, P1Error, Sink, Source, Waited};
+use wasi_p1_model::{Awaited, Clocks, GuestEnv, INVALID, Judged, P1Error, Sink, Source, Waited};
 
 /// How many bytes a subscription has in memory.
 const SUBSCRIPTION: u32 = Subscription::SIZE as u32;
@@ -102,7 +102,7 @@ fn to_write<H: Host>(host: &H, sink: Sink) -> Result<Awaited, P1Error>
 fn waiting_for<H: Host>(
     host: &H,
     descriptors: &Descriptors,
-    holdings: &Holdings,
+    holdings: &GuestEnv,
     what: SubscriptionKind,
 ) -> Result<Awaited, P1Error>
     requires owned { Owned (H.live host.now) (handles descriptors.now.slots) }
@@ -134,7 +134,7 @@ fn waiting_for<H: Host>(
 fn waited_at<H: Host>(
     host: &H,
     descriptors: &Descriptors,
-    holdings: &Holdings,
+    holdings: &GuestEnv,
     memory: &[u8],
     at: u32,
 ) -> Result<Waited, P1Error>
@@ -158,7 +158,7 @@ fn waited_at<H: Host>(
 pub fn judged_at<H: Host>(
     host: &H,
     descriptors: &Descriptors,
-    holdings: &Holdings,
+    holdings: &GuestEnv,
     memory: &[u8],
     subscriptions: u32,
     count: u32,
@@ -193,7 +193,7 @@ pub fn all_waited<H: Host>(
     alloc: Global,
     host: &H,
     descriptors: &Descriptors,
-    holdings: &Holdings,
+    holdings: &GuestEnv,
     memory: &[u8],
     subscriptions: u32,
     count: u32,
@@ -341,7 +341,7 @@ fn put_events(memory: &mut [u8], at: u32, waited: &[Waited], sizes: &[u64], mome
 /// Sets the clocks, and tells what has come by the monotonic one, as `put_events` does. The answer is how many events
 /// there are.
 pub fn tell_events(
-    holdings: &mut Holdings,
+    holdings: &mut GuestEnv,
     memory: &mut [u8],
     at: u32,
     waited: &[Waited],

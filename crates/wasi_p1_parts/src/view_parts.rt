@@ -3,7 +3,7 @@
 ghost use Rattle.std.specs.Prelude.{◌≡◌, false, slice_get, slice_index_or, Result, Some};
 ghost use Rattle.wasi_fs.specs.declared.descriptor.Descriptor.{Descriptor as Opened};
 ghost use Rattle.wasi_fs.specs.declared.descriptor.Dir.{Dir as Directory};
-ghost use Rattle.wasi_host.specs.Lineage.{Traced, Only, Nothing};
+ghost use Rattle.wasi_host.specs.Lineage.{HasProvenance, Only, Nothing};
 ghost use Rattle.wasi_host.specs.declared.errors.HostError.{HostError};
 ghost use Rattle.wasi_p1_parts.specs.Held.{HoldsHandles};
 ghost use Rattle.wasi_p1_types.specs.Items.{is_closed_item, NamesResource};
@@ -55,7 +55,7 @@ pub fn raised<T>(answer: FsResult<T>) -> Result<T, P1Error>
 }
 
 /// A call of a view at a path below a directory.
-pub trait PlaceCall<H: Host> {
+pub trait EntryOp<H: Host> {
     /// What it answers.
     type Gives;
 
@@ -83,7 +83,7 @@ pub trait PlaceCall<H: Host> {
 }
 
 /// Makes a call at a path below the directory of a number. `dir` is named by the clauses alone.
-pub fn below<H: Host, C: PlaceCall<H>>(
+pub fn below<H: Host, C: EntryOp<H>>(
     fs: &mut WasiFilesystemCtx<H>,
     descriptors: &mut Descriptors,
     fd: u32,
@@ -97,7 +97,7 @@ pub fn below<H: Host, C: PlaceCall<H>>(
     ensures same { descriptors.new ≡ descriptors.old }
     ensures cause { FsCause (H.faults fs.old.host) (H.faults fs.new.host) result }
     ensures live { H.live fs.new.host ≡ H.live fs.old.host }
-    ensures lineage { Traced (Only dir.now.dir) Nothing Nothing (H.lookups fs.old.host) (H.lookups fs.new.host) }
+    ensures lineage { HasProvenance (Only dir.now.dir) Nothing Nothing (H.lookups fs.old.host) (H.lookups fs.new.host) }
     ensures did { Lowered C.shown (C.Did call fs.old.host fs.new.host dir.now) result }
 {
     let resource = resource_under(&descriptors.items, fd);

@@ -8,12 +8,12 @@ use Rattle.wasi_guest.specs.declared.errno.Errno.TheVariants.{Io}
 use Rattle.wasi_host.specs.HostLaws.{World, Handles, HasCause, Rose, FaultCount}
 use Rattle.wasi_host.specs.declared.errors.ErrorCode.{ErrorCode}
 use Rattle.wasi_host.specs.declared.errors.HostError.{HostError}
-use Rattle.wasi_host.specs.declared.open_handle.Held.{Held}
+use Rattle.wasi_host.specs.declared.open_handle.OpenHandle.{OpenHandle}
 use Rattle.wasi_host.specs.declared.lookup.Lookup.{Lookup}
 use Rattle.wasi_resolve.specs.PathRequest.{PathRequest, PathReply, meant_by}
 use Rattle.wasi_resolve.specs.Resolved.{Resolved}
 use Rattle.wasi_p1_model.specs.CallParts.{Follows, IsReplied}
-use Rattle.wasi_p1_model.specs.CallTurn.{FollowsRow}
+use Rattle.wasi_p1_model.specs.CallTransition.{FollowsRow}
 use Rattle.wasi_p1_model.specs.Errnos.{errno_of, error_of}
 use Rattle.wasi_p1_model.specs.Front.{CallFront, ask, done_if, free, ◌>>=◌}
 use Rattle.wasi_p1_model.specs.Parts.{permit}
@@ -21,11 +21,11 @@ use Rattle.wasi_p1_model.specs.Guest.{Guest, guest_by, guest_of, guest_slots}
 use Rattle.wasi_p1_model.specs.Owners.{handles, Owned, SlotsOfCall}
 use Rattle.wasi_p1_model.specs.Quotas.{counted_making, counted_makings}
 use Rattle.wasi_p1_model.specs.Request.{MayReply, Path, Reply, Request}
-use Rattle.wasi_p1_model.specs.Row.{Row, give, made_of_reply}
-use Rattle.wasi_p1_model.specs.Calls.{front, may_want}
+use Rattle.wasi_p1_model.specs.CallResult.{CallResult, give, made_of_reply}
+use Rattle.wasi_p1_model.specs.Calls.{front, may_run_out_of_memory}
 use Rattle.wasi_p1_model.specs.Slots.{View}
 use Rattle.wasi_p1_model.specs.Spending.{check_to_make, grows, makes, making, on_outcome}
-use Rattle.wasi_p1_model.specs.Stock.{Stock}
+use Rattle.wasi_p1_model.specs.GuestEnvModel.{GuestEnvModel}
 use Rattle.wasi_p1_model.specs.declared.error.P1Error.{P1Error}
 use Rattle.wasi_p1_model.specs.declared.error.P1Error.TheVariants.{Errno, Memory}
 use Rattle.wasi_p1_model.proofs.Exiting.{made_err, made_ok}
@@ -38,7 +38,7 @@ use Rattle.wasi_p1_model.proofs.Taking.{Did, GuestSlotsStay, refused_at}
 
 -- what the check refused, the row refuses
 made_refused : {A : Type 0} {e : P1Error} {fuel : ℕ} (b : Bool) (own : Option ErrorCode) (r : Request)
-    (next : Reply r → Row A) (shown : Guest → A → Value × Guest) (g : Guest) → check_to_make b own g.holdings ≡ Err e
+    (next : Reply r → CallResult A) (shown : Guest → A → Value × Guest) (g : Guest) → check_to_make b own g.holdings ≡ Err e
     → making b g (tail own r next shown g) fuel ≡ (Err e, fuel)
 made_refused {fuel = fuel} true None r next shown g is = rw is refl
 made_refused false None r next shown g is = absurd (cc)
@@ -61,17 +61,17 @@ made_is true p = refl
 made_is false p = refl
 
 module _ {H : Type 0} {told : Bool} {world : H → World} {faults : H → FaultCount} {lookups : H → List Lookup}
-    {old : View H} {host : H} {stock : Stock} {left : ℕ} {memory : List ℕ} {call : Call} {live : Handles}
+    {old : View H} {host : H} {stock : GuestEnvModel} {left : ℕ} {memory : List ℕ} {call : Call} {live : Handles}
     (own : Option ErrorCode) (p : PathRequest) {shown : Unit {0} → PathReply p}
     (at : making true (guest_of world old memory) (done_if own (Path p) (guest_of world old memory)) left
     ≡ front (guest_of world old memory) call old.fuel) (check : check_to_make true own old.holdings ≡ Ok tt)
     (is : true ≡ makes call) (owned : Owned live (handles old.slots)) where
   pub made_at_err : (e : HostError) → HasCause {A = Unit {0}} (faults old.host) (faults host) (Err e)
-      → IsTrue (may_want call)
+      → IsTrue (may_run_out_of_memory call)
       → (IsTrue told → own ≡ None → Resolved {A = Unit {0}} live (world old.host) (world host)
       (meant_by (world old.host).tree p) shown (Err e))
       → (error_of e ≡ Errno Io → Rose (faults old.host) (faults host))
-      → stock ≡ on_outcome (let r : Row Value = Err (error_of e) in r) (counted_making old.holdings) old.holdings
+      → stock ≡ on_outcome (let r : CallResult Value = Err (error_of e) in r) (counted_making old.holdings) old.holdings
       → FollowsRow told world faults lookups old (record old { host = host; holdings = stock; fuel = left }) memory memory
       call (Err (error_of e))
   made_at_err e cause may resolves rises counted =
@@ -94,7 +94,7 @@ module _ {H : Type 0} {told : Bool} {world : H → World} {faults : H → FaultC
         counts (world host).held (guest_slots_stay old.slots owned (resolves told none).keeps),
       ))
     where
-      counts : (stands : ℕ → Held) → guest_slots stands old.slots ≡ guest_slots (world old.host).held old.slots
+      counts : (stands : ℕ → OpenHandle) → guest_slots stands old.slots ≡ guest_slots (world old.host).held old.slots
           → ◌≡◌ {A = Value × Guest}
           (Nothing, record (guest_of world old memory) { holdings = counted_making old.holdings })
           (Nothing, guest_by stands (record old { host = host; holdings = stock; fuel = left }) memory)
@@ -106,7 +106,7 @@ module _ {H : Type 0} {told : Bool} {world : H → World} {faults : H → FaultC
 -- what the check refused
 pub making_refused : {H A : Type 0} {told : Bool} {world : H → World} {faults : H → FaultCount} {lookups : H → List Lookup}
     {inside view : View H} {memory : List ℕ} {call : Call} {e : P1Error} {left : ℕ} (b : Bool) (own : Option ErrorCode)
-    (r : Request) (next : Reply r → Row A) (shown : Guest → A → Value × Guest) → inside ≡ view
+    (r : Request) (next : Reply r → CallResult A) (shown : Guest → A → Value × Guest) → inside ≡ view
     → check_to_make b own inside.holdings ≡ Err e
     → making b (guest_of world inside memory) (tail own r next shown (guest_of world inside memory)) left
     ≡ front (guest_of world inside memory) call inside.fuel
@@ -117,16 +117,16 @@ making_refused {world = world} {inside = inside} {memory = memory} b own r next 
 -- of an open, which makes something only where it creates
 module _ {H A : Type 0} {told : Bool} {world : H → World} {faults : H → FaultCount} {lookups : H → List Lookup}
     {old new : View H} {before after : List ℕ} {call : Call} {r : Request} (own : Option ErrorCode) (b : Bool)
-    (next : Reply r → Row A) (shown : Guest → A → Value × Guest)
+    (next : Reply r → CallResult A) (shown : Guest → A → Value × Guest)
     (at : (free (permit own) >>= (λ _. making b (guest_of world old before)
     (ask r (made_of_reply r next (shown (guest_of world old before)))))) new.fuel
     ≡ front (guest_of world old before) call old.fuel) (check : check_to_make b own old.holdings ≡ Ok tt) where
   pub opened_err : {e : P1Error} → b ≡ makes call → grows r ≡ false → IsReplied r next (Err e)
-      → (e ≡ Memory → IsTrue (may_want call)) → GuestSlotsStay told world old new
+      → (e ≡ Memory → IsTrue (may_run_out_of_memory call)) → GuestSlotsStay told world old new
       → (IsTrue told → Did world faults old new r next (Err e))
       → (e ≡ Errno Io → Rose (faults old.host) (faults new.host))
       → new.slots ≡ old.slots → new.table_max ≡ old.table_max
-      → new.holdings ≡ on_outcome (let r : Row Value = Err e in r) (counted_makings b old.holdings) old.holdings
+      → new.holdings ≡ on_outcome (let r : CallResult Value = Err e in r) (counted_makings b old.holdings) old.holdings
       → after ≡ before → FollowsRow told world faults lookups old new before after call (Err e)
   opened_err = made_err own b next shown (sym (permit_first new.fuel b own (guest_of world old before)
       (ask r (made_of_reply r next (shown (guest_of world old before))))) ∙ at) check
@@ -142,7 +142,7 @@ module _ {H A : Type 0} {told : Bool} {world : H → World} {faults : H → Faul
 
 pub opening_refused : {H A : Type 0} {told : Bool} {world : H → World} {faults : H → FaultCount} {lookups : H → List Lookup}
     {inside view : View H} {memory : List ℕ} {call : Call} {e : P1Error} {left : ℕ} (b : Bool) (own : Option ErrorCode)
-    (r : Request) (next : Reply r → Row A) (shown : Guest → A → Value × Guest) → inside ≡ view
+    (r : Request) (next : Reply r → CallResult A) (shown : Guest → A → Value × Guest) → inside ≡ view
     → check_to_make b own inside.holdings ≡ Err e
     → (free (permit own) >>= (λ _. making b (guest_of world inside memory)
     (ask r (made_of_reply r next (shown (guest_of world inside memory)))))) left

@@ -1,6 +1,6 @@
 //! The call that opens a path.
 ghost use Rattle.wasi_guest.specs.declared.call.Call.TheVariants.{PathOpen};
-ghost use Rattle.wasi_p1_model.specs.Method.{StaysInBounds, DoesItsRow};
+ghost use Rattle.wasi_p1_model.specs.Method.{KeepsHostLaws, MeetsSpec};
 
 use wasi_guest::{Errno, Value};
 use wasi_host::Host;
@@ -45,9 +45,9 @@ pub fn path_open<H: Host>(
     inheriting: u64,
     fdflags: u32,
 ) -> Result<Value, P1Error>
-    ensures bounds { StaysInBounds H.Host context.old context.new memory.old
+    ensures host_laws { KeepsHostLaws H.Host context.old context.new memory.old
         (PathOpen fd dirflags path path_len oflags base inheriting fdflags) result }
-    ensures turn { DoesItsRow H.Host context.old context.new memory.old memory.new
+    ensures spec { MeetsSpec H.Host context.old context.new memory.old memory.new
         (PathOpen fd dirflags path path_len oflags base inheriting fdflags) result }
 {
     let with = OpenWith::of(dirflags, oflags, base, inheriting, fdflags)?;

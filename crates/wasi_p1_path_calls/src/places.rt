@@ -1,6 +1,6 @@
 //! The calls at the place that a path names.
 ghost use Rattle.wasi_guest.specs.declared.call.Call.TheVariants.{PathCreateDirectory, PathFilestatGet, PathReadlink, PathRemoveDirectory, PathSymlink, PathUnlinkFile};
-ghost use Rattle.wasi_p1_model.specs.Method.{StaysInBounds, DoesItsRow};
+ghost use Rattle.wasi_p1_model.specs.Method.{KeepsHostLaws, MeetsSpec};
 
 use wasi_guest::{Errno, Value};
 use wasi_host::Host;
@@ -31,9 +31,9 @@ pub fn path_create_directory<H: Host>(
     path: u32,
     path_len: u32,
 ) -> Result<Value, P1Error>
-    ensures bounds { StaysInBounds H.Host context.old context.new memory.old
+    ensures host_laws { KeepsHostLaws H.Host context.old context.new memory.old
         (PathCreateDirectory fd path path_len) result }
-    ensures turn { DoesItsRow H.Host context.old context.new memory.old memory.new
+    ensures spec { MeetsSpec H.Host context.old context.new memory.old memory.new
         (PathCreateDirectory fd path path_len) result }
 {
     let dir = directory_at(&context.fs.host, &context.descriptors, fd, Errno::Badf)?;
@@ -63,9 +63,9 @@ pub fn path_remove_directory<H: Host>(
     path: u32,
     path_len: u32,
 ) -> Result<Value, P1Error>
-    ensures bounds { StaysInBounds H.Host context.old context.new memory.old
+    ensures host_laws { KeepsHostLaws H.Host context.old context.new memory.old
         (PathRemoveDirectory fd path path_len) result }
-    ensures turn { DoesItsRow H.Host context.old context.new memory.old memory.new
+    ensures spec { MeetsSpec H.Host context.old context.new memory.old memory.new
         (PathRemoveDirectory fd path path_len) result }
 {
     let dir = directory_at(&context.fs.host, &context.descriptors, fd, Errno::Badf)?;
@@ -87,8 +87,8 @@ pub fn path_unlink_file<H: Host>(
     path: u32,
     path_len: u32,
 ) -> Result<Value, P1Error>
-    ensures bounds { StaysInBounds H.Host context.old context.new memory.old (PathUnlinkFile fd path path_len) result }
-    ensures turn { DoesItsRow H.Host context.old context.new memory.old memory.new
+    ensures host_laws { KeepsHostLaws H.Host context.old context.new memory.old (PathUnlinkFile fd path path_len) result }
+    ensures spec { MeetsSpec H.Host context.old context.new memory.old memory.new
         (PathUnlinkFile fd path path_len) result }
 {
     let dir = directory_at(&context.fs.host, &context.descriptors, fd, Errno::Badf)?;
@@ -114,9 +114,9 @@ pub fn path_symlink<H: Host>(
     new_path: u32,
     new_path_len: u32,
 ) -> Result<Value, P1Error>
-    ensures bounds { StaysInBounds H.Host context.old context.new memory.old
+    ensures host_laws { KeepsHostLaws H.Host context.old context.new memory.old
         (PathSymlink old_path old_path_len fd new_path new_path_len) result }
-    ensures turn { DoesItsRow H.Host context.old context.new memory.old memory.new
+    ensures spec { MeetsSpec H.Host context.old context.new memory.old memory.new
         (PathSymlink old_path old_path_len fd new_path new_path_len) result }
 {
     let dir = directory_at(&context.fs.host, &context.descriptors, fd, Errno::Badf)?;
@@ -151,9 +151,9 @@ pub fn path_readlink<H: Host>(
     buf: u32,
     buf_len: u32,
 ) -> Result<Value, P1Error>
-    ensures bounds { StaysInBounds H.Host context.old context.new memory.old
+    ensures host_laws { KeepsHostLaws H.Host context.old context.new memory.old
         (PathReadlink fd path path_len buf buf_len) result }
-    ensures turn { DoesItsRow H.Host context.old context.new memory.old memory.new
+    ensures spec { MeetsSpec H.Host context.old context.new memory.old memory.new
         (PathReadlink fd path path_len buf buf_len) result }
 {
     let dir = directory_at(&context.fs.host, &context.descriptors, fd, Errno::Badf)?;
@@ -178,9 +178,9 @@ pub fn path_filestat_get<H: Host>(
     path: u32,
     path_len: u32,
 ) -> Result<Value, P1Error>
-    ensures bounds { StaysInBounds H.Host context.old context.new memory.old
+    ensures host_laws { KeepsHostLaws H.Host context.old context.new memory.old
         (PathFilestatGet fd flags path path_len) result }
-    ensures turn { DoesItsRow H.Host context.old context.new memory.old memory.new
+    ensures spec { MeetsSpec H.Host context.old context.new memory.old memory.new
         (PathFilestatGet fd flags path path_len) result }
 {
     let flags = path_flags_of(flags)?;

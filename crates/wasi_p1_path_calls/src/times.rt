@@ -1,6 +1,6 @@
 //! The calls that set times.
 ghost use Rattle.wasi_guest.specs.declared.call.Call.TheVariants.{PathFilestatSetTimes};
-ghost use Rattle.wasi_p1_model.specs.Method.{StaysInBounds, DoesItsRow};
+ghost use Rattle.wasi_p1_model.specs.Method.{KeepsHostLaws, MeetsSpec};
 
 use wasi_guest::{Errno, Value};
 use wasi_host::Host;
@@ -33,9 +33,9 @@ pub fn path_filestat_set_times<H: Host>(
     mtim: u64,
     fst_flags: u32,
 ) -> Result<Value, P1Error>
-    ensures bounds { StaysInBounds H.Host context.old context.new memory.old
+    ensures host_laws { KeepsHostLaws H.Host context.old context.new memory.old
         (PathFilestatSetTimes fd flags path path_len atim mtim fst_flags) result }
-    ensures turn { DoesItsRow H.Host context.old context.new memory.old memory.new
+    ensures spec { MeetsSpec H.Host context.old context.new memory.old memory.new
         (PathFilestatSetTimes fd flags path path_len atim mtim fst_flags) result }
 {
     let flags = path_flags_of(flags)?;

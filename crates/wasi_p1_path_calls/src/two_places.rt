@@ -1,6 +1,6 @@
 //! The calls at the places that two paths name.
 ghost use Rattle.wasi_guest.specs.declared.call.Call.TheVariants.{PathLink, PathRename};
-ghost use Rattle.wasi_p1_model.specs.Method.{StaysInBounds, DoesItsRow};
+ghost use Rattle.wasi_p1_model.specs.Method.{KeepsHostLaws, MeetsSpec};
 
 use wasi_guest::{Errno, Value};
 use wasi_host::Host;
@@ -33,9 +33,9 @@ pub fn path_link<H: Host>(
     new_path: u32,
     new_path_len: u32,
 ) -> Result<Value, P1Error>
-    ensures bounds { StaysInBounds H.Host context.old context.new memory.old
+    ensures host_laws { KeepsHostLaws H.Host context.old context.new memory.old
         (PathLink old_fd old_flags old_path old_path_len new_fd new_path new_path_len) result }
-    ensures turn { DoesItsRow H.Host context.old context.new memory.old memory.new
+    ensures spec { MeetsSpec H.Host context.old context.new memory.old memory.new
         (PathLink old_fd old_flags old_path old_path_len new_fd new_path new_path_len) result }
 {
     let flags = path_flags_of(old_flags)?;
@@ -84,9 +84,9 @@ pub fn path_rename<H: Host>(
     new_path: u32,
     new_path_len: u32,
 ) -> Result<Value, P1Error>
-    ensures bounds { StaysInBounds H.Host context.old context.new memory.old
+    ensures host_laws { KeepsHostLaws H.Host context.old context.new memory.old
         (PathRename old_fd old_path old_path_len new_fd new_path new_path_len) result }
-    ensures turn { DoesItsRow H.Host context.old context.new memory.old memory.new
+    ensures spec { MeetsSpec H.Host context.old context.new memory.old memory.new
         (PathRename old_fd old_path old_path_len new_fd new_path new_path_len) result }
 {
     let old = directory_at(&context.fs.host, &context.descriptors, old_fd, Errno::Badf)?;

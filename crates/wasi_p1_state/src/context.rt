@@ -9,7 +9,7 @@ use wasi_host::{Forget, Host, SystemTime};
 use wasi_p1_parts::descriptors::Descriptors;
 use wasi_p2_calls::WasiFilesystemCtx;
 use wasi_streams::ResourceTable;
-use wasi_p1_model::{CtxError, Holdings, P1Preopen};
+use wasi_p1_model::{CtxError, GuestEnv, P1Preopen};
 
 /// The state of one guest: preview2's files of a host, the guest's descriptors, and its environment. The preopens are
 /// descriptors from the first, so the files have none of their own. The calls are functions over it, which have its fields;
@@ -21,7 +21,7 @@ pub struct P1State<H: Host> {
     /// What stands under each number.
     pub descriptors: Descriptors,
     /// What the guest is handed in, and what it wrote.
-    pub holdings: Holdings,
+    pub holdings: GuestEnv,
     /// What is left for calls to take.
     pub fuel: u64,
 }
@@ -59,7 +59,7 @@ pub struct CtxRefused<H: Host> {
 pub struct Ended<H: Host> {
     pub host: H,
     /// What the guest has left of what it was handed in, and what it wrote.
-    pub holdings: Holdings,
+    pub holdings: GuestEnv,
 }
 
 impl<H: Host> P1State<H> {
@@ -71,7 +71,7 @@ impl<H: Host> P1State<H> {
     ghost use Rattle.wasi_guest.specs.Quotas.{IsQuota};
     ghost use Rattle.wasi_guest.specs.Services.{handed};
     ghost use Rattle.wasi_p1_model.specs.Quotas.{with_quota, IsWithinQuota};
-    ghost use Rattle.wasi_p1_model.specs.Stock.{first_fuel, first_stock};
+    ghost use Rattle.wasi_p1_model.specs.GuestEnvModel.{first_fuel, first_stock};
 
     /// A context with the three standard streams as descriptors 0 to 2, and then the directories that the guest is
     /// given, in order, which takes their handles over. Each handle is live, and given once. Nothing is asked of the
@@ -106,7 +106,7 @@ impl<H: Host> P1State<H> {
             Ok(descriptors) => descriptors,
             Err(error) => return Err(CtxRefused { host, error }),
         };
-        let Ok(holdings) = Holdings::new(alloc, services, preopens) else {
+        let Ok(holdings) = GuestEnv::new(alloc, services, preopens) else {
             let error = CtxError::Memory;
             return Err(CtxRefused { host, error });
         };

@@ -11,7 +11,7 @@ use Rattle.wasi_p2_types.specs.declared.flags.OpenFlags.{OpenFlags}
 use Rattle.wasi_p2_types.specs.declared.flags.DescriptorFlags.{DescriptorFlags}
 use Rattle.wasi_p2_types.specs.FlagBits.{path_set, open_set, descriptor_set}
 use Rattle.wasi_p1_model.specs.Parts.{permit}
-use Rattle.wasi_p1_model.specs.Row.{Row}
+use Rattle.wasi_p1_model.specs.CallResult.{CallResult}
 
 abbrev same : Bool → Bool → Bool
 same true b = b
@@ -86,7 +86,7 @@ how_is path open_flags flags = λ i. record {
         (its a b c d e f)) all (g 1) (g 2) (g 4) (g 8) (g 16) (g 32))
 
 -- so is what is refused of it
-pub checked : {result : Row (Unit {0})} (path : PathFlags) (open_flags : OpenFlags) (flags : DescriptorFlags) (perms : FsPerms)
+pub checked : {result : CallResult (Unit {0})} (path : PathFlags) (open_flags : OpenFlags) (flags : DescriptorFlags) (perms : FsPerms)
     → result ≡ permit (may_open (how_by path open_flags flags) perms)
     → result ≡ permit (may_open (how_named path open_flags flags) perms)
 checked path open_flags flags perms is = is ∙ ap (λ how. permit (may_open how perms)) (sym (how_is path open_flags flags))

@@ -4,7 +4,7 @@ ghost use Rattle.std.specs.FinSet.{contains};
 ghost use Rattle.std.specs.String.{string_bytes};
 ghost use Rattle.wasi_guest.specs.Range.{with_bytes, IsInMemory};
 ghost use Rattle.wasi_host.specs.Answer.{entry_of};
-ghost use Rattle.wasi_host.specs.Lineage.{Traced, Only, Nothing};
+ghost use Rattle.wasi_host.specs.Lineage.{HasProvenance, Only, Nothing};
 ghost use Rattle.wasi_host.specs.HostLaws.{HasCause};
 ghost use Rattle.wasi_host.specs.declared.file_type.FileType.TheVariants.{Directory};
 ghost use Rattle.wasi_resolve.specs.Resolved.{Resolved};
@@ -54,7 +54,7 @@ fn numbered<H: Host>(host: &mut H, dir: &Dir, entry: DirEntry) -> Result<Entry, 
     requires listed { IsListed entry }
     ensures cause { HasCause (H.faults host.old) (H.faults host.new) result }
     ensures live { H.live host.new ≡ H.live host.old }
-    ensures lineage { Traced (Only dir.now.dir) Nothing Nothing (H.lookups host.old) (H.lookups host.new) }
+    ensures lineage { HasProvenance (Only dir.now.dir) Nothing Nothing (H.lookups host.old) (H.lookups host.new) }
     ensures name { IfOk result (λ e. e.name ≡ entry.name) }
     ensures told { IsTrue H.told → Resolved (H.live host.old) (H.world host.old) (H.world host.new)
         (reads_from (H.world host.old).tree ((H.world host.old).held dir.now.dir).node
@@ -85,7 +85,7 @@ fn all_numbered<H: Host>(
     requires listed { All IsListed names.items }
     ensures cause { HasCause (H.faults host.old) (H.faults host.new) result }
     ensures live { H.live host.new ≡ H.live host.old }
-    ensures lineage { Traced (Only dir.now.dir) Nothing Nothing (H.lookups host.old) (H.lookups host.new) }
+    ensures lineage { HasProvenance (Only dir.now.dir) Nothing Nothing (H.lookups host.old) (H.lookups host.new) }
     ensures short { IfOk result (λ entries. HasShortNames (entries_seen entries.items)) }
     ensures told { IsTrue H.told → Resolved (H.live host.old) (H.world host.old) (H.world host.new)
         (reads_from (H.world host.old).tree ((H.world host.old).held dir.now.dir).node
@@ -107,7 +107,7 @@ pub fn listing_of<H: Host>(alloc: Global, host: &mut H, dir: &Dir) -> Result<Vec
     requires live { contains (H.live host.old) dir.now.dir ≡ true }
     ensures cause { HasCause (H.faults host.old) (H.faults host.new) result }
     ensures live { H.live host.new ≡ H.live host.old }
-    ensures lineage { Traced (Only dir.now.dir) Nothing Nothing (H.lookups host.old) (H.lookups host.new) }
+    ensures lineage { HasProvenance (Only dir.now.dir) Nothing Nothing (H.lookups host.old) (H.lookups host.new) }
     ensures short { IfOk result (λ entries. HasShortNames (entries_seen entries.items)) }
     ensures told { IsTrue H.told → Resolved (H.live host.old) (H.world host.old) (H.world host.new)
         (meant_of (H.world host.old).tree (ListDirectory ((H.world host.old).held dir.now.dir).node))

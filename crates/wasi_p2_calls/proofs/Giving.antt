@@ -7,14 +7,14 @@ use Rattle.std.specs.FinMap.{get, gets, insert, len, len-insert, remove, same_ma
 use Rattle.std.specs.FinSet.{contains, members, nat_cmp-IsAntisymmetric, insert as with_handle}
 use Rattle.wasi_host.proofs.Chain.{remove-insert}
 use Rattle.wasi_host.proofs.Tracing.{got_in_more, in_still, traced_given, traced_got_err, traced_kept, traced_none, traced_same, traced_then}
-use Rattle.wasi_host.specs.Lineage.{Traced, Only, OrGot, OrGotIn, Nothing}
+use Rattle.wasi_host.specs.Lineage.{HasProvenance, Only, OrGot, OrGotIn, Nothing}
 use Rattle.wasi_host.specs.HostCall.{Dup}
 use Rattle.wasi_host.specs.HostLaws.{AfterErr, FaultCount, Handles, LiveGot, LoggedGot, MeansErr, Told, World}
 use Rattle.wasi_host.specs.declared.errors.ErrorCode.{ErrorCode as LowerCode}
 use Rattle.wasi_host.specs.declared.errors.ErrorCode.TheVariants as lower
 use Rattle.wasi_host.specs.declared.errors.HostError.{HostError}
 use Rattle.wasi_host.specs.declared.errors.HostError.TheVariants as hosts
-use Rattle.wasi_host.specs.declared.open_handle.Held.{Held}
+use Rattle.wasi_host.specs.declared.open_handle.OpenHandle.{OpenHandle}
 use Rattle.wasi_host.specs.declared.lookup.LookKind.TheVariants as kinds
 use Rattle.wasi_host.specs.declared.host.Host.{Ghosts}
 use Rattle.wasi_host.specs.declared.lookup.Lookup.{Lookup}
@@ -103,9 +103,9 @@ never_both none some = absurd (let wrong = sym none ∙ some in cc)
 
 -- those of one directory, and then those of the others
 looks_both : {a b c : List Lookup} {h : ℕ} (p : Preopen) (ps : List Preopen) (live mid last : Handles)
-    → Traced (Only p.dir.dir) Nothing (Only h) a b → Traced (IsOfThese ps) Nothing (IsNewlyLive mid last) b c
+    → HasProvenance (Only p.dir.dir) Nothing (Only h) a b → HasProvenance (IsOfThese ps) Nothing (IsNewlyLive mid last) b c
     → mid ≡ with_handle live h → ((q : ℕ) → IsOfThese (p ∷ ps) q → contains live q ≡ true)
-    → Traced (IsOfThese (p ∷ ps)) Nothing (IsNewlyLive live last) a c
+    → HasProvenance (IsOfThese (p ∷ ps)) Nothing (IsNewlyLive live last) a c
 looks_both {a} {b} {c} {h} p ps live mid last first second came lives = record {
   piece = both.piece;
   adds = both.adds;
@@ -124,7 +124,7 @@ looks_both {a} {b} {c} {h} p ps live mid last first second came lives = record {
         let here : q ≡ h = grind (arith, members, nat_tests) in inl (inr here)
     either q new false is = inr (is, new.1)
 
-    both : Traced (IsOfThese (p ∷ ps)) (IsOfThese (p ∷ ps)) (IsNewlyLive live last) a c
+    both : HasProvenance (IsOfThese (p ∷ ps)) (IsOfThese (p ∷ ps)) (IsNewlyLive live last) a c
     both = traced_then (λ q is. is) (λ q is. inl (inr is))
         (traced_kept (IsOfThese (p ∷ ps)) (OrThis (IsOfThese (p ∷ ps)) h) (λ q is. is)
         (traced_given (IsOfThese (p ∷ ps)) (λ q is. inl is) first))
@@ -236,7 +236,7 @@ rest_not {H} {host} {old} {mid} {new} {last} {table} {there} {now} {end} {p} {m}
         one_more_than host.told table there p ps one.max longer rest.gives.3,
       );
       max = back.max ∙ rest.max ∙ one.max;
-      looks = traced_same _ back.closes.logged (subst (λ (s : Handles). Traced (IsOfThese (p ∷ ps)) Nothing
+      looks = traced_same _ back.closes.logged (subst (λ (s : Handles). HasProvenance (IsOfThese (p ∷ ps)) Nothing
           (IsNewlyLive (host.live old) s) (host.lookups old) (host.lookups new)) (sym live_is)
           (traced_kept Nothing (IsNewlyLive (host.live old) (host.live old)) (λ q new. absurd (never_both new.0 new.1))
           (looks_both p ps (host.live old) (host.live mid) (host.live new) one.looks rest.looks one.live lives)));
@@ -290,18 +290,18 @@ rest_given {H} {host} {old} {mid} {new} {table} {there} {now} {p} {m} {ms} ps li
 -- ---- a `dup` that is refused
 
 -- a told host refuses it no other code
-dup_code : (held : Held) (code : LowerCode) → MeansErr {B = Held} (Ok held) (hosts.Code code) → code ≡ lower.Io
+dup_code : (held : OpenHandle) (code : LowerCode) → MeansErr {B = OpenHandle} (Ok held) (hosts.Code code) → code ≡ lower.Io
 dup_code held lower.Io means = refl
 dup_code held code means = absurd (cc)
 
-dup_why : (told : Bool) (table : Table) (held : Held) (e : HostError) → (IsTrue told → MeansErr {B = Held} (Ok held) e)
+dup_why : (told : Bool) (table : Table) (held : OpenHandle) (e : HostError) → (IsTrue told → MeansErr {B = OpenHandle} (Ok held) e)
     → WhyNotAll told table 1 (fs_error e)
 dup_why told table held hosts.Memory means = inr (inl refl)
 dup_why told table held (hosts.Code code) means =
     inr (inr (code, refl, λ is. dup_code held code (means is)))
 
 -- and leaves all as it was
-dup_left : (w v : World) (held : Held) (e : HostError) → AfterErr w (Dup held) e v
+dup_left : (w v : World) (held : OpenHandle) (e : HostError) → AfterErr w (Dup held) e v
     → (v.tree ≡ w.tree) × (v.touched ≡ w.touched)
 dup_left w v held hosts.Memory after = elim after [
   | inl stayed ↦ (stayed.tree, stayed.touched)

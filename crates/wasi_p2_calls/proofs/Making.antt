@@ -4,7 +4,7 @@ use Rattle.std.specs.FinMap.{get, insert, len}
 use Rattle.std.specs.Result.{result_map_both}
 use Rattle.wasi_host.specs.Answer.{Listed}
 use Rattle.wasi_host.proofs.Tracing.{traced_given, traced_got, traced_got_err, traced_kept, traced_none}
-use Rattle.wasi_host.specs.Lineage.{Traced, Only, Nothing}
+use Rattle.wasi_host.specs.Lineage.{HasProvenance, Only, Nothing}
 use Rattle.wasi_host.specs.HostLaws.{HasCause, Handles, LiveGot, LoggedGot}
 use Rattle.wasi_host.specs.declared.errors.HostError.{HostError}
 use Rattle.wasi_host.specs.declared.host.Host.{Ghosts}
@@ -41,7 +41,7 @@ pub record LowerMade {H M : Type 0} (host : Ghosts H) (old new : H) (from : ℕ)
     (answer : Result M HostError) : Type 0 where
   pub cause : HasCause (host.faults old) (host.faults new) answer
   pub live : AddsMade (host.live old) entry answer (host.live new)
-  pub looks : Traced (Only from) Nothing (GotMade entry answer) (host.lookups old) (host.lookups new)
+  pub looks : HasProvenance (Only from) Nothing (GotMade entry answer) (host.lookups old) (host.lookups new)
 
 -- the table has room for one more
 pub record Roomed (table now : Table) : Type 0 where
@@ -123,7 +123,7 @@ one_made {H} {X} {M} {host} {ctx} {h} {table} {now} {last} {fd} {from} {found} {
 
 pub opened_made : {H : Type 0} {host : Ghosts H} {old new : H} {from : ℕ} (answer : Result Descriptor HostError)
     → HasCause (host.faults old) (host.faults new) answer → LiveOpened (host.live old) answer (host.live new)
-    → Traced (Only from) Nothing (GotOpened answer) (host.lookups old) (host.lookups new)
+    → HasProvenance (Only from) Nothing (GotOpened answer) (host.lookups old) (host.lookups new)
     → LowerMade host old new from AnOpened answer
 opened_made (Ok d) cause live looks = record {
   cause = cause;
@@ -159,7 +159,7 @@ doubled_made {H} {M} {host} {old} {new} {from} entry handle same (Err e) cause l
 -- a listing, which has no handle
 pub listed_made : {H : Type 0} {host : Ghosts H} {old new : H} {from : ℕ} (answer : Result (List Listed) HostError)
     → HasCause (host.faults old) (host.faults new) answer → host.live new ≡ host.live old
-    → Traced (Only from) Nothing Nothing (host.lookups old) (host.lookups new)
+    → HasProvenance (Only from) Nothing Nothing (host.lookups old) (host.lookups new)
     → LowerMade host old new from Readdir answer
 listed_made (Ok entries) cause live looks = record {
   cause = cause;

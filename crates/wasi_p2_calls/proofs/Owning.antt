@@ -5,7 +5,7 @@ use Rattle.std.proofs.lemmas.Bool.Decides.{nat_tests}
 use Rattle.std.specs.FinMap.{get, gets, insert, remove}
 use Rattle.std.specs.FinSet.{contains, members, insert as with_handle}
 use Rattle.wasi_host.proofs.Tracing.{traced_given, traced_none}
-use Rattle.wasi_host.specs.Lineage.{Traced, Only, OneOf, Nothing}
+use Rattle.wasi_host.specs.Lineage.{HasProvenance, Only, OneOf, Nothing}
 use Rattle.wasi_host.specs.HostLaws.{Handles}
 use Rattle.wasi_host.specs.declared.lookup.Lookup.{Lookup}
 use Rattle.wasi_fs.specs.Calls.{handle_of, LooksAnew}
@@ -25,14 +25,14 @@ has_lives n h owned has = owned.lives (tabled n) h has
 
 -- look-ups that begin from what a number stands for
 pub traced_from : {h : ℕ} {Kept Kept' : ℕ → Type 0} {old new : List Lookup} (table : Entries) (n : ℕ) → HasIt table n h
-    → Traced (Only h) Kept Kept' old new → Traced (HasIt table n) Kept Kept' old new
+    → HasProvenance (Only h) Kept Kept' old new → HasProvenance (HasIt table n) Kept Kept' old new
 traced_from table n has traced =
     traced_given (HasIt table n) (λ q same. subst (HasIt table n) (sym same) has) traced
 
 -- the same of two numbers
 pub traced_both : {g h : ℕ} {Kept Kept' : ℕ → Type 0} {old new : List Lookup} (table : Entries) (m n : ℕ)
     → HasIt table m g → HasIt table n h
-    → Traced (OneOf g h) Kept Kept' old new → Traced (OneHasIt table m n) Kept Kept' old new
+    → HasProvenance (OneOf g h) Kept Kept' old new → HasProvenance (OneHasIt table m n) Kept Kept' old new
 traced_both table m n first second traced = traced_given (OneHasIt table m n) (λ q is. elim is [
   | inl same ↦ inl (subst (HasIt table m) (sym same) first)
   | inr same ↦ inr (subst (HasIt table n) (sym same) second)
@@ -40,7 +40,7 @@ traced_both table m n first second traced = traced_given (OneHasIt table m n) (�
 
 -- a directory that is opened anew
 pub looks_anew : {old new : List Lookup} (table : Entries) (n : ℕ) (d : Descriptor) → HasIt table n (handle_of d)
-    → LooksAnew d old new → Traced (HasIt table n) Nothing Nothing old new
+    → LooksAnew d old new → HasProvenance (HasIt table n) Nothing Nothing old new
 looks_anew {old} {new} table n (opened.File file) has looks =
     traced_none (HasIt table n) Nothing Nothing old new looks (λ q is. is)
 looks_anew table n (opened.Dir dir) has looks = traced_from table n has looks

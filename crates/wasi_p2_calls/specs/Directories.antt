@@ -3,7 +3,7 @@ use Rattle.std.specs.Prelude.{◌≡◌, ◌≤◌, ◌<◌, ◌+◌, ◌⊎◌,
 use Rattle.std.specs.FinMap.{get, insert, len, remove}
 use Rattle.std.specs.FinSet.{contains, insert as with_handle}
 use Rattle.std.specs.String.{string_bytes}
-use Rattle.wasi_host.specs.Lineage.{Traced, Only, Nothing}
+use Rattle.wasi_host.specs.Lineage.{HasProvenance, Only, Nothing}
 use Rattle.wasi_host.specs.HostLaws.{Handles, World}
 use Rattle.wasi_host.specs.declared.errors.ErrorCode.{ErrorCode}
 use Rattle.wasi_host.specs.declared.errors.ErrorCode.TheVariants.{Io}
@@ -73,7 +73,7 @@ pub record GivesThese {H : Type 0} (host : Ghosts H) (old new : H) (table now : 
   pub cause : FsCause (host.faults old) (host.faults new) result
   pub gives : EachOrNone host.told (host.world new) (host.live old) table preopens result (host.live new) now
   pub max : now.max ≡ table.max
-  pub looks : Traced (IsOfThese preopens) Nothing (IsNewlyLive (host.live old) (host.live new)) (host.lookups old)
+  pub looks : HasProvenance (IsOfThese preopens) Nothing (IsNewlyLive (host.live old) (host.live new)) (host.lookups old)
       (host.lookups new)
   pub leaves : IsTrue host.told → LeavesTree (host.live old) (host.live new) (host.world old) (host.world new)
 
@@ -102,7 +102,7 @@ pub record GivesOne {H : Type 0} (host : Ghosts H) (old new : H) (table now : Ta
   pub max : now.max ≡ table.max
   pub spare : table.spare ≤ now.spare + 1
   pub name : string_bytes m.name ≡ string_bytes p.name
-  pub looks : Traced (Only p.dir.dir) Nothing (Only handle) (host.lookups old) (host.lookups new)
+  pub looks : HasProvenance (Only p.dir.dir) Nothing (Only handle) (host.lookups old) (host.lookups new)
   pub same : IsTrue host.told → (host.world new).held handle ≡ (host.world old).held p.dir.dir
   pub leaves : IsTrue host.told → LeavesTree (host.live old) (host.live new) (host.world old) (host.world new)
 
@@ -114,7 +114,7 @@ pub record GivesNone {H : Type 0} (host : Ghosts H) (old new : H) (table now : T
   pub max : now.max ≡ table.max
   pub spare : table.spare ≤ now.spare
   pub why : WhyNotAll host.told table 1 e
-  pub looks : Traced (Only p.dir.dir) Nothing Nothing (host.lookups old) (host.lookups new)
+  pub looks : HasProvenance (Only p.dir.dir) Nothing Nothing (host.lookups old) (host.lookups new)
   pub leaves : IsTrue host.told → LeavesTree (host.live old) (host.live new) (host.world old) (host.world new)
 
 abbrev pub OneOrNone : {H : Type 0} → Ghosts H → H → H → Table → Table → Preopen → Result PreopenEntry FsError → Type 0

@@ -4,7 +4,7 @@ use Rattle.std.specs.FinMap.{get, insert, len}
 use Rattle.std.specs.FinSet.{contains, insert as with_handle}
 use Rattle.wasi_paths.specs.Text.{is_entry_name}
 use Rattle.wasi_host.specs.HostCall.{Dup}
-use Rattle.wasi_host.specs.Lineage.{Traced, Nothing}
+use Rattle.wasi_host.specs.Lineage.{HasProvenance, Nothing}
 use Rattle.wasi_host.specs.HostLaws.{Handles, Told}
 use Rattle.wasi_host.specs.declared.errors.HostError.{HostError}
 use Rattle.wasi_host.specs.declared.host.Host.{Ghosts}
@@ -77,7 +77,7 @@ pub record MakesEntry {H X M : Type 0} (host : Ghosts H) (old new : Files H) (fd
   pub adds : AddsEntry (host.live old.ctx.host) old.table.entries result (host.live new.ctx.host) new.table.entries
   pub room : KeepsRoom old.table result new.table
   pub owned : FilesOwned host new
-  pub looks : Traced (HasIt old.table.entries fd) Nothing (GotFor new.table.entries result) (host.lookups old.ctx.host)
+  pub looks : HasProvenance (HasIt old.table.entries fd) Nothing (GotFor new.table.entries result) (host.lookups old.ctx.host)
       (host.lookups new.ctx.host)
   pub did : OrRefused found (new.ctx.host ≡ old.ctx.host) (λ x. HasRoom old.table 1 (new.ctx.host ≡ old.ctx.host)
       ((answer : Result M HostError) × StandsFor entry new.table.entries result answer × Did x answer) result) result

@@ -1,6 +1,6 @@
 -- What the calls of a view do: each is a call of what its resource stands for.
 use Rattle.std.specs.Prelude.{List, ◌≡◌, ℕ, IsTrue, Option, None, Result, Ok, Err}
-use Rattle.wasi_host.specs.Lineage.{Traced, Nothing}
+use Rattle.wasi_host.specs.Lineage.{HasProvenance, Nothing}
 use Rattle.wasi_host.specs.Tree.{Tree}
 use Rattle.wasi_host.specs.declared.errors.ErrorCode.{ErrorCode as LowerCode}
 use Rattle.wasi_host.specs.declared.errors.HostError.{HostError}
@@ -71,10 +71,10 @@ pub record CallsOn {H X A B : Type 0} (host : Ghosts H) (old new : Files H) (Loo
 
 -- look-ups that begin from the handle of a number's entry, or of one of two, and keep none
 abbrev pub LooksFrom : Entries → ℕ → List Lookup → List Lookup → Type 0
-LooksFrom table fd = Traced (HasIt table fd) Nothing Nothing
+LooksFrom table fd = HasProvenance (HasIt table fd) Nothing Nothing
 
 abbrev pub LooksFromBoth : Entries → ℕ → ℕ → List Lookup → List Lookup → Type 0
-LooksFromBoth table fd new_fd = Traced (OneHasIt table fd new_fd) Nothing Nothing
+LooksFromBoth table fd new_fd = HasProvenance (OneHasIt table fd new_fd) Nothing Nothing
 
 -- none at all
 abbrev pub LooksAtNone : List Lookup → List Lookup → Type 0

@@ -11,7 +11,7 @@ use crate::encode::{DigitRoom, Told, tell_bytes};
 use json::Writer;
 use std::alloc::{AllocError, Allocator};
 use wasi_host::{Bits, SystemTime};
-use wasi_tree_index::Run;
+use wasi_tree_index::EntryCursor;
 use wasi_tree::{ContentView, NewContent, NewEntry, NewNode, NodeView};
 
 /// The names of a directory that are still to come, each with the number of the node that it holds.
@@ -24,7 +24,7 @@ pub trait Names<'a> {
             (λ found. left self.old ≡ (found.0.now, found.1) ∷ left self.new) };
 }
 
-impl<'a> Names<'a> for Run<'a> {
+impl<'a> Names<'a> for EntryCursor<'a> {
     ghost left = { λ names. names };
 
     fn next_name(&mut self) -> Option<(&'a str, u64)> {
@@ -56,7 +56,7 @@ pub struct LentNode<'a> {
 pub fn tell_node<A: Allocator + Copy>(
     digits: DigitRoom<A>,
     node: &NodeView<'_>,
-    names: &Run<'_>,
+    names: &EntryCursor<'_>,
     out: &mut Writer,
 ) -> Result<(), AllocError>
     ensures before { out.new.before ≡ out.old.before }

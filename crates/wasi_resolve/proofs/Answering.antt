@@ -7,14 +7,14 @@ use Rattle.wasi_host.specs.Options.{Options}
 use Rattle.wasi_host.specs.Tree.{Tree}
 use Rattle.wasi_host.specs.Steps.{◌>>=◌}
 use Rattle.wasi_host.specs.Answer.{metadata_of}
-use Rattle.wasi_host.specs.Lineage.{Traced, Only}
+use Rattle.wasi_host.specs.Lineage.{HasProvenance, Only}
 use Rattle.wasi_host.specs.HostLaws.{World, Handles, MeansErr}
 use Rattle.wasi_host.proofs.Tracing.{traced_given}
 use Rattle.wasi_host.specs.declared.errors.ErrorCode.{ErrorCode}
 use Rattle.wasi_host.specs.declared.errors.ErrorCode.TheVariants.{Io}
 use Rattle.wasi_host.specs.declared.errors.HostError.{HostError}
 use Rattle.wasi_host.specs.declared.errors.HostError.TheVariants.{Code, Memory}
-use Rattle.wasi_host.specs.declared.open_handle.Held.{Held}
+use Rattle.wasi_host.specs.declared.open_handle.OpenHandle.{OpenHandle}
 use Rattle.wasi_host.specs.declared.lookup.Lookup.{Lookup}
 use Rattle.wasi_host.specs.declared.metadata.Metadata.{Metadata}
 use Rattle.wasi_host.specs.declared.open_options.FollowSymlinks.{FollowSymlinks}
@@ -78,8 +78,8 @@ closed_resolved (Err e) resolved stayed =
 
 -- from the start alone
 pub from_start : (start : ℕ) (items : List ℕ) {Kept Kept' : ℕ → Type 0} {old new : List Lookup} → items ≡ []
-    → Traced (Among start items) Kept Kept' old new
-    → Traced (Only start) Kept Kept' old new
+    → HasProvenance (Among start items) Kept Kept' old new
+    → HasProvenance (Only start) Kept Kept' old new
 from_start start items none traced = traced_given (Only start) (by items none) traced
   where
     by : (l : List ℕ) → l ≡ [] → (q : ℕ) → Among start l q → q ≡ start
@@ -135,7 +135,7 @@ unmapped_err {A} {A'} f {w = w} {u = u} m shown e resolved = record {
   keeps = resolved.keeps;
 }
 
-one_opened : (x y : Held) → HandleFor x ≡ HandleFor y → x ≡ y
+one_opened : (x y : OpenHandle) → HandleFor x ≡ HandleFor y → x ≡ y
 one_opened x y is = (cc)
 
 one_seen : (x y : Metadata) → Seen x ≡ Seen y → x ≡ y

@@ -21,8 +21,8 @@ use Rattle.wasi_host.specs.declared.errors.ErrorCode.TheVariants as refusals
 use Rattle.wasi_host.proofs.Changes.{node_at-past}
 use Rattle.wasi_resolve.specs.Walk.{Aim, Open, Outcome, Stop, Name, Dot, Position, Leg, Ended, Linked, leg, at, unless_refused, is_to_be_read, refused, Walk, ended, one_link_more, resume, walk_from, walk}
 use Rattle.wasi_resolve.specs.Paths.{Opening, opening_of, opening, Place, parent, part_text, place_at, place}
-use Rattle.wasi_resolve.specs.EntryOps.{PlaceCall, CreateDir, RemoveFile, RemoveDir, Symlink, ReadLink, SetTimes, call_at, place_for}
-use Rattle.wasi_resolve.specs.TwoPathOps.{TwoPlaceCall, HardLink, Rename, Places, call_at_two, places_in, places_for}
+use Rattle.wasi_resolve.specs.EntryOps.{EntryOp, CreateDir, RemoveFile, RemoveDir, Symlink, ReadLink, SetTimes, call_at, place_for}
+use Rattle.wasi_resolve.specs.TwoPathOps.{TwoPathOp, HardLink, Rename, Places, call_at_two, places_in, places_for}
 use Rattle.wasi_resolve.proofs.TextNames.{HasName, components_named, parts_named, stripped_utf8}
 
 -- ---- the texts of links
@@ -195,7 +195,7 @@ places_named t old old_text new new_text {p} old_is new_is found =
     by (Err code) b old_named new_named same = absurd (cc)
 
 -- the text of a link that is to be made is UTF-8
-abbrev pub HasUtf8Target : PlaceCall → Type 0
+abbrev pub HasUtf8Target : EntryOp → Type 0
 HasUtf8Target CreateDir = Unit {0}
 HasUtf8Target RemoveFile = Unit {0}
 HasUtf8Target RemoveDir = Unit {0}
@@ -204,7 +204,7 @@ HasUtf8Target ReadLink = Unit {0}
 HasUtf8Target (SetTimes atime mtime) = Unit {0}
 
 -- the call at a place may be asked of a host
-pub place_asked : (t : Tree) (s : ℕ) (text : List ℕ) (what : PlaceCall) {p : Place} → IsUtf8 text → HasUtf8Target what
+pub place_asked : (t : Tree) (s : ℕ) (text : List ℕ) (what : EntryOp) {p : Place} → IsUtf8 text → HasUtf8Target what
     → place_for t s text what ≡ Ok p → CanBeAsked (call_at what p)
 place_asked t s text CreateDir is target found = place_named t s (strip_dir_suffix text) (stripped_utf8 text is) found
 place_asked t s text RemoveFile is target found = place_named t s text is found
@@ -214,7 +214,7 @@ place_asked t s text ReadLink is target found = place_named t s text is found
 place_asked t s text (SetTimes atime mtime) is target found = place_named t s text is found
 
 -- and that at two places
-pub places_asked : (t : Tree) (old : ℕ) (old_text : List ℕ) (new : ℕ) (new_text : List ℕ) (what : TwoPlaceCall)
+pub places_asked : (t : Tree) (old : ℕ) (old_text : List ℕ) (new : ℕ) (new_text : List ℕ) (what : TwoPathOp)
     (requires_dir : Bool) {p : Places} → IsUtf8 old_text → IsUtf8 new_text
     → places_for t old old_text new new_text what ≡ Ok p → CanBeAsked (call_at_two what requires_dir p)
 places_asked t old old_text new new_text HardLink requires_dir old_is new_is found =

@@ -17,7 +17,7 @@ use Rattle.wasi_host.specs.declared.errors.ErrorCode.{ErrorCode}
 use Rattle.wasi_host.specs.declared.errors.ErrorCode.TheVariants.{Io, IsDirectory, NotDirectory}
 use Rattle.wasi_host.specs.declared.errors.HostError.{HostError}
 use Rattle.wasi_host.specs.declared.errors.HostError.TheVariants.{Code, Memory}
-use Rattle.wasi_host.specs.declared.open_handle.Held.{Held}
+use Rattle.wasi_host.specs.declared.open_handle.OpenHandle.{OpenHandle}
 use Rattle.wasi_host.specs.declared.metadata.Metadata.{Metadata}
 use Rattle.wasi_resolve.specs.Walk.{Open, Look, Name, Dot, last_options, is_to_be_read}
 use Rattle.wasi_resolve.specs.Meanings.{ends_by, opened_node}
@@ -290,7 +290,7 @@ module _ {old mid : Handles} {w v : World} {d : ℕ} (same : mid ≡ old) where
     first = looks_of (Ok tt) (λ is. refl) (call_ok {call = Access d} [] (All-nil _) (same_live same) told)
 
     node_same : e ≡ d
-    node_same = ap (λ (h : Held). h.node) (first.keeps here live) ∙ at
+    node_same = ap (λ (h : OpenHandle). h.node) (first.keeps here live) ∙ at
 
     free_is : (meant_at w.tree Look d (Dot d)).answer ≡ Ok (Seen (metadata_of w.tree d))
     free_is = dot_means w.tree d None (free _ _ _ told.meaning)

@@ -15,7 +15,7 @@ use Rattle.wasi_host.specs.declared.errors.ErrorCode.{ErrorCode}
 use Rattle.wasi_host.specs.declared.errors.ErrorCode.TheVariants.{Io, Loop, NotDirectory}
 use Rattle.wasi_host.specs.declared.errors.HostError.{HostError}
 use Rattle.wasi_host.specs.declared.errors.HostError.TheVariants.{Code, Memory}
-use Rattle.wasi_host.specs.declared.open_handle.Held.{Held}
+use Rattle.wasi_host.specs.declared.open_handle.OpenHandle.{OpenHandle}
 use Rattle.wasi_host.specs.declared.metadata.Metadata.{Metadata}
 use Rattle.wasi_resolve.specs.Walk.{is_link_code}
 use Rattle.wasi_resolve.specs.Resolved.{Resolved}
@@ -138,7 +138,7 @@ module _ {old mid : Handles} {w v : World} (here : ℕ) {name : List ℕ} {o : O
       looks_still (link_tree w v d name o refused may opens.after) resolved
 
   here_same : (v.held here).node ≡ d
-  here_same = ap (λ (h : Held). h.node) (first.keeps here here_live)
+  here_same = ap (λ (h : OpenHandle). h.node) (first.keeps here here_live)
 
   both : {u : World} → OnlyLooks mid v u ((v.held here).node ∷ []) → OnlyLooks old w u (d ∷ [])
   both {u} second = looks_then first (at_root w.tree d) (same_live same) (subst (λ n. OnlyLooks mid v u (n ∷ [])) here_same second)
@@ -190,7 +190,7 @@ module _ {old mid : Handles} {w v : World} (here : ℕ) {name : List ℕ} {o : O
             inr (record {
               unread = alike.0;
               resolved = resolved_err (open_meant w.tree d name o) u.held (Code code) refl
-                  (err_means (open_answer w.tree d name o) code (found.3 ∙ ap (λ c. let r : Result Held ErrorCode =
+                  (err_means (open_answer w.tree d name o) code (found.3 ∙ ap (λ c. let r : Result OpenHandle ErrorCode =
                   Err c in r) (sym alike.1))) seen;
             })
 

@@ -13,7 +13,7 @@ use Rattle.wasi_host.specs.Answer.{HostAnswer, link_answer}
 use Rattle.wasi_host.specs.Step.{step, found_by, found_under, made_by, new_directory, new_link, one_name_less, made_gone, unlink_step, remove_step, times_step, times_set_if, with_times}
 use Rattle.wasi_host.specs.Steps.{◌>>=◌}
 use Rattle.wasi_host.specs.HostLaws.{World, Handles, Told, answered}
-use Rattle.wasi_host.specs.Lineage.{Traced, Only, Nothing}
+use Rattle.wasi_host.specs.Lineage.{HasProvenance, Only, Nothing}
 use Rattle.wasi_host.specs.declared.lookup.Lookup.{Lookup}
 use Rattle.wasi_host.specs.declared.errors.ErrorCode.TheVariants.{NotPermitted}
 use Rattle.wasi_host.specs.declared.errors.HostError.{HostError}
@@ -25,7 +25,7 @@ use Rattle.wasi_resolve.specs.Laws.{From, GivesIn}
 use Rattle.wasi_resolve.specs.Paths.{Place, place}
 use Rattle.wasi_resolve.specs.Resolved.{Resolved, call_meant}
 use Rattle.wasi_resolve.specs.Parents.{directory_of, places_at, released, shown_place, GotIn, LiveIn}
-use Rattle.wasi_resolve.specs.EntryOps.{PlaceCall, CreateDir, RemoveFile, RemoveDir, Symlink, ReadLink, SetTimes, PlaceAnswer, call_at, unrooted, answer_in, ends_in, done_in}
+use Rattle.wasi_resolve.specs.EntryOps.{EntryOp, CreateDir, RemoveFile, RemoveDir, Symlink, ReadLink, SetTimes, PlaceAnswer, call_at, unrooted, answer_in, ends_in, done_in}
 use Rattle.wasi_resolve.specs.WalkSteps.{WorldStays}
 use Rattle.wasi_resolve.specs.declared.parent.MaybeOwned.{MaybeOwned}
 use Rattle.wasi_resolve.specs.declared.parent.MaybeOwned.TheVariants.{Borrowed, Owned}
@@ -58,7 +58,7 @@ times_next : (t : Tree) (atime mtime : Option SystemTime) (c : Option ℕ)
 times_next t atime mtime None = refl
 times_next t atime mtime (Some n) = length-set t.nodes n (with_times (node_at t n) atime mtime)
 
-call_leaves : (t : Tree) (c : PlaceCall) (p : Place) → Leaves t (step t (call_at c p))
+call_leaves : (t : Tree) (c : EntryOp) (p : Place) → Leaves t (step t (call_at c p))
 unfolding unlink_step remove_step times_step
 call_leaves t CreateDir p = node_made_leaves t p.directory p.name new_directory refl
 call_leaves t RemoveFile p = dropped_leaves t p.directory p.name one_name_less (child t p.directory p.name) fewer_names
@@ -71,7 +71,7 @@ next_known : (t : Tree) (n : ℕ) → n ≡ next_of t → Contains (next_of t �
 next_known t n is = subst (Contains (next_of t ∷ [])) (sym is) (Contains-push [] (next_of t))
 
 -- what a call made is known of it
-made_known : (t : Tree) (c : PlaceCall) (p : Place) (n : ℕ) → IsMade t (step t (call_at c p)) n
+made_known : (t : Tree) (c : EntryOp) (p : Place) (n : ℕ) → IsMade t (step t (call_at c p)) n
     → Contains (made_by t (call_at c p)) n
 unfolding unlink_step remove_step times_step
 made_known t CreateDir p n made =
@@ -89,7 +89,7 @@ made_known t (SetTimes atime mtime) p n made =
     let same = times_next t atime mtime (child t p.directory p.name) in
     absurd (omega (arith, made.fresh, made.there, same))
 
-found_at : (t : Tree) (c : PlaceCall) (p : Place)
+found_at : (t : Tree) (c : EntryOp) (p : Place)
     → found_by t (call_at c p) ≡ found_under t p.directory p.name
 found_at t CreateDir p = refl
 found_at t RemoveFile p = refl
@@ -121,7 +121,7 @@ under_name t p n is =
     Contains-append_right (p.directory ∷ []) (option_to_list (child t p.directory p.name)) n
     (subst (λ o. Contains (option_to_list o) n) (sym is) (Contains-push [] n))
 
-ends_known : (t : Tree) (c : PlaceCall) (p : Place)
+ends_known : (t : Tree) (c : EntryOp) (p : Place)
     → All (Contains (found_by t (call_at c p) ++ made_by t (call_at c p))) (ends_in t (step t (call_at c p)) (Ok p))
 ends_known t c p = all_ends Known t (step t (call_at c p)) p (found (under_here t p)) before after
   where
@@ -146,7 +146,7 @@ ends_known t c p = all_ends Known t (step t (call_at c p)) p (found (under_here 
 -- ---- the call of the host
 
 -- it means what the host's table says, and ends at the place
-pub call_done : {A : Type 0} {old new : Handles} {w v : World} (c : PlaceCall) (p : Place)
+pub call_done : {A : Type 0} {old new : Handles} {w v : World} (c : EntryOp) (p : Place)
     {shown : A → HostAnswer (call_at c p)} (r : Result A HostError) → new ≡ old
     → Told old new w v (call_at c p) shown r
     → Resolved old w v (call_meant w.tree (call_at c p) (ends_in w.tree (step w.tree (call_at c p)) (Ok p))) shown r
@@ -179,7 +179,7 @@ released_live live (Owned h) q is = was_live live h refl q is
 
 -- ---- the whole
 
-module _ {A : Type 0} {first : Handles} {w v : World} (s : ℕ) (text : List ℕ) (c : PlaceCall)
+module _ {A : Type 0} {first : Handles} {w v : World} (s : ℕ) (text : List ℕ) (c : EntryOp)
     {shown : A → PlaceAnswer c} where
   -- no place was found
   pub not_placed : (e : HostError) → Resolved first w v (places_at w.tree s text) (shown_place v.held) (Err e)
@@ -220,9 +220,9 @@ begins_at start first mid (Owned q) live h is = inr is
 -- at a place's directory, which is closed then
 pub traced_at_place : {start : ℕ} {a b d d' : List Lookup} (p : Parent) (first mid : Handles)
     → LiveIn start first p.directory mid
-    → Traced (Only start) Nothing (GotIn p.directory) a b
-    → Traced (Only (directory_of p.directory)) Nothing Nothing b d → d' ≡ d
-    → Traced (Only start) Nothing Nothing a d'
+    → HasProvenance (Only start) Nothing (GotIn p.directory) a b
+    → HasProvenance (Only (directory_of p.directory)) Nothing Nothing b d → d' ≡ d
+    → HasProvenance (Only start) Nothing Nothing a d'
 traced_at_place {start} p first mid live opened called closed =
     traced_same _ closed
     (traced_last (begins_at start first mid p.directory live)

@@ -14,7 +14,7 @@ use Rattle.wasi_host.proofs.Chain.{free}
 use Rattle.wasi_host.specs.declared.errors.ErrorCode.TheVariants.{Io}
 use Rattle.wasi_host.specs.declared.errors.HostError.{HostError}
 use Rattle.wasi_host.specs.declared.errors.HostError.TheVariants.{Code, Memory}
-use Rattle.wasi_host.specs.declared.open_handle.Held.{Held}
+use Rattle.wasi_host.specs.declared.open_handle.OpenHandle.{OpenHandle}
 use Rattle.wasi_paths.specs.Parts.{Component, Normal}
 use Rattle.wasi_resolve.specs.Walk.{Linked, middle_options}
 use Rattle.wasi_resolve.specs.ByNodes.{top, leg_nodes}
@@ -59,7 +59,7 @@ module _ {b : Begin} {now : Handles} {v : World} {stack : List ℕ} {here : ℕ}
 
   pub node_is : (v.held here).node ≡ top (w.held start).node (nodes_under v.held stack)
   node_is = ap (λ h. (v.held h).node) on.at ∙ top_node v.held start stack
-      ∙ ap (λ (h : Held). top h.node (nodes_under v.held stack)) (on.walked.looks.keeps start on.stands.start_live)
+      ∙ ap (λ (h : OpenHandle). top h.node (nodes_under v.held stack)) (on.walked.looks.keeps start on.stands.start_live)
 
   pub here_near : Reached w.tree ((w.held start).node ∷ []) (v.held here).node
   here_near = subst (Reached w.tree ((w.held start).node ∷ [])) (sym node_is)
@@ -100,11 +100,11 @@ module _ {b : Begin} {now : Handles} {v : World} {stack : List ℕ} {here : ℕ}
 
     opened_node : (u.held h).node ≡ reached w.tree d name
     opened_node =
-        let found : Held = record { node = reached v.tree (v.held here).node name; mode = access_of middle_options } in
+        let found : OpenHandle = record { node = reached v.tree (v.held here).node name; mode = access_of middle_options } in
         let same : unless None found ≡ Ok (u.held h) =
         ap (λ r. unless r found) (sym opened_none) ∙ opens.resolved.answer in
         let held : found ≡ u.held h = (cc) in
-        sym (ap (λ (x : Held). x.node) held)
+        sym (ap (λ (x : OpenHandle). x.node) held)
         ∙ ap (λ t. reached t (v.held here).node name) on.walked.looks.tree ∙ ap (λ n. reached w.tree n name) node_is
 
     nodes_now : nodes_under u.held (stack ++ h ∷ []) ≡ reached w.tree d name ∷ nodes_under v.held stack

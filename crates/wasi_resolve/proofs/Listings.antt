@@ -12,7 +12,7 @@ use Rattle.wasi_host.specs.Steps.{◌>>=◌}
 use Rattle.wasi_host.specs.HostLaws.{World, Handles, Told}
 use Rattle.wasi_host.specs.declared.errors.ErrorCode.{ErrorCode}
 use Rattle.wasi_host.specs.declared.errors.HostError.{HostError}
-use Rattle.wasi_host.specs.declared.open_handle.Held.{Held}
+use Rattle.wasi_host.specs.declared.open_handle.OpenHandle.{OpenHandle}
 use Rattle.wasi_host.proofs.Touching.{at_root, open_ends}
 use Rattle.wasi_resolve.specs.Meanings.{listing_options, lists_at}
 use Rattle.wasi_resolve.specs.Resolved.{Meant, Resolved, call_meant}
@@ -56,7 +56,7 @@ not_opened {w = w} {v = v} {d = d} shown e same told =
 -- it is opened
 module _ {old mid : Handles} {w v : World} {d : ℕ} (h : ℕ) (got : mid ≡ insert old h)
     (told : Told {A = ℕ} old mid w v (OpenAt d (codes ".") listing_options) v.held (Ok h)) where
-  abbrev listed : Held
+  abbrev listed : OpenHandle
   listed = v.held h
 
   opened_looks : OnlyLooks old w v (d ∷ [])
@@ -70,7 +70,7 @@ module _ {old mid : Handles} {w v : World} {d : ℕ} (h : ℕ) (got : mid ≡ in
   same_node : listed.node ≡ d
   same_node =
       let is = answer_is (refusal w.tree (OpenAt d (codes ".") listing_options)) _ listed told.meaning in
-      sym (ap (λ (held : Held). held.node) is) ∙ dot_reached w.tree d
+      sym (ap (λ (held : OpenHandle). held.node) is) ∙ dot_reached w.tree d
 
   abbrev list_meant : Tree → ℕ → Result (List Listed) ErrorCode → Meant (List Listed)
   list_meant t end answer = record { starts = d ∷ []; answer = answer; stepped = t; ends = end ∷ [] }

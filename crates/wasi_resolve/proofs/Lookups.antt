@@ -2,7 +2,7 @@
 use Rattle.std.proofs.Common.{ℕ, ◌≡◌, ◌⊎◌, inl, inr, List, [], ◌∷◌, ◌++◌, Option, Some, None, refl, sym, ap, subst, ◌∙◌}
 use Rattle.std.specs.Prelude.{Contains}
 use Rattle.std.proofs.lemmas.List.Elements.{Contains-append_left, Contains-push_cases}
-use Rattle.wasi_host.specs.Lineage.{Traced, Only, Nothing}
+use Rattle.wasi_host.specs.Lineage.{HasProvenance, Only, Nothing}
 use Rattle.wasi_host.proofs.Tracing.{traced_given, traced_kept}
 use Rattle.wasi_host.specs.declared.lookup.Lookup.{Lookup}
 use Rattle.wasi_host.specs.declared.lookup.LookKind.{LookKind}
@@ -12,14 +12,14 @@ use Rattle.wasi_resolve.proofs.Stacks.{top_among}
 
 -- from the handle on top, as from the start and the stack
 pub traced_top : {Kept Kept' : ℕ → Type 0} {old new : List Lookup} {here : ℕ} (start : ℕ) (stack : List ℕ)
-    → here ≡ top_handle start stack → Traced (Only here) Kept Kept' old new
-    → Traced (Among start stack) Kept Kept' old new
+    → here ≡ top_handle start stack → HasProvenance (Only here) Kept Kept' old new
+    → HasProvenance (Among start stack) Kept Kept' old new
 traced_top start stack at traced =
     traced_given (Among start stack) (λ q is. subst (Among start stack) (sym (is ∙ at)) (top_among start stack)) traced
 
 -- a part that leaves the stack
 pub traced_stays : {Given Made : ℕ → Type 0} {old new : List Lookup} (start : ℕ) (stack : List ℕ)
-    → Traced Given Nothing Made old new → Traced Given (Among start stack) (Among start stack) old new
+    → HasProvenance Given Nothing Made old new → HasProvenance Given (Among start stack) (Among start stack) old new
 traced_stays start stack traced = traced_kept (Among start stack) (Among start stack) (λ h has. inl has) traced
 
 -- the stack is shorter

@@ -13,7 +13,7 @@ use Rattle.wasi_host.specs.declared.errors.ErrorCode.{ErrorCode}
 use Rattle.wasi_host.specs.declared.errors.ErrorCode.TheVariants.{IsDirectory, NoEntry}
 use Rattle.wasi_host.specs.declared.errors.HostError.{HostError}
 use Rattle.wasi_host.specs.declared.errors.HostError.TheVariants.{Code}
-use Rattle.wasi_host.specs.declared.open_handle.Held.{Held}
+use Rattle.wasi_host.specs.declared.open_handle.OpenHandle.{OpenHandle}
 use Rattle.wasi_host.specs.declared.lookup.Lookup.{Lookup}
 use Rattle.wasi_paths.specs.Name.{name_bytes}
 use Rattle.wasi_paths.specs.Parts.{Component, split, is_empty}
@@ -106,14 +106,14 @@ place_none t s path is = ap (place_at t s) is
 -- ---- where the path to a place ends
 
 -- at the directory of an open that is answered
-open_ends_at : (t : Tree) (r : Result Opening ErrorCode) (held : Held) → r >>= opened_by t ≡ Ok held
+open_ends_at : (t : Tree) (r : Result Opening ErrorCode) (held : OpenHandle) → r >>= opened_by t ≡ Ok held
     → ends_by (opened_node t) r ≡ held.node ∷ []
 open_ends_at t (Err code) held is = absurd (cc)
 open_ends_at t (Ok e) held is = by (refusal t (OpenAt e.directory e.name e.options)) is
   where
     by : (o : Option ErrorCode) → unless o (record { node = reached t e.directory e.name; mode = access_of e.options })
         ≡ Ok held → ends_by (opened_node t) (Ok e) ≡ held.node ∷ []
-    by None same = ap (λ (r : Result Held ErrorCode). ends_by (λ (h : Held). h.node) r) same
+    by None same = ap (λ (r : Result OpenHandle ErrorCode). ends_by (λ (h : OpenHandle). h.node) r) same
     by (Some code) wrong = absurd (cc)
 
 module _ (t : Tree) (s : ℕ) (path : List ℕ) {text : List ℕ} {part : Component} (is : split path ≡ Some (text, part)) where
@@ -186,7 +186,7 @@ module _ {live : Handles} {w u : World} (s : ℕ) (path text : List ℕ) (part :
   placed_ok h name named resolved =
       let opens : place w.tree s path ≡ Ok (record { directory = (u.held h).node; name = part_text part }) =
       place_opened w.tree s path text part is some
-      ∙ ap (λ x. x >>= (λ (held : Held). Ok held.node) >>= (λ d. let p : Result Place ErrorCode =
+      ∙ ap (λ x. x >>= (λ (held : OpenHandle). Ok held.node) >>= (λ d. let p : Result Place ErrorCode =
       Ok (record { directory = d; name = part_text part }) in p)) resolved.answer in
       let ends = open_ends_at w.tree (opening w.tree s text directory_options true) (u.held h) resolved.answer in
       record {

@@ -9,7 +9,7 @@ use Rattle.wasi_host.specs.Refusal.{refusal}
 use Rattle.wasi_host.specs.Answer.{reached, unless, access_of}
 use Rattle.wasi_host.specs.declared.errors.ErrorCode.{ErrorCode}
 use Rattle.wasi_host.specs.declared.errors.ErrorCode.TheVariants as codes
-use Rattle.wasi_host.specs.declared.open_handle.Held.{Held}
+use Rattle.wasi_host.specs.declared.open_handle.OpenHandle.{OpenHandle}
 use Rattle.wasi_paths.specs.Parts.{Component, split}
 use Rattle.wasi_resolve.specs.Walk.{Open, Look, Outcome, Stop, Name, Dot, Walk, walk, last_options}
 use Rattle.wasi_host.specs.Steps.{◌>>=◌}
@@ -80,21 +80,21 @@ module _ {Seen : ℕ → Type 0} {t u : Tree} (closed : IsClosed Seen t) (agree 
       ∙ ap (λ r. r >>= opened_by u) (opening_same s text o follow seen)
 
   opened_by_seen : (e : Opening) → creates e.options ≡ false → Seen e.directory
-      → GivesIn Seen (λ (held : Held). held.node) (opened_by t e)
+      → GivesIn Seen (λ (held : OpenHandle). held.node) (opened_by t e)
   opened_by_seen e makes_none seen =
-      unless_seen Seen (λ (held : Held). held.node) (refusal t (OpenAt e.directory e.name e.options))
+      unless_seen Seen (λ (held : OpenHandle). held.node) (refusal t (OpenAt e.directory e.name e.options))
       (record { node = reached t e.directory e.name; mode = access_of e.options })
       (λ none. walks.reached_seen closed agree e.directory e.name e.options seen makes_none none)
 
   dot_seen : (o : Options) (d : ℕ) (w : Bool) → creates o ≡ false → Seen d
-      → GivesIn Seen (λ (held : Held). held.node) (cond w (Err codes.IsDirectory) (Ok
+      → GivesIn Seen (λ (held : OpenHandle). held.node) (cond w (Err codes.IsDirectory) (Ok
       (record { directory = d; name = codes_of "."; options = o })) >>= opened_by t)
   dot_seen o d true makes_none seen = tt
   dot_seen o d false makes_none seen =
       opened_by_seen (record { directory = d; name = codes_of "."; options = o }) makes_none seen
 
   opened_of_seen : (o : Options) (outcome : Outcome) → creates o ≡ false → EndsIn Seen outcome
-      → GivesIn Seen (λ (held : Held). held.node) (opening_of o outcome >>= opened_by t)
+      → GivesIn Seen (λ (held : OpenHandle). held.node) (opening_of o outcome >>= opened_by t)
   opened_of_seen o (Stop code) makes_none seen = tt
   opened_of_seen o (Name d name slash) makes_none seen =
       opened_by_seen (record { directory = d; name = name; options = last_options o slash }) makes_none seen
@@ -102,7 +102,7 @@ module _ {Seen : ℕ → Type 0} {t u : Tree} (closed : IsClosed Seen t) (agree 
 
   -- an open that makes nothing gives a node of the set
   pub opened_seen : (s : ℕ) (text : List ℕ) (o : Options) (follow : Bool) → creates o ≡ false → Seen s
-      → GivesIn Seen (λ (held : Held). held.node) (opened t s text o follow)
+      → GivesIn Seen (λ (held : OpenHandle). held.node) (opened t s text o follow)
   unfolding opening
   opened_seen s text o follow makes_none seen =
       opened_of_seen o (walk t s text (Open o) follow).outcome makes_none (walks.walk_seen closed agree s
@@ -159,12 +159,12 @@ module _ {Seen : ℕ → Type 0} {t u : Tree} (closed : IsClosed Seen t) (agree 
   parent_same : (s : ℕ) (text : List ℕ) → Seen s → parent t s text ≡ parent u s text
   parent_same s [] seen = refl
   parent_same s (b ∷ text) seen =
-      ap (λ r. r >>= (λ (held : Held). Ok held.node)) (opened_same s (b ∷ text) directory_options true seen)
+      ap (λ r. r >>= (λ (held : OpenHandle). Ok held.node)) (opened_same s (b ∷ text) directory_options true seen)
 
   parent_seen : (s : ℕ) (text : List ℕ) → Seen s → GivesIn Seen (λ n. n) (parent t s text)
   parent_seen s [] seen = seen
   parent_seen s (b ∷ text) seen =
-      then_seen (λ (held : Held). held.node) (λ n. n) (opened t s (b ∷ text) directory_options true)
+      then_seen (λ (held : OpenHandle). held.node) (λ n. n) (opened t s (b ∷ text) directory_options true)
       (λ held. Ok held.node) (opened_seen s (b ∷ text) directory_options true refl seen) (λ held has. has)
 
   place_at_same : (s : ℕ) (halves : Option (List ℕ × Component)) → Seen s → place_at t s halves ≡ place_at u s halves
@@ -197,18 +197,18 @@ module _ {Seen : ℕ → Type 0} {t u : Tree} (closed : IsClosed Seen t) (agree 
       ap (or_else access_unsupported) (opened_same s text reading true seen)
   timed_again_same s text code seen = refl
 
-  or_same : (r : Result Held ErrorCode) (f g : ErrorCode → Result Held ErrorCode) → ((code : ErrorCode)
+  or_same : (r : Result OpenHandle ErrorCode) (f g : ErrorCode → Result OpenHandle ErrorCode) → ((code : ErrorCode)
       → f code ≡ g code) → or_else f r ≡ or_else g r
   or_same (Ok held) f g same = refl
   or_same (Err code) f g same = same code
 
-  or_seen : (r : Result Held ErrorCode) (f : ErrorCode → Result Held ErrorCode)
-      → GivesIn Seen (λ (held : Held). held.node) r → ((code : ErrorCode)
-      → GivesIn Seen (λ (held : Held). held.node) (f code)) → GivesIn Seen (λ (held : Held). held.node) (or_else f r)
+  or_seen : (r : Result OpenHandle ErrorCode) (f : ErrorCode → Result OpenHandle ErrorCode)
+      → GivesIn Seen (λ (held : OpenHandle). held.node) r → ((code : ErrorCode)
+      → GivesIn Seen (λ (held : OpenHandle). held.node) (f code)) → GivesIn Seen (λ (held : OpenHandle). held.node) (or_else f r)
   or_seen (Ok held) f seen others = seen
   or_seen (Err code) f seen others = others code
 
-  unsupported_seen : (code : ErrorCode) → GivesIn Seen (λ (held : Held). held.node) (access_unsupported code)
+  unsupported_seen : (code : ErrorCode) → GivesIn Seen (λ (held : OpenHandle). held.node) (access_unsupported code)
   unsupported_seen codes.Access = tt
   unsupported_seen code = tt
 
@@ -220,7 +220,7 @@ module _ {Seen : ℕ → Type 0} {t u : Tree} (closed : IsClosed Seen t) (agree 
       ∙ ap (or_else (timed_again u s text)) (opened_same s text writing true seen)
 
   timed_again_seen : (s : ℕ) (text : List ℕ) (code : ErrorCode) → Seen s
-      → GivesIn Seen (λ (held : Held). held.node) (timed_again t s text code)
+      → GivesIn Seen (λ (held : OpenHandle). held.node) (timed_again t s text code)
   timed_again_seen s text codes.Access seen =
       or_seen (opened t s text reading true) access_unsupported
       (opened_seen s text reading true refl seen) unsupported_seen
@@ -229,7 +229,7 @@ module _ {Seen : ℕ → Type 0} {t u : Tree} (closed : IsClosed Seen t) (agree 
       (opened_seen s text reading true refl seen) unsupported_seen
   timed_again_seen s text code seen = tt
 
-  pub timed_seen : (s : ℕ) (text : List ℕ) → Seen s → GivesIn Seen (λ (held : Held). held.node) (timed t s text)
+  pub timed_seen : (s : ℕ) (text : List ℕ) → Seen s → GivesIn Seen (λ (held : OpenHandle). held.node) (timed t s text)
   unfolding timed
   timed_seen s text seen =
       or_seen (opened t s text writing true) (timed_again t s text) (opened_seen s text writing true refl seen)

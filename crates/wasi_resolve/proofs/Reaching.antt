@@ -4,7 +4,7 @@ use Rattle.wasi_host.specs.Tree.{Tree}
 use Rattle.wasi_host.specs.HostCall.{ReadLinkAt}
 use Rattle.wasi_host.specs.Refusal.{refusal}
 use Rattle.wasi_host.specs.Answer.{link_text}
-use Rattle.wasi_host.specs.Lineage.{Traced, Only, Nothing}
+use Rattle.wasi_host.specs.Lineage.{HasProvenance, Only, Nothing}
 use Rattle.wasi_host.specs.HostLaws.{World, Handles, MeansErr}
 use Rattle.wasi_host.specs.declared.errors.ErrorCode.{ErrorCode}
 use Rattle.wasi_host.specs.declared.errors.HostError.{HostError}
@@ -218,11 +218,11 @@ stands_with next None stands same = stands_same stands same
 
 module _ {a b c : List Lookup} {here : ℕ} (start : ℕ) (before after : List ℕ) (at : here ≡ top_handle start after)
     (first : StackTraced start before after a b) where
-  pub found_traced : {Made : ℕ → Type 0} → Traced (Only here) Nothing Made b c
-      → Traced (Among start before) Nothing Made a c
+  pub found_traced : {Made : ℕ → Type 0} → HasProvenance (Only here) Nothing Made b c
+      → HasProvenance (Among start before) Nothing Made a c
   found_traced second = traced_last (λ h has. has) first (traced_top start after at second)
 
-  pub reach_traced : (r : Result Reach HostError) → Traced (Only here) Nothing (IsGot (handle_reached r)) b c
+  pub reach_traced : (r : Result Reach HostError) → HasProvenance (Only here) Nothing (IsGot (handle_reached r)) b c
       → ReachTraced start before after r a c
   reach_traced (Ok (reach.Found it)) second = found_traced second
   reach_traced (Ok (reach.Link name)) second =

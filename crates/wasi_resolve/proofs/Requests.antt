@@ -7,7 +7,7 @@ use Rattle.wasi_host.specs.Tree.{Tree}
 use Rattle.wasi_host.specs.ValidTree.{Reached, root, held}
 use Rattle.wasi_host.specs.Agree.{IsClosed, AgreeOn, OrMade}
 use Rattle.wasi_host.specs.HostCall.{OpenAt, SetTimes as TimesSet}
-use Rattle.wasi_host.specs.declared.open_handle.Held.{Held}
+use Rattle.wasi_host.specs.declared.open_handle.OpenHandle.{OpenHandle}
 use Rattle.wasi_host.specs.declared.system_time.SystemTime.{SystemTime}
 use Rattle.wasi_host.specs.Refusal.{refusal}
 use Rattle.wasi_host.specs.Step.{open_step, starts_of}
@@ -19,8 +19,8 @@ use Rattle.wasi_host.proofs.Leaving.{LeavesNear, Contains-here, stays_near, step
 use Rattle.wasi_host.proofs.Agreeing as host
 use Rattle.wasi_host.proofs.Agreeing.{one, unless_value, itself}
 use Rattle.wasi_resolve.specs.Laws.{GivesIn}
-use Rattle.wasi_resolve.specs.EntryOps.{PlaceCall, CreateDir, RemoveFile, RemoveDir, Symlink, ReadLink, SetTimes, call_at, unrooted, answer_in, place_text, place_for, step_in}
-use Rattle.wasi_resolve.specs.TwoPathOps.{TwoPlaceCall, HardLink, Rename, Places, text_for, asks_directory, places_in, places_for, call_at_two, answer_at_two, step_at_two}
+use Rattle.wasi_resolve.specs.EntryOps.{EntryOp, CreateDir, RemoveFile, RemoveDir, Symlink, ReadLink, SetTimes, call_at, unrooted, answer_in, place_text, place_for, step_in}
+use Rattle.wasi_resolve.specs.TwoPathOps.{TwoPathOp, HardLink, Rename, Places, text_for, asks_directory, places_in, places_for, call_at_two, answer_at_two, step_at_two}
 use Rattle.wasi_resolve.specs.Paths.{Opening, Place, opening, step_of, looked, place, timed}
 use Rattle.wasi_resolve.specs.PathRequest.{PathRequest, OpenPath, LookPath, AtPlace, TimesPath, AtTwo, as_asked, PathReply, Opened, opened_at, answer_at, times_through, path_reply, path_after, path_starts, path_gives}
 use Rattle.wasi_resolve.proofs.WalkAgreeing.{from_one}
@@ -30,7 +30,7 @@ first : (s : ℕ) → Contains (s ∷ []) s
 first s = Contains-push [] s
 
 -- a call at a place starts from its directory
-from_directory : (what : PlaceCall) (p : Place) (n : ℕ) → Contains (starts_of (call_at what p)) n
+from_directory : (what : EntryOp) (p : Place) (n : ℕ) → Contains (starts_of (call_at what p)) n
     → Contains (p.directory ∷ []) n
 from_directory CreateDir p n has = has
 from_directory RemoveFile p n has = has
@@ -40,7 +40,7 @@ from_directory ReadLink p n has = has
 from_directory (SetTimes atime mtime) p n has = has
 
 -- and one at two places from theirs
-from_directories : (what : TwoPlaceCall) (requires_dir : Bool) (p : Places) (n : ℕ)
+from_directories : (what : TwoPathOp) (requires_dir : Bool) (p : Places) (n : ℕ)
     → Contains (starts_of (call_at_two what requires_dir p)) n → Contains (p.old.directory ∷ p.new.directory ∷ []) n
 from_directories HardLink requires_dir p n has = has
 from_directories Rename requires_dir p n has = has
@@ -104,15 +104,15 @@ near_from {t} {t'} {roots} {roots'} from leaves = record {
 }
 
 -- what setting times leaves
-times_leave : (t : Tree) (s : ℕ) (atime mtime : Option SystemTime) (r : Result Held ErrorCode)
-    → GivesIn (Reached t (s ∷ [])) (λ (held : Held). held.node) r
+times_leave : (t : Tree) (s : ℕ) (atime mtime : Option SystemTime) (r : Result OpenHandle ErrorCode)
+    → GivesIn (Reached t (s ∷ [])) (λ (held : OpenHandle). held.node) r
     → LeavesNear t (s ∷ []) (times_through t atime mtime r)
 times_leave t s atime mtime (Ok stands) near =
     near_from (from_one (Reached t (s ∷ [])) near) (step_leaves t (TimesSet stands.node atime mtime))
 times_leave t s atime mtime (Err code) near = stays_near
 
 -- and what is done at a place
-place_leaves : (t : Tree) (s : ℕ) (text : List ℕ) (what : PlaceCall)
+place_leaves : (t : Tree) (s : ℕ) (text : List ℕ) (what : EntryOp)
     → LeavesNear t (s ∷ []) (step_in t what (place_for t s text what))
 place_leaves t s text what =
     by (place_for t s text what) (paths.place_seen (reached_closed t (s ∷ [])) itself s (place_text what text)
@@ -168,7 +168,7 @@ module _ {Seen : ℕ → Type 0} {t u : Tree} (closed : IsClosed Seen t) (agree 
       ∙ ap (unless (refusal u call)) same
 
   -- the host answers alike at a place
-  place_answer_same : (what : PlaceCall) (p : Place) → Seen p.directory → answer_in t what p ≡ answer_in u what p
+  place_answer_same : (what : EntryOp) (p : Place) → Seen p.directory → answer_in t what p ≡ answer_in u what p
   place_answer_same CreateDir p seen = host.answer_same closed agree (call_at CreateDir p) (from_one Seen seen)
   place_answer_same RemoveFile p seen = host.answer_same closed agree (call_at RemoveFile p) (from_one Seen seen)
   place_answer_same RemoveDir p seen = host.answer_same closed agree (call_at RemoveDir p) (from_one Seen seen)
@@ -178,7 +178,7 @@ module _ {Seen : ℕ → Type 0} {t u : Tree} (closed : IsClosed Seen t) (agree 
   place_answer_same (SetTimes atime mtime) p seen =
       host.answer_same closed agree (call_at (SetTimes atime mtime) p) (from_one Seen seen)
 
-  place_reply_same : (s : ℕ) (text : List ℕ) (what : PlaceCall) → Seen s
+  place_reply_same : (s : ℕ) (text : List ℕ) (what : EntryOp) → Seen s
       → place_for t s text what >>= answer_in t what ≡ place_for u s text what >>= answer_in u what
   place_reply_same s text what seen =
       paths.then_same closed agree (λ (p : Place). p.directory) (place_for t s text what) (answer_in t what)
@@ -187,7 +187,7 @@ module _ {Seen : ℕ → Type 0} {t u : Tree} (closed : IsClosed Seen t) (agree 
       ∙ ap (λ r. r >>= answer_in u what) (paths.place_same closed agree s (place_text what text) seen)
 
   -- the step at a place is the same
-  place_after_agree : (s : ℕ) (text : List ℕ) (what : PlaceCall) → Seen s
+  place_after_agree : (s : ℕ) (text : List ℕ) (what : EntryOp) → Seen s
       → AgreeOn (OrMade Seen t (step_in t what (place_for t s text what)))
       (step_in t what (place_for t s text what)) (step_in u what (place_for u s text what))
   place_after_agree s text what seen =
@@ -201,7 +201,7 @@ module _ {Seen : ℕ → Type 0} {t u : Tree} (closed : IsClosed Seen t) (agree 
       by (Err code) near = host.same_agree closed agree
 
   -- and at two places
-  both_answer_same : (what : TwoPlaceCall) (requires_dir : Bool) (p : Places) → Seen p.old.directory
+  both_answer_same : (what : TwoPathOp) (requires_dir : Bool) (p : Places) → Seen p.old.directory
       → Seen p.new.directory → answer_at_two t what requires_dir p ≡ answer_at_two u what requires_dir p
   both_answer_same what requires_dir p old new =
       ap (λ c. unless c tt) (host.refused_same closed agree (call_at_two what requires_dir p)
@@ -257,7 +257,7 @@ module _ {Seen : ℕ → Type 0} {t u : Tree} (closed : IsClosed Seen t) (agree 
       rw (← paths.timed_same closed agree s text (from s (first s)))
       (by (timed t s text) (paths.timed_seen closed agree s text (from s (first s))))
     where
-      by : (r : Result Held ErrorCode) → GivesIn Seen (λ (held : Held). held.node) r
+      by : (r : Result OpenHandle ErrorCode) → GivesIn Seen (λ (held : OpenHandle). held.node) r
           → AgreeOn (OrMade Seen t (times_through t atime mtime r)) (times_through t atime mtime r)
           (times_through u atime mtime r)
       by (Ok stands) seen = host.step_agree closed agree (TimesSet stands.node atime mtime) (from_one Seen seen)

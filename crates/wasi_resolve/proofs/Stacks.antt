@@ -7,7 +7,7 @@ use Rattle.std.specs.FinSet.{contains, insert, remove, members, same_set, nat_cm
 use Rattle.std.specs.Cmp.{nat_cmp_total}
 use Rattle.std.proofs.lemmas.List.Elements.{Contains-push, Contains-append_left, Contains-append_right}
 use Rattle.wasi_host.specs.HostLaws.{Handles}
-use Rattle.wasi_host.specs.declared.open_handle.Held.{Held}
+use Rattle.wasi_host.specs.declared.open_handle.OpenHandle.{OpenHandle}
 use Rattle.wasi_host.proofs.Chain.{remove-insert}
 use Rattle.wasi_resolve.specs.ByNodes.{top}
 use Rattle.wasi_resolve.specs.Stack.{with_handles, AreFresh, Stands, top_handle, nodes_under, Among}
@@ -180,13 +180,13 @@ top_among start stack =
 -- ---- the nodes
 
 -- the node of the handle on top
-pub top_node : (held : ℕ → Held) (start : ℕ) (stack : List ℕ)
+pub top_node : (held : ℕ → OpenHandle) (start : ℕ) (stack : List ℕ)
     → (held (top_handle start stack)).node ≡ top (held start).node (nodes_under held stack)
 top_node held start stack =
     elim (reverse stack) as (λ l. (held (top start l)).node ≡ top (held start).node (map (λ h. (held h).node) l)) [ [] ↦ refl | h ∷ l ↦ refl ]
 
 -- a handle pushed is a node on top
-pub nodes_push : (held : ℕ → Held) (stack : List ℕ) (h : ℕ)
+pub nodes_push : (held : ℕ → OpenHandle) (stack : List ℕ) (h : ℕ)
     → nodes_under held (stack ++ h ∷ []) ≡ (held h).node ∷ nodes_under held stack
 nodes_push held stack h = ap (map (λ g. (held g).node)) (reverse-append stack (h ∷ []))
 
@@ -201,7 +201,7 @@ map_reverse k (y ∷ ys) =
     ∙ ap (λ l. l ++ k y ∷ []) (map_reverse k ys)
     ∙ sym (reverse-append (k y ∷ []) (map k ys))
 
-all_kept : (f g : ℕ → Held) (live : Handles) (stack : List ℕ)
+all_kept : (f g : ℕ → OpenHandle) (live : Handles) (stack : List ℕ)
     → ((q : ℕ) → contains (with_handles live stack) q ≡ true → g q ≡ f q)
     → map (λ h. (g h).node) stack ≡ map (λ h. (f h).node) stack
 all_kept f g live [] keeps = refl
@@ -210,7 +210,7 @@ all_kept f g live (h ∷ stack) keeps =
     λ i. (here i).node ∷ all_kept f g (insert live h) stack keeps i
 
 -- the nodes of a stack stay while its handles keep what they stand for
-pub nodes_kept : {f g : ℕ → Held} {first now : Handles} {start : ℕ} {stack : List ℕ} → Stands first now start stack
+pub nodes_kept : {f g : ℕ → OpenHandle} {first now : Handles} {start : ℕ} {stack : List ℕ} → Stands first now start stack
     → ((q : ℕ) → contains now q ≡ true → g q ≡ f q) → nodes_under g stack ≡ nodes_under f stack
 nodes_kept {f} {g} {first} {stack = stack} stands keeps =
     map_reverse (λ h. (g h).node) stack

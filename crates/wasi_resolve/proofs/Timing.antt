@@ -12,7 +12,7 @@ use Rattle.wasi_host.specs.declared.errors.ErrorCode.{ErrorCode}
 use Rattle.wasi_host.specs.declared.errors.ErrorCode.TheVariants.{Access, Io, IsDirectory}
 use Rattle.wasi_host.specs.declared.errors.HostError.{HostError}
 use Rattle.wasi_host.specs.declared.errors.HostError.TheVariants.{Code, Memory}
-use Rattle.wasi_host.specs.declared.open_handle.Held.{Held}
+use Rattle.wasi_host.specs.declared.open_handle.OpenHandle.{OpenHandle}
 use Rattle.wasi_host.specs.declared.system_time.SystemTime.{SystemTime}
 use Rattle.wasi_host.proofs.Touching.{at_root}
 use Rattle.wasi_resolve.specs.Laws.{From, GivesIn}
@@ -28,7 +28,7 @@ use Rattle.wasi_resolve.proofs.Parenting.{opening_leaves}
 
 -- ---- an open for reading
 
-refused_reads : (r : Result Held ErrorCode) (e : HostError) → MeansErr r e
+refused_reads : (r : Result OpenHandle ErrorCode) (e : HostError) → MeansErr r e
     → MeansErr (or_else access_unsupported r) (read_refused e)
 refused_reads r Memory means = tt
 refused_reads r (Code Io) means = tt
@@ -71,7 +71,7 @@ read_decides t s text (Code IsDirectory) more means = ap (or_else (timed_again t
 read_decides t s text Memory more means = absurd (cc)
 read_decides t s text (Code code) more means = absurd (cc)
 
-written : (t : Tree) (s : ℕ) (text : List ℕ) (held : Held) → opened t s text writing true ≡ Ok held
+written : (t : Tree) (s : ℕ) (text : List ℕ) (held : OpenHandle) → opened t s text writing true ≡ Ok held
     → timed t s text ≡ Ok held
 unfolding timed
 written t s text held is = ap (or_else (timed_again t s text)) is
@@ -105,7 +105,7 @@ timed_by_read {live} {w} {v} {u} start text e {r} is_live more opens reads =
     let looks = refused_looks s text e opens in
     let here : Resolved live v u (read_at w.tree s text) u.held r =
     subst (λ t. Resolved live v u (read_at t s text) u.held r) looks.tree
-    (subst (λ (h : Held). Resolved live v u (read_at v.tree h.node text) u.held r) (looks.keeps start is_live) reads) in
+    (subst (λ (h : OpenHandle). Resolved live v u (read_at v.tree h.node text) u.held r) (looks.keeps start is_live) reads) in
     subst (λ x. Resolved live w u (record (timed_at w.tree s text) { answer = x }) u.held r)
     (sym (read_decides w.tree s text e more opens.answer))
     (resolved_then looks (at_root w.tree s) (λ h is. is) refl here)
@@ -113,12 +113,12 @@ timed_by_read {live} {w} {v} {u} start text e {r} is_live more opens reads =
 -- ---- the times are set
 
 -- what is set through a handle, if there is one
-abbrev set_meant : Tree → ℕ → Option SystemTime → Option SystemTime → Result Held ErrorCode → Meant (Unit {0})
+abbrev set_meant : Tree → ℕ → Option SystemTime → Option SystemTime → Result OpenHandle ErrorCode → Meant (Unit {0})
 set_meant t s atime mtime held = record {
   starts = s ∷ [];
   answer = held >>= (λ h. Ok tt);
   stepped = times_through t atime mtime held;
-  ends = ends_by (λ (h : Held). h.node) held;
+  ends = ends_by (λ (h : OpenHandle). h.node) held;
 }
 
 module _ {first : Handles} {w v : World} (s : ℕ) (text : List ℕ) (atime mtime : Option SystemTime) where
@@ -138,7 +138,7 @@ module _ {first : Handles} {w v : World} (s : ℕ) (text : List ℕ) (atime mtim
   is_timed {mid} {new} {u} {z} h r got same opens set closed =
       let looks = looks_of (Ok h) (λ is. refl) opens in
       let near : From w.tree s n =
-      subst (GivesIn (From w.tree s) (λ (held : Held). held.node)) opens.answer (paths_stay_in_reach w.tree s text).times in
+      subst (GivesIn (From w.tree s) (λ (held : OpenHandle). held.node)) opens.answer (paths_stay_in_reach w.tree s text).times in
       let there : Resolved first w u (set_meant v.tree s atime mtime (Ok (v.held h))) (λ unit. unit) r =
       resolved_then looks near (still_live first h got) refl (by r set) in
       let here : Resolved first w u (set_meant w.tree s atime mtime (Ok (v.held h))) (λ unit. unit) r =

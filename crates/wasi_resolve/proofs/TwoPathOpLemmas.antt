@@ -9,7 +9,7 @@ use Rattle.wasi_host.specs.Answer.{HostAnswer}
 use Rattle.wasi_host.specs.Step.{step, found_by, found_under, made_by, added_step, moved_step, link_step, rename_step, dropped_step, name_lost, with_name, one_name_more}
 use Rattle.wasi_host.specs.Steps.{◌>>=◌}
 use Rattle.wasi_host.specs.HostLaws.{World, Handles, Told, MeansErr, Logged, both_looked}
-use Rattle.wasi_host.specs.Lineage.{Traced, Only, OneOf, Nothing}
+use Rattle.wasi_host.specs.Lineage.{HasProvenance, Only, OneOf, Nothing}
 use Rattle.wasi_host.specs.declared.lookup.Lookup.{Lookup}
 use Rattle.wasi_host.specs.declared.errors.ErrorCode.{ErrorCode}
 use Rattle.wasi_host.specs.declared.lookup.LookKind.{LookKind}
@@ -17,7 +17,7 @@ use Rattle.wasi_host.specs.declared.errors.HostError.{HostError}
 use Rattle.wasi_host.proofs.Leaving.{LeavesFor, added_near, renamed_near, next_of-moved, next_of-dropped_step}
 use Rattle.wasi_host.proofs.Touching.{reached_through, same_node}
 use Rattle.wasi_host.proofs.Tracing.{traced_same, traced_given, traced_kept, traced_last, traced_then}
-use Rattle.wasi_host.specs.declared.open_handle.Held.{Held}
+use Rattle.wasi_host.specs.declared.open_handle.OpenHandle.{OpenHandle}
 use Rattle.wasi_paths.specs.Name.{name_bytes}
 use Rattle.wasi_resolve.specs.Laws.{From, GivesIn}
 use Rattle.wasi_resolve.specs.Paths.{Place, place}
@@ -25,7 +25,7 @@ use Rattle.wasi_resolve.specs.Finding.{FewReads}
 use Rattle.wasi_resolve.specs.Resolved.{Meant, Resolved, links_read, call_meant}
 use Rattle.wasi_resolve.specs.Parents.{directory_of, places_at, released, shown_place, GotIn, LiveIn}
 use Rattle.wasi_resolve.specs.EntryOps.{ends_in}
-use Rattle.wasi_resolve.specs.TwoPathOps.{TwoPlaceCall, HardLink, Rename, Places, places_in, call_at_two, answer_at_two, step_at_two, ends_at_two}
+use Rattle.wasi_resolve.specs.TwoPathOps.{TwoPathOp, HardLink, Rename, Places, places_in, call_at_two, answer_at_two, step_at_two, ends_at_two}
 use Rattle.wasi_resolve.specs.TwoParents.{shown_places, both_at, both_released}
 use Rattle.wasi_resolve.specs.WalkSteps.{OnlyLooks, WorldStays}
 use Rattle.wasi_resolve.specs.declared.two_path_ops.TwoParents.{TwoParents}
@@ -43,7 +43,7 @@ use Rattle.wasi_resolve.proofs.Calls.{call_ok, call_err, found_ok, looks_of, loo
 abbrev HasOld : Tree → Places → ℕ → Type 0
 HasOld t p n = child t p.old.directory p.old.name ≡ Some n
 
-call_leaves : (t : Tree) (what : TwoPlaceCall) (requires_dir : Bool) (p : Places)
+call_leaves : (t : Tree) (what : TwoPathOp) (requires_dir : Bool) (p : Places)
     → LeavesFor t (HasOld t p) (step t (call_at_two what requires_dir p))
 unfolding link_step
 call_leaves t HardLink requires_dir p =
@@ -68,7 +68,7 @@ moved_next t p (Some n) =
     ∙ next_of-dropped_step t p.new.directory p.new.name name_lost held
 
 -- no node is made
-makes_none : (t : Tree) (what : TwoPlaceCall) (requires_dir : Bool) (p : Places)
+makes_none : (t : Tree) (what : TwoPathOp) (requires_dir : Bool) (p : Places)
     → next_of (step t (call_at_two what requires_dir p)) ≡ next_of t
 unfolding link_step rename_step
 makes_none t HardLink requires_dir p = added_next t p.new.directory p.new.name (child t p.old.directory p.old.name)
@@ -85,7 +85,7 @@ makes_none t Rename requires_dir p = either (hold_one held (child t p.new.direct
     either false = moved_next t p held
 
 -- a name held its node before, or the old name did
-holds_after : (t : Tree) (what : TwoPlaceCall) (requires_dir : Bool) (p : Places) (q : Place) (n : ℕ)
+holds_after : (t : Tree) (what : TwoPathOp) (requires_dir : Bool) (p : Places) (q : Place) (n : ℕ)
     → child (step t (call_at_two what requires_dir p)) q.directory q.name ≡ Some n
     → (child t q.directory q.name ≡ Some n) ⊎ HasOld t p n
 holds_after t what requires_dir p q n is =
@@ -97,14 +97,14 @@ holds_after t what requires_dir p q n is =
       | inr (inr old) ↦ inr old
     ]
 
-found_at : (t : Tree) (what : TwoPlaceCall) (requires_dir : Bool) (p : Places)
+found_at : (t : Tree) (what : TwoPathOp) (requires_dir : Bool) (p : Places)
     → found_by t (call_at_two what requires_dir p)
     ≡ found_under t p.old.directory p.old.name ++ found_under t p.new.directory p.new.name
 found_at t HardLink requires_dir p = refl
 found_at t Rename requires_dir p = refl
 
 -- the directories, and what both names hold before the call and after it
-ends_known : (t : Tree) (what : TwoPlaceCall) (requires_dir : Bool) (p : Places)
+ends_known : (t : Tree) (what : TwoPathOp) (requires_dir : Bool) (p : Places)
     → All (Contains (found_by t (call_at_two what requires_dir p) ++ made_by t (call_at_two what requires_dir p)))
     (ends_at_two t (step t (call_at_two what requires_dir p)) (Ok p))
 ends_known t what requires_dir p =
@@ -141,7 +141,7 @@ ends_known t what requires_dir p =
 -- ---- the call of the host
 
 -- it means what the host's table says, and ends at both places
-pub both_done : {A : Type 0} {old new : Handles} {w v : World} (what : TwoPlaceCall) (requires_dir : Bool) (p : Places)
+pub both_done : {A : Type 0} {old new : Handles} {w v : World} (what : TwoPathOp) (requires_dir : Bool) (p : Places)
     {shown : A → HostAnswer (call_at_two what requires_dir p)} (r : Result A HostError) → new ≡ old
     → Told old new w v (call_at_two what requires_dir p) shown r
     → Resolved old w v (call_meant w.tree (call_at_two what requires_dir p)
@@ -258,14 +258,14 @@ module _ {first : Handles} {w v : World} (s : ℕ) (text : List ℕ) (p : Parent
         found_ok (shown_places u.held) (record { old = p; new = q })
         (ap (λ r. first_then r new_place) placed.answer
         ∙ ap (first_then (Ok (shown_place v.held p))) (same_second found).answer
-        ∙ ap (λ (h : Held). first_then (Ok (record { directory = h.node; name = name_bytes p.name }))
+        ∙ ap (λ (h : OpenHandle). first_then (Ok (record { directory = h.node; name = name_bytes p.name }))
         (Ok (shown_place u.held q))) (sym (found.keeps (directory_of p.directory) held)))
         (both_looks found start live)
 
 -- ---- the whole
 
 -- what is done at both places, if there are both
-abbrev done_at_both : Tree → List ℕ → Result Places ErrorCode → TwoPlaceCall → Bool → Meant (Unit {0})
+abbrev done_at_both : Tree → List ℕ → Result Places ErrorCode → TwoPathOp → Bool → Meant (Unit {0})
 done_at_both t starts p what requires_dir = record {
   starts = starts;
   answer = p >>= answer_at_two t what requires_dir;
@@ -297,7 +297,7 @@ module _ {first : Handles} {w v : World} (s : ℕ) (text : List ℕ) (e : ℕ) (
 
   -- the places were found, the call made there, and both directories closed
   pub done_at_two : {A : Type 0} {mid : Handles} {u z : World} {r : Result A HostError} {shown : A → Unit {0}}
-      (what : TwoPlaceCall) (requires_dir : Bool)
+      (what : TwoPathOp) (requires_dir : Bool)
       → both_released mid p.old.directory p.new.directory ≡ first
       → Resolved mid v u (done_at_both v.tree directories (Ok places) what requires_dir) shown r
       → WorldStays (both_released mid p.old.directory p.new.directory) u z
@@ -319,14 +319,14 @@ module _ {first : Handles} {w v : World} (s : ℕ) (text : List ℕ) (e : ℕ) (
 -- ---- where the look-ups begin
 
 -- the old place is refused
-pub traced_old : {old new : ℕ} {a b : List Lookup} → Traced (Only old) Nothing Nothing a b
-    → Traced (OneOf old new) Nothing Nothing a b
+pub traced_old : {old new : ℕ} {a b : List Lookup} → HasProvenance (Only old) Nothing Nothing a b
+    → HasProvenance (OneOf old new) Nothing Nothing a b
 traced_old {old} {new} traced = traced_given (OneOf old new) (λ h is. inl is) traced
 
 module _ {old new : ℕ} {a b c : List Lookup} where
   -- the new place is refused
-  pub traced_new : {Made : ℕ → Type 0} → Traced (Only old) Nothing Made a b → Traced (Only new) Nothing Nothing b c
-      → Traced (OneOf old new) Nothing Nothing a c
+  pub traced_new : {Made : ℕ → Type 0} → HasProvenance (Only old) Nothing Made a b → HasProvenance (Only new) Nothing Nothing b c
+      → HasProvenance (OneOf old new) Nothing Nothing a c
   traced_new first second =
       traced_last (λ h is. inr is)
       (traced_kept (OneOf old new) (OneOf old new) (λ h is. inl is) (traced_given (OneOf old new) (λ h is. inl is) first))
@@ -334,8 +334,8 @@ module _ {old new : ℕ} {a b c : List Lookup} where
 
   -- both are found
   pub traced_both : (live mid last : Handles) (d e : MaybeOwned) → LiveIn old live d mid → LiveIn new mid e last
-      → Traced (Only old) Nothing (GotIn d) a b → Traced (Only new) Nothing (GotIn e) b c
-      → Traced (OneOf old new) (OneOf old new) (OneOf (directory_of d) (directory_of e)) a c
+      → HasProvenance (Only old) Nothing (GotIn d) a b → HasProvenance (Only new) Nothing (GotIn e) b c
+      → HasProvenance (OneOf old new) (OneOf old new) (OneOf (directory_of d) (directory_of e)) a c
   traced_both live mid last d e live_old live_new first second =
       traced_then (λ h is. is) (λ h is. inl (inr is))
       (traced_kept (OneOf old new) Mid (λ h has. has) (traced_given (OneOf old new) (λ h is. inl is) first))
@@ -355,8 +355,8 @@ module _ {old new : ℕ} {a b c : List Lookup} where
       ]
 
 -- the call is made at both places, whose directories are closed then
-pub traced_at_two : {starts found : ℕ → Type 0} {a b c d : List Lookup} → Traced starts starts found a b
-    → Traced found Nothing Nothing b c → d ≡ c → Traced starts Nothing Nothing a d
+pub traced_at_two : {starts found : ℕ → Type 0} {a b c d : List Lookup} → HasProvenance starts starts found a b
+    → HasProvenance found Nothing Nothing b c → d ≡ c → HasProvenance starts Nothing Nothing a d
 traced_at_two first second closed = traced_same _ closed (traced_last (λ h has. has) first second)
 
 -- ---- how many look-ups

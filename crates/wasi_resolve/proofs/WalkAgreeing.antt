@@ -4,7 +4,7 @@ use Rattle.std.specs.Prelude.{is_none, not, ◌&&◌, take, drop, Contains}
 use Rattle.wasi_host.specs.Options.{Options, creates}
 use Rattle.wasi_host.specs.Tree.{Tree, Node, node_at, child}
 use Rattle.wasi_host.specs.HostCall.{OpenAt, StatAt}
-use Rattle.wasi_host.specs.Refusal.{refusal, rows_of, first_row}
+use Rattle.wasi_host.specs.Refusal.{refusal, refusal_rules, first_rule}
 use Rattle.wasi_host.specs.Answer.{reached}
 use Rattle.wasi_host.specs.declared.errors.ErrorCode.{ErrorCode}
 use Rattle.wasi_host.specs.declared.errors.ErrorCode.TheVariants as codes
@@ -19,16 +19,16 @@ use Rattle.wasi_resolve.proofs.Simulation.{walk-by_nodes}
 
 -- a row that holds refuses
 no_row : (before : List (Bool × ErrorCode)) (row : Bool × ErrorCode) (rows : List (Bool × ErrorCode))
-    → row.0 ≡ true → first_row (before ++ row ∷ rows) ≡ None → ⊥
+    → row.0 ≡ true → first_rule (before ++ row ∷ rows) ≡ None → ⊥
 no_row [] row rows is e = by row.0 is e
   where
-    by : (b : Bool) → b ≡ true → cond b (Some row.1) (first_row rows) ≡ None → ⊥
+    by : (b : Bool) → b ≡ true → cond b (Some row.1) (first_rule rows) ≡ None → ⊥
     by true is e = absurd (cc)
     by false is e = absurd (cc)
 no_row (first ∷ before) row rows is e = no_row before row rows is (by first.0 e)
   where
-    by : (b : Bool) → cond b (Some first.1) (first_row (before ++ row ∷ rows)) ≡ None
-        → first_row (before ++ row ∷ rows) ≡ None
+    by : (b : Bool) → cond b (Some first.1) (first_rule (before ++ row ∷ rows)) ≡ None
+        → first_rule (before ++ row ∷ rows) ≡ None
     by true e = absurd (cc)
     by false e = e
 
@@ -41,7 +41,7 @@ there t d name o makes_none e = by (child t d name) refl
     by : (c : Option ℕ) → child t d name ≡ c → (n : ℕ) × (child t d name ≡ Some n)
     by (Some n) is = (n, is)
     by None is =
-        let rows = rows_of t (OpenAt d name o) in
+        let rows = refusal_rules t (OpenAt d name o) in
         absurd (no_row (take 6 rows) (is_none (child t d name) && not (creates o), codes.NoEntry) (drop 7 rows) (rw
         (is, makes_none) refl) e)
 
@@ -54,7 +54,7 @@ stat_there t d name e = by (child t d name) refl
     by : (c : Option ℕ) → child t d name ≡ c → (n : ℕ) × (child t d name ≡ Some n)
     by (Some n) is = (n, is)
     by None is =
-        absurd (no_row (take 4 (rows_of t (StatAt d name))) (is_none (child t d name), codes.NoEntry) [] (rw
+        absurd (no_row (take 4 (refusal_rules t (StatAt d name))) (is_none (child t d name), codes.NoEntry) [] (rw
         (is) refl) e)
 
 -- a set that has a node

@@ -1,9 +1,9 @@
 -- What one call of the host changes at a place, as contracts see it.
-use Rattle.wasi_resolve.specs.EntryOps.{PlaceCall, CreateDir, RemoveFile, RemoveDir, Symlink, SetTimes, PlaceAnswer}
+use Rattle.wasi_resolve.specs.EntryOps.{EntryOp, CreateDir, RemoveFile, RemoveDir, Symlink, SetTimes, PlaceAnswer}
 use Rattle.wasi_resolve.specs.declared.entry_ops.Change.{Change}
 use Rattle.wasi_resolve.specs.declared.entry_ops.Change.TheVariants as changes
 
-abbrev pub change_call : Change → PlaceCall
+abbrev pub change_call : Change → EntryOp
 change_call changes.CreateDir = CreateDir
 change_call changes.RemoveFile = RemoveFile
 change_call changes.RemoveDir = RemoveDir

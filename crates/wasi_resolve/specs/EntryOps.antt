@@ -13,18 +13,18 @@ use Rattle.wasi_resolve.specs.Paths.{Place, place}
 use Rattle.wasi_resolve.specs.Resolved.{Meant}
 
 -- the calls of the resolver that end at one place
-pub data PlaceCall : Type 0 where
-  CreateDir : PlaceCall
-  RemoveFile : PlaceCall
-  RemoveDir : PlaceCall
+pub data EntryOp : Type 0 where
+  CreateDir : EntryOp
+  RemoveFile : EntryOp
+  RemoveDir : EntryOp
   -- the text of the link
-  Symlink : List ℕ → PlaceCall
-  ReadLink : PlaceCall
+  Symlink : List ℕ → EntryOp
+  ReadLink : EntryOp
   -- the times of the last read and of the last change that are to be set
-  SetTimes : Option SystemTime → Option SystemTime → PlaceCall
+  SetTimes : Option SystemTime → Option SystemTime → EntryOp
 
 -- the call of the host at the place
-abbrev pub call_at : PlaceCall → Place → HostCall
+abbrev pub call_at : EntryOp → Place → HostCall
 call_at CreateDir p = MakeDirAt p.directory p.name
 call_at RemoveFile p = UnlinkAt p.directory p.name
 call_at RemoveDir p = RemoveDirAt p.directory p.name
@@ -33,7 +33,7 @@ call_at ReadLink p = ReadLinkAt p.directory p.name
 call_at (SetTimes atime mtime) p = TimesAt p.directory p.name atime mtime
 
 -- what is answered: a link's text, or nothing but that it was done
-abbrev pub PlaceAnswer : PlaceCall → Type 0
+abbrev pub PlaceAnswer : EntryOp → Type 0
 PlaceAnswer CreateDir = Unit {0}
 PlaceAnswer RemoveFile = Unit {0}
 PlaceAnswer RemoveDir = Unit {0}
@@ -46,7 +46,7 @@ abbrev pub unrooted : List ℕ → Result (List ℕ) ErrorCode
 unrooted text = if has_root text then Err NotPermitted else Ok text
 
 -- the answer at the place: that of the host's table
-abbrev pub answer_in : Tree → (c : PlaceCall) → Place → Result (PlaceAnswer c) ErrorCode
+abbrev pub answer_in : Tree → (c : EntryOp) → Place → Result (PlaceAnswer c) ErrorCode
 answer_in t CreateDir p = host_answer t (MakeDirAt p.directory p.name)
 answer_in t RemoveFile p = host_answer t (UnlinkAt p.directory p.name)
 answer_in t RemoveDir p = host_answer t (RemoveDirAt p.directory p.name)
@@ -55,7 +55,7 @@ answer_in t ReadLink p = host_answer t (ReadLinkAt p.directory p.name) >>= unroo
 answer_in t (SetTimes atime mtime) p = host_answer t (TimesAt p.directory p.name atime mtime)
 
 -- the text by which the place is found: a directory may be made by a text with slashes behind its name
-abbrev pub place_text : PlaceCall → List ℕ → List ℕ
+abbrev pub place_text : EntryOp → List ℕ → List ℕ
 place_text CreateDir text = strip_dir_suffix text
 place_text RemoveFile text = text
 place_text RemoveDir text = text
@@ -63,11 +63,11 @@ place_text (Symlink target) text = text
 place_text ReadLink text = text
 place_text (SetTimes atime mtime) text = text
 
-abbrev pub place_for : Tree → ℕ → List ℕ → PlaceCall → Result Place ErrorCode
+abbrev pub place_for : Tree → ℕ → List ℕ → EntryOp → Result Place ErrorCode
 place_for t s text c = place t s (place_text c text)
 
 -- the tree after it: the one step of the host's call, if it has one
-abbrev pub step_in : Tree → PlaceCall → Result Place ErrorCode → Tree
+abbrev pub step_in : Tree → EntryOp → Result Place ErrorCode → Tree
 step_in t c (Ok p) = step t (call_at c p)
 step_in t c (Err code) = t
 
@@ -78,7 +78,7 @@ ends_in t t' (Ok p) =
 ends_in t t' (Err code) = []
 
 -- what is done at a place, if there is one
-abbrev pub done_in : Tree → ℕ → Result Place ErrorCode → (c : PlaceCall) → Meant (PlaceAnswer c)
+abbrev pub done_in : Tree → ℕ → Result Place ErrorCode → (c : EntryOp) → Meant (PlaceAnswer c)
 done_in t s p c = record {
   starts = s ∷ [];
   answer = p >>= answer_in t c;
@@ -87,5 +87,5 @@ done_in t s p c = record {
 }
 
 -- what is done at the place that a text names
-abbrev pub does_at : Tree → ℕ → List ℕ → (c : PlaceCall) → Meant (PlaceAnswer c)
+abbrev pub does_at : Tree → ℕ → List ℕ → (c : EntryOp) → Meant (PlaceAnswer c)
 does_at t s text c = done_in t s (place_for t s text c) c

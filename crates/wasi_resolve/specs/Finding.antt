@@ -1,7 +1,7 @@
 -- What a walk is for and what it finds, and what a part of it does over every host: to the handles and to the look-ups.
 use Rattle.std.specs.Prelude.{◌≡◌, ◌≤◌, ◌+◌, ℕ, Bool, true, false, List, length, Option, Some, None, Result, Ok, Err}
 use Rattle.std.specs.FinSet.{contains, insert}
-use Rattle.wasi_host.specs.Lineage.{Traced, Nothing}
+use Rattle.wasi_host.specs.Lineage.{HasProvenance, Nothing}
 use Rattle.wasi_host.specs.HostLaws.{Handles}
 use Rattle.wasi_host.specs.declared.errors.ErrorCode.TheVariants.{Loop, NotDirectory}
 use Rattle.wasi_host.specs.declared.errors.HostError.{HostError}
@@ -115,15 +115,15 @@ IsLast None lookups = Unit {0}
 
 -- from a stack, which is another one then
 abbrev pub StackTraced : ℕ → List ℕ → List ℕ → List Lookup → List Lookup → Type 0
-StackTraced start before after old new = Traced (Among start before) (Among start before) (Among start after) old new
+StackTraced start before after old new = HasProvenance (Among start before) (Among start before) (Among start after) old new
 
 -- up to a link the stack was got, and else what was found
 abbrev pub ReachTraced : ℕ → List ℕ → List ℕ → Result Reach HostError → List Lookup → List Lookup
     → Type 0
 ReachTraced start before after (Ok (reach.Link name)) old new = StackTraced start before after old new
 ReachTraced start before after (Ok (reach.Found it)) old new =
-    Traced (Among start before) Nothing (IsGot (handle_found (Ok it))) old new
-ReachTraced start before after (Err e) old new = Traced (Among start before) Nothing Nothing old new
+    HasProvenance (Among start before) Nothing (IsGot (handle_found (Ok it))) old new
+ReachTraced start before after (Err e) old new = HasProvenance (Among start before) Nothing Nothing old new
 
 -- ---- how many look-ups were made
 

@@ -3,7 +3,7 @@ use Rattle.std.specs.Prelude.{ℕ, ◌≡◌, ◌≤◌, false, List, [], ◌∷
 use Rattle.wasi_host.specs.Options.{Options, creates}
 use Rattle.wasi_host.specs.Tree.{Tree}
 use Rattle.wasi_host.specs.ValidTree.{Reached}
-use Rattle.wasi_host.specs.declared.open_handle.Held.{Held}
+use Rattle.wasi_host.specs.declared.open_handle.OpenHandle.{OpenHandle}
 use Rattle.wasi_host.specs.declared.errors.ErrorCode.{ErrorCode}
 use Rattle.wasi_resolve.specs.Walk.{Aim, Outcome, Stop, Name, Dot, Walk, walk}
 use Rattle.wasi_resolve.specs.Paths.{Opening, opening, opened, looked, Place, place, timed}
@@ -39,10 +39,10 @@ pub record StaysInReach (t : Tree) (s : ℕ) (text : List ℕ) : Type 0 where
   pub opens : (o : Options) (follow : Bool)
       → GivesIn (From t s) (λ (e : Opening). e.directory) (opening t s text o follow)
   pub finds : (o : Options) (follow : Bool) → creates o ≡ false
-      → GivesIn (From t s) (λ (held : Held). held.node) (opened t s text o follow)
+      → GivesIn (From t s) (λ (held : OpenHandle). held.node) (opened t s text o follow)
   pub looks : (follow : Bool) → GivesIn (From t s) (λ n. n) (looked t s text follow)
   pub places : GivesIn (From t s) (λ (p : Place). p.directory) (place t s text)
-  pub times : GivesIn (From t s) (λ (held : Held). held.node) (timed t s text)
+  pub times : GivesIn (From t s) (λ (held : OpenHandle). held.node) (timed t s text)
 
 abbrev pub PathsStayInReach : Type 0
 PathsStayInReach = (t : Tree) (s : ℕ) (text : List ℕ) → StaysInReach t s text

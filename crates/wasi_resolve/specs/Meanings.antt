@@ -5,7 +5,7 @@ use Rattle.wasi_host.specs.Tree.{Tree}
 use Rattle.wasi_host.specs.Answer.{Listed, open_answer, list_answer, reached, metadata_of}
 use Rattle.wasi_host.specs.Steps.{◌>>=◌}
 use Rattle.wasi_host.specs.declared.errors.ErrorCode.{ErrorCode}
-use Rattle.wasi_host.specs.declared.open_handle.Held.{Held}
+use Rattle.wasi_host.specs.declared.open_handle.OpenHandle.{OpenHandle}
 use Rattle.wasi_host.specs.declared.metadata.Metadata.{Metadata}
 use Rattle.wasi_host.specs.declared.open_options.FollowSymlinks.{FollowSymlinks}
 use Rattle.wasi_host.specs.declared.open_options.FollowSymlinks.TheVariants.{Yes, No}
@@ -26,7 +26,7 @@ abbrev pub opened_node : Tree → Opening → ℕ
 opened_node t e = reached t e.directory e.name
 
 -- open: what the new handle stands for
-abbrev pub opens_at : Tree → ℕ → List ℕ → Options → Meant Held
+abbrev pub opens_at : Tree → ℕ → List ℕ → Options → Meant OpenHandle
 opens_at t s text o = record {
   starts = s ∷ [];
   answer = opened t s text o (follows o.follow);

@@ -4,7 +4,7 @@ use Rattle.std.specs.FinSet.{contains, insert, remove}
 use Rattle.wasi_host.specs.Tree.{Tree}
 use Rattle.wasi_host.specs.HostLaws.{Handles}
 use Rattle.wasi_host.specs.declared.errors.HostError.{HostError}
-use Rattle.wasi_host.specs.declared.open_handle.Held.{Held}
+use Rattle.wasi_host.specs.declared.open_handle.OpenHandle.{OpenHandle}
 use Rattle.wasi_host.specs.declared.lookup.Lookup.{Lookup}
 use Rattle.wasi_paths.specs.Name.{name_bytes}
 use Rattle.wasi_paths.specs.Parts.{Component, split, is_empty}
@@ -26,7 +26,7 @@ is_borrowed (Borrowed h) = true
 is_borrowed (Owned h) = false
 
 -- the place: the node of its directory, and the bytes of its name
-abbrev pub shown_place : (ℕ → Held) → Parent → Place
+abbrev pub shown_place : (ℕ → OpenHandle) → Parent → Place
 shown_place held parent =
     record { directory = (held (directory_of parent.directory)).node; name = name_bytes parent.name }
 

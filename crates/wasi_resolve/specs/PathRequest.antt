@@ -9,11 +9,11 @@ use Rattle.wasi_host.specs.Answer.{unless, reached, access_of, metadata_of}
 use Rattle.wasi_host.specs.Steps.{◌>>=◌}
 use Rattle.wasi_host.specs.declared.errors.ErrorCode.{ErrorCode}
 use Rattle.wasi_host.specs.declared.errors.ErrorCode.TheVariants.{NotDirectory}
-use Rattle.wasi_host.specs.declared.open_handle.Held.{Held}
+use Rattle.wasi_host.specs.declared.open_handle.OpenHandle.{OpenHandle}
 use Rattle.wasi_host.specs.declared.metadata.Metadata.{Metadata}
 use Rattle.wasi_host.specs.declared.system_time.SystemTime.{SystemTime}
-use Rattle.wasi_resolve.specs.EntryOps.{PlaceCall, SetTimes, PlaceAnswer, answer_in, place_for, step_in, ends_in}
-use Rattle.wasi_resolve.specs.TwoPathOps.{TwoPlaceCall, places_for, asks_directory, answer_at_two, step_at_two, ends_at_two}
+use Rattle.wasi_resolve.specs.EntryOps.{EntryOp, SetTimes, PlaceAnswer, answer_in, place_for, step_in, ends_in}
+use Rattle.wasi_resolve.specs.TwoPathOps.{TwoPathOp, places_for, asks_directory, answer_at_two, step_at_two, ends_at_two}
 use Rattle.wasi_resolve.specs.Meanings.{ends_by, opened_node}
 use Rattle.wasi_resolve.specs.Paths.{Opening, opening, after_open, looked, timed}
 use Rattle.wasi_resolve.specs.Resolved.{Meant}
@@ -24,15 +24,15 @@ pub data PathRequest : Type 0 where
   -- look: the start, the text, whether a last link is followed
   LookPath : ℕ → List ℕ → Bool → PathRequest
   -- do something at the place that the text names: the start, the text, what
-  AtPlace : ℕ → List ℕ → PlaceCall → PathRequest
+  AtPlace : ℕ → List ℕ → EntryOp → PathRequest
   -- set times: the start, the text, whether a last link is followed, the times of the last read and the last change
   TimesPath : ℕ → List ℕ → Bool → Option SystemTime → Option SystemTime → PathRequest
   -- do something at two places: the old start and text, the new ones, what
-  AtTwo : ℕ → List ℕ → ℕ → List ℕ → TwoPlaceCall → PathRequest
+  AtTwo : ℕ → List ℕ → ℕ → List ℕ → TwoPathOp → PathRequest
 
 -- what was opened, and whether it is a directory
 pub record Opened : Type 0 where
-  pub held : Held
+  pub held : OpenHandle
   pub is_dir : Bool
 
 -- what a request is answered
@@ -68,7 +68,7 @@ path_reply t (AtTwo old old_text new new_text what) =
     places_for t old old_text new new_text what >>= answer_at_two t what (asks_directory old_text new_text)
 
 -- times are set through a handle
-abbrev pub times_through : Tree → Option SystemTime → Option SystemTime → Result Held ErrorCode → Tree
+abbrev pub times_through : Tree → Option SystemTime → Option SystemTime → Result OpenHandle ErrorCode → Tree
 times_through t atime mtime (Ok held) = times_set t held.node atime mtime
 times_through t atime mtime (Err code) = t
 

@@ -10,7 +10,7 @@ use Rattle.wasi_host.specs.Answer.{unless, reached}
 use Rattle.wasi_host.specs.Steps.{◌>>=◌}
 use Rattle.wasi_host.specs.declared.errors.ErrorCode.{ErrorCode}
 use Rattle.wasi_host.specs.declared.errors.ErrorCode.TheVariants.{Access, IsDirectory, NoEntry, NotDirectory, Unsupported}
-use Rattle.wasi_host.specs.declared.open_handle.Held.{Held}
+use Rattle.wasi_host.specs.declared.open_handle.OpenHandle.{OpenHandle}
 use Rattle.wasi_paths.specs.Parts.{Component, RootDir, CurDir, ParentDir, Normal, split}
 use Rattle.wasi_resolve.specs.Walk.{Open, Look, Outcome, Stop, Name, Dot, walk, last_options}
 
@@ -30,11 +30,11 @@ opening_of o (Dot d) = if o.write then Err IsDirectory else Ok (record { directo
 unfoldable pub opening : Tree → ℕ → List ℕ → Options → Bool → Result Opening ErrorCode
 opening t s text o follow = opening_of o (walk t s text (Open o) follow).outcome
 
-abbrev pub opened_by : Tree → Opening → Result Held ErrorCode
+abbrev pub opened_by : Tree → Opening → Result OpenHandle ErrorCode
 opened_by t e = host.open_answer t e.directory e.name e.options
 
 -- what a path opens
-abbrev pub opened : Tree → ℕ → List ℕ → Options → Bool → Result Held ErrorCode
+abbrev pub opened : Tree → ℕ → List ℕ → Options → Bool → Result OpenHandle ErrorCode
 opened t s text o follow = opening t s text o follow >>= opened_by t
 
 abbrev pub step_of : Tree → Result Opening ErrorCode → Tree
@@ -102,16 +102,16 @@ reading = record no_options { read = true }
 abbrev pub writing : Options
 writing = record no_options { write = true }
 
-abbrev pub access_unsupported : ErrorCode → Result Held ErrorCode
+abbrev pub access_unsupported : ErrorCode → Result OpenHandle ErrorCode
 access_unsupported Access = Err Unsupported
 access_unsupported code = Err code
 
 -- an open for read, where one for write was refused so
-abbrev pub timed_again : Tree → ℕ → List ℕ → ErrorCode → Result Held ErrorCode
+abbrev pub timed_again : Tree → ℕ → List ℕ → ErrorCode → Result OpenHandle ErrorCode
 timed_again t s text Access = or_else access_unsupported (opened t s text reading true)
 timed_again t s text IsDirectory = or_else access_unsupported (opened t s text reading true)
 timed_again t s text code = Err code
 
 -- what the times of a path are set through, links followed: an open for write, or else one for read
-unfoldable pub timed : Tree → ℕ → List ℕ → Result Held ErrorCode
+unfoldable pub timed : Tree → ℕ → List ℕ → Result OpenHandle ErrorCode
 timed t s text = or_else (timed_again t s text) (opened t s text writing true)

@@ -2,7 +2,7 @@
 use Rattle.std.specs.Prelude.{◌≡◌, ◌⊎◌, ℕ, true, false, List, [], ◌∷◌, map, reverse, Contains}
 use Rattle.std.specs.FinSet.{contains, insert}
 use Rattle.wasi_host.specs.HostLaws.{Handles}
-use Rattle.wasi_host.specs.declared.open_handle.Held.{Held}
+use Rattle.wasi_host.specs.declared.open_handle.OpenHandle.{OpenHandle}
 use Rattle.wasi_resolve.specs.ByNodes.{top}
 
 -- live with these handles more
@@ -30,7 +30,7 @@ abbrev pub top_handle : ℕ → List ℕ → ℕ
 top_handle start stack = top start (reverse stack)
 
 -- the nodes of a stack of handles, the last handle first
-abbrev pub nodes_under : (ℕ → Held) → List ℕ → List ℕ
+abbrev pub nodes_under : (ℕ → OpenHandle) → List ℕ → List ℕ
 nodes_under held stack = map (λ h. (held h).node) (reverse stack)
 
 -- the start, or a handle of the stack

@@ -4,7 +4,7 @@ use Rattle.wasi_host.specs.Tree.{Tree}
 use Rattle.wasi_host.specs.declared.errors.ErrorCode.TheVariants.{Access, IsDirectory, Unsupported}
 use Rattle.wasi_host.specs.declared.errors.HostError.{HostError}
 use Rattle.wasi_host.specs.declared.errors.HostError.TheVariants.{Code, Memory}
-use Rattle.wasi_host.specs.declared.open_handle.Held.{Held}
+use Rattle.wasi_host.specs.declared.open_handle.OpenHandle.{OpenHandle}
 use Rattle.wasi_resolve.specs.Paths.{opened, reading, or_else, access_unsupported, timed}
 use Rattle.wasi_resolve.specs.Resolved.{Meant}
 
@@ -22,7 +22,7 @@ read_refused (Code Access) = Code Unsupported
 read_refused (Code code) = Code code
 
 -- an open for reading. What it touches at its end is touched again when the times are set.
-abbrev pub read_at : Tree → ℕ → List ℕ → Meant Held
+abbrev pub read_at : Tree → ℕ → List ℕ → Meant OpenHandle
 read_at t s text = record {
   starts = s ∷ [];
   answer = or_else access_unsupported (opened t s text reading true);
@@ -31,5 +31,5 @@ read_at t s text = record {
 }
 
 -- what the times of a path are set through
-abbrev pub timed_at : Tree → ℕ → List ℕ → Meant Held
+abbrev pub timed_at : Tree → ℕ → List ℕ → Meant OpenHandle
 timed_at t s text = record { starts = s ∷ []; answer = timed t s text; stepped = t; ends = [] }

@@ -12,16 +12,16 @@ use Rattle.wasi_resolve.specs.EntryOps.{ends_in}
 use Rattle.wasi_resolve.specs.Paths.{Place, place}
 
 -- the calls of the resolver that end at two places
-pub data TwoPlaceCall : Type 0 where
-  HardLink : TwoPlaceCall
-  Rename : TwoPlaceCall
+pub data TwoPathOp : Type 0 where
+  HardLink : TwoPathOp
+  Rename : TwoPathOp
 
 pub record Places : Type 0 where
   pub old : Place
   pub new : Place
 
 -- the texts by which the places are found: a rename lets slashes behind its names go
-abbrev pub text_for : TwoPlaceCall → List ℕ → List ℕ
+abbrev pub text_for : TwoPathOp → List ℕ → List ℕ
 text_for HardLink text = text
 text_for Rename text = strip_dir_suffix text
 
@@ -34,20 +34,20 @@ abbrev pub places_in : Tree → ℕ → List ℕ → ℕ → List ℕ → Result
 places_in t old old_text new new_text =
     place t old old_text >>= (λ p. place t new new_text >>= (λ q. Ok (record { old = p; new = q })))
 
-abbrev pub places_for : Tree → ℕ → List ℕ → ℕ → List ℕ → TwoPlaceCall → Result Places ErrorCode
+abbrev pub places_for : Tree → ℕ → List ℕ → ℕ → List ℕ → TwoPathOp → Result Places ErrorCode
 places_for t old old_text new new_text what = places_in t old (text_for what old_text) new (text_for what new_text)
 
 -- the call of the host at the places
-abbrev pub call_at_two : TwoPlaceCall → Bool → Places → HostCall
+abbrev pub call_at_two : TwoPathOp → Bool → Places → HostCall
 call_at_two HardLink requires_dir p = LinkAt p.old.directory p.old.name p.new.directory p.new.name
 call_at_two Rename requires_dir p = RenameAt p.old.directory p.old.name p.new.directory p.new.name requires_dir
 
 -- the answer at the places: nothing but that it was done
-abbrev pub answer_at_two : Tree → TwoPlaceCall → Bool → Places → Result (Unit {0}) ErrorCode
+abbrev pub answer_at_two : Tree → TwoPathOp → Bool → Places → Result (Unit {0}) ErrorCode
 answer_at_two t what requires_dir p = unless (refusal t (call_at_two what requires_dir p)) tt
 
 -- the tree after it
-abbrev pub step_at_two : Tree → TwoPlaceCall → Bool → Result Places ErrorCode → Tree
+abbrev pub step_at_two : Tree → TwoPathOp → Bool → Result Places ErrorCode → Tree
 step_at_two t what requires_dir (Ok p) = step t (call_at_two what requires_dir p)
 step_at_two t what requires_dir (Err code) = t
 

@@ -17,7 +17,7 @@ use Rattle.wasi_host.specs.declared.errors.ErrorCode.{ErrorCode}
 use Rattle.wasi_host.specs.declared.errors.ErrorCode.TheVariants.{Io}
 use Rattle.wasi_host.specs.declared.errors.HostError.{HostError}
 use Rattle.wasi_host.specs.declared.errors.HostError.TheVariants.{Code, Memory}
-use Rattle.wasi_host.specs.declared.open_handle.Held.{Held}
+use Rattle.wasi_host.specs.declared.open_handle.OpenHandle.{OpenHandle}
 use Rattle.wasi_host.specs.declared.lookup.Lookup.{Lookup}
 use Rattle.wasi_host.specs.declared.metadata.Metadata.{Metadata}
 use Rattle.wasi_paths.specs.Parts as texts
@@ -58,10 +58,10 @@ IsFault e = (e ≡ Memory) ⊎ (e ≡ Code Io)
 
 -- what a walk finds
 pub data Sight : Type 0 where
-  HandleFor : Held → Sight
+  HandleFor : OpenHandle → Sight
   Seen : Metadata → Sight
 
-abbrev pub shown_found : (ℕ → Held) → Found → Sight
+abbrev pub shown_found : (ℕ → OpenHandle) → Found → Sight
 shown_found held (found.Handle h) = HandleFor (held h)
 shown_found held (found.Metadata metadata) = Seen metadata
 
@@ -81,7 +81,7 @@ meant_at t Look s outcome = record {
 }
 
 -- what one open of the host means
-abbrev pub open_meant : Tree → ℕ → List ℕ → Options → Meant Held
+abbrev pub open_meant : Tree → ℕ → List ℕ → Options → Meant OpenHandle
 open_meant t d name o = record {
   starts = d ∷ [];
   answer = host.open_answer t d name o;

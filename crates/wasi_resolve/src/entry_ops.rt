@@ -3,7 +3,7 @@ ghost use Rattle.std.specs.Prelude.{◌≡◌, ◌≤◌, ◌+◌, ◌*◌, ◌<
 ghost use Rattle.std.specs.FinSet.{contains};
 ghost use Rattle.std.specs.String.{string_bytes};
 ghost use Rattle.wasi_host.specs.HostLaws.{HasCause};
-ghost use Rattle.wasi_host.specs.Lineage.{Traced, Only, Nothing};
+ghost use Rattle.wasi_host.specs.Lineage.{HasProvenance, Only, Nothing};
 ghost use Rattle.wasi_host.specs.Numbers.{longest_link};
 ghost use Rattle.wasi_host.specs.declared.errors.ErrorCode.TheVariants as codes;
 ghost use Rattle.wasi_host.specs.declared.errors.HostError.TheVariants.{Code};
@@ -36,7 +36,7 @@ pub fn create_dir<H: Host>(
     requires live { contains (H.live host.old) start ≡ true }
     ensures cause { HasCause (H.faults host.old) (H.faults host.new) result }
     ensures live { H.live host.new ≡ H.live host.old }
-    ensures lineage { Traced (Only start) Nothing Nothing (H.lookups host.old) (H.lookups host.new) }
+    ensures lineage { HasProvenance (Only start) Nothing Nothing (H.lookups host.old) (H.lookups host.new) }
     ensures links { links_read (H.lookups host.new) ≤ links_read (H.lookups host.old) + 40 }
     ensures told { IsTrue H.told → Resolved (H.live host.old) (H.world host.old) (H.world host.new)
         (does_at (H.world host.old).tree ((H.world host.old).held start).node path.now CreateDir)
@@ -66,7 +66,7 @@ pub fn remove_file<H: Host>(
     requires live { contains (H.live host.old) start ≡ true }
     ensures cause { HasCause (H.faults host.old) (H.faults host.new) result }
     ensures live { H.live host.new ≡ H.live host.old }
-    ensures lineage { Traced (Only start) Nothing Nothing (H.lookups host.old) (H.lookups host.new) }
+    ensures lineage { HasProvenance (Only start) Nothing Nothing (H.lookups host.old) (H.lookups host.new) }
     ensures links { links_read (H.lookups host.new) ≤ links_read (H.lookups host.old) + 40 }
     ensures told { IsTrue H.told → Resolved (H.live host.old) (H.world host.old) (H.world host.new)
         (does_at (H.world host.old).tree ((H.world host.old).held start).node path.now RemoveFile)
@@ -90,7 +90,7 @@ pub fn remove_dir<H: Host>(
     requires live { contains (H.live host.old) start ≡ true }
     ensures cause { HasCause (H.faults host.old) (H.faults host.new) result }
     ensures live { H.live host.new ≡ H.live host.old }
-    ensures lineage { Traced (Only start) Nothing Nothing (H.lookups host.old) (H.lookups host.new) }
+    ensures lineage { HasProvenance (Only start) Nothing Nothing (H.lookups host.old) (H.lookups host.new) }
     ensures links { links_read (H.lookups host.new) ≤ links_read (H.lookups host.old) + 40 }
     ensures told { IsTrue H.told → Resolved (H.live host.old) (H.world host.old) (H.world host.new)
         (does_at (H.world host.old).tree ((H.world host.old).held start).node path.now RemoveDir)
@@ -114,7 +114,7 @@ pub fn symlink<H: Host>(
     requires live { contains (H.live host.old) start ≡ true }
     ensures cause { HasCause (H.faults host.old) (H.faults host.new) result }
     ensures live { H.live host.new ≡ H.live host.old }
-    ensures lineage { Traced (Only start) Nothing Nothing (H.lookups host.old) (H.lookups host.new) }
+    ensures lineage { HasProvenance (Only start) Nothing Nothing (H.lookups host.old) (H.lookups host.new) }
     ensures links { links_read (H.lookups host.new) ≤ links_read (H.lookups host.old) + 40 }
     ensures rooted { has_root target.now ≡ true
         → (result ≡ Err (Code codes.NotPermitted)) × (host.new ≡ host.old) }
@@ -146,7 +146,7 @@ pub fn set_times_nofollow<H: Host>(
     requires live { contains (H.live host.old) start ≡ true }
     ensures cause { HasCause (H.faults host.old) (H.faults host.new) result }
     ensures live { H.live host.new ≡ H.live host.old }
-    ensures lineage { Traced (Only start) Nothing Nothing (H.lookups host.old) (H.lookups host.new) }
+    ensures lineage { HasProvenance (Only start) Nothing Nothing (H.lookups host.old) (H.lookups host.new) }
     ensures links { links_read (H.lookups host.new) ≤ links_read (H.lookups host.old) + 40 }
     ensures told { IsTrue H.told → Resolved (H.live host.old) (H.world host.old) (H.world host.new)
         (does_at (H.world host.old).tree ((H.world host.old).held start).node path.now (SetTimes atime mtime))
@@ -179,7 +179,7 @@ fn change_in<H: Host>(
     requires { contains (H.live host.old) directory ≡ true }
     ensures cause { HasCause (H.faults host.old) (H.faults host.new) result }
     ensures live { H.live host.new ≡ H.live host.old }
-    ensures lineage { Traced (Only directory) Nothing Nothing (H.lookups host.old) (H.lookups host.new) }
+    ensures lineage { HasProvenance (Only directory) Nothing Nothing (H.lookups host.old) (H.lookups host.new) }
     ensures reads { FewReads 1 0 (H.lookups host.old) (H.lookups host.new) }
     ensures told { IsTrue H.told → Resolved (H.live host.old) (H.world host.old) (H.world host.new)
         (done_in (H.world host.old).tree ((H.world host.old).held directory).node
@@ -207,7 +207,7 @@ fn change_at<H: Host>(
     requires live { contains (H.live host.old) start ≡ true }
     ensures cause { HasCause (H.faults host.old) (H.faults host.new) result }
     ensures live { H.live host.new ≡ H.live host.old }
-    ensures lineage { Traced (Only start) Nothing Nothing (H.lookups host.old) (H.lookups host.new) }
+    ensures lineage { HasProvenance (Only start) Nothing Nothing (H.lookups host.old) (H.lookups host.new) }
     ensures links { links_read (H.lookups host.new) ≤ links_read (H.lookups host.old) + 40 }
     ensures told { IsTrue H.told → Resolved (H.live host.old) (H.world host.old) (H.world host.new)
         (done_in (H.world host.old).tree ((H.world host.old).held start).node
@@ -237,7 +237,7 @@ pub fn read_link<H: Host>(
     requires live { contains (H.live host.old) start ≡ true }
     ensures cause { HasCause (H.faults host.old) (H.faults host.new) result }
     ensures live { H.live host.new ≡ H.live host.old }
-    ensures lineage { Traced (Only start) Nothing Nothing (H.lookups host.old) (H.lookups host.new) }
+    ensures lineage { HasProvenance (Only start) Nothing Nothing (H.lookups host.old) (H.lookups host.new) }
     ensures links { links_read (H.lookups host.new) ≤ links_read (H.lookups host.old) + 41 }
     ensures some { IfOk result (λ text. 0 < length (string_bytes text)) }
     ensures most { IfOk result (λ text. length (string_bytes text) ≤ longest_link) }
@@ -267,7 +267,7 @@ fn unrooted_link_at<H: Host>(
     requires { contains (H.live host.old) directory ≡ true }
     ensures cause { HasCause (H.faults host.old) (H.faults host.new) result }
     ensures live { H.live host.new ≡ H.live host.old }
-    ensures lineage { Traced (Only directory) Nothing Nothing (H.lookups host.old) (H.lookups host.new) }
+    ensures lineage { HasProvenance (Only directory) Nothing Nothing (H.lookups host.old) (H.lookups host.new) }
     ensures reads { FewReads 1 1 (H.lookups host.old) (H.lookups host.new) }
     ensures some { IfOk result (λ text. 0 < length (string_bytes text)) }
     ensures most { IfOk result (λ text. length (string_bytes text) ≤ longest_link) }

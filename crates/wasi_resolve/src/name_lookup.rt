@@ -2,7 +2,7 @@
 ghost use Rattle.std.specs.Prelude.{◌≡◌, ◌∷◌, ◌&&◌, ◌||◌, not, true, false, IsTrue, List};
 ghost use Rattle.std.specs.FinSet.{contains};
 ghost use Rattle.wasi_host.specs.HostLaws.{HasCause, World};
-ghost use Rattle.wasi_host.specs.Lineage.{Traced, Only, Nothing};
+ghost use Rattle.wasi_host.specs.Lineage.{HasProvenance, Only, Nothing};
 ghost use Rattle.wasi_paths.specs.Text.{is_plain};
 ghost use Rattle.wasi_paths.specs.Name.{name_bytes};
 ghost use Rattle.wasi_paths.specs.Parts.{Component, Normal};
@@ -100,7 +100,7 @@ pub(crate) fn open_or_link<H: Host>(
     requires plain { IsTrue (is_plain (name_bytes name)) }
     ensures cause { HasCause (H.faults host.old) (H.faults host.new) result }
     ensures live { LiveWith (H.live host.old) (handle_entered result) (H.live host.new) }
-    ensures lineage { Traced (Only here) Nothing (IsGot (handle_entered result)) (H.lookups host.old) (H.lookups host.new) }
+    ensures lineage { HasProvenance (Only here) Nothing (IsGot (handle_entered result)) (H.lookups host.old) (H.lookups host.new) }
     ensures last { IsLast (handle_entered result) (H.lookups host.new) }
     ensures reads { ReadsOnce (H.lookups host.old) (H.lookups host.new) result }
     ensures once { options.now.dir_required ≡ false → FewReads 1 0 (H.lookups host.old) (H.lookups host.new) }
@@ -193,7 +193,7 @@ pub(crate) fn at_last<'p, H: Host>(
     ensures cause { HasCause (H.faults host.old) (H.faults host.new) result }
     ensures live { LiveWith (H.live host.old) (handle_reached result) (H.live host.new) }
     ensures for_aim { FoundAs aim.now result }
-    ensures lineage { Traced (Only here) Nothing (IsGot (handle_reached result)) (H.lookups host.old) (H.lookups host.new) }
+    ensures lineage { HasProvenance (Only here) Nothing (IsGot (handle_reached result)) (H.lookups host.old) (H.lookups host.new) }
     ensures last { IsLast (handle_reached result) (H.lookups host.new) }
     ensures reads { FewReads 2 0 (H.lookups host.old) (H.lookups host.new) }
     ensures told { IsTrue H.told → EndsAtName (H.live host.old) (H.world host.old) (H.world host.new)

@@ -2,7 +2,7 @@
 ghost use Rattle.std.specs.Prelude.{◌≡◌, ◌≤◌, ◌+◌, true, IsTrue, IfOk, length};
 ghost use Rattle.std.specs.FinSet.{contains};
 ghost use Rattle.wasi_host.specs.HostLaws.{HasCause};
-ghost use Rattle.wasi_host.specs.Lineage.{Traced, Only, Nothing};
+ghost use Rattle.wasi_host.specs.Lineage.{HasProvenance, Only, Nothing};
 ghost use Rattle.wasi_paths.specs.Name.{name_bytes};
 ghost use Rattle.wasi_paths.specs.Part.{component};
 ghost use Rattle.wasi_paths.specs.Parts.{is_empty};
@@ -92,7 +92,7 @@ pub fn open_parent<'p, H: Host>(
     ensures live { LiveParent start (H.live host.old) result (H.live host.new) }
     ensures held { IfOk result (λ parent. contains (H.live host.new) (directory_of parent.directory) ≡ true) }
     ensures closes { IfOk result (λ parent. released (H.live host.new) parent.directory ≡ H.live host.old) }
-    ensures lineage { Traced (Only start) Nothing (GotParent result) (H.lookups host.old) (H.lookups host.new) }
+    ensures lineage { HasProvenance (Only start) Nothing (GotParent result) (H.lookups host.old) (H.lookups host.new) }
     ensures last { IfOk result (λ parent. LastIn parent.directory (H.lookups host.new)) }
     ensures links { links_read (H.lookups host.new) ≤ links_read (H.lookups host.old) + 40 }
     ensures borrowed { IfOk result (λ parent. is_borrowed parent.directory ≡ is_empty (parent_text path.entry.now)) }

@@ -2,7 +2,7 @@
 ghost use Rattle.std.specs.Prelude.{◌≡◌, ◌≤◌, ◌+◌, ◌*◌, true, IsTrue, length};
 ghost use Rattle.std.specs.FinSet.{contains};
 ghost use Rattle.wasi_host.specs.HostLaws.{HasCause, LiveGot};
-ghost use Rattle.wasi_host.specs.Lineage.{Traced, Only, Nothing};
+ghost use Rattle.wasi_host.specs.Lineage.{HasProvenance, Only, Nothing};
 ghost use Rattle.wasi_resolve.specs.Walk.{Open, Look, walk, walk_looks};
 ghost use Rattle.wasi_resolve.specs.Paths.{directory_options};
 ghost use Rattle.wasi_resolve.specs.Resolved.{links_read, GotBy, GotLast, Resolved};
@@ -31,7 +31,7 @@ pub fn open<H: Host>(
     requires live { contains (H.live host.old) start ≡ true }
     ensures cause { HasCause (H.faults host.old) (H.faults host.new) result }
     ensures live { LiveGot (H.live host.old) result (H.live host.new) }
-    ensures lineage { Traced (Only start) Nothing (GotBy result) (H.lookups host.old) (H.lookups host.new) }
+    ensures lineage { HasProvenance (Only start) Nothing (GotBy result) (H.lookups host.old) (H.lookups host.new) }
     ensures last { GotLast result (H.lookups host.new) }
     ensures links { links_read (H.lookups host.new) ≤ links_read (H.lookups host.old) + 40 }
     ensures told { IsTrue H.told → Resolved (H.live host.old) (H.world host.old) (H.world host.new)
@@ -60,7 +60,7 @@ pub fn open_dir<H: Host>(
     requires live { contains (H.live host.old) start ≡ true }
     ensures cause { HasCause (H.faults host.old) (H.faults host.new) result }
     ensures live { LiveGot (H.live host.old) result (H.live host.new) }
-    ensures lineage { Traced (Only start) Nothing (GotBy result) (H.lookups host.old) (H.lookups host.new) }
+    ensures lineage { HasProvenance (Only start) Nothing (GotBy result) (H.lookups host.old) (H.lookups host.new) }
     ensures last { GotLast result (H.lookups host.new) }
     ensures links { links_read (H.lookups host.new) ≤ links_read (H.lookups host.old) + 40 }
     ensures told { IsTrue H.told → Resolved (H.live host.old) (H.world host.old) (H.world host.new)
@@ -87,7 +87,7 @@ pub fn stat<H: Host>(
     requires live { contains (H.live host.old) start ≡ true }
     ensures cause { HasCause (H.faults host.old) (H.faults host.new) result }
     ensures live { H.live host.new ≡ H.live host.old }
-    ensures lineage { Traced (Only start) Nothing Nothing (H.lookups host.old) (H.lookups host.new) }
+    ensures lineage { HasProvenance (Only start) Nothing Nothing (H.lookups host.old) (H.lookups host.new) }
     ensures links { links_read (H.lookups host.new) ≤ links_read (H.lookups host.old) + 40 }
     ensures told { IsTrue H.told → Resolved (H.live host.old) (H.world host.old) (H.world host.new)
         (looks_at (H.world host.old).tree ((H.world host.old).held start).node path.now follow)

@@ -2,7 +2,7 @@
 ghost use Rattle.std.specs.Prelude.{◌≡◌, ◌≤◌, ◌+◌, true, IsTrue, length};
 ghost use Rattle.std.specs.FinSet.{contains};
 ghost use Rattle.wasi_host.specs.HostLaws.{HasCause, LiveGot};
-ghost use Rattle.wasi_host.specs.Lineage.{Traced, Only, Nothing};
+ghost use Rattle.wasi_host.specs.Lineage.{HasProvenance, Only, Nothing};
 ghost use Rattle.wasi_resolve.specs.Walk.{Open, walk, walk_looks};
 ghost use Rattle.wasi_resolve.specs.Paths.{reading, writing};
 ghost use Rattle.wasi_resolve.specs.PathRequest.{TimesPath, meant_by};
@@ -31,7 +31,7 @@ pub fn set_times<H: Host>(
     requires live { contains (H.live host.old) start ≡ true }
     ensures cause { HasCause (H.faults host.old) (H.faults host.new) result }
     ensures live { H.live host.new ≡ H.live host.old }
-    ensures lineage { Traced (Only start) Nothing Nothing (H.lookups host.old) (H.lookups host.new) }
+    ensures lineage { HasProvenance (Only start) Nothing Nothing (H.lookups host.old) (H.lookups host.new) }
     ensures links { links_read (H.lookups host.new) ≤ links_read (H.lookups host.old) + 80 }
     ensures told { IsTrue H.told → Resolved (H.live host.old) (H.world host.old) (H.world host.new)
         (meant_by (H.world host.old).tree
@@ -64,7 +64,7 @@ fn open_to_set<H: Host>(
     requires live { contains (H.live host.old) start ≡ true }
     ensures cause { HasCause (H.faults host.old) (H.faults host.new) result }
     ensures live { LiveGot (H.live host.old) result (H.live host.new) }
-    ensures lineage { Traced (Only start) Nothing (GotBy result) (H.lookups host.old) (H.lookups host.new) }
+    ensures lineage { HasProvenance (Only start) Nothing (GotBy result) (H.lookups host.old) (H.lookups host.new) }
     ensures links { links_read (H.lookups host.new) ≤ links_read (H.lookups host.old) + 80 }
     ensures told { IsTrue H.told → Resolved (H.live host.old) (H.world host.old) (H.world host.new)
         (timed_at (H.world host.old).tree ((H.world host.old).held start).node path.now)

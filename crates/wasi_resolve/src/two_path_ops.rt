@@ -2,7 +2,7 @@
 ghost use Rattle.std.specs.Prelude.{◌≡◌, ◌≤◌, ◌+◌, true, IsTrue, IfOk, OnErr, length};
 ghost use Rattle.std.specs.FinSet.{contains};
 ghost use Rattle.wasi_host.specs.HostLaws.{HasCause};
-ghost use Rattle.wasi_host.specs.Lineage.{Traced, OneOf, Nothing};
+ghost use Rattle.wasi_host.specs.Lineage.{HasProvenance, OneOf, Nothing};
 ghost use Rattle.wasi_paths.specs.Parts.{strip_dir_suffix};
 ghost use Rattle.wasi_resolve.specs.TwoPathOps.{HardLink, Rename, asks_directory};
 ghost use Rattle.wasi_resolve.specs.Parents.{directory_of, parent_looks, released};
@@ -35,7 +35,7 @@ pub fn hard_link<H: Host>(
     requires new { contains (H.live host.old) new ≡ true }
     ensures cause { HasCause (H.faults host.old) (H.faults host.new) result }
     ensures live { H.live host.new ≡ H.live host.old }
-    ensures lineage { Traced (OneOf old new) Nothing Nothing (H.lookups host.old) (H.lookups host.new) }
+    ensures lineage { HasProvenance (OneOf old new) Nothing Nothing (H.lookups host.old) (H.lookups host.new) }
     ensures links { links_read (H.lookups host.new) ≤ links_read (H.lookups host.old) + 80 }
     ensures told { IsTrue H.told → Resolved (H.live host.old) (H.world host.old) (H.world host.new)
         (meant_by (H.world host.old).tree (AtTwo ((H.world host.old).held old).node old_path.now
@@ -80,7 +80,7 @@ pub fn rename<H: Host>(
     requires new { contains (H.live host.old) new ≡ true }
     ensures cause { HasCause (H.faults host.old) (H.faults host.new) result }
     ensures live { H.live host.new ≡ H.live host.old }
-    ensures lineage { Traced (OneOf old new) Nothing Nothing (H.lookups host.old) (H.lookups host.new) }
+    ensures lineage { HasProvenance (OneOf old new) Nothing Nothing (H.lookups host.old) (H.lookups host.new) }
     ensures links { links_read (H.lookups host.new) ≤ links_read (H.lookups host.old) + 80 }
     ensures told { IsTrue H.told → Resolved (H.live host.old) (H.world host.old) (H.world host.new)
         (meant_by (H.world host.old).tree (AtTwo ((H.world host.old).held old).node old_path.now

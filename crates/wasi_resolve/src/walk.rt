@@ -2,7 +2,7 @@
 ghost use Rattle.std.specs.Prelude.{◌≡◌, ◌∷◌, ◌≤◌, ◌+◌, ◌&&◌, ◌||◌, ℕ, true, IsTrue, List, length};
 ghost use Rattle.std.specs.FinSet.{contains};
 ghost use Rattle.wasi_host.specs.HostLaws.{HasCause, World};
-ghost use Rattle.wasi_host.specs.Lineage.{Traced, Only, Nothing};
+ghost use Rattle.wasi_host.specs.Lineage.{HasProvenance, Only, Nothing};
 ghost use Rattle.wasi_paths.specs.Parts.{Component, trailing_slash, is_empty};
 ghost use Rattle.wasi_resolve.specs.Walk.{walk, walk_looks};
 ghost use Rattle.wasi_resolve.specs.Left.{component_left, parts_left, is_nil};
@@ -89,7 +89,7 @@ fn at_dot<H: Host>(host: &mut H, here: Handle, aim: &Aim) -> Result<Found, HostE
     ensures cause { HasCause (H.faults host.old) (H.faults host.new) result }
     ensures live { LiveWith (H.live host.old) (handle_found result) (H.live host.new) }
     ensures for_aim { FoundOf aim.now result }
-    ensures lineage { Traced (Only here) Nothing (IsGot (handle_found result)) (H.lookups host.old) (H.lookups host.new) }
+    ensures lineage { HasProvenance (Only here) Nothing (IsGot (handle_found result)) (H.lookups host.old) (H.lookups host.new) }
     ensures last { IsLast (handle_found result) (H.lookups host.new) }
     ensures reads { FewReads 1 0 (H.lookups host.old) (H.lookups host.new) }
     ensures told { IsTrue H.told → EndsInDirectory (H.live host.old) (H.world host.old) (H.world host.new)
@@ -168,7 +168,7 @@ fn read_link<'p, H: Host>(
     requires { contains (H.live host.old) here ≡ true }
     ensures cause { HasCause (H.faults host.old) (H.faults host.new) result }
     ensures live { H.live host.new ≡ H.live host.old }
-    ensures lineage { Traced (Only here) Nothing Nothing (H.lookups host.old) (H.lookups host.new) }
+    ensures lineage { HasProvenance (Only here) Nothing Nothing (H.lookups host.old) (H.lookups host.new) }
     ensures reads { FewReads 1 1 (H.lookups host.old) (H.lookups host.new) }
     ensures told { IsTrue H.told → ReadsLink (H.live host.old) (H.world host.old) (H.world host.new)
         (record { directory = ((H.world host.old).held here).node; name = name.entry.text.now })
@@ -196,7 +196,7 @@ fn along<'p, H: Host>(
     ensures stands { (first : _) → Stands first (H.live host.old) start way.old.stack.items
         → StandsWith first (H.live host.new) start way.new.stack.items (handle_found result) }
     ensures for_aim { FoundOf aim.now result }
-    ensures lineage { Traced (Among start way.old.stack.items) Nothing (IsGot (handle_found result))
+    ensures lineage { HasProvenance (Among start way.old.stack.items) Nothing (IsGot (handle_found result))
         (H.lookups host.old) (H.lookups host.new) }
     ensures last { IsLast (handle_found result) (H.lookups host.new) }
     ensures links { links_read (H.lookups host.new) ≤ links_read (H.lookups host.old) + 40 }
@@ -245,7 +245,7 @@ pub(crate) fn walk<'p, H: Host>(
     ensures cause { HasCause (H.faults host.old) (H.faults host.new) result }
     ensures live { LiveWith (H.live host.old) (handle_found result) (H.live host.new) }
     ensures for_aim { FoundOf aim.now result }
-    ensures lineage { Traced (Only start) Nothing (IsGot (handle_found result)) (H.lookups host.old) (H.lookups host.new) }
+    ensures lineage { HasProvenance (Only start) Nothing (IsGot (handle_found result)) (H.lookups host.old) (H.lookups host.new) }
     ensures last { IsLast (handle_found result) (H.lookups host.new) }
     ensures links { links_read (H.lookups host.new) ≤ links_read (H.lookups host.old) + 40 }
     ensures told { IsTrue H.told → Resolved (H.live host.old) (H.world host.old) (H.world host.new)

@@ -11,18 +11,18 @@ use Rattle.wasi_host.specs.Tree.{Tree, Nodes}
 use Rattle.wasi_audit.specs.Audits.{Stems, Audited, first_stems, noted_lists, started}
 use Rattle.wasi_audit.proofs.Membership.{Contains-noted, length-noted_lists, noted-rising, started-count}
 use Rattle.wasi_guest.specs.declared.answer.Answer.{Answer}
-use Rattle.wasi_p1_model.specs.CallTurn.{Turns, in_world}
+use Rattle.wasi_p1_model.specs.CallTransition.{Turns, in_world}
 use Rattle.wasi_p1_model.specs.DescriptorLaws.{FitsTable}
 use Rattle.wasi_p1_model.specs.Front.{FueledCall}
 use Rattle.wasi_p1_model.specs.Guest.{Guest, State}
 use Rattle.wasi_p1_model.specs.Reach.{Confined}
 use Rattle.wasi_p1_model.specs.Calls.{descriptors_named}
-use Rattle.wasi_p1_model.specs.Run.{Turned, Played, Faulted, Allows, DidRun, ends, ends_of, ios, named}
+use Rattle.wasi_p1_model.specs.Trace.{TraceStep, Played, Faulted, Allows, RefinesTrace, ends, ends_of, ios, named}
 use Rattle.wasi_p1_model.proofs.Confining.{turn_confines}
 use Rattle.wasi_p1_model.proofs.Runs.{SoFar, all_done, all_done_turns, ended, ended_turns, io_counted, nothing_yet, nothing_yet_turns, turn_ends, turn_of, turned, turned_on, turned_on_turns}
 use Rattle.wasi_p1_model.proofs.Stemming.{numbers_fit}
 use Rattle.wasi_setup.proofs.Starts.{confined_at_start}
-use Rattle.wasi_script.specs.Through.{Stemmed, stems_behind, stemmed, GoesThrough, IsNearTurn, ListsThrough, IsListed}
+use Rattle.wasi_script.specs.Through.{Stemmed, stems_behind, stemmed, GoesThrough, IsLocalStep, ListsThrough, IsListed}
 use Rattle.wasi_script.specs.AuditedRun.{AuditedTurn, AuditedRun, Covers, StartsAudit}
 use Rattle.wasi_script.proofs.StemLemmas.{stems_over, over_more, stemmed_more, covers_on, near_through}
 use Rattle.wasi_setup.proofs.ListedNodes.{in_listed, in_list}
@@ -65,7 +65,7 @@ widened {paths = paths} {fresh = fresh} old new touches stays adds from = record
 -- a run whose touched nodes are those that are listed
 audited : {before now : FaultCount} {first last : State} {calls : List FueledCall} {answered : List Answer} {stems : Stems}
     {lists : List (List ℕ)} → Allows before now (ios answered)
-    → (ran : DidRun before now first calls answered last (listed_set lists))
+    → (ran : RefinesTrace before now first calls answered last (listed_set lists))
     → ((i : ℕ) (list : List ℕ) → slice_get lists i ≡ Some list → ListsThrough (stemmed stems ran.turns) i list)
     → Confined first last (listed_set lists) → AuditedRun before now first calls stems lists
 audited {before} {now} {last = last} {lists = lists} errors ran through confined = record {
@@ -85,7 +85,7 @@ module _ {before now after : FaultCount} {first : State} {stems : Stems} {given 
     {w v : World} {g g' : Guest} {call : FueledCall} {was is : Audited} {answer : Answer}
     (so : NotedSoFar before now first stems given most calls (in_world w g) was)
     (made : AuditedTurn now after w v g g' call was is answer) where
-  abbrev t : Turned
+  abbrev t : TraceStep
   t = turned (in_world w g) call answer (in_world v g')
 
   abbrev names : List ℕ
@@ -104,7 +104,7 @@ module _ {before now after : FaultCount} {first : State} {stems : Stems} {given 
   touched_now : (n : ℕ) → Contains made.touched n → contains v.touched n ≡ true
   touched_now n has = subst (λ s. contains s n ≡ true) made.touched_are (in_list made.touched n has)
 
-  near_now : (n : ℕ) → Contains made.touched n → IsNearTurn n t
+  near_now : (n : ℕ) → Contains made.touched n → IsLocalStep n t
   near_now n has = elim (made.near.near n (touched_now n has)) [
     | inl none ↦ absurd (let never = contains-empty nat_cmp n in cc)
     | inr near ↦ near

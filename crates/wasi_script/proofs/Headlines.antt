@@ -21,7 +21,7 @@ use Rattle.wasi_p1_model.specs.Reach.{Confined}
 use Rattle.wasi_report.specs.Report.{report_text}
 use Rattle.wasi_report.specs.ReadBack.{IsOrdered}
 use Rattle.wasi_p1_model.specs.Front.{FueledCall}
-use Rattle.wasi_p1_model.specs.Run.{Turned, Spends, Run, Allows, DidRun, ends, ios, named}
+use Rattle.wasi_p1_model.specs.Trace.{TraceStep, Spends, Trace, Allows, RefinesTrace, ends, ios, named}
 use Rattle.wasi_form.specs.Plan.{Plan}
 use Rattle.wasi_p1_model.specs.Slots.{View}
 use Rattle.wasi_setup.specs.Start.{seen_by, start, with_pieces, world_behind, IsBegun}
@@ -32,22 +32,22 @@ use Rattle.wasi_script.proofs.KeptTrees.{starts_opened}
 use Rattle.wasi_setup.proofs.ListedNodes.{in_listed, in_list}
 
 -- a run with so many faulted turns at most is one with more of them at most
-pub run_more : (calls : List FueledCall) (turns : List Turned) (j k : ℕ) (old new : State) → j ≤ k
-    → Run j old calls turns new → Run k old calls turns new
+pub run_more : (calls : List FueledCall) (turns : List TraceStep) (j k : ℕ) (old new : State) → j ≤ k
+    → Trace j old calls turns new → Trace k old calls turns new
 run_more [] [] j k old new fits run = run
 run_more [] (t ∷ turns) j k old new fits run = absurd run
 run_more (call ∷ calls) [] j k old new fits run = absurd run
 run_more (call ∷ calls) (t ∷ turns) j k old new fits (i, before, is, spends, rest) =
     by (λ m less. run_more calls turns i m t.after new less) spends
   where
-    later : (m : ℕ) → (Run i t.after calls turns new → Run m t.after calls turns new) → (b : Bool)
-        → MatchBool b ((turns ≡ []) × (new ≡ t.after)) (Run i t.after calls turns new)
-        → MatchBool b ((turns ≡ []) × (new ≡ t.after)) (Run m t.after calls turns new)
+    later : (m : ℕ) → (Trace i t.after calls turns new → Trace m t.after calls turns new) → (b : Bool)
+        → MatchBool b ((turns ≡ []) × (new ≡ t.after)) (Trace i t.after calls turns new)
+        → MatchBool b ((turns ≡ []) × (new ≡ t.after)) (Trace m t.after calls turns new)
     later m more true ended = ended
     later m more false on = more on
 
-    by : ((m : ℕ) → i ≤ m → Run i t.after calls turns new → Run m t.after calls turns new) → Spends j i t
-        → Run k old (call ∷ calls) (t ∷ turns) new
+    by : ((m : ℕ) → i ≤ m → Trace i t.after calls turns new → Trace m t.after calls turns new) → Spends j i t
+        → Trace k old (call ∷ calls) (t ∷ turns) new
     by more (inl (played, same)) =
         (k, before, is, inl (played, refl), later k (more k (omega (arith, same))) (ends t.answer) rest)
     by more (inr (faulted, same)) =
@@ -99,11 +99,11 @@ module _ {T : Type 0} {world : T → World} (seen : T → MemState) (same : (t :
 -- a run of a plan's calls from its start, over a host that fails at most as often as the plan lists faults
 pub has_run : {plan : Plan} {first last : State} {answers : List Answer} {touched : Nodes} (before now : FaultCount)
     → ((k : ℕ) → Allows before now k → k ≤ length plan.faults) → first ≡ start plan
-    → DidRun before now first (fueled_calls plan) answers last touched → Allows before now (ios answers)
+    → RefinesTrace before now first (fueled_calls plan) answers last touched → Allows before now (ios answers)
     → Confined first last touched → HasRun plan last answers touched
 has_run {plan} {first} {last} {answers} {touched} before now few begins ran allowed confined =
-    let from_start : DidRun before now (start plan) (fueled_calls plan) answers last touched =
-    subst (λ s. DidRun before now s (fueled_calls plan) answers last touched) begins ran in
+    let from_start : RefinesTrace before now (start plan) (fueled_calls plan) answers last touched =
+    subst (λ s. RefinesTrace before now s (fueled_calls plan) answers last touched) begins ran in
     record {
       turns = from_start.turns;
       run = run_more (fueled_calls plan) from_start.turns from_start.faults (length plan.faults) (start plan) last

@@ -18,38 +18,38 @@ use Rattle.wasi_guest.specs.declared.answer.Value.{Value}
 use Rattle.wasi_guest.specs.declared.answer.Value.TheVariants.{Number}
 use Rattle.wasi_guest.specs.declared.call.Call.{Call}
 use Rattle.wasi_guest.specs.declared.call.Call.TheVariants as calls
-use Rattle.wasi_p1_model.specs.CallTurn.{Turns, in_world}
+use Rattle.wasi_p1_model.specs.CallTransition.{Turns, in_world}
 use Rattle.wasi_p1_model.specs.DescriptorLaws.{FitsTable}
 use Rattle.wasi_p1_model.specs.Front.{FueledCall, with_fuel}
 use Rattle.wasi_p1_model.specs.Guest.{Guest, State, node_in}
 use Rattle.wasi_p1_model.specs.Calls.{descriptors_named, turn}
-use Rattle.wasi_p1_model.specs.Run.{Turned, Played, Faulted, answer_of}
+use Rattle.wasi_p1_model.specs.Trace.{TraceStep, Played, Faulted, answer_of}
 use Rattle.wasi_p1_model.specs.Stems.{HasPerms, stems_from}
 use Rattle.wasi_p1_model.specs.declared.error.P1Error.{P1Error}
 use Rattle.wasi_p1_model.specs.declared.error.P1Error.TheVariants.{Errno, Trap, Exit, Memory}
 use Rattle.wasi_p1_model.proofs.Changing.{slot_perms}
 use Rattle.wasi_p1_model.proofs.Closing.{closes_number, renumbering_closes}
 use Rattle.wasi_p1_model.proofs.DescriptorLaws.{opens_the_largest_closed}
-use Rattle.wasi_p1_model.proofs.Near.{changes, leaves}
+use Rattle.wasi_p1_model.proofs.LocalCalls.{changes, leaves}
 use Rattle.wasi_p1_model.proofs.Numbers.{other_number, same_number}
 use Rattle.wasi_p1_model.proofs.Permitting.{turned_permitted}
 use Rattle.wasi_p1_model.proofs.Stemming.{turn_stems}
 use Rattle.wasi_script.specs.AuditedRun.{Covers, NumbersAreShort}
-use Rattle.wasi_script.specs.Through.{effect_of, IsShort, stems_behind, stemmed, GoesThrough, IsNearTurn}
+use Rattle.wasi_script.specs.Through.{effect_of, IsShort, stems_behind, stemmed, GoesThrough, IsLocalStep}
 
 -- ---- one turn more
 
 -- what the numbers stem from behind all of these turns
-abbrev pub stems_over : Stems → List Turned → Stems
+abbrev pub stems_over : Stems → List TraceStep → Stems
 stems_over stems [] = stems
 stems_over stems (t ∷ turns) = stems_over (stems_behind stems t) turns
 
-pub over_more : (stems : Stems) (turns : List Turned) (t : Turned)
+pub over_more : (stems : Stems) (turns : List TraceStep) (t : TraceStep)
     → stems_over stems (turns ++ t ∷ []) ≡ stems_behind (stems_over stems turns) t
 over_more stems [] t = refl
 over_more stems (x ∷ turns) t = over_more (stems_behind stems x) turns t
 
-pub stemmed_more : (stems : Stems) (turns : List Turned) (t : Turned)
+pub stemmed_more : (stems : Stems) (turns : List TraceStep) (t : TraceStep)
     → stemmed stems (turns ++ t ∷ []) ≡ stemmed stems turns ++ record { stems = stems_over stems turns; turn = t } ∷ []
 stemmed_more stems [] t = refl
 stemmed_more stems (x ∷ turns) t =
@@ -93,7 +93,7 @@ kept_stem {i} stems (calls.FdRenumber from to) (answers.Ok x) fd shuts left is =
         renumbered_other stems from to fd (other_number from to apart) (other_number fd from at') (other_number fd to at) ∙ is
 kept_stem stems call answer fd shuts left is = is
 
-pub covers_on : (stems : Stems) (n : ℕ) (t : Turned) → Played t ⊎ Faulted t → Covers stems n t.before.guest
+pub covers_on : (stems : Stems) (n : ℕ) (t : TraceStep) → Played t ⊎ Faulted t → Covers stems n t.before.guest
     → Covers (stems_behind stems t) n t.after.guest
 covers_on stems n t took covers fd perms has =
     let (i, is, within) = covers _ perms (turn_stems t took fd perms has) in (
@@ -127,8 +127,8 @@ named_through {perms} stems n g call fd covers named has =
     let (i, is, within) = covers fd perms has in
     (i, (named_from stems (descriptors_named g.memory call) i).1 (fd, named, is), within)
 
-pub near_through : (stems : Stems) (most : ℕ) (t : Turned) → Played t ⊎ Faulted t → Covers stems most t.before.guest
-    → (n : ℕ) → IsNearTurn n t
+pub near_through : (stems : Stems) (most : ℕ) (t : TraceStep) → Played t ⊎ Faulted t → Covers stems most t.before.guest
+    → (n : ℕ) → IsLocalStep n t
     → (i : ℕ) × GoesThrough i (record { stems = stems; turn = t }) × (i < most)
 near_through stems most t took covers n (inl reached) =
     let g = t.before.guest in

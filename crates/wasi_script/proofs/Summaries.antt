@@ -12,7 +12,7 @@ use Rattle.wasi_guest.specs.declared.answer.Answer.{Answer}
 use Rattle.wasi_guest.specs.declared.call.Call.{Call}
 use Rattle.wasi_tree.specs.MemState.{MemState}
 use Rattle.wasi_p1_model.specs.Guest.{state_of}
-use Rattle.wasi_p1_model.specs.Run.{is_success}
+use Rattle.wasi_p1_model.specs.Trace.{is_success}
 use Rattle.wasi_form.specs.Plan.{Plan}
 use Rattle.wasi_script_gen.specs.GenScript.{gen_script}
 use Rattle.wasi_script.specs.HasRun.{IsRanOf}

@@ -15,7 +15,7 @@ use Rattle.wasi_report.specs.TrialReadBack.{FitsTrial}
 use Rattle.wasi_host_faults.specs.Faults.{Failing}
 use Rattle.wasi_tree.specs.MemState.{MemState}
 use Rattle.wasi_p1_model.specs.Guest.{State, state_of}
-use Rattle.wasi_p1_model.specs.Run.{Turned}
+use Rattle.wasi_p1_model.specs.Trace.{TraceStep}
 use Rattle.wasi_setup.specs.Start.{world_behind}
 use Rattle.wasi_setup.specs.ReportAfter.{report_after}
 use Rattle.wasi_script.specs.HasRun.{IsRanOf, IsToldOf}
@@ -43,7 +43,7 @@ unfolding FitsTrial reported
 tries base all end (Err error) base-is ran came told = tt
 tries {plan} base all end (Ok text) base-is ran came told =
     let last : State = state_of world_behind all.context all.memory in
-    let report : List Turned → Report = λ turns. report_after plan.show turns last end.outcome.touched.items in
+    let report : List TraceStep → Report = λ turns. report_after plan.show turns last end.outcome.touched.items in
     let report-is : report_of end.outcome end.host.inner.tree.nodes ≡ record (report []) { answers = all.answers.answers } =
     rw (came.answers, came.shown, ran.show, came.stdout, came.stderr, came.host) refl in
     let fits = rw report-is at told.fits in

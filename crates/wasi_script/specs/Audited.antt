@@ -12,7 +12,7 @@ use Rattle.wasi_script.specs.declared.audited.ScriptAudit.{ScriptAudit}
 use Rattle.wasi_setup.specs.Start.{start}
 use Rattle.wasi_p1_model.specs.Guest.{State}
 use Rattle.wasi_p1_model.specs.Reach.{InReach}
-use Rattle.wasi_p1_model.specs.Run.{Turned, Run, answers_of, ios, named}
+use Rattle.wasi_p1_model.specs.Trace.{TraceStep, Trace, answers_of, ios, named}
 
 -- the names of the directories that the guest is given
 abbrev pub names_given : Plan → List (List ℕ)
@@ -27,11 +27,11 @@ listed_preopens names lists = map (λ (p : List ℕ × List ℕ). record { name 
 -- call answered Ok ended is among them, and each is reached from a directory that the guest was given, or was made by the
 -- run. There is a list for each such directory, in the plan's order, and the lists together are the touched nodes.
 pub record Audits (plan : Plan) (text : List ℕ) : Type 0 where
-  pub turns : List Turned
+  pub turns : List TraceStep
   pub last : State
   pub lists : List (List ℕ)
   pub touched : List ℕ
-  pub run : Run (length plan.faults) (start plan) (fueled_calls plan) turns last
+  pub run : Trace (length plan.faults) (start plan) (fueled_calls plan) turns last
   pub few : ios (answers_of turns) ≤ length plan.faults
   pub rising : IsStrictlyIncreasing touched
   pub ends : All (Contains touched) (named turns)
@@ -48,9 +48,9 @@ pub record Audits (plan : Plan) (text : List ℕ) : Type 0 where
 
 -- lists that are those of such a run
 pub record HasAudit (plan : Plan) (lists : List (List ℕ)) : Type 0 where
-  pub turns : List Turned
+  pub turns : List TraceStep
   pub last : State
-  pub run : Run (length plan.faults) (start plan) (fueled_calls plan) turns last
+  pub run : Trace (length plan.faults) (start plan) (fueled_calls plan) turns last
   pub few : ios (answers_of turns) ≤ length plan.faults
   pub ends : All (IsListed lists) (named turns)
   pub in_reach : (n : ℕ) → IsListed lists n → InReach (start plan) last n

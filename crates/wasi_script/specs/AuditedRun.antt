@@ -8,14 +8,14 @@ use Rattle.wasi_fs.specs.declared.perms.FsPerms.{FsPerms}
 use Rattle.wasi_guest.specs.declared.answer.Answer.{Answer}
 use Rattle.wasi_guest.specs.declared.answer.Value.{Value}
 use Rattle.wasi_host.specs.HostLaws.{World, FaultCount, Rose, forgotten}
-use Rattle.wasi_p1_model.specs.CallTurn.{Causes, Turns}
+use Rattle.wasi_p1_model.specs.CallTransition.{Causes, Turns}
 use Rattle.wasi_p1_model.specs.DescriptorLaws.{FitsTable}
 use Rattle.wasi_p1_model.specs.Front.{FueledCall}
 use Rattle.wasi_p1_model.specs.Guest.{Guest, State}
-use Rattle.wasi_p1_model.specs.Near.{TouchesOnlyNear}
+use Rattle.wasi_p1_model.specs.Locality.{TouchesOnlyNear}
 use Rattle.wasi_p1_model.specs.Reach.{InReach}
 use Rattle.wasi_p1_model.specs.Calls.{descriptors_named}
-use Rattle.wasi_p1_model.specs.Run.{Turned, Run, Allows, answer_of, answers_of, ios, named}
+use Rattle.wasi_p1_model.specs.Trace.{TraceStep, Trace, Allows, answer_of, answers_of, ios, named}
 use Rattle.wasi_p1_model.specs.Stems.{HasPerms}
 use Rattle.wasi_p1_model.specs.declared.error.P1Error.{P1Error}
 use Rattle.wasi_script.specs.Through.{effect_of, stemmed, ListsThrough, IsListed}
@@ -51,11 +51,11 @@ pub record AuditedTurn (before now : FaultCount) (w v : World) (g g' : Guest) (c
 -- given, where this is what the numbers stem from before the run
 pub record AuditedRun (before now : FaultCount) (first : State) (calls : List FueledCall) (stems : Stems)
     (lists : List (List ℕ)) : Type 0 where
-  pub turns : List Turned
+  pub turns : List TraceStep
   pub last : State
   pub faults : ℕ
   pub allowed : Allows before now faults
-  pub run : Run faults first calls turns last
+  pub run : Trace faults first calls turns last
   pub errors : Allows before now (ios (answers_of turns))
   pub ends : All (IsListed lists) (named turns)
   pub in_reach : (n : ℕ) → IsListed lists n → InReach first last n

@@ -7,7 +7,7 @@ use Rattle.wasi_host.specs.Tree.{Nodes}
 use Rattle.wasi_tree.specs.MemState.{MemState}
 use Rattle.wasi_p1_model.specs.Guest.{State, state_of}
 use Rattle.wasi_p1_model.specs.Reach.{Confined}
-use Rattle.wasi_p1_model.specs.Run.{Turned, Run, answers_of, ios, named}
+use Rattle.wasi_p1_model.specs.Trace.{TraceStep, Trace, answers_of, ios, named}
 use Rattle.wasi_guest.specs.declared.answer.Answer.{Answer}
 use Rattle.wasi_form.specs.Plan.{Plan}
 use Rattle.wasi_script.specs.Headline.{fueled_calls}
@@ -20,8 +20,8 @@ use Rattle.wasi_script.specs.declared.run.Ran.{Ran}
 -- turns are faulted, and at most as many answers are `io`, as the plan lists faults. Each node at which a path of a call
 -- answered Ok ended was touched, and each touched node is reached from a directory that the guest was given, or was made.
 pub record HasRun (plan : Plan) (last : State) (answers : List Answer) (touched : Nodes) : Type 0 where
-  pub turns : List Turned
-  pub run : Run (length plan.faults) (start plan) (fueled_calls plan) turns last
+  pub turns : List TraceStep
+  pub run : Trace (length plan.faults) (start plan) (fueled_calls plan) turns last
   pub answers_are : answers ≡ answers_of turns
   pub few : ios answers ≤ length plan.faults
   pub ends : All (λ n. contains touched n ≡ true) (named turns)

@@ -14,7 +14,7 @@ use Rattle.wasi_p1_model.specs.Reach.{InReach}
 use Rattle.wasi_report.specs.Report.{Report, report_text}
 use Rattle.wasi_report.specs.ReadBack.{IsOrdered}
 use Rattle.wasi_p1_model.specs.QuotaLaws.{CountsUse, StaysWithinQuotas}
-use Rattle.wasi_p1_model.specs.Run.{Turned, Run, answers_of, ios, named}
+use Rattle.wasi_p1_model.specs.Trace.{TraceStep, Trace, answers_of, ios, named}
 use Rattle.wasi_form.specs.Plan.{Plan}
 use Rattle.wasi_setup.specs.ReportAfter.{report_after}
 use Rattle.wasi_setup.specs.Start.{start}
@@ -31,10 +31,10 @@ fueled_calls plan = map (with_fuel plan.fuel) plan.calls
 -- the bytes by which it makes files longer, are at most what the plan's quota has, and each turn counts its use. The
 -- report is in range and order, so that its text tells it.
 pub record Reports (plan : Plan) (text : List ℕ) : Type 0 where
-  pub turns : List Turned
+  pub turns : List TraceStep
   pub last : State
   pub touched : List ℕ
-  pub run : Run (length plan.faults) (start plan) (fueled_calls plan) turns last
+  pub run : Trace (length plan.faults) (start plan) (fueled_calls plan) turns last
   pub few : ios (answers_of turns) ≤ length plan.faults
   pub rising : IsStrictlySortedBy nat_cmp touched
   pub ends : All (Contains touched) (named turns)

@@ -8,7 +8,7 @@ use Rattle.wasi_guest.specs.declared.answer.Value.TheVariants.{Number}
 use Rattle.wasi_guest.specs.declared.call.Call.{Call}
 use Rattle.wasi_guest.specs.declared.call.Call.TheVariants as calls
 use Rattle.wasi_p1_model.specs.Guest.{State}
-use Rattle.wasi_p1_model.specs.Run.{Turned, Run, answers_of, is_success}
+use Rattle.wasi_p1_model.specs.Trace.{TraceStep, Trace, answers_of, is_success}
 use Rattle.wasi_script_gen.specs.GenScript.{gen_script}
 use Rattle.wasi_script.specs.Headline.{fueled_calls}
 use Rattle.wasi_setup.specs.Start.{start}
@@ -41,8 +41,8 @@ summary_line n calls ok bytes nodes = codes "gen " ++ decimal n ++ codes ": " ++
 -- The text is the line of a run of the script of `gen n`, of which no call fails: how many calls the script has, how many
 -- answers are Ok, how many bytes `fd_read` was answered, and how many nodes the tree has after the run.
 pub record Summarizes (n : ℕ) (text : List ℕ) : Type 0 where
-  pub turns : List Turned
+  pub turns : List TraceStep
   pub last : State
-  pub run : Run 0 (start (gen_script n)) (fueled_calls (gen_script n)) turns last
+  pub run : Trace 0 (start (gen_script n)) (fueled_calls (gen_script n)) turns last
   pub text_is : text ≡ summary_line n (length (gen_script n).calls) (count_by is_success (answers_of turns))
       (bytes_answered (gen_script n).calls (answers_of turns)) (length last.tree.nodes)

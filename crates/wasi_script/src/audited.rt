@@ -21,7 +21,7 @@ use wasi_form::{Script, ScriptPreopen};
 use wasi_guest::{Answer, Call, GuestMemory, Value};
 use wasi_p1::{WasiP1Ctx, answer_of, call, ends_run, named};
 use wasi_report::{PreopenNodes, audit_in};
-use wasi_setup::{Beginning, begin};
+use wasi_setup::{Setup, begin};
 use wasi_tree::MemTree;
 
 /// The audit of a script whose calls were made, and the names of the directories that the guest was given, in order.
@@ -119,7 +119,7 @@ fn audit(alloc: Global, script: Script) -> Result<ScriptAudit, AllocError>
 {
     let names = names_of(alloc, script.session.preopens.as_slice())?;
     let mut audit = Audit::new(alloc, names.len() as u32)?;
-    let Beginning {
+    let Setup {
         mut memory,
         context,
         fuel,

@@ -1,7 +1,7 @@
 //! The line that is written of the script of a number.
 ghost use Rattle.std.specs.Prelude.{◌≡◌, ◌<◌, ◌≤◌, count_by, IfOk};
 ghost use Rattle.std.specs.String.{string_bytes};
-ghost use Rattle.wasi_p1_model.specs.Run.{is_success};
+ghost use Rattle.wasi_p1_model.specs.Trace.{is_success};
 ghost use Rattle.wasi_script.specs.Summary as specs;
 
 use crate::run::run;

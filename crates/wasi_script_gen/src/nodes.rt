@@ -8,7 +8,7 @@ ghost use Rattle.wasi_script_gen.specs.GenNodes.{root_entry, nodes_of_kind};
 
 use std::alloc::{AllocError, Global};
 use wasi_host::Limits;
-use wasi_tree::{FitNodes, NewContent, NewEntry, NewNode, TreeError};
+use wasi_tree::{WellFormedNodes, NewContent, NewEntry, NewNode, TreeError};
 
 /// What a node below node 0 is.
 #[derive(Clone, Copy)]
@@ -111,14 +111,14 @@ fn node_list(alloc: Global, n: u64) -> Result<Vec<NewNode>, AllocError>
 }
 
 /// The nodes of the script of `gen n`, of which a tree can be made within these limits.
-pub fn gen_nodes(alloc: Global, n: u64, limits: Limits) -> Result<FitNodes, AllocError>
+pub fn gen_nodes(alloc: Global, n: u64, limits: Limits) -> Result<WellFormedNodes, AllocError>
     requires some { 1 ≤ n }
     requires few { n < 10000 }
     requires nodes { 3 * n < limits.nodes }
     requires links { 1 ≤ limits.links }
     ensures { IfOk result (λ fit. fit ≡ record { nodes = specs.gen_nodes n; limits = limits }) }
 {
-    match FitNodes::new(alloc, node_list(alloc, n)?, limits) {
+    match WellFormedNodes::new(alloc, node_list(alloc, n)?, limits) {
         Ok(fit) => Ok(fit),
         Err(TreeError::Memory) => Err(AllocError),
         Err(TreeError::Invalid(_)) => unreachable!(),

@@ -13,13 +13,13 @@ use Rattle.wasi_host.specs.Options.{Options}
 use Rattle.wasi_host.specs.Step.{step, with_nodes, with_content, content_changed, entry_changed, with_name, without_name, node_made, new_file, new_directory, new_link, other_bytes, with_size, with_piece, with_entry, without_entry, is_cut, file_cut, opened_step, open_step, write_step, one_name_more, added_step, link_step, one_name_less, made_gone, dropped_step, unlink_step, remove_step, name_lost, name_taken, name_moved, moved_step, rename_step, with_times, times_set, times_set_if, times_step}
 use Rattle.wasi_host.specs.Tree.{Tree, Node, Nodes, Content, node_at, next_of, bytes_of, child, hold_one, stray}
 use Rattle.wasi_host.specs.declared.errors.ErrorCode.{ErrorCode}
-use Rattle.wasi_host.specs.declared.open_handle.Held.{Held}
+use Rattle.wasi_host.specs.declared.open_handle.OpenHandle.{OpenHandle}
 use Rattle.wasi_host.specs.declared.system_time.SystemTime.{SystemTime}
 use Rattle.wasi_host.proofs.Chain.{contains-with_nodes}
 use Rattle.wasi_host.proofs.Changes.{changed}
 use Rattle.wasi_host.proofs.Leaving.{Contains-here}
 use Rattle.wasi_resolve.specs.EntryOps as at_place
-use Rattle.wasi_resolve.specs.EntryOps.{PlaceCall, call_at, place_for, step_in}
+use Rattle.wasi_resolve.specs.EntryOps.{EntryOp, call_at, place_for, step_in}
 use Rattle.wasi_resolve.specs.TwoPathOps.{Places, asks_directory, call_at_two, places_for, step_at_two}
 use Rattle.wasi_resolve.specs.PathRequest.{PathRequest, OpenPath, LookPath, AtPlace, TimesPath, AtTwo, path_after, times_through}
 use Rattle.wasi_resolve.specs.Paths.{Opening, Place, opening, step_of, timed}
@@ -28,9 +28,9 @@ use Rattle.wasi_p1_model.specs.Front.{FueledCall}
 use Rattle.wasi_p1_model.specs.Guest.{Guest, State}
 use Rattle.wasi_p1_model.specs.Quotas.{is_above}
 use Rattle.wasi_p1_model.specs.Request.{Request, Path, Direct, Behind, ListDirectory, Sizes, Grow, after, growth_at}
-use Rattle.wasi_p1_model.specs.Row.{Row, Program, done, asking, row_on}
+use Rattle.wasi_p1_model.specs.CallResult.{CallResult, Program, done, asking, row_on}
 use Rattle.wasi_p1_model.specs.Calls.{row, turn}
-use Rattle.wasi_p1_model.specs.Run.{Faulted, Played, Run, Turned}
+use Rattle.wasi_p1_model.specs.Trace.{Faulted, Played, Trace, TraceStep}
 use Rattle.wasi_p1_model.proofs.Moving.{Moves, over_tree, replied_by, run_keeps, turned_moves}
 use Rattle.wasi_setup.specs.Merged.{IsMergedTree}
 
@@ -232,7 +232,7 @@ step_over t Close = over_itself t
 
 -- ---- requests
 
-place_over : (t : Tree) (what : PlaceCall) (r : Result Place ErrorCode) → IsMergedTree t (step_in t what r)
+place_over : (t : Tree) (what : EntryOp) (r : Result Place ErrorCode) → IsMergedTree t (step_in t what r)
 place_over t what (Ok p) = step_over t (call_at what p)
 place_over t what (Err code) = over_itself t
 
@@ -246,7 +246,7 @@ path_over t (LookPath s text follow) = over_itself t
 path_over t (AtPlace s text what) = place_over t what (place_for t s text what)
 path_over t (TimesPath s text true atime mtime) = by (timed t s text)
   where
-    by : (r : Result Held ErrorCode) → IsMergedTree t (times_through t atime mtime r)
+    by : (r : Result OpenHandle ErrorCode) → IsMergedTree t (times_through t atime mtime r)
     by (Ok held) = times_over t held.node atime mtime
     by (Err code) = over_itself t
 path_over t (TimesPath s text false atime mtime) =
@@ -272,12 +272,12 @@ request_over t (Grow limit w) = over_or (is_above limit (growth_at t limit w)) (
 
 -- ---- turns and runs
 
-row_over : (t : Tree) (m : Row (Program (Value × Guest))) (p : Value × State) → row_on t m ≡ Ok p → IsMergedTree t p.1.tree
+row_over : (t : Tree) (m : CallResult (Program (Value × Guest))) (p : Value × State) → row_on t m ≡ Ok p → IsMergedTree t p.1.tree
 row_over t (Ok (done q)) p is = subst (IsMergedTree t) (sym (over_tree (Ok q) is)) (over_itself t)
 row_over t (Ok (asking r next)) p is = subst (IsMergedTree t) (sym (replied_by t r next is).tree) (request_over t r)
 row_over t (Err e) p is = absurd (cc)
 
-pub turned_over : (t : Turned) → Played t ⊎ Faulted t → IsMergedTree t.before.tree t.after.tree
+pub turned_over : (t : TraceStep) → Played t ⊎ Faulted t → IsMergedTree t.before.tree t.after.tree
 turned_over t took = by (turned_moves t took)
   where
     by : Moves t.before t.after (turn t.before t.call) → IsMergedTree t.before.tree t.after.tree
@@ -289,7 +289,7 @@ turned_over t took = by (turned_moves t took)
     ]
 
 -- the tree of a run, however often the host fails in it
-pub run_over : (k : ℕ) (old new : State) (calls : List FueledCall) (turns : List Turned) → Run k old calls turns new
+pub run_over : (k : ℕ) (old new : State) (calls : List FueledCall) (turns : List TraceStep) → Trace k old calls turns new
     → IsMergedTree old.tree new.tree
 run_over k old new calls turns run =
     run_keeps (λ s. IsMergedTree old.tree s.tree) (λ t took over. over_through over (turned_over t took)) calls turns k old new

@@ -15,7 +15,7 @@ use Rattle.std.proofs.lemmas.List.Folds.{list_all_at, list_all-map}
 use Rattle.wasi_host.specs.Tree.{Tree, Nodes, node_at, is_directory, stray}
 use Rattle.wasi_host.specs.ValidTree.{root, held}
 use Rattle.wasi_host.specs.declared.open_handle.AccessMode.TheVariants.{PathOnly}
-use Rattle.wasi_host.specs.declared.open_handle.Held.{Held}
+use Rattle.wasi_host.specs.declared.open_handle.OpenHandle.{OpenHandle}
 use Rattle.wasi_host.specs.declared.limits.Limits.{Limits}
 use Rattle.wasi_tree.specs.Given.{Given, GivenContent, file, directory, link, content_from, nodes_from, tree_of}
 use Rattle.wasi_tree.specs.GivenTests.{is_dir_content}
@@ -31,7 +31,7 @@ use Rattle.wasi_form.specs.declared.script.Session.{Session}
 use Rattle.wasi_form.proofs.Accepted.{limits_kept}
 use Rattle.wasi_p1_model.specs.Slots.{first_slots, given_mode, given_directory, given_name, given_slot, given_slots}
 use Rattle.wasi_p1_model.specs.Quotas.{with_quota}
-use Rattle.wasi_p1_model.specs.Stock.{first_stock}
+use Rattle.wasi_p1_model.specs.GuestEnvModel.{first_stock}
 use Rattle.wasi_p1_model.specs.Owners.{handles, one_if, uses, uses_in, IsHandle}
 use Rattle.wasi_p1_model.specs.declared.slots.P1Preopen.{P1Preopen}
 use Rattle.wasi_setup.specs.Start.{given_guest_slot, given_guest_slots, AreGiven, IsBegun, IsWithinOn, with_pieces}
@@ -98,12 +98,12 @@ slots_again : (old new : HeldMap) (place : ℕ) (given : List P1Preopen) → All
 slots_again old new place [] lives same = refl
 slots_again old new place (p ∷ ps) lives same =
     let here : guest_slot (held_in new) (given_slot place p) ≡ guest_slot (held_in old) (given_slot place p) =
-    ap (λ (held : Held). directory_slot (directory_by held (record { dir = given_directory p; preopen = Some place })))
+    ap (λ (held : OpenHandle). directory_slot (directory_by held (record { dir = given_directory p; preopen = Some place })))
     (same p.handle (All-head (IsLiveIn old) p ps lives)) in
     λ i. here i ∷ slots_again old new (suc place) ps (All-tail (IsLiveIn old) p ps lives) same i
 
 -- one more stands behind them
-slots_more : (holds : ℕ → Held) (planned : PlannedPreopen) (p : P1Preopen) (place : ℕ) (preopens : List PlannedPreopen)
+slots_more : (holds : ℕ → OpenHandle) (planned : PlannedPreopen) (p : P1Preopen) (place : ℕ) (preopens : List PlannedPreopen)
     (given : List P1Preopen)
     → map (guest_slot holds) (given_slots place given) ≡ given_guest_slots place preopens
     → ((n : ℕ) → guest_slot holds (given_slot n p) ≡ given_guest_slot n planned)

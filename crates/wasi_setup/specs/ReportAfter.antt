@@ -2,7 +2,7 @@
 use Rattle.std.specs.Prelude.{ℕ, ◌+◌, List, map, slice_range}
 use Rattle.wasi_tree.specs.Given.{given_of}
 use Rattle.wasi_report.specs.Report.{Report}
-use Rattle.wasi_p1_model.specs.Run.{Turned, answers_of}
+use Rattle.wasi_p1_model.specs.Trace.{TraceStep, answers_of}
 use Rattle.wasi_p1_model.specs.Guest.{State}
 use Rattle.wasi_form.specs.declared.script.Shown.{Shown}
 
@@ -11,7 +11,7 @@ abbrev pub bytes_shown : List ℕ → Shown → List ℕ
 bytes_shown memory range = slice_range memory range.ptr (range.ptr + range.len)
 
 -- the answers of the turns, and of the state after them the ranges to be shown, what was written out, and the tree
-abbrev pub report_after : List Shown → List Turned → State → List ℕ → Report
+abbrev pub report_after : List Shown → List TraceStep → State → List ℕ → Report
 report_after show turns last touched = record {
   answers = answers_of turns;
   memory = map (bytes_shown last.guest.memory) show;

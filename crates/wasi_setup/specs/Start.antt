@@ -20,8 +20,8 @@ use Rattle.wasi_p1_model.specs.Slots.{View, given_mode, given_slots}
 use Rattle.wasi_p1_model.specs.Guest.{State, GuestSlot, stream, directory, guest_slot, state_of}
 use Rattle.wasi_p1_model.specs.Owners.{handles, IsHandle}
 use Rattle.wasi_p1_model.specs.Quotas.{with_quota}
-use Rattle.wasi_p1_model.specs.Stock.{first_stock}
-use Rattle.wasi_setup.specs.declared.setup.Beginning.{Beginning}
+use Rattle.wasi_p1_model.specs.GuestEnvModel.{first_stock}
+use Rattle.wasi_setup.specs.declared.setup.Setup.{Setup}
 use Rattle.wasi_p1_model.specs.declared.slots.P1Preopen.{P1Preopen}
 use Rattle.wasi_p1_model.specs.declared.slots.Slot.{Slot}
 use Rattle.wasi_p1_model.specs.declared.slots.Stream.TheVariants.{Input, Output, Error}
@@ -97,7 +97,7 @@ pub record IsBegun (context : View (Failing MemState)) (tree : Tree) (preopens :
   pub alone : OwnAll context.slots context.host.inner.handles
 
 -- a session's beginning on a tree, over a host that is seen so: nothing was called yet
-pub record Begins {T : Type 0} (tree : Tree) (session : Session) (seen : T → MemState) (b : Beginning T) : Type 0 where
+pub record Begins {T : Type 0} (tree : Tree) (session : Session) (seen : T → MemState) (b : Setup T) : Type 0 where
   pub begun : IsBegun (seen_by seen b.context) tree (map planned_preopen session.preopens.items) (handed session.services)
       session.quota session.table
   pub faults : b.context.host.calls ≡ record { faults = session.faults.items; calls = 0 }

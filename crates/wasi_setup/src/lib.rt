@@ -6,4 +6,4 @@ mod script_tree;
 mod setup;
 
 pub use script_tree::ScriptTree;
-pub use setup::{Beginning, begin, begin_over, first_context, first_memory, shown};
+pub use setup::{Setup, begin, begin_over, first_context, first_memory, shown};

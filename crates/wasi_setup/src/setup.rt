@@ -25,7 +25,7 @@ use wasi_p1_model::{CtxError, P1Preopen};
 
 /// Where the calls of a script begin: the memory and the context, and what of the script is left to be done.
 #[derive(Drop)]
-pub struct Beginning<T: Host> {
+pub struct Setup<T: Host> {
     pub memory: GuestMemory,
     pub context: P1State<FailAt<T>>,
     pub fuel: u64,
@@ -34,7 +34,7 @@ pub struct Beginning<T: Host> {
 }
 
 /// A handle of each directory that the guest is given, in order.
-fn given_handles<T: ScriptTree>(
+fn preopen_handles<T: ScriptTree>(
     alloc: Global,
     tree: &mut T,
     preopens: &[ScriptPreopen],
@@ -89,7 +89,7 @@ pub fn first_context<T: ScriptTree>(
         (map planned_preopen preopens.now) (handed services) quota table) }
     ensures faults { IfOk result (λ c. c.host.calls ≡ record { faults = faults.items; calls = 0 }) }
 {
-    let given = given_handles(alloc, &mut tree, preopens)?;
+    let given = preopen_handles(alloc, &mut tree, preopens)?;
     let host = FailAt::new(tree, faults);
     match P1State::new(alloc, host, given, services, table) {
         Ok(mut context) => {
@@ -123,7 +123,7 @@ pub fn begin_over<T: ScriptTree>(
     alloc: Global,
     tree: T,
     session: Session,
-) -> Result<Beginning<T>, AllocError>
+) -> Result<Setup<T>, AllocError>
     requires within { IsWithinOn (T.seen tree).tree session }
     requires none { live_of (T.seen tree).handles ≡ empty }
     requires untouched { (T.seen tree).touched ≡ empty }
@@ -142,7 +142,7 @@ pub fn begin_over<T: ScriptTree>(
         session.preopens.as_slice(),
         session.table,
     )?;
-    Ok(Beginning {
+    Ok(Setup {
         memory,
         context,
         fuel: session.fuel,
@@ -152,7 +152,7 @@ pub fn begin_over<T: ScriptTree>(
 }
 
 /// Begins a script over a tree in memory of its nodes. The only refusal is want of memory.
-pub fn begin(alloc: Global, script: Script) -> Result<Beginning<MemTree>, AllocError>
+pub fn begin(alloc: Global, script: Script) -> Result<Setup<MemTree>, AllocError>
     requires { CanRun script }
     ensures begins { IfOk result (Begins (tree_of script.nodes.nodes script.nodes.limits) script.session (λ m. m)) }
 {

@@ -9,12 +9,12 @@ use Rattle.wasi_host.specs.Tree.{Tree, Node, Nodes, Names, Content, node_at, nex
 use Rattle.wasi_host.specs.Step.{with_nodes, with_content, with_entry, without_entry, content_changed, name_lost, name_moved_onto}
 use Rattle.wasi_host.specs.declared.limits.Limits.{Limits}
 use Rattle.wasi_host.proofs.Changes.{directory_within, next_of-changed, node_at-other, node_at-same}
-use Rattle.wasi_tree_index.specs.NameRows.{AllNames, Key}
+use Rattle.wasi_tree_index.specs.DirEntryKeys.{AllNames, Key}
 use Rattle.wasi_tree_index.proofs.NamesLemmas.{get-names_at, insert-remove}
 use Rattle.wasi_tree.specs.Move.{IsExchange, IsMove, found_lost}
 use Rattle.wasi_tree.specs.Sound.{NodesStay}
 use Rattle.wasi_tree.specs.StoredTree.{stored_tree, IsStored}
-use Rattle.wasi_tree.specs.declared.inode.Row.{Row}
+use Rattle.wasi_tree.specs.declared.inode.Inode.{Inode}
 use Rattle.wasi_tree.proofs.MoveLemmas.{moved_as, names_apart}
 use Rattle.wasi_tree.proofs.RowLemmas.{IsIn, names_here, tree_named, tree_unnamed, stored_named, stored_unnamed}
 use Rattle.wasi_tree.proofs.SoundLemmas.{stays_changed, no_file}
@@ -25,7 +25,7 @@ exchanged t old old_name new new_name n =
     content_changed (content_changed t new (with_entry new_name n)) old (without_entry old_name)
 
 -- an exchange in the tree that the rows and names stand for
-pub record Exchanges (rows : List Row) (m : AllNames) (limits : Limits) (worked : Nodes) (t : Tree) (old : ℕ)
+pub record Exchanges (rows : List Inode) (m : AllNames) (limits : Limits) (worked : Nodes) (t : Tree) (old : ℕ)
     (old_name : List ℕ) (new : ℕ) (new_name : List ℕ) (n : ℕ) : Type 0 where
   pub stands : stored_tree rows m limits worked ≡ t
   pub is : IsExchange t old old_name new new_name n
@@ -38,7 +38,7 @@ put_directory {t} {old} {new} {n} {new_name = new_name} is =
     (directory_within t new is.to) (λ x. is_directory x.content) (sym is.to) old
     ∙ is.from
 
-module _ {rows : List Row} {m : AllNames} {limits : Limits} {worked : Nodes} {t : Tree} {old new n : ℕ}
+module _ {rows : List Inode} {m : AllNames} {limits : Limits} {worked : Nodes} {t : Tree} {old new n : ℕ}
     {old_name new_name : List ℕ} (are : Exchanges rows m limits worked t old old_name new new_name n) where
   -- the names hold the node under the old name
   pub held_there : maps.get m (old, old_name) ≡ Some n

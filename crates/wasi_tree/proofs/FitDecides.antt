@@ -10,7 +10,7 @@ use Rattle.wasi_host.specs.declared.limits.Limits.{Limits}
 use Rattle.wasi_tree.specs.declared.node.NewNode.{NewNode}
 use Rattle.wasi_tree.specs.Given.{given, Given, GivenContent, file, directory, link, entry_count}
 use Rattle.wasi_tree.specs.GivenTests.{numbers_from, are_distinct, starts_with_directory}
-use Rattle.wasi_tree.specs.WellFormed.{is_fit_file, is_fit_text, is_fit_entry, IsFound, HasPlace, IsFitContent, IsFit, KeepsRules, AreFit, IsLowestUnfit, name_counts}
+use Rattle.wasi_tree.specs.WellFormed.{is_fit_file, is_fit_text, is_fit_entry, IsFound, HasPlace, IsFitContent, IsFit, IsWellFormedNode, AreFit, IsLowestUnfit, name_counts}
 use Rattle.wasi_tree.specs.FitTests.{TellFound, has_place, is_fit_content, is_fit}
 use Rattle.wasi_tree.specs.declared.well_formed.Place.{Place}
 use Rattle.wasi_tree.proofs.NewTreeLemmas.{length-numbers, value_at}
@@ -122,21 +122,21 @@ known_at {counts} {found} nodes i g place are tell at number names is =
     }
 
 pub keeps_at : {limits : Limits} {nodes : List Given} {n : ℕ} {g : Given} → starts_with_directory nodes ≡ true
-    → slice_get nodes n ≡ Some g → IsFit limits nodes n g → KeepsRules limits nodes n
+    → slice_get nodes n ≡ Some g → IsFit limits nodes n g → IsWellFormedNode limits nodes n
 keeps_at {limits} {nodes} {n} {g} starts at is = record {
   first = λ _. starts;
   fit = λ h other. let same : g ≡ h = (cc) in subst (IsFit limits nodes n) same is;
 }
 
-pub keeps_more : {limits : Limits} {nodes : List Given} {i : ℕ} → ((k : ℕ) → k < i → KeepsRules limits nodes k)
-    → KeepsRules limits nodes i → (k : ℕ) → k < i + 1 → KeepsRules limits nodes k
+pub keeps_more : {limits : Limits} {nodes : List Given} {i : ℕ} → ((k : ℕ) → k < i → IsWellFormedNode limits nodes k)
+    → IsWellFormedNode limits nodes i → (k : ℕ) → k < i + 1 → IsWellFormedNode limits nodes k
 keeps_more {limits} {nodes} {i} below here k h = ⊎_elim
-    (λ (e : k ≡ i). subst (KeepsRules limits nodes) (sym e) here)
+    (λ (e : k ≡ i). subst (IsWellFormedNode limits nodes) (sym e) here)
     (λ (e : k ≡ i → ⊥). below k (omega (arith, e, h)))
     (cases_eq k i)
 
 pub keeps_all : {limits : Limits} {nodes : List Given} (i : ℕ) → starts_with_directory nodes ≡ true → length nodes ≤ i
-    → ((k : ℕ) → k < i → KeepsRules limits nodes k) → AreFit limits nodes
+    → ((k : ℕ) → k < i → IsWellFormedNode limits nodes k) → AreFit limits nodes
 keeps_all {limits} {nodes} i starts past below n = record {
   first = λ _. starts;
   fit = λ g at. (below n (omega (arith, past, slice_get_within nodes n g at))).fit g at;
@@ -145,8 +145,8 @@ keeps_all {limits} {nodes} i starts past below n = record {
 -- the test of a node passed, or failed
 pub keeps_next : {limits : Limits} {nodes : List Given} {i count : ℕ} {g : Given} {place : Place} {b : Bool}
     → IsAt nodes i g place → count ≡ length nodes → b ≡ is_fit limits count place g → b ≡ true
-    → starts_with_directory nodes ≡ true → ((k : ℕ) → k < i → KeepsRules limits nodes k)
-    → (k : ℕ) → k < i + 1 → KeepsRules limits nodes k
+    → starts_with_directory nodes ≡ true → ((k : ℕ) → k < i → IsWellFormedNode limits nodes k)
+    → (k : ℕ) → k < i + 1 → IsWellFormedNode limits nodes k
 keeps_next {limits} {nodes} {i} {count} {g} {place} {b} is all test passes starts below =
     let tested : is_fit limits (length nodes) place g ≡ true = ap (λ c. is_fit limits c place g) (sym all) ∙ sym test ∙ passes in
     let fit : IsFit limits nodes i g = subst (λ n. IsFit limits nodes n g) is.number ((fit_decides limits nodes place g is.known).0 tested) in
@@ -154,7 +154,7 @@ keeps_next {limits} {nodes} {i} {count} {g} {place} {b} is all test passes start
 
 pub lowest_at : {limits : Limits} {nodes : List Given} {i count : ℕ} {g : Given} {place : Place} {b : Bool}
     → IsAt nodes i g place → count ≡ length nodes → b ≡ is_fit limits count place g → b ≡ false
-    → ((k : ℕ) → k < i → KeepsRules limits nodes k) → IsLowestUnfit limits nodes place.number
+    → ((k : ℕ) → k < i → IsWellFormedNode limits nodes k) → IsLowestUnfit limits nodes place.number
 lowest_at {limits} {nodes} {i} {count} {g} {place} {b} is all test fails below =
     let tested : is_fit limits (length nodes) place g ≡ false = ap (λ c. is_fit limits c place g) (sym all) ∙ sym test ∙ fails in
     subst (IsLowestUnfit limits nodes) (sym is.number) (record {

@@ -8,7 +8,7 @@ use Rattle.std.specs.Prelude.{IsTrue}
 use Rattle.wasi_paths.specs.Text.{is_name_text}
 use Rattle.wasi_host.specs.Tree.{Tree, Nodes, node_at, next_of, child, is_directory, links_of}
 use Rattle.wasi_host.specs.HostCall.{LinkAt}
-use Rattle.wasi_host.specs.Refusal.{refusal, first_row, both_rows, entry_rows, links_rows, linking_rows}
+use Rattle.wasi_host.specs.Refusal.{refusal, first_rule, both_rows, entry_rows, links_rows, linking_rows}
 use Rattle.wasi_host.specs.Answer.{unless}
 use Rattle.wasi_host.specs.Step.{found_under, with_nodes, name_added, added_step, link_step}
 use Rattle.wasi_host.specs.declared.errors.ErrorCode.{ErrorCode}
@@ -21,7 +21,7 @@ use Rattle.wasi_tree.proofs.GoodNames.{added_good}
 -- ---- the rows
 
 pub names_refused : (t : Tree) (old : ℕ) (old_name : List ℕ) (new : ℕ) (new_name : List ℕ) {code : ErrorCode}
-    → first_row (both_rows t old old_name new new_name) ≡ Some code
+    → first_rule (both_rows t old old_name new new_name) ≡ Some code
     → refusal t (LinkAt old old_name new new_name) ≡ Some code
 unfolding refusal
 names_refused t old old_name new new_name refused =
@@ -35,13 +35,13 @@ none_there (Some x) none = absurd (cc)
 
 -- the rows for the names don't refuse, the old name is there, and the new one isn't
 pub record AreNamed (t : Tree) (old : ℕ) (old_name : List ℕ) (new : ℕ) (new_name : List ℕ) (n : ℕ) : Type 0 where
-  pub named : first_row (both_rows t old old_name new new_name) ≡ None
+  pub named : first_rule (both_rows t old old_name new new_name) ≡ None
   pub found : child t old old_name ≡ Some n
   pub missing : child t new new_name ≡ None
 
 module _ {t : Tree} {old new n : ℕ} {old_name new_name : List ℕ} {code : ErrorCode}
     (are : AreNamed t old old_name new new_name n) where
-  pub entry_refused : first_row (entry_rows t new) ≡ Some code
+  pub entry_refused : first_rule (entry_rows t new) ≡ Some code
       → refusal t (LinkAt old old_name new new_name) ≡ Some code
   unfolding refusal
   entry_refused refused =
@@ -50,7 +50,7 @@ module _ {t : Tree} {old new n : ℕ} {old_name new_name : List ℕ} {code : Err
       let missing = are.missing in
       grind (arith)
 
-  pub links_refused : first_row (entry_rows t new) ≡ None → first_row (links_rows t (Some n)) ≡ Some code
+  pub links_refused : first_rule (entry_rows t new) ≡ None → first_rule (links_rows t (Some n)) ≡ Some code
       → refusal t (LinkAt old old_name new new_name) ≡ Some code
   unfolding refusal
   links_refused entered refused =
@@ -60,7 +60,7 @@ module _ {t : Tree} {old new n : ℕ} {old_name new_name : List ℕ} {code : Err
       grind (arith)
 
 pub links_free : {t : Tree} {old new n : ℕ} {old_name new_name : List ℕ} → AreNamed t old old_name new new_name n
-    → first_row (entry_rows t new) ≡ None → first_row (links_rows t (Some n)) ≡ None
+    → first_rule (entry_rows t new) ≡ None → first_rule (links_rows t (Some n)) ≡ None
     → refusal t (LinkAt old old_name new new_name) ≡ None
 unfolding refusal
 links_free are entered linked =

@@ -8,16 +8,16 @@ use Rattle.wasi_host.specs.Tree.{Tree, Node, Names, node_at, names_of, is_direct
 use Rattle.wasi_host.specs.HostCall.{ListDir}
 use Rattle.wasi_host.specs.Refusal.{refusal, can_read}
 use Rattle.wasi_host.specs.Answer.{Listed, listed, listing, list_answer, unless}
-use Rattle.wasi_host.specs.declared.open_handle.Held.{Held}
+use Rattle.wasi_host.specs.declared.open_handle.OpenHandle.{OpenHandle}
 use Rattle.wasi_host.proofs.EntryLemmas.{get_entry}
 use Rattle.wasi_tree.specs.Sound.{IsSoundNode}
 
-list_free : (t : Tree) (held : Held) → is_directory (node_at t held.node).content ≡ true → can_read held.mode ≡ true
+list_free : (t : Tree) (held : OpenHandle) → is_directory (node_at t held.node).content ≡ true → can_read held.mode ≡ true
     → refusal t (ListDir held) ≡ None
 unfolding refusal
 list_free t held directory reads = grind (arith)
 
-pub lists : (t : Tree) (held : Held) (names : Names) → is_directory (node_at t held.node).content ≡ true
+pub lists : (t : Tree) (held : OpenHandle) (names : Names) → is_directory (node_at t held.node).content ≡ true
     → can_read held.mode ≡ true → names_of (node_at t held.node).content ≡ names
     → list_answer t held ≡ Ok (map (listed t) (maps.entries names))
 unfolding listing

@@ -5,14 +5,14 @@ use Rattle.std.specs.Ordering.{nat_cmp}
 use Rattle.std.specs.FinSet.{contains, empty, contains-empty}
 use Rattle.wasi_host.specs.Tree.{Tree, is_directory, node_at, next_of, child, hold_one}
 use Rattle.wasi_host.specs.HostCall.{HostCall, OpenAt, StatAt, ReadLinkAt, MakeDirAt, SymlinkAt, LinkAt, RenameAt, UnlinkAt, RemoveDirAt, TimesAt, Access, Stat, SetTimes, Pread, Pwrite, Append, SetSize, Sync, Advise, Flags, ListDir, Dup, Close}
-use Rattle.wasi_host.specs.Refusal.{refusal, first_row, naming_rows, loop_rows, moving_rows, renaming_rows}
+use Rattle.wasi_host.specs.Refusal.{refusal, first_rule, naming_rows, loop_rows, moving_rows, renaming_rows}
 use Rattle.wasi_host.specs.Answer.{HostAnswer}
-use Rattle.wasi_host.specs.FurtherLaws.{Fated}
+use Rattle.wasi_host.specs.FurtherLaws.{FollowsPlan}
 use Rattle.wasi_host.specs.HostLaws.{AllHeld, IsHeld, HasCause, never_fails}
 use Rattle.wasi_host.specs.declared.errors.ErrorCode.TheVariants.{Io}
 use Rattle.wasi_host.specs.declared.errors.HostError.{HostError}
 use Rattle.wasi_host.specs.declared.errors.HostError.TheVariants.{Code, Memory}
-use Rattle.wasi_host.specs.declared.injected_fault.Fate.TheVariants.{Passes}
+use Rattle.wasi_host.specs.declared.injected_fault.InjectedFault.TheVariants.{Passes}
 use Rattle.wasi_host.specs.declared.open_handle.AccessMode.TheVariants.{PathOnly}
 use Rattle.wasi_host.proofs.Changes.{directory_within}
 use Rattle.wasi_host.proofs.Refusals.{refusal_of, part_refuses}
@@ -62,19 +62,19 @@ holds-on holds stays grows = record {
 -- ---- no row is `Io`
 
 naming_io : (t : Tree) (old : ℕ) (old_name : List ℕ) (new : ℕ) (new_name : List ℕ) (requires_dir : Bool)
-    → first_row (naming_rows t old old_name new new_name requires_dir) ≢ Some Io
+    → first_rule (naming_rows t old old_name new new_name requires_dir) ≢ Some Io
 naming_io t old old_name new new_name requires_dir io = grind (arith)
 
-loop_io : (t : Tree) (old new : ℕ) (found there : Option ℕ) → first_row (loop_rows t old new found there) ≢ Some Io
+loop_io : (t : Tree) (old new : ℕ) (found there : Option ℕ) → first_rule (loop_rows t old new found there) ≢ Some Io
 loop_io t old new found there io = grind (arith)
 
 moving_io : (t : Tree) (old new : ℕ) (found there : Option ℕ) (one : Bool)
-    → first_row (cond one [] (moving_rows t old new found there)) ≢ Some Io
+    → first_rule (cond one [] (moving_rows t old new found there)) ≢ Some Io
 moving_io t old new found there true io = absurd (cc)
 moving_io t old new found there false io = grind (arith)
 
 renaming_io : (t : Tree) (old new : ℕ) (found there : Option ℕ)
-    → first_row (renaming_rows t old new found there) ≢ Some Io
+    → first_rule (renaming_rows t old new found there) ≢ Some Io
 renaming_io t old new found there io =
     let one : Bool = hold_one found there in
     elim (part_refuses (loop_rows t old new found there) (cond one [] (moving_rows t old new found there)) io) [
@@ -145,7 +145,7 @@ cause_done s u call shown (Err error) is = cause_of call error is
 
 -- a host that has no faults tells that its calls pass
 pub fated : {A : Type 0} (result : Result A HostError) → HasCause never_fails never_fails result
-    → Fated (λ _. Passes) (λ _. Passes) result
+    → FollowsPlan (λ _. Passes) (λ _. Passes) result
 fated (Ok a) cause = record { failed = refl; later = λ n. refl }
 fated (Err Memory) cause = record { failed = refl; later = λ n. refl }
 fated (Err (Code Io)) cause = absurd (omega (arith, cause.io refl))

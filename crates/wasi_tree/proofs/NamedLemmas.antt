@@ -8,12 +8,12 @@ use Rattle.std.specs.FinMap.{get, insert, remove, empty, get-empty}
 use Rattle.wasi_host.specs.Tree.{Node, Content, File, Directory, Link, Names, names_of, is_directory, is_gone}
 use Rattle.wasi_host.specs.Step.{with_name, without_name, other_bytes, one_name_more, name_lost}
 use Rattle.wasi_host.proofs.Leaving.{each_kind}
-use Rattle.wasi_tree_index.specs.NameRows.{AllNames, key_cmp, names_at}
+use Rattle.wasi_tree_index.specs.DirEntryKeys.{AllNames, key_cmp, names_at}
 use Rattle.wasi_tree_index.proofs.NamesLemmas.{get-names_at, names_at-insert, names_at-remove, names_at-insert_other, names_at-remove_other, same_names}
 use Rattle.wasi_tree.specs.StoredTree.{stored_node, stored_content, with_names, named_content, named_from, AreBelow, OtherNamesStay, with_first}
-use Rattle.wasi_tree.specs.declared.inode.Row.{Row}
-use Rattle.wasi_tree.specs.declared.inode.RowContent.{RowContent}
-use Rattle.wasi_tree.specs.declared.inode.RowContent.TheVariants as rows
+use Rattle.wasi_tree.specs.declared.inode.Inode.{Inode}
+use Rattle.wasi_tree.specs.declared.inode.InodeContent.{InodeContent}
+use Rattle.wasi_tree.specs.declared.inode.InodeContent.TheVariants as rows
 
 -- what is said of a content without a look at the names of a directory
 pub said_of-named : {B : Type 0} (f : Content → B)
@@ -41,10 +41,10 @@ unnamed-name_lost names = each_kind (λ c. named_content names (name_lost c) ≡
     (λ _ _. refl) (λ _ _. refl) (λ _ _. refl)
 
 -- a row has no names of its own
-pub named_row : (row : Row) → with_names empty (stored_node row) ≡ stored_node row
+pub named_row : (row : Inode) → with_names empty (stored_node row) ≡ stored_node row
 named_row row = ap (λ c. let n : Node = record (stored_node row) { content = c } in n) (by row.content)
   where
-    by : (c : RowContent) → named_content empty (stored_content c) ≡ stored_content c
+    by : (c : InodeContent) → named_content empty (stored_content c) ≡ stored_content c
     by (rows.File bytes links) = refl
     by (rows.Dir gone) = refl
     by (rows.Link text links) = refl

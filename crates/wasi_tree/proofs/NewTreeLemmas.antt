@@ -17,10 +17,10 @@ use Rattle.wasi_host.specs.Numbers.{longest_link}
 use Rattle.wasi_tree.specs.Given.{Given, GivenContent, file, directory, link, entry_count, content_from, node_from, nodes_from, tree_of}
 use Rattle.wasi_tree.specs.GivenTests.{numbers_from}
 use Rattle.wasi_tree.specs.WellFormed.{is_fit_entry, IsFitContent, IsFit, AreFit, name_counts}
-use Rattle.wasi_tree_index.specs.NameRows.{AllNames, names_at}
+use Rattle.wasi_tree_index.specs.DirEntryKeys.{AllNames, names_at}
 use Rattle.wasi_tree.specs.StoredTree.{stored_node, stored_tree, with_names, named_from, AreBelow, OtherNamesStay, IsStored}
 use Rattle.wasi_tree.specs.Sound.{IsSoundNode, IsSoundText}
-use Rattle.wasi_tree.specs.declared.inode.Row.{Row}
+use Rattle.wasi_tree.specs.declared.inode.Inode.{Inode}
 use Rattle.wasi_host.proofs.EntryLemmas.{unnamed}
 use Rattle.wasi_tree.proofs.TextEntries.{same_name}
 use Rattle.wasi_tree.proofs.NamedLemmas.{named-others, named_push, length-named, none_below, apart_from}
@@ -44,18 +44,18 @@ length-name_counts all =
 -- ---- rows of the nodes, one after another
 
 -- the rows and names of the first nodes are made, and these nodes are left
-pub record AreRows (all : List Given) (rows : List Row) (names : AllNames) (left : List Given) : Type 0 where
+pub record AreRows (all : List Given) (rows : List Inode) (names : AllNames) (left : List Given) : Type 0 where
   pub same : named_from names 0 (map stored_node rows) ++ nodes_from all (length rows) left ≡ nodes_from all 0 all
   pub count : length rows + length left ≡ length all
   pub below : AreBelow names (length rows)
 
-pub no_row : (all : List Given) (rows : List Row) (names : AllNames) → rows ≡ [] → names ≡ maps.empty
+pub no_row : (all : List Given) (rows : List Inode) (names : AllNames) → rows ≡ [] → names ≡ maps.empty
     → AreRows all rows names all
-no_row all rows names none bare = subst (λ (made : List Row). AreRows all made names all) (sym none)
+no_row all rows names none bare = subst (λ (made : List Inode). AreRows all made names all) (sym none)
     (record { same = refl; count = omega arith; below = none_below 0 bare })
 
 -- the next number has a count, which is how many entries give it
-pub next_count : {all : List Given} {rows : List Row} {names : AllNames} {n : ℕ} {left rest : List Given} {g : Given} {counts : List ℕ}
+pub next_count : {all : List Given} {rows : List Inode} {names : AllNames} {n : ℕ} {left rest : List Given} {g : Given} {counts : List ℕ}
     → n ≡ length rows → counts ≡ name_counts all → left ≡ g ∷ rest → AreRows all rows names left
     → (n < length counts) × (slice_index_or counts n 0 ≡ entry_count n all)
 next_count {all} {n = n} number is next so_far =
@@ -65,8 +65,8 @@ next_count {all} {n = n} number is next so_far =
           ∙ value_at (λ k. entry_count k all) 0 (length all) n 0 within ∙ ap (λ k. entry_count k all) (omega arith),
     )
 
-pub row_more : {all : List Given} {rows now : List Row} {names more : AllNames} {n : ℕ} {left rest : List Given} {g : Given}
-    (row : Row) → n ≡ length rows → now ≡ rows ++ row ∷ []
+pub row_more : {all : List Given} {rows now : List Inode} {names more : AllNames} {n : ℕ} {left rest : List Given} {g : Given}
+    (row : Inode) → n ≡ length rows → now ≡ rows ++ row ∷ []
     → with_names (names_at more n) (stored_node row) ≡ node_from all n g → OtherNamesStay n names more
     → left ≡ g ∷ rest → AreRows all rows names left → AreRows all now more rest
 row_more {all} {rows} {now} {names} {more} {n} {left} {rest} {g} row number pushed is others next so_far =
@@ -154,7 +154,7 @@ module _ (limits : Limits) (all : List Given) where
   nodes_sound k (g ∷ gs) fit zero = node_sound k g (fit k 0 (omega arith) g refl)
   nodes_sound k (g ∷ gs) fit (suc n) = nodes_sound (k + 1) gs (λ j m is. fit j (suc m) (omega (arith, is))) n
 
-pub rows_sound : (rows : List Row) (names : AllNames) (limits : Limits) (worked : Nodes) (marks : ℕ) (all : List Given)
+pub rows_sound : (rows : List Inode) (names : AllNames) (limits : Limits) (worked : Nodes) (marks : ℕ) (all : List Given)
     → AreFit limits all → named_from names 0 (map stored_node rows) ≡ nodes_from all 0 all → marks ≡ length rows
     → AreBelow names (length rows) → IsStored rows names limits worked marks
 unfolding node_at
@@ -170,7 +170,7 @@ rows_sound rows names limits worked marks all fit same counted below = record {
   below = below;
 }
 
-pub rows_tree : (rows : List Row) (names : AllNames) (limits : Limits) (worked : Nodes) (all : List Given)
+pub rows_tree : (rows : List Inode) (names : AllNames) (limits : Limits) (worked : Nodes) (all : List Given)
     → named_from names 0 (map stored_node rows) ≡ nodes_from all 0 all → worked ≡ set.empty
     → stored_tree rows names limits worked ≡ tree_of all limits
 unfolding tree_of

@@ -8,7 +8,7 @@ use Rattle.wasi_paths.specs.Text.{is_dot_text, is_name_text}
 use Rattle.wasi_host.specs.Below.{is_below}
 use Rattle.wasi_host.specs.Tree.{Tree, next_of, node_at, names_of, child, is_directory, hold_one}
 use Rattle.wasi_host.specs.HostCall.{RenameAt}
-use Rattle.wasi_host.specs.Refusal.{refusal, first_row, naming_rows, loop_rows, moving_rows, renaming_rows}
+use Rattle.wasi_host.specs.Refusal.{refusal, first_rule, naming_rows, loop_rows, moving_rows, renaming_rows}
 use Rattle.wasi_host.specs.Answer.{unless}
 use Rattle.wasi_host.specs.Step.{found_under, with_nodes, name_moved_onto, moved_step, rename_step}
 use Rattle.wasi_host.specs.declared.errors.ErrorCode.{ErrorCode}
@@ -25,7 +25,7 @@ use Rattle.wasi_tree.proofs.WayLemmas.{below_itself}
 -- ---- the rows
 
 pub naming_refused : (t : Tree) (old : ℕ) (old_name : List ℕ) (new : ℕ) (new_name : List ℕ) (requires_dir : Bool)
-    {code : ErrorCode} → first_row (naming_rows t old old_name new new_name requires_dir) ≡ Some code
+    {code : ErrorCode} → first_rule (naming_rows t old old_name new new_name requires_dir) ≡ Some code
     → refusal t (RenameAt old old_name new new_name requires_dir) ≡ Some code
 unfolding refusal
 naming_refused t old old_name new new_name requires_dir refused =
@@ -35,29 +35,29 @@ naming_refused t old old_name new new_name requires_dir refused =
 -- the rows for the names don't refuse, and this is what the names hold
 pub record Holds (t : Tree) (old : ℕ) (old_name : List ℕ) (new : ℕ) (new_name : List ℕ) (requires_dir : Bool) (n : ℕ)
     (there : Option ℕ) : Type 0 where
-  pub free : first_row (naming_rows t old old_name new new_name requires_dir) ≡ None
+  pub free : first_rule (naming_rows t old old_name new new_name requires_dir) ≡ None
   pub found : child t old old_name ≡ Some n
   pub onto : child t new new_name ≡ there
 
 module _ {t : Tree} {old new n : ℕ} {old_name new_name : List ℕ} {requires_dir : Bool} {there : Option ℕ}
     (are : Holds t old old_name new new_name requires_dir n there) where
-  later : refusal t (RenameAt old old_name new new_name requires_dir) ≡ first_row (renaming_rows t old new (Some n) there)
+  later : refusal t (RenameAt old old_name new new_name requires_dir) ≡ first_rule (renaming_rows t old new (Some n) there)
   unfolding refusal
   later =
       left_behind (naming_rows t old old_name new new_name requires_dir)
       (renaming_rows t old new (child t old old_name) (child t new new_name)) are.free
-      ∙ (λ i. first_row (renaming_rows t old new (are.found i) (are.onto i)))
+      ∙ (λ i. first_rule (renaming_rows t old new (are.found i) (are.onto i)))
 
-  pub loop_refused : {code : ErrorCode} → first_row (loop_rows t old new (Some n) there) ≡ Some code
+  pub loop_refused : {code : ErrorCode} → first_rule (loop_rows t old new (Some n) there) ≡ Some code
       → refusal t (RenameAt old old_name new new_name requires_dir) ≡ Some code
   loop_refused refused =
       later
       ∙ refused_before (loop_rows t old new (Some n) there)
       (cond (hold_one (Some n) there) [] (moving_rows t old new (Some n) there)) refused
 
-  module _ (free : first_row (loop_rows t old new (Some n) there) ≡ None) where
+  module _ (free : first_rule (loop_rows t old new (Some n) there) ≡ None) where
     behind : refusal t (RenameAt old old_name new new_name requires_dir)
-        ≡ first_row (cond (hold_one (Some n) there) [] (moving_rows t old new (Some n) there))
+        ≡ first_rule (cond (hold_one (Some n) there) [] (moving_rows t old new (Some n) there))
     behind =
         later
         ∙ left_behind (loop_rows t old new (Some n) there)
@@ -65,12 +65,12 @@ module _ {t : Tree} {old new n : ℕ} {old_name new_name : List ℕ} {requires_d
 
     pub onto_itself : hold_one (Some n) there ≡ true → refusal t (RenameAt old old_name new new_name requires_dir) ≡ None
     onto_itself same =
-        behind ∙ ap (λ one. first_row (cond one [] (moving_rows t old new (Some n) there))) same
+        behind ∙ ap (λ one. first_rule (cond one [] (moving_rows t old new (Some n) there))) same
 
     pub moving_refuses : hold_one (Some n) there ≡ false
         → refusal t (RenameAt old old_name new new_name requires_dir)
-        ≡ first_row (moving_rows t old new (Some n) there)
-    moving_refuses other = behind ∙ ap (λ one. first_row (cond one [] (moving_rows t old new (Some n) there))) other
+        ≡ first_rule (moving_rows t old new (Some n) there)
+    moving_refuses other = behind ∙ ap (λ one. first_rule (cond one [] (moving_rows t old new (Some n) there))) other
 
 -- two names that hold different nodes
 not_one : (n : ℕ) (there : Option ℕ) → hold_one (Some n) there ≡ false → there ≢ Some n
@@ -98,8 +98,8 @@ module _ {t : Tree} {old new n : ℕ} {old_name new_name : List ℕ} {requires_d
 -- ---- what the rows say
 
 pub record Free (t : Tree) (old new n : ℕ) (there : Option ℕ) : Type 0 where
-  pub loops : first_row (loop_rows t old new (Some n) there) ≡ None
-  pub moves : first_row (moving_rows t old new (Some n) there) ≡ None
+  pub loops : first_rule (loop_rows t old new (Some n) there) ≡ None
+  pub moves : first_rule (moving_rows t old new (Some n) there) ≡ None
   pub other : hold_one (Some n) there ≡ false
 
 module _ {t : Tree} {old new n : ℕ} {old_name new_name : List ℕ} {requires_dir : Bool} {there : Option ℕ}
@@ -111,7 +111,7 @@ module _ {t : Tree} {old new n : ℕ} {old_name new_name : List ℕ} {requires_d
   lost_apart m d q text onto directory holding plain same =
       named_bare t d q text (named_there t d text plain holding)
       (ap (λ k. len (names_of (node_at t k).content)) (sym same)
-      ∙ replaces t old new n m (ap (λ f. first_row (moving_rows t old new (Some n) f)) (sym onto) ∙ free.moves)
+      ∙ replaces t old new n m (ap (λ f. first_rule (moving_rows t old new (Some n) f)) (sym onto) ∙ free.moves)
       (ap (λ k. is_directory (node_at t k).content) same ∙ directory))
 
   pub may_move : IsMove t old old_name new new_name n there

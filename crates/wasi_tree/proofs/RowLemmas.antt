@@ -12,51 +12,51 @@ use Rattle.wasi_host.specs.Step.{with_nodes, with_content, with_entry, without_e
 use Rattle.wasi_host.specs.declared.limits.Limits.{Limits}
 use Rattle.wasi_host.proofs.Changes.{changed, directory_within}
 use Rattle.wasi_paths.specs.Text.{is_entry_name}
-use Rattle.wasi_tree_index.specs.NameRows.{AllNames, names_at}
+use Rattle.wasi_tree_index.specs.DirEntryKeys.{AllNames, names_at}
 use Rattle.wasi_tree_index.proofs.NamesLemmas.{names_at-insert_other}
 use Rattle.wasi_tree.specs.StoredTree.{stored_content, stored_node, stored_tree, with_names, named_content, named_from, AreBelow, IsStored}
 use Rattle.wasi_tree.specs.Sound.{IsSound, IsSoundNode}
-use Rattle.wasi_tree.specs.declared.inode.Row.{Row}
-use Rattle.wasi_tree.specs.declared.inode.RowContent.{RowContent}
+use Rattle.wasi_tree.specs.declared.inode.Inode.{Inode}
+use Rattle.wasi_tree.specs.declared.inode.InodeContent.{InodeContent}
 use Rattle.wasi_tree.proofs.NamedLemmas.{said_of-named, named_row, length-named, named_node, named_put, named_push, named_more, named_less, below-insert, below-remove, below_more, apart_from}
 use Rattle.wasi_tree.proofs.SoundLemmas.{seen, sound_changed, sound_put, sound_named, sound_taken, sound_made}
 
-pub next-rows : (rows : List Row) (m : AllNames) (limits : Limits) (worked : Nodes) (t : Tree)
+pub next-rows : (rows : List Inode) (m : AllNames) (limits : Limits) (worked : Nodes) (t : Tree)
     → stored_tree rows m limits worked ≡ t → next_of t ≡ length rows
 next-rows rows m limits worked t is =
     subst (λ u. next_of u ≡ length rows) is (length-named m 0 (map stored_node rows) ∙ length-map rows stored_node)
 
 -- a node has a row
-pub row_within : (rows : List Row) (m : AllNames) {limits : Limits} {worked : Nodes} {t : Tree} {n : ℕ}
+pub row_within : (rows : List Inode) (m : AllNames) {limits : Limits} {worked : Nodes} {t : Tree} {n : ℕ}
     → stored_tree rows m limits worked ≡ t → n < next_of t → n < length rows
 row_within rows m stands within = omega (arith, within, next-rows rows m _ _ _ stands)
 
 -- as many rows are as many nodes
-pub count_same : (rows rows' : List Row) (m m' : AllNames) {limits : Limits} {worked : Nodes} {t : Tree}
+pub count_same : (rows rows' : List Inode) (m m' : AllNames) {limits : Limits} {worked : Nodes} {t : Tree}
     → length rows' ≡ length rows → stored_tree rows m limits worked ≡ t
     → length (named_from m' 0 (map stored_node rows')) ≡ next_of t
 count_same rows rows' m m' same stands =
     length-named m' 0 (map stored_node rows') ∙ length-map rows' stored_node ∙ same
     ∙ sym (next-rows rows m _ _ _ stands)
 
-row_at : (rows : List Row) (k : ℕ) (d : Row) → k < length rows
+row_at : (rows : List Inode) (k : ℕ) (d : Inode) → k < length rows
     → slice_index_or (map stored_node rows) k stray ≡ stored_node (slice_index_or rows k d)
 row_at [] k d within = absurd (omega arith)
 row_at (row ∷ rows) zero d within = refl
 row_at (row ∷ rows) (suc k) d within = row_at rows k d (omega arith)
 
 -- the row that was read of a node, where the rows and names stand for a tree
-pub record IsRow (rows : List Row) (m : AllNames) (limits : Limits) (worked : Nodes) (t : Tree) (n : ℕ) (row : Row) : Type 0 where
+pub record IsRow (rows : List Inode) (m : AllNames) (limits : Limits) (worked : Nodes) (t : Tree) (n : ℕ) (row : Inode) : Type 0 where
   pub stands : stored_tree rows m limits worked ≡ t
   pub within : n < next_of t
   pub read : row ≡ slice_index_or rows n row
 
 -- each node of the tree that is stood for is sound
-pub sound_at : {rows : List Row} {m : AllNames} {limits : Limits} {worked : Nodes} {marks : ℕ} {t : Tree}
+pub sound_at : {rows : List Inode} {m : AllNames} {limits : Limits} {worked : Nodes} {marks : ℕ} {t : Tree}
     → stored_tree rows m limits worked ≡ t → IsStored rows m limits worked marks → IsSound t marks
 sound_at {marks = marks} stands stored = subst (λ u. IsSound u marks) stands stored.sound
 
-module _ {rows : List Row} {m : AllNames} {limits : Limits} {worked : Nodes} {t : Tree} {n : ℕ} {row : Row}
+module _ {rows : List Inode} {m : AllNames} {limits : Limits} {worked : Nodes} {t : Tree} {n : ℕ} {row : Inode}
     (is : IsRow rows m limits worked t n row) where
   abbrev old : Node
   old = node_at t n
@@ -85,14 +85,14 @@ module _ {rows : List Row} {m : AllNames} {limits : Limits} {worked : Nodes} {t 
       (stored_content row.content)
 
   -- a content that stands for what it stood for
-  pub row_kept : (content : RowContent) → stored_content content ≡ stored_content row.content
+  pub row_kept : (content : InodeContent) → stored_content content ≡ stored_content row.content
       → stored_tree (slice_set rows n (record row { content = content })) m limits worked ≡ stored_tree rows m limits worked
   row_kept content same =
       ap (λ nodes. let u : Tree = record { nodes = named_from m 0 nodes; limits = limits; worked = worked } in u)
       (map-set_same stored_node rows n (record row { content = content }) row
       (ap (λ c. let node : Node = record (stored_node row) { content = c } in node) same ∙ ap stored_node is.read))
 
-  pub stored_kept : {marks : ℕ} (content : RowContent) → stored_content content ≡ stored_content row.content
+  pub stored_kept : {marks : ℕ} (content : InodeContent) → stored_content content ≡ stored_content row.content
       → IsStored rows m limits worked marks
       → IsStored (slice_set rows n (record row { content = content })) m limits worked marks
   stored_kept {marks} content same stored = record {
@@ -102,7 +102,7 @@ module _ {rows : List Row} {m : AllNames} {limits : Limits} {worked : Nodes} {t 
 
   -- a row that stands for what f makes of what this one stood for
   module _ (f : Node → Node) (unnamed : (names : Names) (node : Node) → with_names names (f node) ≡ f (with_names names node))
-      (new : Row) (does : stored_node new ≡ f (stored_node row)) where
+      (new : Inode) (does : stored_node new ≡ f (stored_node row)) where
     nodes_put : named_from m 0 (map stored_node (slice_set rows n new)) ≡ slice_set t.nodes n (f old)
     nodes_put =
         ap (named_from m 0) (map-set stored_node rows n new) ∙ named_put m (map stored_node rows) n (stored_node new)
@@ -127,8 +127,8 @@ module _ {rows : List Row} {m : AllNames} {limits : Limits} {worked : Nodes} {t 
   -- a content that stands for what f makes of what it stood for
   module _ (f : Content → Content)
       (unnamed : (names : Names) (c : Content) → named_content names (f c) ≡ f (named_content names c))
-      (content : RowContent) (does : stored_content content ≡ f (stored_content row.content)) where
-    abbrev new : Row
+      (content : InodeContent) (does : stored_content content ≡ f (stored_content row.content)) where
+    abbrev new : Inode
     new = record row { content = content }
 
     abbrev change : Node → Node
@@ -155,7 +155,7 @@ module _ {rows : List Row} {m : AllNames} {limits : Limits} {worked : Nodes} {t 
         sound_row change node_unnamed new node_written now (λ node. same_seen node.content) stored same
 
 -- what a row says without a look at its names, its node says
-pub said_at : (rows : List Row) (m : AllNames) {limits : Limits} {worked : Nodes} {t : Tree} {n : ℕ} {row : Row}
+pub said_at : (rows : List Inode) (m : AllNames) {limits : Limits} {worked : Nodes} {t : Tree} {n : ℕ} {row : Inode}
     {B : Type 0} (f : Content → B)
     → ((names old : Names) (gone : Bool) → f (Directory names gone) ≡ f (Directory old gone))
     → stored_tree rows m limits worked ≡ t → n < next_of t → row ≡ slice_index_or rows n row
@@ -167,11 +167,11 @@ said_at rows m {limits} {worked} {t} {n} {row} f same stands within read =
 -- ---- names
 
 -- a directory, where the rows and names stand for a tree
-pub record IsIn (rows : List Row) (m : AllNames) (limits : Limits) (worked : Nodes) (t : Tree) (d : ℕ) : Type 0 where
+pub record IsIn (rows : List Inode) (m : AllNames) (limits : Limits) (worked : Nodes) (t : Tree) (d : ℕ) : Type 0 where
   pub stands : stored_tree rows m limits worked ≡ t
   pub directory : is_directory (node_at t d).content ≡ true
 
-module _ {rows : List Row} {m : AllNames} {limits : Limits} {worked : Nodes} {t : Tree} {d : ℕ}
+module _ {rows : List Inode} {m : AllNames} {limits : Limits} {worked : Nodes} {t : Tree} {d : ℕ}
     (is : IsIn rows m limits worked t d) where
   pub inside : d < next_of t
   inside = directory_within t d is.directory
@@ -235,7 +235,7 @@ module _ {rows : List Row} {m : AllNames} {limits : Limits} {worked : Nodes} {t 
       λ i. let u : Tree = record { nodes = nodes i; limits = (is.stands i).limits; worked = marks i } in u
 
   -- the tree with one row more, which a name of a directory holds
-  pub tree_grown : (name : List ℕ) (last : Row) {items : List Row} {names : AllNames} {now : Nodes}
+  pub tree_grown : (name : List ℕ) (last : Inode) {items : List Inode} {names : AllNames} {now : Nodes}
       → names_at m (length rows) ≡ maps.empty → items ≡ rows ++ last ∷ []
       → names ≡ maps.insert m (d, name) (next_of t) → now ≡ with_nodes t.worked (d ∷ next_of t ∷ [])
       → stored_tree items names limits now ≡ node_made t d name (stored_node last)
@@ -280,8 +280,8 @@ module _ {rows : List Row} {m : AllNames} {limits : Limits} {worked : Nodes} {t 
         below = subst (λ ms. AreBelow ms (length rows)) (sym taken) (below-remove d name directory_row stored.below);
       }
 
-  pub stored_grown : (name : List ℕ) (last : Row) → is_entry_name name ≡ true → IsSoundNode 0 (stored_node last)
-      → {items : List Row} {names : AllNames} {now : Nodes} {marks count : ℕ}
+  pub stored_grown : (name : List ℕ) (last : Inode) → is_entry_name name ≡ true → IsSoundNode 0 (stored_node last)
+      → {items : List Inode} {names : AllNames} {now : Nodes} {marks count : ℕ}
       → items ≡ rows ++ last ∷ [] → names ≡ maps.insert m (d, name) (next_of t)
       → now ≡ with_nodes t.worked (d ∷ next_of t ∷ []) → count ≡ marks + 1
       → IsStored rows m limits worked marks → IsStored items names limits now count
@@ -299,7 +299,7 @@ module _ {rows : List Row} {m : AllNames} {limits : Limits} {worked : Nodes} {t 
 -- ---- nodes as a list gives them
 
 -- one more is told
-pub node_told : (m : AllNames) (rows : List Row) (nodes : List NewNode) (node : NewNode) {i n : ℕ} {row : Row}
+pub node_told : (m : AllNames) (rows : List Inode) (nodes : List NewNode) (node : NewNode) {i n : ℕ} {row : Inode}
     {now : List NewNode} → i < length rows → row ≡ get_or rows i row → n ≡ i → now ≡ nodes ++ node ∷ []
     → given node ≡ given_of (with_names (names_at m n) (stored_node row))
     → map given nodes ≡ map given_of (named_from m 0 (map stored_node (take i rows)))

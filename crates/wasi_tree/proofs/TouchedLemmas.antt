@@ -10,7 +10,7 @@ use Rattle.wasi_host.specs.Step.{new_file, is_cut, file_cut, file_made, opened_s
 use Rattle.wasi_host.specs.Answer.{access_of, unless, reached, or_next, metadata_of}
 use Rattle.wasi_host.specs.HostLaws.{IsHeld}
 use Rattle.wasi_host.specs.declared.open_handle.AccessMode.TheVariants.{Read, Write, ReadWrite, PathOnly}
-use Rattle.wasi_host.specs.declared.open_handle.Held.{Held}
+use Rattle.wasi_host.specs.declared.open_handle.OpenHandle.{OpenHandle}
 use Rattle.wasi_host.specs.declared.metadata.Metadata.{Metadata}
 use Rattle.wasi_host.specs.declared.system_time.SystemTime.{SystemTime}
 use Rattle.wasi_host.proofs.Changes.{node_at-made, next_of-made, directory_within}
@@ -20,7 +20,7 @@ use Rattle.wasi_tree.proofs.LinkLemmas.{with_nodes-append}
 use Rattle.wasi_tree.specs.TouchedTree.{Touched, AnsweredByTable}
 
 -- what is held stays held
-pub held_stays : {t u : Tree} {held : Held} → NodesStay t u → IsHeld t held → IsHeld u held
+pub held_stays : {t u : Tree} {held : OpenHandle} → NodesStay t u → IsHeld t held → IsHeld u held
 held_stays {held = held} stays is = record {
   within = omega (arith, is.within, stays.next);
   writes_file = λ writes. stays.files held.node is.within ∙ is.writes_file writes;
@@ -76,7 +76,7 @@ module _ {t : Tree} {d : ℕ} {name : List ℕ} {o : Options} (free : IsFree t d
       }
 
 -- what the handle of an open stands for, by the node that the name holds
-handle_of : Tree → Options → Option ℕ → Held
+handle_of : Tree → Options → Option ℕ → OpenHandle
 handle_of t o found = record { node = or_next found (next_of t); mode = access_of o }
 
 -- the nodes that an open comes to or makes, by the node that the name holds

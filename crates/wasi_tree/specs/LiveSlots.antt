@@ -2,16 +2,16 @@
 use Rattle.std.specs.Prelude.{ℕ, ◌+◌, List, [], ◌∷◌, Option, Some, None, refl}
 use Rattle.std.specs.Coded.{Coded, code_by, coded×, coded_ℕ}
 use Rattle.std.specs.FinMap as maps
-use Rattle.wasi_host.specs.declared.open_handle.Held.{Held}
+use Rattle.wasi_host.specs.declared.open_handle.OpenHandle.{OpenHandle}
 use Rattle.wasi_tree.specs.MemState.{HeldMap, handles_code}
 
-abbrev pub handles_from : ℕ → List (Option Held) → HeldMap
+abbrev pub handles_from : ℕ → List (Option OpenHandle) → HeldMap
 handles_from k [] = maps.empty
 handles_from k (None ∷ slots) = handles_from (k + 1) slots
 handles_from k (Some held ∷ slots) = maps.insert (handles_from (k + 1) slots) k held
 
 -- the numbers whose slot is taken, each with what it holds
-unfoldable pub handles_in : List (Option Held) → HeldMap
+unfoldable pub handles_in : List (Option OpenHandle) → HeldMap
 handles_in slots = handles_from 0 slots
 
 -- the live handles, and how many more can be given before memory is taken

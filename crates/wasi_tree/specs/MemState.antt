@@ -7,15 +7,15 @@ use Rattle.std.specs.FinSet.{from_list}
 use Rattle.wasi_host.specs.Tree.{Tree, Nodes}
 use Rattle.wasi_host.specs.TreeCode.{tree_code, nodes_code}
 use Rattle.wasi_host.specs.HostLaws.{World, Handles}
-use Rattle.wasi_host.specs.contracts.open_handle.Held as held
+use Rattle.wasi_host.specs.contracts.open_handle.OpenHandle as held
 use Rattle.wasi_host.specs.contracts.lookup.Lookup as lookup
 use Rattle.wasi_host.specs.declared.open_handle.AccessMode.TheVariants.{PathOnly}
-use Rattle.wasi_host.specs.declared.open_handle.Held.{Held}
+use Rattle.wasi_host.specs.declared.open_handle.OpenHandle.{OpenHandle}
 use Rattle.wasi_host.specs.declared.lookup.Lookup.{Lookup}
 
 -- the live handles by their numbers, each with what it stands for
 abbrev pub HeldMap : Type 0
-HeldMap = maps.FinMap nat_cmp Held
+HeldMap = maps.FinMap nat_cmp OpenHandle
 
 -- the tree, the live handles, the touched nodes, and the look-ups so far
 pub record MemState : Type 0 where
@@ -40,15 +40,15 @@ unfoldable pub live_of : HeldMap → Handles
 live_of handles = from_list (maps.keys handles)
 
 -- of a number that isn't live: nothing that a handle was ever given for
-abbrev pub nothing_held : Held
+abbrev pub nothing_held : OpenHandle
 nothing_held = record { node = 0; mode = PathOnly }
 
-abbrev pub or_nothing : Option Held → Held
+abbrev pub or_nothing : Option OpenHandle → OpenHandle
 or_nothing None = nothing_held
 or_nothing (Some held) = held
 
 -- what the handle of a number stands for
-unfoldable pub held_in : HeldMap → ℕ → Held
+unfoldable pub held_in : HeldMap → ℕ → OpenHandle
 held_in handles h = or_nothing (maps.get handles h)
 
 abbrev pub world_of : MemState → World

@@ -4,19 +4,19 @@ use Rattle.std.specs.String.{string_bytes}
 use Rattle.std.specs.FinMap as maps
 use Rattle.wasi_host.specs.Tree.{Tree, Node, Content, File, Directory, Link, Names, Nodes}
 use Rattle.wasi_host.specs.declared.limits.Limits.{Limits}
-use Rattle.wasi_tree_index.specs.NameRows.{AllNames, names_at}
+use Rattle.wasi_tree_index.specs.DirEntryKeys.{AllNames, names_at}
 use Rattle.wasi_tree.specs.Sound.{IsSound}
-use Rattle.wasi_tree.specs.declared.inode.Row.{Row}
-use Rattle.wasi_tree.specs.declared.inode.RowContent.{RowContent}
-use Rattle.wasi_tree.specs.declared.inode.RowContent.TheVariants as rows
+use Rattle.wasi_tree.specs.declared.inode.Inode.{Inode}
+use Rattle.wasi_tree.specs.declared.inode.InodeContent.{InodeContent}
+use Rattle.wasi_tree.specs.declared.inode.InodeContent.TheVariants as rows
 
 -- what a row says of its node: all but the names of a directory
-abbrev pub stored_content : RowContent → Content
+abbrev pub stored_content : InodeContent → Content
 stored_content (rows.File bytes links) = File bytes.items links
 stored_content (rows.Dir gone) = Directory maps.empty gone
 stored_content (rows.Link text links) = Link (string_bytes text) links
 
-abbrev pub stored_node : Row → Node
+abbrev pub stored_node : Inode → Node
 stored_node row = record { content = stored_content row.content; bits = row.bits; atime = row.atime; mtime = row.mtime; btime = row.btime }
 
 abbrev pub named_content : Names → Content → Content
@@ -34,7 +34,7 @@ named_from m k [] = []
 named_from m k (node ∷ nodes) = with_names (names_at m k) node ∷ named_from m (k + 1) nodes
 
 -- the tree of these rows and names, where these nodes have been worked on
-abbrev pub stored_tree : List Row → AllNames → Limits → Nodes → Tree
+abbrev pub stored_tree : List Inode → AllNames → Limits → Nodes → Tree
 stored_tree rows m limits worked = record { nodes = named_from m 0 (map stored_node rows); limits = limits; worked = worked }
 
 -- no names are those of a number from this one on
@@ -42,7 +42,7 @@ pub record AreBelow (m : AllNames) (k : ℕ) : Type 0 where
   pub none : (d : ℕ) → k ≤ d → names_at m d ≡ maps.empty
 
 -- the tree of the rows and names is sound, and no name is one of a directory that isn't there
-pub record IsStored (rows : List Row) (m : AllNames) (limits : Limits) (worked : Nodes) (marks : ℕ) : Type 0 where
+pub record IsStored (rows : List Inode) (m : AllNames) (limits : Limits) (worked : Nodes) (marks : ℕ) : Type 0 where
   pub sound : IsSound (stored_tree rows m limits worked) marks
   pub below : AreBelow m (length rows)
 

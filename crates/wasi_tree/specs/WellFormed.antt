@@ -57,18 +57,18 @@ abbrev pub IsFit : Limits → List Given → ℕ → Given → Type 0
 IsFit limits nodes n g = (n < limits.nodes) × IsFitContent limits nodes n g.content
 
 -- a number keeps the rules: number 0 is a directory's, and the node of a number is fit
-pub record KeepsRules (limits : Limits) (nodes : List Given) (n : ℕ) : Type 0 where
+pub record IsWellFormedNode (limits : Limits) (nodes : List Given) (n : ℕ) : Type 0 where
   pub first : n ≡ 0 → starts_with_directory nodes ≡ true
   pub fit : ForSome (slice_get nodes n) (IsFit limits nodes n)
 
 -- a tree can be made of these nodes
 abbrev pub AreFit : Limits → List Given → Type 0
-AreFit limits nodes = (n : ℕ) → KeepsRules limits nodes n
+AreFit limits nodes = (n : ℕ) → IsWellFormedNode limits nodes n
 
 -- the lowest number that breaks the rules
 pub record IsLowestUnfit (limits : Limits) (nodes : List Given) (n : ℕ) : Type 0 where
-  pub breaks : KeepsRules limits nodes n → ⊥
-  pub below : (k : ℕ) → k < n → KeepsRules limits nodes k
+  pub breaks : IsWellFormedNode limits nodes n → ⊥
+  pub below : (k : ℕ) → k < n → IsWellFormedNode limits nodes k
 
 -- why no tree is made of these nodes
 abbrev pub IsTreeCause : Limits → List Given → TreeError → Type 0

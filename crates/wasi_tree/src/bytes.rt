@@ -10,13 +10,13 @@ ghost use Rattle.wasi_tree.specs.TouchedTree.{Grows, MeansCode};
 
 use crate::node_store::NodeStore;
 use std::alloc::AllocError;
-use wasi_host::{ErrorCode, FILE_MAX, Held, HostError};
+use wasi_host::{ErrorCode, FILE_MAX, OpenHandle, HostError};
 
 /// Reads a file's bytes from an offset on into the front of `buf`, and answers how many.
 #[tactic(auto, unfolding(wasi_host::specs::Refusal::refusal))]
 pub fn get_at<S: NodeStore>(
     store: &S,
-    file: Held,
+    file: OpenHandle,
     buf: &mut [u8],
     offset: u64,
 ) -> Result<usize, ErrorCode>
@@ -42,7 +42,7 @@ pub fn get_at<S: NodeStore>(
 #[tactic(auto, unfolding(wasi_host::specs::Refusal::refusal))]
 pub fn put_at<S: NodeStore>(
     store: &mut S,
-    file: Held,
+    file: OpenHandle,
     piece: &[u8],
     offset: u64,
 ) -> Result<usize, HostError>
@@ -74,7 +74,7 @@ pub fn put_at<S: NodeStore>(
 
 /// Puts a piece of bytes behind a file's last one, and answers how many: all.
 #[tactic(auto, unfolding(wasi_host::specs::Refusal::refusal))]
-pub fn put_behind<S: NodeStore>(store: &mut S, file: Held, piece: &[u8]) -> Result<usize, HostError>
+pub fn put_behind<S: NodeStore>(store: &mut S, file: OpenHandle, piece: &[u8]) -> Result<usize, HostError>
     requires within { file.node < next_of (S.seen store.old).tree }
     requires at { S.HasRoom store.old file.node }
     ensures meaning { MatchResult result
@@ -124,7 +124,7 @@ fn write<S: NodeStore>(
 
 /// Cuts a file to so many bytes, or fills it up to them with zeros.
 #[tactic(auto, unfolding(wasi_host::specs::Refusal::refusal))]
-pub fn put_size<S: NodeStore>(store: &mut S, file: Held, size: u64) -> Result<(), HostError>
+pub fn put_size<S: NodeStore>(store: &mut S, file: OpenHandle, size: u64) -> Result<(), HostError>
     requires within { file.node < next_of (S.seen store.old).tree }
     requires at { S.HasRoom store.old file.node }
     ensures meaning { MatchResult result

@@ -12,22 +12,22 @@ ghost use Rattle.wasi_host.specs.HostLaws.{IsHeld, hosted, answered};
 ghost use Rattle.wasi_host.specs.Refusal.{refusal, refused_with};
 ghost use Rattle.wasi_host.specs.Step.{file_cut, found_under, is_cut, times_step, with_nodes};
 ghost use Rattle.wasi_host.specs.Time.{HasTimes};
-ghost use Rattle.wasi_tree.specs.Looked.{IsLooked, looked_at};
+ghost use Rattle.wasi_tree.specs.NameLookup.{IsLooked, looked_at};
 ghost use Rattle.wasi_tree.specs.Sound.{NodesStay, IsSoundText};
 ghost use Rattle.wasi_tree.specs.TouchedTree.{FollowsTable, Grows};
 
 use crate::bytes::{get_at, put_at, put_behind, put_size};
-use crate::looked::Looked;
+use crate::name_lookup::NameLookup;
 use crate::moves::node_to_move;
 use crate::node_store::NodeStore;
 use crate::refusals::{
     access_of, list_of, node_to_link, node_to_remove, node_to_unlink, node_under, refuse_make_dir,
     refuse_open, refuse_symlink, stat_of, text_under,
 };
-use crate::inode::Row;
+use crate::inode::Inode;
 use std::alloc::{AllocError, Global};
 use wasi_host::{
-    Advice, DirEntry, ErrorCode, Held, HostError, Metadata, OpenOptions, SyncFlags, SystemTime,
+    Advice, DirEntry, ErrorCode, OpenHandle, HostError, Metadata, OpenOptions, SyncFlags, SystemTime,
 };
 use wasi_paths::Name;
 
@@ -66,7 +66,7 @@ fn find<'n, S: NodeStore>(
     store: &mut S,
     directory: u64,
     name: Name<'n>,
-) -> Result<Looked<'n>, AllocError>
+) -> Result<NameLookup<'n>, AllocError>
     requires within { directory < next_of (S.seen store.old).tree }
     requires at { S.HasRoom store.old directory }
     ensures looked { IfOk result (λ looked. looked ≡ looked_at (S.seen store.old).tree directory name.entry) }
@@ -91,7 +91,7 @@ fn find_both<'n, 'm, S: NodeStore>(
     old_name: Name<'n>,
     new: u64,
     new_name: Name<'m>,
-) -> Result<(Looked<'n>, Looked<'m>), AllocError>
+) -> Result<(NameLookup<'n>, NameLookup<'m>), AllocError>
     requires old { old < next_of (S.seen store.old).tree }
     requires from { S.HasRoom store.old old }
     requires new { new < next_of (S.seen store.old).tree }
@@ -124,7 +124,7 @@ pub fn open_at<S: NodeStore>(
     directory: u64,
     name: Name<'_>,
     options: &OpenOptions,
-) -> Result<Held, HostError>
+) -> Result<OpenHandle, HostError>
     requires within { directory < next_of (S.seen store.old).tree }
     requires at { S.HasRoom store.old directory }
     ensures does { FollowsTable (S.seen store.old) (S.seen store.new) (OpenAt directory (name_bytes name.entry) options.now)
@@ -142,12 +142,12 @@ pub fn open_at<S: NodeStore>(
     match looked.found {
         Some(node) => {
             cut_where_asked(store, node, options);
-            Ok(Held { node, mode })
+            Ok(OpenHandle { node, mode })
         }
         None => {
-            let file = Row::new_file(store.allocator());
+            let file = Inode::new_file(store.allocator());
             let node = store.make_node(directory, name, file)?;
-            Ok(Held { node, mode })
+            Ok(OpenHandle { node, mode })
         }
     }
 }
@@ -223,7 +223,7 @@ pub fn make_dir_at<S: NodeStore>(
     if let Some(code) = refuse_make_dir(store, &looked) {
         return Err(HostError::Code(code));
     }
-    store.make_node(directory, name, Row::new_directory())?;
+    store.make_node(directory, name, Inode::new_directory())?;
     Ok(())
 }
 
@@ -246,7 +246,7 @@ pub fn symlink_at<S: NodeStore>(
         return Err(HostError::Code(code));
     }
     let text = String::from_str(store.allocator(), target)?;
-    store.make_node(directory, name, Row::new_link(text))?;
+    store.make_node(directory, name, Inode::new_link(text))?;
     Ok(())
 }
 
@@ -360,7 +360,7 @@ pub fn times_at<S: NodeStore>(
 #[tactic(auto, using(crate::proofs::StoreLemmas::store_rules), unfolding(wasi_host::specs::Refusal::refusal))]
 fn set_times_under<S: NodeStore>(
     store: &mut S,
-    looked: &Looked<'_>,
+    looked: &NameLookup<'_>,
     atime: Option<SystemTime>,
     mtime: Option<SystemTime>,
 ) -> Result<(), ErrorCode>
@@ -396,7 +396,7 @@ pub fn access<S: NodeStore>(store: &mut S, directory: u64) -> Result<(), ErrorCo
 pub fn list<S: NodeStore>(
     store: &mut S,
     alloc: Global,
-    directory: Held,
+    directory: OpenHandle,
 ) -> Result<Vec<DirEntry>, HostError>
     requires within { directory.node < next_of (S.seen store.old).tree }
     requires at { S.HasRoom store.old directory.node }
@@ -444,7 +444,7 @@ pub fn set_times<S: NodeStore>(
 /// Reads a file's bytes from an offset on into the front of `buf`, and answers how many.
 pub fn read_at<S: NodeStore>(
     store: &mut S,
-    file: Held,
+    file: OpenHandle,
     buf: &mut [u8],
     offset: u64,
 ) -> Result<usize, ErrorCode>
@@ -466,7 +466,7 @@ pub fn read_at<S: NodeStore>(
 /// Puts a piece of bytes into a file from an offset on, and answers how many: all.
 pub fn write_at<S: NodeStore>(
     store: &mut S,
-    file: Held,
+    file: OpenHandle,
     piece: &[u8],
     offset: u64,
 ) -> Result<usize, HostError>
@@ -483,7 +483,7 @@ pub fn write_at<S: NodeStore>(
 }
 
 /// Puts a piece of bytes behind a file's last one, and answers how many: all.
-pub fn append<S: NodeStore>(store: &mut S, file: Held, piece: &[u8]) -> Result<usize, HostError>
+pub fn append<S: NodeStore>(store: &mut S, file: OpenHandle, piece: &[u8]) -> Result<usize, HostError>
     requires within { file.node < next_of (S.seen store.old).tree }
     requires at { S.HasRoom store.old file.node }
     ensures does { FollowsTable (S.seen store.old) (S.seen store.new) (Append file piece.now) (λ n. n) result }
@@ -496,7 +496,7 @@ pub fn append<S: NodeStore>(store: &mut S, file: Held, piece: &[u8]) -> Result<u
 }
 
 /// Cuts a file to so many bytes, or fills it up to them with zeros.
-pub fn set_size<S: NodeStore>(store: &mut S, file: Held, size: u64) -> Result<(), HostError>
+pub fn set_size<S: NodeStore>(store: &mut S, file: OpenHandle, size: u64) -> Result<(), HostError>
     requires within { file.node < next_of (S.seen store.old).tree }
     requires at { S.HasRoom store.old file.node }
     ensures does { FollowsTable (S.seen store.old) (S.seen store.new) (SetSize file size) (λ unit. unit) result }

@@ -7,18 +7,18 @@ ghost use Rattle.wasi_host.specs.Step.{new_node, new_file, new_directory, new_li
 ghost use Rattle.wasi_host.specs.Numbers.{largest_file};
 ghost use Rattle.wasi_tree.specs.Given.{Given, pair_of, given, given_content, given_of, content_given, entry_count, content_from, node_from};
 ghost use Rattle.wasi_tree.specs.Viewed.{Views, viewed_content};
-ghost use Rattle.wasi_tree_index.specs.NameRows.{names_at};
+ghost use Rattle.wasi_tree_index.specs.DirEntryKeys.{names_at};
 ghost use Rattle.wasi_tree.specs.StoredTree.{stored_content, with_names, named_content, OtherNamesStay, with_first};
 ghost use Rattle.wasi_host.specs.Answer.{kind_of, size_of, metadata_from};
 
 use crate::node::{ContentView, NewContent, NewEntry, NewNode, NodeView, new_bits};
 use std::alloc::{AllocError, Global};
 use wasi_host::{Bits, FileType, Metadata, SystemTime};
-use wasi_tree_index::{Rows, Run};
+use wasi_tree_index::{NameIndex, EntryCursor};
 
 /// What a node is, with how many names it has. The names that a directory holds stand in the rows of all names.
 #[derive(Debug, Drop)]
-pub enum RowContent {
+pub enum InodeContent {
     File { bytes: Vec<u8>, links: u64 },
     Dir { gone: bool },
     Link { text: String, links: u64 },
@@ -26,15 +26,15 @@ pub enum RowContent {
 
 /// A node as a store holds it.
 #[derive(Debug, Drop)]
-pub struct Row {
-    pub content: RowContent,
+pub struct Inode {
+    pub content: InodeContent,
     pub bits: Bits,
     pub atime: SystemTime,
     pub mtime: SystemTime,
     pub btime: SystemTime,
 }
 
-impl RowContent {
+impl InodeContent {
     ghost use Rattle.wasi_tree.specs.StoredTree.{stored_content};
 
     /// The content of the node of a number, which so many entries of its list give. The names of a directory come among
@@ -43,36 +43,36 @@ impl RowContent {
         content: NewContent,
         number: u64,
         links: u64,
-        names: &mut Rows,
-    ) -> Result<RowContent, AllocError>
+        names: &mut NameIndex,
+    ) -> Result<InodeContent, AllocError>
         requires { names_at names.old.names number ≡ maps.empty }
         ensures content { IfOk result (λ made. (all : List Given) → entry_count number all ≡ links
             → named_content (names_at names.new.names number) (stored_content made) ≡ content_from all number (given_content content)) }
         ensures others { OtherNamesStay number names.old.names names.new.names }
     {
         match content {
-            NewContent::File(bytes) => Ok(RowContent::File { bytes, links }),
+            NewContent::File(bytes) => Ok(InodeContent::File { bytes, links }),
             NewContent::Dir(entries) => {
                 add_entries(names, number, entries)?;
-                Ok(RowContent::Dir {
+                Ok(InodeContent::Dir {
                     gone: is_removed(number, links),
                 })
             }
-            NewContent::Link(text) => Ok(RowContent::Link { text, links }),
+            NewContent::Link(text) => Ok(InodeContent::Link { text, links }),
         }
     }
 
     /// The content as a list of nodes gives it, in memory of its own, where a directory has these names.
-    fn to_new(&self, alloc: Global, names: Run<'_>) -> Result<NewContent, AllocError>
+    fn to_new(&self, alloc: Global, names: EntryCursor<'_>) -> Result<NewContent, AllocError>
         ensures { IfOk result (λ content. (held : Names) → maps.entries held ≡ names.entry
             → given_content content ≡ content_given (named_content held (stored_content self.now))) }
     {
         match self {
-            RowContent::File { bytes, .. } => {
+            InodeContent::File { bytes, .. } => {
                 Ok(NewContent::File(Vec::from_slice(alloc, bytes.as_slice())?))
             }
-            RowContent::Dir { .. } => Ok(NewContent::Dir(new_entries(alloc, names)?)),
-            RowContent::Link { text, .. } => {
+            InodeContent::Dir { .. } => Ok(NewContent::Dir(new_entries(alloc, names)?)),
+            InodeContent::Link { text, .. } => {
                 Ok(NewContent::Link(String::from_str(alloc, text.as_str())?))
             }
         }
@@ -84,9 +84,9 @@ impl RowContent {
             viewed_content (maps.entries (names_of content)) result ≡ content_given content }
     {
         match self {
-            RowContent::File { bytes, .. } => ContentView::File(bytes.as_slice()),
-            RowContent::Dir { .. } => ContentView::Dir,
-            RowContent::Link { text, .. } => ContentView::Link(text.as_str()),
+            InodeContent::File { bytes, .. } => ContentView::File(bytes.as_slice()),
+            InodeContent::Dir { .. } => ContentView::Dir,
+            InodeContent::Link { text, .. } => ContentView::Link(text.as_str()),
         }
     }
 
@@ -94,9 +94,9 @@ impl RowContent {
         ensures { result ≡ is_directory (stored_content self.now) }
     {
         match self {
-            RowContent::File { .. } => false,
-            RowContent::Dir { .. } => true,
-            RowContent::Link { .. } => false,
+            InodeContent::File { .. } => false,
+            InodeContent::Dir { .. } => true,
+            InodeContent::Link { .. } => false,
         }
     }
 
@@ -104,9 +104,9 @@ impl RowContent {
         ensures { result ≡ is_file (stored_content self.now) }
     {
         match self {
-            RowContent::File { .. } => true,
-            RowContent::Dir { .. } => false,
-            RowContent::Link { .. } => false,
+            InodeContent::File { .. } => true,
+            InodeContent::Dir { .. } => false,
+            InodeContent::Link { .. } => false,
         }
     }
 
@@ -114,9 +114,9 @@ impl RowContent {
         ensures { result ≡ is_link (stored_content self.now) }
     {
         match self {
-            RowContent::File { .. } => false,
-            RowContent::Dir { .. } => false,
-            RowContent::Link { .. } => true,
+            InodeContent::File { .. } => false,
+            InodeContent::Dir { .. } => false,
+            InodeContent::Link { .. } => true,
         }
     }
 
@@ -124,9 +124,9 @@ impl RowContent {
         ensures { result ≡ is_gone (stored_content self.now) }
     {
         match self {
-            RowContent::File { .. } => false,
-            RowContent::Dir { gone, .. } => *gone,
-            RowContent::Link { .. } => false,
+            InodeContent::File { .. } => false,
+            InodeContent::Dir { gone, .. } => *gone,
+            InodeContent::Link { .. } => false,
         }
     }
 
@@ -134,9 +134,9 @@ impl RowContent {
         ensures { result ≡ kind_of (stored_content self.now) }
     {
         match self {
-            RowContent::File { .. } => FileType::RegularFile,
-            RowContent::Dir { .. } => FileType::Directory,
-            RowContent::Link { .. } => FileType::SymbolicLink,
+            InodeContent::File { .. } => FileType::RegularFile,
+            InodeContent::Dir { .. } => FileType::Directory,
+            InodeContent::Link { .. } => FileType::SymbolicLink,
         }
     }
 
@@ -144,9 +144,9 @@ impl RowContent {
         ensures { result ≡ size_of (stored_content self.now) }
     {
         match self {
-            RowContent::File { bytes, .. } => bytes.as_slice().len() as u64,
-            RowContent::Dir { .. } => 0,
-            RowContent::Link { text, .. } => text.as_bytes().len() as u64,
+            InodeContent::File { bytes, .. } => bytes.as_slice().len() as u64,
+            InodeContent::Dir { .. } => 0,
+            InodeContent::Link { text, .. } => text.as_bytes().len() as u64,
         }
     }
 
@@ -154,9 +154,9 @@ impl RowContent {
         ensures { result ≡ links_of (stored_content self.now) }
     {
         match self {
-            RowContent::File { links, .. } => *links,
-            RowContent::Dir { .. } => 1,
-            RowContent::Link { links, .. } => *links,
+            InodeContent::File { links, .. } => *links,
+            InodeContent::Dir { .. } => 1,
+            InodeContent::Link { links, .. } => *links,
         }
     }
 
@@ -165,9 +165,9 @@ impl RowContent {
         ensures { result.now ≡ bytes_of (stored_content self.now) }
     {
         match self {
-            RowContent::File { bytes, .. } => bytes.as_slice(),
-            RowContent::Dir { .. } => &[],
-            RowContent::Link { .. } => &[],
+            InodeContent::File { bytes, .. } => bytes.as_slice(),
+            InodeContent::Dir { .. } => &[],
+            InodeContent::Link { .. } => &[],
         }
     }
 
@@ -176,9 +176,9 @@ impl RowContent {
         ensures { result.now ≡ text_of (stored_content self.now) }
     {
         match self {
-            RowContent::File { .. } => "",
-            RowContent::Dir { .. } => "",
-            RowContent::Link { text, .. } => text.as_str(),
+            InodeContent::File { .. } => "",
+            InodeContent::Dir { .. } => "",
+            InodeContent::Link { text, .. } => text.as_str(),
         }
     }
 
@@ -187,9 +187,9 @@ impl RowContent {
         ensures { stored_content self.new ≡ name_lost (stored_content self.old) }
     {
         match self {
-            RowContent::File { links, .. } => *links = links.saturating_sub(1),
-            RowContent::Dir { gone, .. } => *gone = true,
-            RowContent::Link { links, .. } => *links = links.saturating_sub(1),
+            InodeContent::File { links, .. } => *links = links.saturating_sub(1),
+            InodeContent::Dir { gone, .. } => *gone = true,
+            InodeContent::Link { links, .. } => *links = links.saturating_sub(1),
         }
     }
 
@@ -199,9 +199,9 @@ impl RowContent {
         ensures { stored_content self.new ≡ one_name_more (stored_content self.old) }
     {
         match self {
-            RowContent::File { links, .. } => *links += 1,
-            RowContent::Dir { .. } => {}
-            RowContent::Link { links, .. } => *links += 1,
+            InodeContent::File { links, .. } => *links += 1,
+            InodeContent::Dir { .. } => {}
+            InodeContent::Link { links, .. } => *links += 1,
         }
     }
 
@@ -211,12 +211,12 @@ impl RowContent {
         ensures { stored_content self.new ≡ other_bytes (with_size 0) (stored_content self.old) }
     {
         match self {
-            RowContent::File { bytes, .. } => {
+            InodeContent::File { bytes, .. } => {
                 bytes.clear();
                 bytes.shrink_to_fit();
             }
-            RowContent::Dir { .. } => {}
-            RowContent::Link { .. } => {}
+            InodeContent::Dir { .. } => {}
+            InodeContent::Link { .. } => {}
         }
     }
 
@@ -229,9 +229,9 @@ impl RowContent {
         ensures kept { OnErr result (stored_content self.new ≡ stored_content self.old) }
     {
         match self {
-            RowContent::File { bytes, .. } => put_piece(bytes, offset, piece),
-            RowContent::Dir { .. } => Ok(()),
-            RowContent::Link { .. } => Ok(()),
+            InodeContent::File { bytes, .. } => put_piece(bytes, offset, piece),
+            InodeContent::Dir { .. } => Ok(()),
+            InodeContent::Link { .. } => Ok(()),
         }
     }
 
@@ -242,26 +242,26 @@ impl RowContent {
         ensures kept { OnErr result (stored_content self.new ≡ stored_content self.old) }
     {
         match self {
-            RowContent::File { bytes, .. } => resize_bytes(bytes, size),
-            RowContent::Dir { .. } => Ok(()),
-            RowContent::Link { .. } => Ok(()),
+            InodeContent::File { bytes, .. } => resize_bytes(bytes, size),
+            InodeContent::Dir { .. } => Ok(()),
+            InodeContent::Link { .. } => Ok(()),
         }
     }
 }
 
-impl Row {
+impl Inode {
     ghost use Rattle.wasi_tree.specs.StoredTree.{stored_node};
 
     /// The row of the node of a number, which so many entries of its list give. The names of a directory come among the
     /// others; of two entries of one name the first one stays.
-    pub fn new(node: NewNode, number: u64, links: u64, names: &mut Rows) -> Result<Row, AllocError>
+    pub fn new(node: NewNode, number: u64, links: u64, names: &mut NameIndex) -> Result<Inode, AllocError>
         requires { names_at names.old.names number ≡ maps.empty }
         ensures row { IfOk result (λ row. (all : List Given) → entry_count number all ≡ links
             → with_names (names_at names.new.names number) (stored_node row) ≡ node_from all number (given node)) }
         ensures others { OtherNamesStay number names.old.names names.new.names }
     {
-        Ok(Row {
-            content: RowContent::new(node.content, number, links, names)?,
+        Ok(Inode {
+            content: InodeContent::new(node.content, number, links, names)?,
             bits: node.bits,
             atime: node.atime,
             mtime: node.mtime,
@@ -270,10 +270,10 @@ impl Row {
     }
 
     /// The row of a node that is made.
-    fn made(content: RowContent, x: bool) -> Row
+    fn made(content: InodeContent, x: bool) -> Inode
         ensures { stored_node result ≡ new_node (stored_content content) x }
     {
-        Row {
+        Inode {
             content,
             bits: new_bits(x),
             atime: SystemTime::EPOCH,
@@ -283,29 +283,29 @@ impl Row {
     }
 
     /// The row of a file that is made.
-    pub fn new_file(alloc: Global) -> Row
+    pub fn new_file(alloc: Global) -> Inode
         ensures { stored_node result ≡ new_file }
     {
         let bytes = Vec::new(alloc);
-        Row::made(RowContent::File { bytes, links: 1 }, false)
+        Inode::made(InodeContent::File { bytes, links: 1 }, false)
     }
 
     /// The row of a directory that is made.
-    pub fn new_directory() -> Row
+    pub fn new_directory() -> Inode
         ensures { stored_node result ≡ new_directory }
     {
-        Row::made(RowContent::Dir { gone: false }, true)
+        Inode::made(InodeContent::Dir { gone: false }, true)
     }
 
     /// The row of a link that is made.
-    pub fn new_link(text: String) -> Row
+    pub fn new_link(text: String) -> Inode
         ensures { stored_node result ≡ new_link (string_bytes text) }
     {
-        Row::made(RowContent::Link { text, links: 1 }, true)
+        Inode::made(InodeContent::Link { text, links: 1 }, true)
     }
 
     /// The node as a list of nodes gives it, in memory of its own, where a directory has these names.
-    pub fn to_new(&self, alloc: Global, names: Run<'_>) -> Result<NewNode, AllocError>
+    pub fn to_new(&self, alloc: Global, names: EntryCursor<'_>) -> Result<NewNode, AllocError>
         ensures { IfOk result (λ node. (held : Names) → maps.entries held ≡ names.entry
             → given node ≡ given_of (with_names held (stored_node self.now))) }
     {
@@ -365,7 +365,7 @@ fn is_removed(number: u64, links: u64) -> bool
 
 /// Puts the entries of a directory that has none among the names. Of two entries of one name the first one stays.
 pub fn add_entries(
-    names: &mut Rows,
+    names: &mut NameIndex,
     directory: u64,
     entries: Vec<NewEntry>,
 ) -> Result<(), AllocError>
@@ -380,7 +380,7 @@ pub fn add_entries(
 }
 
 /// Puts an entry of a directory among the names, unless one of its name is there.
-fn add_entry(names: &mut Rows, directory: u64, entry: NewEntry) -> Result<(), AllocError>
+fn add_entry(names: &mut NameIndex, directory: u64, entry: NewEntry) -> Result<(), AllocError>
     ensures added { OnOk result (names_at names.new.names directory ≡ with_first (names_at names.old.names directory) (pair_of entry)) }
     ensures others { OtherNamesStay directory names.old.names names.new.names }
 {
@@ -394,7 +394,7 @@ fn add_entry(names: &mut Rows, directory: u64, entry: NewEntry) -> Result<(), Al
 }
 
 /// The entries of a directory with these names, in byte order.
-fn new_entries(alloc: Global, mut names: Run<'_>) -> Result<Vec<NewEntry>, AllocError>
+fn new_entries(alloc: Global, mut names: EntryCursor<'_>) -> Result<Vec<NewEntry>, AllocError>
     ensures { IfOk result (λ entries. map pair_of entries.items ≡ names.entry) }
 {
     let mut entries = Vec::new(alloc);

@@ -3,37 +3,37 @@ ghost use Rattle.std.specs.Prelude.{◌≡◌, ◌<◌, ◌≤◌, ℕ, true, le
 ghost use Rattle.std.specs.FinMap as maps;
 ghost use Rattle.std.specs.FinSet.{empty};
 ghost use Rattle.wasi_host.specs.Tree.{next_of, node_at, names_of, is_directory};
-ghost use Rattle.wasi_tree_index.specs.NameRows.{names_at};
+ghost use Rattle.wasi_tree_index.specs.DirEntryKeys.{names_at};
 ghost use Rattle.wasi_tree.specs.Given.{tree_of};
 ghost use Rattle.wasi_tree.specs.ParentOf.{AreParents, parent_of};
 ghost use Rattle.wasi_tree.specs.Sound.{IsSoundNode};
 ghost use Rattle.wasi_tree.specs.StoredTree.{stored_tree, IsStored};
 ghost use Rattle.wasi_tree.specs.Viewed.{Views};
 
-use crate::well_formed_nodes::FitNodes;
-use crate::looked::Looked;
+use crate::well_formed_nodes::WellFormedNodes;
+use crate::name_lookup::NameLookup;
 use crate::marks::Marks;
 use crate::node::{NewNode, NodeView};
 use crate::node_store::NodeStore;
 use crate::parents::Parents;
-use crate::inode::Row;
-use crate::store::Store;
+use crate::inode::Inode;
+use crate::store::InodeStore;
 use crate::way::TellsParents;
 use std::alloc::{AllocError, Global};
 use std::marker::Model;
 use wasi_host::{Bits, DirEntry, Limits, Metadata, SystemTime};
-use wasi_tree_index::{Near, Rows, Run};
+use wasi_tree_index::{SearchHint, NameIndex, EntryCursor};
 use wasi_paths::Name;
 
 /// The nodes of a tree with the parents of its directories, and which of them calls have touched. Contracts see all three.
 /// Each node has room.
 #[derive(Debug, Drop)]
 pub struct MemStore {
-    pub(crate) store: Store,
+    pub(crate) store: InodeStore,
     pub(crate) parents: Parents,
     pub(crate) touched: Marks,
     /// Where a name was found last.
-    pub(crate) near: Near,
+    pub(crate) near: SearchHint,
 }
 
 impl Model for MemStore {
@@ -52,12 +52,12 @@ impl Model for MemStore {
 #[tactic(auto, using(crate::proofs::TouchedLemmas::touched_rules))]
 impl MemStore {
     /// The tree of these nodes, none of which is touched.
-    pub fn of(alloc: Global, fit: FitNodes) -> Result<MemStore, AllocError>
+    pub fn of(alloc: Global, fit: WellFormedNodes) -> Result<MemStore, AllocError>
         ensures tree { IfOk result (λ t. t.tree ≡ tree_of fit.nodes fit.limits) }
         ensures touched { IfOk result (λ t. t.touched ≡ empty) }
     {
         let parents = Parents::of(alloc, fit.list())?;
-        let store = Store::of(alloc, fit)?;
+        let store = InodeStore::of(alloc, fit)?;
         MemStore::begin(alloc, store, parents)
     }
 
@@ -65,8 +65,8 @@ impl MemStore {
     /// node has been worked on, and none is touched.
     pub fn of_rows(
         alloc: Global,
-        rows: Vec<Row>,
-        names: Rows,
+        rows: Vec<Inode>,
+        names: NameIndex,
         parents: Vec<Option<u64>>,
         limits: Limits,
     ) -> Result<MemStore, AllocError>
@@ -75,12 +75,12 @@ impl MemStore {
         ensures tree { IfOk result (λ t. t.tree ≡ stored_tree rows.items names.names limits empty) }
         ensures touched { IfOk result (λ t. t.touched ≡ empty) }
     {
-        let store = Store::of_rows(alloc, rows, names, limits)?;
+        let store = InodeStore::of_rows(alloc, rows, names, limits)?;
         MemStore::begin(alloc, store, Parents::of_rows(parents))
     }
 
     /// A store of which no node is touched.
-    fn begin(alloc: Global, store: Store, parents: Parents) -> Result<MemStore, AllocError>
+    fn begin(alloc: Global, store: InodeStore, parents: Parents) -> Result<MemStore, AllocError>
         requires { AreParents store parents.rows.items }
         ensures tree { IfOk result (λ t. t.tree ≡ store) }
         ensures touched { IfOk result (λ t. t.touched ≡ empty) }
@@ -90,7 +90,7 @@ impl MemStore {
             store,
             parents,
             touched,
-            near: Near::first(),
+            near: SearchHint::first(),
         })
     }
 
@@ -103,7 +103,7 @@ impl MemStore {
     }
 
     /// The names of a directory, in byte order. What is no directory has none.
-    pub fn names(&self, directory: u64) -> Run<'_>
+    pub fn names(&self, directory: u64) -> EntryCursor<'_>
         ensures { result ≡ maps.entries (names_of (node_at self.now.tree directory).content) }
     {
         self.store.names(directory)
@@ -117,7 +117,7 @@ impl MemStore {
     }
 
     /// The names of all directories.
-    pub fn all_names(&self) -> &Rows
+    pub fn all_names(&self) -> &NameIndex
         ensures here { (d : ℕ) → is_directory (node_at self.now.tree d).content ≡ true
             → names_at result.now.names d ≡ names_of (node_at self.now.tree d).content }
         ensures past { (d : ℕ) → next_of self.now.tree ≤ d → names_at result.now.names d ≡ maps.empty }
@@ -204,9 +204,9 @@ impl NodeStore for MemStore {
         self.parents.is_below(top, directory)
     }
 
-    fn look<'n>(&mut self, directory: u64, name: Name<'n>) -> Looked<'n> {
+    fn look<'n>(&mut self, directory: u64, name: Name<'n>) -> NameLookup<'n> {
         let found = self.store.child(&mut self.near, directory, name);
-        Looked {
+        NameLookup {
             directory,
             name,
             found,
@@ -238,7 +238,7 @@ impl NodeStore for MemStore {
     }
 
     /// All room is taken first, so that nothing has changed where memory is wanted.
-    fn make_node(&mut self, directory: u64, name: Name<'_>, row: Row) -> Result<u64, AllocError> {
+    fn make_node(&mut self, directory: u64, name: Name<'_>, row: Inode) -> Result<u64, AllocError> {
         self.touched.reserve()?;
         self.parents.reserve()?;
         let node = self.store.make_node(directory, name, row)?;

@@ -14,14 +14,14 @@ ghost use Rattle.wasi_tree.specs.MemState.{live_of};
 
 use crate::change::TreeChange;
 use crate::errors::TreeError;
-use crate::well_formed_nodes::FitNodes;
+use crate::well_formed_nodes::WellFormedNodes;
 use crate::mem_store::MemStore;
 use crate::node::{EntryView, NewNode, NodeView};
 use crate::node_store::NodeStore;
 use crate::tree_host::TreeHost;
 use std::alloc::{AllocError, Global};
 use wasi_host::Limits;
-use wasi_tree_index::Run;
+use wasi_tree_index::EntryCursor;
 
 /// A tree of files in memory, as a host.
 pub type MemTree = TreeHost<MemStore>;
@@ -29,7 +29,7 @@ pub type MemTree = TreeHost<MemStore>;
 #[tactic(auto, using(crate::proofs::MemLemmas::mem_rules))]
 impl TreeHost<MemStore> {
     /// A tree of these nodes, whose numbers are their places in the list, where they keep the rules; else the cause, as
-    /// `FitNodes::new` says both. It has no live handle, no node is touched, and there is no look-up.
+    /// `WellFormedNodes::new` says both. It has no live handle, no node is touched, and there is no look-up.
     pub fn new(alloc: Global, nodes: Vec<NewNode>, limits: Limits) -> Result<MemTree, TreeError>
         requires limits { AreLimits limits }
         ensures tree { IfOk result (λ m. m.tree ≡ tree_of (map given nodes.items) limits) }
@@ -39,14 +39,14 @@ impl TreeHost<MemStore> {
         ensures touched { IfOk result (λ m. m.touched ≡ empty) }
         ensures lookups { IfOk result (λ m. m.lookups ≡ []) }
     {
-        let fit = FitNodes::new(alloc, nodes, limits)?;
+        let fit = WellFormedNodes::new(alloc, nodes, limits)?;
         Ok(MemTree::of(alloc, fit)?)
     }
 
     /// The tree of these nodes. It has no live handle, no node is touched, and there is no look-up. Bits and times are
     /// as given. Every entry counts as a name of the node that it gives: a file or a link has as many links as names,
     /// and a directory but node 0 that has no name is removed.
-    pub fn of(alloc: Global, fit: FitNodes) -> Result<MemTree, AllocError>
+    pub fn of(alloc: Global, fit: WellFormedNodes) -> Result<MemTree, AllocError>
         ensures tree { IfOk result (λ m. m.tree ≡ tree_of fit.nodes fit.limits) }
         ensures live { IfOk result (λ m. live_of m.handles ≡ empty) }
         ensures touched { IfOk result (λ m. m.touched ≡ empty) }
@@ -101,7 +101,7 @@ impl TreeHost<MemStore> {
     }
 
     /// All names of a directory in byte order, one after another. What is no directory has none.
-    pub fn names(&self, dir: u64) -> Run<'_>
+    pub fn names(&self, dir: u64) -> EntryCursor<'_>
         ensures names { result ≡ maps.entries (names_of (node_at self.now.tree dir).content) }
     {
         self.store.names(dir)

@@ -4,11 +4,11 @@ ghost use Rattle.wasi_paths.specs.Name.{name_bytes};
 ghost use Rattle.wasi_host.specs.Tree.{node_at, is_directory, hold_one};
 ghost use Rattle.wasi_host.specs.Below.{is_below};
 ghost use Rattle.wasi_host.specs.HostCall.{RenameAt};
-ghost use Rattle.wasi_host.specs.Refusal.{first_row, loop_rows, refusal, refused_with};
-ghost use Rattle.wasi_tree.specs.Looked.{IsLooked};
+ghost use Rattle.wasi_host.specs.Refusal.{first_rule, loop_rows, refusal, refused_with};
+ghost use Rattle.wasi_tree.specs.NameLookup.{IsLooked};
 ghost use Rattle.wasi_tree.specs.Move.{Moves};
 
-use crate::looked::Looked;
+use crate::name_lookup::NameLookup;
 use crate::node_store::NodeStore;
 use crate::refusals::{node_to_rename, refuse_move};
 use wasi_host::ErrorCode;
@@ -16,8 +16,8 @@ use wasi_host::ErrorCode;
 /// The node that a rename moves, or nothing where both names hold it already; where a row refuses the rename, its code.
 pub fn node_to_move<S: NodeStore>(
     store: &S,
-    from: &Looked<'_>,
-    to: &Looked<'_>,
+    from: &NameLookup<'_>,
+    to: &NameLookup<'_>,
     requires_dir: bool,
 ) -> Result<Option<u64>, ErrorCode>
     requires from { IsLooked (S.seen store.now).tree from.now }
@@ -50,7 +50,7 @@ fn refuse_loop<S: NodeStore>(
 ) -> Option<ErrorCode>
     requires old { is_directory (node_at (S.seen store.now).tree old).content ≡ true }
     requires new { is_directory (node_at (S.seen store.now).tree new).content ≡ true }
-    ensures { result ≡ first_row (loop_rows (S.seen store.now).tree old new (Some node) there) }
+    ensures { result ≡ first_rule (loop_rows (S.seen store.now).tree old new (Some node) there) }
 {
     if has_below(store, node, new) {
         return Some(ErrorCode::Invalid);

@@ -15,15 +15,15 @@ ghost use Rattle.wasi_host.specs.Answer.{metadata_of, entry_of, listed};
 ghost use Rattle.wasi_host.specs.Numbers.{largest_file};
 ghost use Rattle.wasi_host.specs.Time.{HasTimes};
 ghost use Rattle.wasi_tree.specs.Given.{given, given_of};
-ghost use Rattle.wasi_tree.specs.Looked.{IsLooked, looked_at};
+ghost use Rattle.wasi_tree.specs.NameLookup.{IsLooked, looked_at};
 ghost use Rattle.wasi_tree.specs.Move.{HasName, IsMove, MayGain, MayName};
 ghost use Rattle.wasi_tree.specs.Sound.{NodesStay, IsSoundNode, IsSoundText};
 ghost use Rattle.wasi_tree.specs.StoredTree.{stored_node};
 ghost use Rattle.wasi_tree.specs.TouchedTree.{Touched, Grows, with_touched, with_tree};
 
-use crate::looked::Looked;
+use crate::name_lookup::NameLookup;
 use crate::node::NewNode;
-use crate::inode::Row;
+use crate::inode::Inode;
 use std::alloc::{AllocError, Global};
 use wasi_host::{Bits, DirEntry, Limits, Metadata, SystemTime};
 use wasi_paths::Name;
@@ -109,7 +109,7 @@ pub trait NodeStore {
         ensures { result ≡ is_below (seen self.now).tree top directory };
 
     /// Looks up a name in a directory. Nothing is touched.
-    fn look<'n>(&mut self, directory: u64, name: Name<'n>) -> Looked<'n>
+    fn look<'n>(&mut self, directory: u64, name: Name<'n>) -> NameLookup<'n>
         requires { directory < next_of (seen self.old).tree }
         ensures looked { result ≡ looked_at (seen self.old).tree directory name.entry }
         ensures is { IsLooked (seen self.old).tree result }
@@ -154,7 +154,7 @@ pub trait NodeStore {
         ensures rising { IfOk result (λ nodes. IsStrictlySortedBy nat_cmp nodes.items) };
 
     /// Makes a node under a name that a directory lacks, and gives its number. It is touched, and has room.
-    fn make_node(&mut self, directory: u64, name: Name<'_>, row: Row) -> Result<u64, AllocError>
+    fn make_node(&mut self, directory: u64, name: Name<'_>, row: Inode) -> Result<u64, AllocError>
         requires may { MayName (seen self.old).tree directory (name_bytes name) }
         requires sound { IsSoundNode 0 (stored_node row) }
         requires at { HasRoom self.old directory }

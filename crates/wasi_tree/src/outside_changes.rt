@@ -5,12 +5,12 @@ ghost use Rattle.wasi_paths.specs.Name.{name_bytes};
 ghost use Rattle.wasi_host.specs.Refusal.{finds_directory};
 ghost use Rattle.wasi_host.specs.Step.{name_dropped, name_lost};
 ghost use Rattle.wasi_tree.specs.Changed.{after_drop, after_move, changed, may_look};
-ghost use Rattle.wasi_tree.specs.Looked.{IsLooked};
+ghost use Rattle.wasi_tree.specs.NameLookup.{IsLooked};
 ghost use Rattle.wasi_tree.specs.Move.{HasName};
 ghost use Rattle.wasi_tree.specs.Sound.{NodesStay};
 
 use crate::change::TreeChange;
-use crate::looked::Looked;
+use crate::name_lookup::NameLookup;
 use crate::mem_store::MemStore;
 use crate::moves::node_to_move;
 use crate::node_store::NodeStore;
@@ -38,7 +38,7 @@ impl MemStore {
     }
 
     /// Looks up a name, where it is plain, in a directory, where it is one.
-    fn look_plain<'n>(&self, directory: u64, name: &'n str) -> Option<Looked<'n>>
+    fn look_plain<'n>(&self, directory: u64, name: &'n str) -> Option<NameLookup<'n>>
         ensures may { is_some result ≡ may_look self.now.tree directory name.entry.now }
         ensures looked { IfSome result (λ looked. IsLooked self.now.tree looked) }
         ensures directory { IfSome result (λ looked. looked.directory ≡ directory) }
@@ -50,7 +50,7 @@ impl MemStore {
         let name = Name::plain(name)?;
         let mut near = self.near;
         let found = self.store.child(&mut near, directory, name);
-        Some(Looked {
+        Some(NameLookup {
             directory,
             name,
             found,

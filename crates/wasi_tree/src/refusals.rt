@@ -4,27 +4,27 @@ ghost use Rattle.std.specs.Option.{ForSome};
 ghost use Rattle.wasi_paths.specs.Name.{name_bytes};
 ghost use Rattle.wasi_host.specs.Tree.{next_of, node_at, child, links_of};
 ghost use Rattle.wasi_host.specs.HostCall.{OpenAt, StatAt, MakeDirAt, SymlinkAt, LinkAt, UnlinkAt, RemoveDirAt};
-ghost use Rattle.wasi_host.specs.Refusal.{refusal, refused_with, first_row, name_rows, entry_rows, growing_rows, making_rows, text_rows, missing_rows, found_rows, both_rows, links_rows, dropping_rows, naming_rows, access_rows, replacing_rows, moving_rows};
+ghost use Rattle.wasi_host.specs.Refusal.{refusal, refused_with, first_rule, name_rows, entry_rows, growing_rows, making_rows, text_rows, missing_rows, found_rows, both_rows, links_rows, dropping_rows, naming_rows, access_rows, replacing_rows, moving_rows};
 ghost use Rattle.wasi_paths.specs.Text.{is_entry_name};
 ghost use Rattle.wasi_host.specs.Time.{HasTimes};
 ghost use Rattle.wasi_host.specs.Answer.{stat_at_answer, link_answer, access_answer, list_answer, entry_of};
 ghost use Rattle.wasi_host.specs.Step.{name_dropped, name_lost, unlink_step, remove_step};
-ghost use Rattle.wasi_tree.specs.Looked.{IsLooked};
+ghost use Rattle.wasi_tree.specs.NameLookup.{IsLooked};
 ghost use Rattle.wasi_tree.specs.Move.{HasName, MayGain};
 ghost use Rattle.wasi_tree.specs.Sound.{IsSoundText};
 ghost use Rattle.wasi_tree.specs.TouchedTree.{MeansCode};
 
-use crate::looked::Looked;
+use crate::name_lookup::NameLookup;
 use crate::node_store::NodeStore;
 use std::alloc::Global;
-use wasi_host::{DirEntry, ErrorCode, Held, HostError, LINK_MAX, Metadata, OpenOptions};
+use wasi_host::{DirEntry, ErrorCode, OpenHandle, HostError, LINK_MAX, Metadata, OpenOptions};
 use wasi_paths::Name;
 
 /// What is wrong with a name in a directory.
 #[tactic(auto, using(crate::proofs::StoreLemmas::store_rules), unfolding(wasi_host::specs::Refusal::refusal))]
 pub fn refuse_name<S: NodeStore>(store: &S, directory: u64, name: Name<'_>) -> Option<ErrorCode>
     requires { directory < next_of (S.seen store.now).tree }
-    ensures { result ≡ first_row (name_rows (S.seen store.now).tree directory (name_bytes name.entry)) }
+    ensures { result ≡ first_rule (name_rows (S.seen store.now).tree directory (name_bytes name.entry)) }
 {
     if name.has_nul() {
         return Some(ErrorCode::Invalid);
@@ -46,7 +46,7 @@ pub fn refuse_missing<S: NodeStore>(
     options: &OpenOptions,
 ) -> Option<ErrorCode>
     requires { directory < next_of (S.seen store.now).tree }
-    ensures { result ≡ first_row (missing_rows (S.seen store.now).tree directory options.now) }
+    ensures { result ≡ first_rule (missing_rows (S.seen store.now).tree directory options.now) }
 {
     if !options.creates() {
         return Some(ErrorCode::NoEntry);
@@ -58,7 +58,7 @@ pub fn refuse_missing<S: NodeStore>(
 #[tactic(auto, using(crate::proofs::StoreLemmas::store_rules))]
 pub fn refuse_entry<S: NodeStore>(store: &S, directory: u64) -> Option<ErrorCode>
     requires { directory < next_of (S.seen store.now).tree }
-    ensures { result ≡ first_row (entry_rows (S.seen store.now).tree directory) }
+    ensures { result ≡ first_rule (entry_rows (S.seen store.now).tree directory) }
 {
     if store.is_gone(directory) {
         return Some(ErrorCode::NoEntry);
@@ -73,7 +73,7 @@ pub fn refuse_entry<S: NodeStore>(store: &S, directory: u64) -> Option<ErrorCode
 #[tactic(auto, using(crate::proofs::StoreLemmas::store_rules))]
 pub fn refuse_growth<S: NodeStore>(store: &S, directory: u64) -> Option<ErrorCode>
     requires { directory < next_of (S.seen store.now).tree }
-    ensures { result ≡ first_row (growing_rows (S.seen store.now).tree directory) }
+    ensures { result ≡ first_rule (growing_rows (S.seen store.now).tree directory) }
 {
     if let Some(code) = refuse_entry(store, directory) {
         return Some(code);
@@ -88,7 +88,7 @@ pub fn refuse_growth<S: NodeStore>(store: &S, directory: u64) -> Option<ErrorCod
 #[tactic(auto, using(crate::proofs::StoreLemmas::store_rules))]
 pub fn refuse_found<S: NodeStore>(store: &S, node: u64, options: &OpenOptions) -> Option<ErrorCode>
     requires { node < next_of (S.seen store.now).tree }
-    ensures { result ≡ first_row (found_rows (S.seen store.now).tree options.now (Some node)) }
+    ensures { result ≡ first_rule (found_rows (S.seen store.now).tree options.now (Some node)) }
 {
     if options.is_create_new() {
         return Some(ErrorCode::Exist);
@@ -123,7 +123,7 @@ pub fn refuse_found<S: NodeStore>(store: &S, node: u64, options: &OpenOptions) -
 #[tactic(auto, using(crate::proofs::StoreLemmas::store_rules), unfolding(wasi_host::specs::Refusal::refusal))]
 pub fn refuse_open<S: NodeStore>(
     store: &S,
-    looked: &Looked<'_>,
+    looked: &NameLookup<'_>,
     options: &OpenOptions,
 ) -> Option<ErrorCode>
     requires { IsLooked (S.seen store.now).tree looked.now }
@@ -149,7 +149,7 @@ pub fn refuse_open<S: NodeStore>(
 
 /// The node that a name holds, where no row of a look at its metadata refuses; else the row's code.
 #[tactic(auto, using(crate::proofs::StoreLemmas::store_rules), unfolding(wasi_host::specs::Refusal::refusal))]
-pub fn node_under<S: NodeStore>(store: &S, looked: &Looked<'_>) -> Result<u64, ErrorCode>
+pub fn node_under<S: NodeStore>(store: &S, looked: &NameLookup<'_>) -> Result<u64, ErrorCode>
     requires { IsLooked (S.seen store.now).tree looked.now }
     ensures refusal { refused_with result ≡ refusal (S.seen store.now).tree (StatAt looked.now.directory (name_bytes looked.now.name)) }
     ensures node { IfOk result (λ n. child (S.seen store.now).tree looked.now.directory (name_bytes looked.now.name) ≡ Some n) }
@@ -170,9 +170,9 @@ pub fn node_under<S: NodeStore>(store: &S, looked: &Looked<'_>) -> Result<u64, E
 
 /// The rows for a name that is to hold a new node.
 #[tactic(auto, using(crate::proofs::StoreLemmas::store_rules))]
-pub fn refuse_new_name<S: NodeStore>(store: &S, looked: &Looked<'_>) -> Option<ErrorCode>
+pub fn refuse_new_name<S: NodeStore>(store: &S, looked: &NameLookup<'_>) -> Option<ErrorCode>
     requires { IsLooked (S.seen store.now).tree looked.now }
-    ensures { result ≡ first_row (making_rows (S.seen store.now).tree looked.now.directory (name_bytes looked.now.name)) }
+    ensures { result ≡ first_rule (making_rows (S.seen store.now).tree looked.now.directory (name_bytes looked.now.name)) }
 {
     if let Some(code) = refuse_name(store, looked.directory, looked.name) {
         return Some(code);
@@ -185,7 +185,7 @@ pub fn refuse_new_name<S: NodeStore>(store: &S, looked: &Looked<'_>) -> Option<E
 
 /// The code of the first row that refuses to make a directory, where the name holds this node.
 #[tactic(auto, using(crate::proofs::StoreLemmas::store_rules), unfolding(wasi_host::specs::Refusal::refusal))]
-pub fn refuse_make_dir<S: NodeStore>(store: &S, looked: &Looked<'_>) -> Option<ErrorCode>
+pub fn refuse_make_dir<S: NodeStore>(store: &S, looked: &NameLookup<'_>) -> Option<ErrorCode>
     requires { IsLooked (S.seen store.now).tree looked.now }
     ensures { result ≡ refusal (S.seen store.now).tree (MakeDirAt looked.now.directory (name_bytes looked.now.name)) }
 {
@@ -200,7 +200,7 @@ pub fn refuse_make_dir<S: NodeStore>(store: &S, looked: &Looked<'_>) -> Option<E
 pub fn refuse_symlink<S: NodeStore>(
     store: &S,
     target: &str,
-    looked: &Looked<'_>,
+    looked: &NameLookup<'_>,
 ) -> Option<ErrorCode>
     requires { IsLooked (S.seen store.now).tree looked.now }
     ensures { result ≡ refusal (S.seen store.now).tree (SymlinkAt target.now looked.now.directory (name_bytes looked.now.name)) }
@@ -216,7 +216,7 @@ pub fn refuse_symlink<S: NodeStore>(
 
 /// The text of the link that a name holds.
 #[tactic(auto, using(crate::proofs::StoreLemmas::store_rules))]
-pub fn text_under<'s, S: NodeStore>(store: &'s S, looked: &Looked<'_>) -> Result<&'s str, ErrorCode>
+pub fn text_under<'s, S: NodeStore>(store: &'s S, looked: &NameLookup<'_>) -> Result<&'s str, ErrorCode>
     requires { IsLooked (S.seen store.now).tree looked.now }
     ensures meaning { MatchResult result
         (λ text. link_answer (S.seen store.now).tree looked.now.directory (name_bytes looked.now.name) ≡ Ok text.now)
@@ -247,12 +247,12 @@ pub fn access_of<S: NodeStore>(store: &S, directory: u64) -> Result<(), ErrorCod
 #[tactic(auto, using(crate::proofs::StoreLemmas::store_rules))]
 pub fn node_to_drop<S: NodeStore>(
     store: &S,
-    looked: &Looked<'_>,
+    looked: &NameLookup<'_>,
     dot: ErrorCode,
 ) -> Result<u64, ErrorCode>
     requires { IsLooked (S.seen store.now).tree looked.now }
     ensures refusal { refused_with result
-        ≡ first_row (dropping_rows (S.seen store.now).tree looked.now.directory (name_bytes looked.now.name) dot) }
+        ≡ first_rule (dropping_rows (S.seen store.now).tree looked.now.directory (name_bytes looked.now.name) dot) }
     ensures node { IfOk result (λ n. child (S.seen store.now).tree looked.now.directory (name_bytes looked.now.name) ≡ Some n) }
     ensures below { IfOk result (λ n. n < next_of (S.seen store.now).tree) }
     ensures found { IfOk result (λ n. looked.now.found ≡ Some n) }
@@ -277,11 +277,11 @@ pub fn node_to_drop<S: NodeStore>(
 
 /// What is wrong with two names in directories, the old one first.
 #[tactic(auto, using(crate::proofs::StoreLemmas::store_rules))]
-pub fn refuse_both<S: NodeStore>(store: &S, old: &Looked<'_>, new: &Looked<'_>) -> Option<ErrorCode>
+pub fn refuse_both<S: NodeStore>(store: &S, old: &NameLookup<'_>, new: &NameLookup<'_>) -> Option<ErrorCode>
     requires old { IsLooked (S.seen store.now).tree old.now }
     requires new { IsLooked (S.seen store.now).tree new.now }
     ensures { result
-        ≡ first_row (both_rows (S.seen store.now).tree old.now.directory (name_bytes old.now.name) new.now.directory (name_bytes new.now.name)) }
+        ≡ first_rule (both_rows (S.seen store.now).tree old.now.directory (name_bytes old.now.name) new.now.directory (name_bytes new.now.name)) }
 {
     if !store.is_directory(old.directory) || !store.is_directory(new.directory) {
         return Some(ErrorCode::NotDirectory);
@@ -296,8 +296,8 @@ pub fn refuse_both<S: NodeStore>(store: &S, old: &Looked<'_>, new: &Looked<'_>) 
 #[tactic(auto, using(crate::proofs::StoreLemmas::store_rules), unfolding(wasi_host::specs::Refusal::refusal))]
 pub fn node_to_link<S: NodeStore>(
     store: &S,
-    old: &Looked<'_>,
-    new: &Looked<'_>,
+    old: &NameLookup<'_>,
+    new: &NameLookup<'_>,
 ) -> Result<u64, ErrorCode>
     requires old { IsLooked (S.seen store.now).tree old.now }
     requires new { IsLooked (S.seen store.now).tree new.now }
@@ -329,7 +329,7 @@ pub fn node_to_link<S: NodeStore>(
 #[tactic(auto, using(crate::proofs::StoreLemmas::store_rules))]
 pub fn check_links<S: NodeStore>(store: &S, node: u64) -> Result<(), ErrorCode>
     requires { node < next_of (S.seen store.now).tree }
-    ensures refusal { refused_with result ≡ first_row (links_rows (S.seen store.now).tree (Some node)) }
+    ensures refusal { refused_with result ≡ first_rule (links_rows (S.seen store.now).tree (Some node)) }
     ensures room { OnOk result (links_of (node_at (S.seen store.now).tree node).content < 2 ^ 64 - 1) }
 {
     if store.is_directory(node) {
@@ -346,13 +346,13 @@ pub fn check_links<S: NodeStore>(store: &S, node: u64) -> Result<(), ErrorCode>
 #[tactic(auto, using(crate::proofs::StoreLemmas::store_rules))]
 pub fn node_to_rename<S: NodeStore>(
     store: &S,
-    old: &Looked<'_>,
-    new: &Looked<'_>,
+    old: &NameLookup<'_>,
+    new: &NameLookup<'_>,
     requires_dir: bool,
 ) -> Result<u64, ErrorCode>
     requires old { IsLooked (S.seen store.now).tree old.now }
     requires new { IsLooked (S.seen store.now).tree new.now }
-    ensures refusal { refused_with result ≡ first_row
+    ensures refusal { refused_with result ≡ first_rule
         (naming_rows (S.seen store.now).tree old.now.directory (name_bytes old.now.name) new.now.directory (name_bytes new.now.name) requires_dir) }
     ensures node { IfOk result (λ n. child (S.seen store.now).tree old.now.directory (name_bytes old.now.name) ≡ Some n) }
     ensures below { IfOk result (λ n. n < next_of (S.seen store.now).tree) }
@@ -385,7 +385,7 @@ pub fn refuse_move<S: NodeStore>(
     requires new { new < next_of (S.seen store.now).tree }
     requires node { node < next_of (S.seen store.now).tree }
     requires there { ForSome there (λ n. n < next_of (S.seen store.now).tree) }
-    ensures { result ≡ first_row (moving_rows (S.seen store.now).tree old new (Some node) there) }
+    ensures { result ≡ first_rule (moving_rows (S.seen store.now).tree old new (Some node) there) }
 {
     if let Some(code) = refuse_access(store, old, new, node) {
         return Some(code);
@@ -402,7 +402,7 @@ pub fn refuse_access<S: NodeStore>(store: &S, old: u64, new: u64, node: u64) -> 
     requires old { old < next_of (S.seen store.now).tree }
     requires new { new < next_of (S.seen store.now).tree }
     requires node { node < next_of (S.seen store.now).tree }
-    ensures { result ≡ first_row (access_rows (S.seen store.now).tree old new (Some node)) }
+    ensures { result ≡ first_rule (access_rows (S.seen store.now).tree old new (Some node)) }
 {
     if !store.bits(old).w || !store.bits(new).w {
         return Some(ErrorCode::Access);
@@ -421,7 +421,7 @@ pub fn refuse_access<S: NodeStore>(store: &S, old: u64, new: u64, node: u64) -> 
 pub fn refuse_replace<S: NodeStore>(store: &S, node: u64, lost: u64) -> Option<ErrorCode>
     requires node { node < next_of (S.seen store.now).tree }
     requires lost { lost < next_of (S.seen store.now).tree }
-    ensures { result ≡ first_row (replacing_rows (S.seen store.now).tree (Some node) (Some lost)) }
+    ensures { result ≡ first_rule (replacing_rows (S.seen store.now).tree (Some node) (Some lost)) }
 {
     let is_directory = store.is_directory(node);
     let replaces_directory = store.is_directory(lost);
@@ -439,7 +439,7 @@ pub fn refuse_replace<S: NodeStore>(store: &S, node: u64, lost: u64) -> Option<E
 
 /// What is wrong with the text of a link that is to be made.
 fn refuse_text(text: &str) -> Option<ErrorCode>
-    ensures { result ≡ first_row (text_rows text.now) }
+    ensures { result ≡ first_rule (text_rows text.now) }
 {
     if text.is_empty() {
         return Some(ErrorCode::NoEntry);
@@ -455,7 +455,7 @@ fn refuse_text(text: &str) -> Option<ErrorCode>
 
 /// The node under a name, where no row refuses to drop the name of a file or link; else the row's code.
 #[tactic(auto, using(crate::proofs::StoreLemmas::store_rules))]
-pub fn node_to_unlink<S: NodeStore>(store: &S, looked: &Looked<'_>) -> Result<u64, ErrorCode>
+pub fn node_to_unlink<S: NodeStore>(store: &S, looked: &NameLookup<'_>) -> Result<u64, ErrorCode>
     requires { IsLooked (S.seen store.now).tree looked.now }
     ensures refusal { refused_with result
         ≡ refusal (S.seen store.now).tree (UnlinkAt looked.now.directory (name_bytes looked.now.name)) }
@@ -473,7 +473,7 @@ pub fn node_to_unlink<S: NodeStore>(store: &S, looked: &Looked<'_>) -> Result<u6
 
 /// The node under a name, where no row refuses to drop the name of an empty directory; else the row's code.
 #[tactic(auto, using(crate::proofs::StoreLemmas::store_rules))]
-pub fn node_to_remove<S: NodeStore>(store: &S, looked: &Looked<'_>) -> Result<u64, ErrorCode>
+pub fn node_to_remove<S: NodeStore>(store: &S, looked: &NameLookup<'_>) -> Result<u64, ErrorCode>
     requires { IsLooked (S.seen store.now).tree looked.now }
     ensures refusal { refused_with result
         ≡ refusal (S.seen store.now).tree (RemoveDirAt looked.now.directory (name_bytes looked.now.name)) }
@@ -497,7 +497,7 @@ pub fn node_to_remove<S: NodeStore>(store: &S, looked: &Looked<'_>) -> Result<u6
 pub fn list_of<S: NodeStore>(
     store: &S,
     alloc: Global,
-    directory: Held,
+    directory: OpenHandle,
 ) -> Result<Vec<DirEntry>, HostError>
     requires { directory.node < next_of (S.seen store.now).tree }
     ensures meaning { MatchResult result
@@ -517,7 +517,7 @@ pub fn list_of<S: NodeStore>(
 
 /// The metadata of the node that a name holds, a link's own.
 #[tactic(auto, using(crate::proofs::StoreLemmas::store_rules))]
-pub fn stat_of<S: NodeStore>(store: &S, looked: &Looked<'_>) -> Result<Metadata, ErrorCode>
+pub fn stat_of<S: NodeStore>(store: &S, looked: &NameLookup<'_>) -> Result<Metadata, ErrorCode>
     requires { IsLooked (S.seen store.now).tree looked.now }
     ensures meaning { MatchResult result
         (λ metadata. stat_at_answer (S.seen store.now).tree looked.now.directory (name_bytes looked.now.name) ≡ Ok metadata)

@@ -6,12 +6,12 @@ ghost use Rattle.wasi_tree.specs.MemState.{live_of, held_in};
 use slab::Slab;
 use std::alloc::{AllocError, Global};
 use std::marker::Model;
-use wasi_host::{Handle, Held};
+use wasi_host::{Handle, OpenHandle};
 
 /// What each live handle stands for, by its number. Contracts see the live handles, and for how many more there is room.
 #[derive(Debug, Drop)]
 pub struct Slots {
-    slab: Slab<Held>,
+    slab: Slab<OpenHandle>,
 }
 
 impl Model for Slots {
@@ -46,7 +46,7 @@ impl Slots {
     }
 
     /// What a live handle stands for.
-    pub fn held(&self, handle: Handle) -> Held
+    pub fn held(&self, handle: Handle) -> OpenHandle
         requires { contains (live_of self.now.handles) handle ≡ true }
         ensures { result ≡ held_in self.now.handles handle }
     {
@@ -57,7 +57,7 @@ impl Slots {
     }
 
     /// Gives a handle for this.
-    pub fn give(&mut self, held: Held) -> Handle
+    pub fn give(&mut self, held: OpenHandle) -> Handle
         requires { 0 < self.old.room }
         ensures fresh { contains (live_of self.old.handles) result ≡ false }
         ensures live { live_of self.new.handles ≡ insert (live_of self.old.handles) result }

@@ -14,29 +14,29 @@ ghost use Rattle.wasi_tree.specs.Sound.{NodesStay, IsSoundText};
 ghost use Rattle.std.specs.FinSet.{empty};
 ghost use Rattle.wasi_tree.specs.StoredTree.{stored_node, stored_tree, named_from, AreBelow, IsStored};
 ghost use Rattle.std.specs.FinMap as maps;
-ghost use Rattle.wasi_tree_index.specs.NameRows.{names_at};
+ghost use Rattle.wasi_tree_index.specs.DirEntryKeys.{names_at};
 
-use crate::well_formed_nodes::FitNodes;
+use crate::well_formed_nodes::WellFormedNodes;
 use crate::marks::Marks;
 use crate::node::{NewNode, NodeView};
-use crate::inode::Row;
+use crate::inode::Inode;
 use std::alloc::{AllocError, Global};
 use std::marker::Model;
 use wasi_host::{Bits, DirEntry, FileType, Limits, Metadata, SystemTime};
-use wasi_tree_index::{Near, Rows, Run};
+use wasi_tree_index::{SearchHint, NameIndex, EntryCursor};
 use wasi_paths::Name;
 
 /// The nodes of a tree, with the names of its directories, its limits and the nodes that steps have worked on. Contracts
 /// see the tree.
 #[derive(Debug, Drop)]
-pub struct Store {
-    pub(crate) rows: Vec<Row>,
-    pub(crate) names: Rows,
+pub struct InodeStore {
+    pub(crate) rows: Vec<Inode>,
+    pub(crate) names: NameIndex,
     pub(crate) limits: Limits,
     pub(crate) worked: Marks,
 }
 
-impl Model for Store {
+impl Model for InodeStore {
     ghost use Rattle.wasi_host.specs.Tree.{Tree};
     ghost use Rattle.wasi_host.specs.TreeCode.{tree_code};
 
@@ -52,37 +52,37 @@ impl Model for Store {
 }
 
 #[tactic(auto, using(crate::proofs::StoreLemmas::store_rules))]
-impl Store {
+impl InodeStore {
     ghost use Rattle.wasi_tree.specs.Sound.{IsSoundNode};
     ghost use Rattle.wasi_host.specs.Time.{HasTimes};
 
     /// The tree of these nodes.
     #[tactic(auto, using(crate::proofs::NewTreeLemmas::new_tree_rules))]
-    pub fn of(alloc: Global, fit: FitNodes) -> Result<Store, AllocError>
+    pub fn of(alloc: Global, fit: WellFormedNodes) -> Result<InodeStore, AllocError>
         ensures tree { IfOk result (λ store. store ≡ tree_of fit.nodes fit.limits) }
     {
-        let FitNodes {
+        let WellFormedNodes {
             nodes,
             counts,
             limits,
         } = fit;
-        let mut names = Rows::new(alloc);
-        let rows = rows_of(alloc, nodes, &counts, &mut names)?;
-        Store::of_rows(alloc, rows, names, limits)
+        let mut names = NameIndex::new(alloc);
+        let rows = refusal_rules(alloc, nodes, &counts, &mut names)?;
+        InodeStore::of_rows(alloc, rows, names, limits)
     }
 
     /// The tree of these rows, with the names of all directories. No node has been worked on.
     pub fn of_rows(
         alloc: Global,
-        rows: Vec<Row>,
-        names: Rows,
+        rows: Vec<Inode>,
+        names: NameIndex,
         limits: Limits,
-    ) -> Result<Store, AllocError>
+    ) -> Result<InodeStore, AllocError>
         requires { IsStored rows.items names.names limits empty (length rows.items) }
         ensures tree { IfOk result (λ store. store ≡ stored_tree rows.items names.names limits empty) }
     {
         let worked = Marks::new(alloc, rows.len())?;
-        Ok(Store {
+        Ok(InodeStore {
             rows,
             names,
             limits,
@@ -120,17 +120,17 @@ impl Store {
     }
 
     /// The names of a directory, in byte order. What is no directory has none.
-    pub fn names(&self, directory: u64) -> Run<'_>
+    pub fn names(&self, directory: u64) -> EntryCursor<'_>
         ensures { result ≡ maps.entries (names_of (node_at self.now directory).content) }
     {
         if !self.is_directory(directory) {
-            return Run::none();
+            return EntryCursor::none();
         }
         self.names.names(directory)
     }
 
     /// The names of all directories.
-    pub fn all_names(&self) -> &Rows
+    pub fn all_names(&self) -> &NameIndex
         ensures here { (d : ℕ) → is_directory (node_at self.now d).content ≡ true
             → names_at result.now.names d ≡ names_of (node_at self.now d).content }
         ensures past { (d : ℕ) → next_of self.now ≤ d → names_at result.now.names d ≡ maps.empty }
@@ -152,7 +152,7 @@ impl Store {
         if !self.is_directory(directory) {
             return None;
         }
-        let mut near = Near::first();
+        let mut near = SearchHint::first();
         self.names.find(&mut near, directory, name)
     }
 
@@ -232,7 +232,7 @@ impl Store {
     }
 
     /// The node that a name holds in a directory. It is looked for near where a name was found last, before all else.
-    pub fn child(&self, near: &mut Near, directory: u64, name: Name<'_>) -> Option<u64>
+    pub fn child(&self, near: &mut SearchHint, directory: u64, name: Name<'_>) -> Option<u64>
         requires { directory < next_of self.now }
         ensures found { result ≡ child self.now directory (name_bytes name.entry) }
         ensures below { IfSome result (λ n. n < next_of self.now) }
@@ -259,7 +259,7 @@ impl Store {
 
     /// Makes a node under a name of a directory, and gives its number. All room is taken first, so that nothing has
     /// changed where memory is wanted.
-    pub fn make_node(&mut self, directory: u64, name: Name<'_>, row: Row) -> Result<u64, AllocError>
+    pub fn make_node(&mut self, directory: u64, name: Name<'_>, row: Inode) -> Result<u64, AllocError>
         requires directory { is_directory (node_at self.old directory).content ≡ true }
         requires named { IsTrue (is_entry_name (name_bytes name)) }
         requires sound { IsSoundNode 0 (stored_node row) }
@@ -365,12 +365,12 @@ impl Store {
 
 /// The rows of these nodes, where no names are there yet; those of their directories come. The counts say how many entries
 /// give each number.
-fn rows_of(
+fn refusal_rules(
     alloc: Global,
     nodes: Vec<NewNode>,
     counts: &[u64],
-    names: &mut Rows,
-) -> Result<Vec<Row>, AllocError>
+    names: &mut NameIndex,
+) -> Result<Vec<Inode>, AllocError>
     requires counts { counts.now ≡ name_counts (map given nodes.items) }
     requires none { names.old.names ≡ maps.empty }
     ensures nodes { let all = map given nodes.items in
@@ -380,14 +380,14 @@ fn rows_of(
     let mut rows = Vec::with_capacity(alloc, nodes.len())?;
     for node in nodes {
         let number = rows.len();
-        let row = Row::new(node, number as u64, counts[number], names)?;
+        let row = Inode::new(node, number as u64, counts[number], names)?;
         rows.push(row)?;
     }
     Ok(rows)
 }
 
 /// The nodes of these rows and names as a list gives them.
-fn new_nodes(alloc: Global, rows: &[Row], names: &Rows) -> Result<Vec<NewNode>, AllocError>
+fn new_nodes(alloc: Global, rows: &[Inode], names: &NameIndex) -> Result<Vec<NewNode>, AllocError>
     ensures { IfOk result (λ nodes. map given nodes.items ≡ map given_of (named_from names.now.names 0 (map stored_node rows.now))) }
 {
     let mut nodes = Vec::with_capacity(alloc, rows.len())?;

@@ -9,12 +9,12 @@ ghost use Rattle.wasi_host.specs.Step.{with_entry, without_entry, content_change
 ghost use Rattle.wasi_tree.specs.Sound.{NodesStay};
 ghost use Rattle.wasi_tree.specs.Move.{IsExchange, IsMove, found_lost};
 
-use crate::store::Store;
+use crate::store::InodeStore;
 use std::alloc::AllocError;
 use wasi_paths::Name;
 
 #[tactic(auto, using(crate::proofs::StoreLemmas::store_rules))]
-impl Store {
+impl InodeStore {
     /// Gives a file or link a name in a directory. Where memory is wanted, nothing has changed.
     pub fn add_link(&mut self, directory: u64, name: Name<'_>, node: u64) -> Result<(), AllocError>
         requires directory { is_directory (node_at self.old directory).content ≡ true }

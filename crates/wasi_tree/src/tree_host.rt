@@ -5,7 +5,7 @@ ghost use Rattle.std.specs.List.Sorted.{IsStrictlySortedBy};
 ghost use Rattle.std.specs.FinSet.{contains, insert, empty, from_list};
 ghost use Rattle.wasi_host.specs.Tree.{node_at, is_directory};
 ghost use Rattle.wasi_tree.specs.Given.{given, given_of};
-ghost use Rattle.wasi_host.specs.declared.injected_fault.Fate.TheVariants.{Passes};
+ghost use Rattle.wasi_host.specs.declared.injected_fault.InjectedFault.TheVariants.{Passes};
 ghost use Rattle.wasi_host.specs.HostLaws.{both_looked, one_looked, never_fails};
 ghost use Rattle.wasi_tree.specs.MemState.{live_of, held_in, world_of};
 
@@ -17,7 +17,7 @@ use crate::slots::Slots;
 use std::alloc::{AllocError, Global};
 use std::marker::Model;
 use wasi_host::{
-    AccessMode, Advice, DirEntry, ErrorCode, Forget, Handle, Held, Host, HostError, LookKind,
+    AccessMode, Advice, DirEntry, ErrorCode, Forget, Handle, OpenHandle, Host, HostError, LookKind,
     Lookup, LookupLog, Metadata, OpenOptions, SyncFlags, SystemTime,
 };
 use wasi_paths::Name;
@@ -99,7 +99,7 @@ impl<S: NodeStore> TreeHost<S> {
         self.store.make_room(node)?;
         self.slots.reserve()?;
         let mode = AccessMode::PathOnly;
-        Ok(self.slots.give(Held { node, mode }))
+        Ok(self.slots.give(OpenHandle { node, mode }))
     }
 
     /// The numbers of the touched nodes, rising: of each call's handles, of the nodes under its names, and of those made,

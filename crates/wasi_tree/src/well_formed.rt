@@ -28,7 +28,7 @@ struct Place {
 }
 
 /// How many entries give each number of a list of nodes, where a tree can be made of the list; else why none can, as
-/// `FitNodes::new` says.
+/// `WellFormedNodes::new` says.
 #[tactic(auto, using(crate::proofs::FitDecides::lowest_first))]
 pub fn counted_names(
     alloc: Global,

@@ -1,4 +1,4 @@
-//! `FitNodes`, nodes of which a tree can be made.
+//! `WellFormedNodes`, nodes of which a tree can be made.
 ghost use Rattle.std.specs.Prelude.{◌≡◌, IfOk, IfErr, OnOk, map};
 ghost use Rattle.wasi_tree.specs.Given.{given};
 ghost use Rattle.wasi_tree.specs.WellFormed.{AreFit, IsTreeCause};
@@ -14,13 +14,13 @@ use wasi_host::Limits;
 /// A list of nodes of which a tree can be made within its limits, with how many entries give each node. Contracts see
 /// the nodes and the limits. Only the test makes one, so what has one needn't test again.
 #[derive(Debug, Drop)]
-pub struct FitNodes {
+pub struct WellFormedNodes {
     pub(crate) nodes: Vec<NewNode>,
     pub(crate) counts: Vec<u64>,
     pub(crate) limits: Limits,
 }
 
-impl Model for FitNodes {
+impl Model for WellFormedNodes {
     ghost use Rattle.wasi_tree.specs.WellFormedNodes.{NodeList, node_list_code, AreTested};
     ghost use Rattle.wasi_tree.specs.Given.{given};
     ghost use Rattle.std.specs.Prelude.{map};
@@ -34,7 +34,7 @@ impl Model for FitNodes {
     ghost invariant = { λ a. AreTested a.limits (map given a.nodes.items) a.counts.items };
 }
 
-impl FitNodes {
+impl WellFormedNodes {
     /// These nodes, whose numbers are their places in the list, where a tree can be made of them within these limits.
     ///
     /// The rules: Node 0 is a directory without a name. Each other directory has exactly one name and is found from
@@ -48,13 +48,13 @@ impl FitNodes {
     /// directory that holds it. A wrong number of names, entries of a directory without a name, and not being found from
     /// node 0 count for the directory itself. A number at the limit, a count of names, a size or a link's text counts
     /// for its node. An empty list, or a node 0 that isn't a directory, is `Invalid(0)`.
-    pub fn new(alloc: Global, nodes: Vec<NewNode>, limits: Limits) -> Result<FitNodes, TreeError>
+    pub fn new(alloc: Global, nodes: Vec<NewNode>, limits: Limits) -> Result<WellFormedNodes, TreeError>
         ensures kept { IfOk result (λ f. f ≡ record { nodes = map given nodes.items; limits = limits }) }
         ensures fit { OnOk result (AreFit limits (map given nodes.items)) }
         ensures cause { IfErr result (IsTreeCause limits (map given nodes.items)) }
     {
         let counts = counted_names(alloc, &nodes, limits)?;
-        Ok(FitNodes {
+        Ok(WellFormedNodes {
             nodes,
             counts,
             limits,

@@ -11,11 +11,11 @@ use Rattle.std.specs.List.{flat_map, insert, remove}
 use Rattle.std.specs.declared.vec.Vec.{Vec}
 use Rattle.std.specs.FinMap.{find, put, is_sorted}
 use Rattle.std.specs.FinMap.Entries.{where_key, is_sorted-put, is_sorted-where_key}
-use Rattle.wasi_tree_index.specs.declared.key.NameRow.{NameRow}
+use Rattle.wasi_tree_index.specs.declared.key.DirEntryKey.{DirEntryKey}
 use Rattle.wasi_tree_index.specs.Fronts.{front_len, list_at, with_list}
 use Rattle.wasi_tree_index.specs.Places.{place_in, starts_by, list_place, first_at, revalued}
 use Rattle.wasi_tree_index.specs.Blocks.{block_entries, all_entries, IsBlock, AreBlocks}
-use Rattle.wasi_tree_index.specs.NameRows.{Key, NameEntry, key_cmp, row_entry}
+use Rattle.wasi_tree_index.specs.DirEntryKeys.{Key, NameEntry, key_cmp, row_entry}
 use Rattle.wasi_tree_index.proofs.EntryLemmas.{told, true_of, rises, Rises, find_place, find_tied, put_new, put_same, without_place, without_none}
 use Rattle.wasi_tree_index.proofs.ListLemmas.{no_lists, list_at-get, lists_around, lists-set, lists-split, lists-remove, list_rises, find_lists, put_lists, without_lists}
 use Rattle.wasi_tree_index.proofs.KeyLemmas.{key_total}
@@ -51,7 +51,7 @@ none_of : {X : Type 0} (o : Option X) → is_some o ≡ false → o ≡ None
 none_of None h = refl
 none_of (Some x) h = absurd (cc)
 
-module _ {Y : Type 0} (bs : List (Vec NameRow Y)) (k : ℕ) (b : Vec NameRow Y) (lt : k < length bs) (is : b ≡ get_or bs k b) where
+module _ {Y : Type 0} (bs : List (Vec DirEntryKey Y)) (k : ℕ) (b : Vec DirEntryKey Y) (lt : k < length bs) (is : b ≡ get_or bs k b) where
   pub at_block : list_at block_entries bs k ≡ block_entries b
   at_block = list_at-get block_entries bs k b lt ∙ ap block_entries (sym is)
 
@@ -61,19 +61,19 @@ module _ {Y : Type 0} (bs : List (Vec NameRow Y)) (k : ℕ) (b : Vec NameRow Y) 
   pub is_block_at : All IsBlock bs → IsBlock b
   is_block_at each = subst (IsBlock {Y = Y}) (sym is) (each k b lt)
 
-  pub inserted : (c : Vec NameRow Y) (at : ℕ) (row : NameRow) → c.items ≡ insert b.items at row
+  pub inserted : (c : Vec DirEntryKey Y) (at : ℕ) (row : DirEntryKey) → c.items ≡ insert b.items at row
       → all_entries (set bs k c) ≡ with_list block_entries bs k (insert (list_at block_entries bs k) at (row_entry row))
   inserted c at row e = lists-set block_entries bs k c lt ∙ ap (with_list block_entries bs k)
       (ap (map row_entry) e ∙ map_insert row_entry b.items at row ∙ ap (λ es. insert es at (row_entry row)) (sym at_block))
 
-  pub split : (c d : Vec NameRow Y) (at : ℕ) (row : NameRow) → c.items ++ d.items ≡ insert b.items at row
+  pub split : (c d : Vec DirEntryKey Y) (at : ℕ) (row : DirEntryKey) → c.items ++ d.items ≡ insert b.items at row
       → all_entries (insert (set bs k c) (k + 1) d)
       ≡ with_list block_entries bs k (insert (list_at block_entries bs k) at (row_entry row))
   split c d at row e = rw add-one (lists-split block_entries bs k c d lt ∙ ap (with_list block_entries bs k)
       (sym (map-append row_entry c.items d.items) ∙ ap (map row_entry) e ∙ map_insert row_entry b.items at row
       ∙ ap (λ es. insert es at (row_entry row)) (sym at_block)))
 
-  pub taken_out : (c : Vec NameRow Y) (at : ℕ) → c.items ≡ remove b.items at
+  pub taken_out : (c : Vec DirEntryKey Y) (at : ℕ) → c.items ≡ remove b.items at
       → all_entries (set bs k c) ≡ with_list block_entries bs k (remove (list_at block_entries bs k) at)
   taken_out c at e = lists-set block_entries bs k c lt ∙ ap (with_list block_entries bs k)
       (ap (map row_entry) e ∙ map_remove row_entry b.items at ∙ ap (λ es. remove es at) (sym at_block))
@@ -83,12 +83,12 @@ module _ {Y : Type 0} (bs : List (Vec NameRow Y)) (k : ℕ) (b : Vec NameRow Y) 
   last_out at one within = lists-remove block_entries bs k lt ∙ ap (with_list block_entries bs k)
       (sym (none_left (list_at block_entries bs k) at (at_len ∙ one) (subst (λ n. at < n) (at_len ∙ one) within)))
 
-  pub reset : (c : Vec NameRow Y) (at v : ℕ) → map row_entry c.items ≡ revalued v (map row_entry b.items) at
+  pub reset : (c : Vec DirEntryKey Y) (at v : ℕ) → map row_entry c.items ≡ revalued v (map row_entry b.items) at
       → all_entries (set bs k c) ≡ with_list block_entries bs k (revalued v (list_at block_entries bs k) at)
   reset c at v e = lists-set block_entries bs k c lt ∙ ap (with_list block_entries bs k)
       (e ∙ ap (λ es. revalued v es at) (sym at_block))
 
-pub split_each : {Y : Type 0} (bs : List (Vec NameRow Y)) (k n : ℕ) (c d : Vec NameRow Y) → All IsBlock bs
+pub split_each : {Y : Type 0} (bs : List (Vec DirEntryKey Y)) (k n : ℕ) (c d : Vec DirEntryKey Y) → All IsBlock bs
     → IsBlock c → IsBlock d → All IsBlock (insert (set bs k c) n d)
 split_each bs k n c d each front back =
     let all : All IsBlock (set bs k c) = All-set IsBlock bs k c front each in
@@ -108,7 +108,7 @@ pub found_within : (key : Key) (es : List NameEntry) (at : ℕ) → is_some (fir
 found_within key es at h = longer at es (first_some key (drop at es) h)
 
 -- a row that has a key, wherever it stands, has what is found of it
-pub find_there : {Y : Type 0} (key : Key) (bs : List (Vec NameRow Y)) (k at n : ℕ) → AreBlocks bs → k < length bs
+pub find_there : {Y : Type 0} (key : Key) (bs : List (Vec DirEntryKey Y)) (k at n : ℕ) → AreBlocks bs → k < length bs
     → first_at key_cmp key (drop at (list_at block_entries bs k)) ≡ Some n → find key_cmp key (all_entries bs) ≡ Some n
 find_there key bs k at n h lt has = by (drop at here) (take-append-drop at here) has
   where
@@ -140,7 +140,7 @@ find_there key bs k at n h lt has = by (drop at here) (take-append-drop at here)
         (subst (Rises key_cmp) all (rises key_cmp _ h.rises)) same
         ∙ ap Some node
 
-module _ {Y : Type 0} (key : Key) (bs : List (Vec NameRow Y)) (h : AreBlocks bs) (k : ℕ)
+module _ {Y : Type 0} (key : Key) (bs : List (Vec DirEntryKey Y)) (h : AreBlocks bs) (k : ℕ)
     (is : k ≡ list_place key_cmp block_entries key bs) (lt : k < length bs)
     (at : ℕ) (here : at ≡ place_in key_cmp key (list_at block_entries bs k)) where
   place_lt : list_place key_cmp block_entries key bs < length bs
@@ -216,7 +216,7 @@ starts_before key (e ∷ es) all = by (key_cmp key e.0) all
     by Less all = absurd (omega arith)
 
 -- behind all rows nothing is found
-pub behind_all : {Y : Type 0} (key : Key) (bs : List (Vec NameRow Y)) (k : ℕ) → AreBlocks bs → k + 1 ≡ length bs
+pub behind_all : {Y : Type 0} (key : Key) (bs : List (Vec DirEntryKey Y)) (k : ℕ) → AreBlocks bs → k + 1 ≡ length bs
     → place_in key_cmp key (list_at block_entries bs k) ≡ length (list_at block_entries bs k)
     → find key_cmp key (all_entries bs) ≡ None
 behind_all key bs k h last all =
@@ -224,14 +224,14 @@ behind_all key bs k h last all =
     find_here key bs h k (last_started key bs k h last (starts_before key here all)) (omega arith) (length here) (sym all)
     ∙ ap (first_at key_cmp key) (drop_of_length-le here (omega arith))
 
-pub put_kept : {Y : Type 0} (key : Key) (v : ℕ) (bs cs : List (Vec NameRow Y)) → AreBlocks bs → All IsBlock cs
+pub put_kept : {Y : Type 0} (key : Key) (v : ℕ) (bs cs : List (Vec DirEntryKey Y)) → AreBlocks bs → All IsBlock cs
     → all_entries cs ≡ put key_cmp key v (all_entries bs) → AreBlocks cs
 put_kept key v bs cs h each e = record {
   rises = ap (is_sorted key_cmp) e ∙ true_of _ (is_sorted-put key_cmp key_total key v _ (told h.rises));
   each = each;
 }
 
-pub without_kept : {Y : Type 0} (key : Key) (bs cs : List (Vec NameRow Y)) → AreBlocks bs → All IsBlock cs
+pub without_kept : {Y : Type 0} (key : Key) (bs cs : List (Vec DirEntryKey Y)) → AreBlocks bs → All IsBlock cs
     → all_entries cs ≡ where_key key_cmp (λ x. not (eq_by_cmp key_cmp key x)) (all_entries bs) → AreBlocks cs
 without_kept key bs cs h each e = record {
   rises = ap (is_sorted key_cmp) e
@@ -239,13 +239,13 @@ without_kept key bs cs h each e = record {
   each = each;
 }
 
-pub no_blocks : {Y : Type 0} (key : Key) (bs : List (Vec NameRow Y)) → length bs ≤ list_place key_cmp block_entries key bs → bs ≡ []
+pub no_blocks : {Y : Type 0} (key : Key) (bs : List (Vec DirEntryKey Y)) → length bs ≤ list_place key_cmp block_entries key bs → bs ≡ []
 no_blocks key bs le = no_lists key_cmp block_entries key_total key bs le
 
-pub put_first : {Y : Type 0} {bs : List (Vec NameRow Y)} (key : Key) (v : ℕ) → bs ≡ []
+pub put_first : {Y : Type 0} {bs : List (Vec DirEntryKey Y)} (key : Key) (v : ℕ) → bs ≡ []
     → (key, v) ∷ [] ≡ put key_cmp key v (all_entries bs)
 put_first key v e = ap (λ bs. put key_cmp key v (all_entries bs)) (sym e)
 
-pub without_first : {Y : Type 0} {bs : List (Vec NameRow Y)} (key : Key) → bs ≡ []
+pub without_first : {Y : Type 0} {bs : List (Vec DirEntryKey Y)} (key : Key) → bs ≡ []
     → all_entries bs ≡ where_key key_cmp (λ x. not (eq_by_cmp key_cmp key x)) (all_entries bs)
 without_first key e = ap all_entries e ∙ ap (λ bs. where_key key_cmp (λ x. not (eq_by_cmp key_cmp key x)) (all_entries bs)) (sym e)

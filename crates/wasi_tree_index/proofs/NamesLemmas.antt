@@ -12,7 +12,7 @@ use Rattle.std.specs.declared.cmp.Ordering.TheVariants.{Less, Equal, Greater}
 use Rattle.std.specs.List.{filter}
 use Rattle.std.specs.FinMap.{FinMap, find, put, is_sorted, empty, empty_of_len, len-entries, get, insert, remove, entries, from_sorted, entries_sorted, entries-from_sorted, get-from_sorted, get-entries, get-insert, get-remove, entries-insert, same_entries_map, same_map, nat_cmp-IsAntisymmetric, slice_cmp-IsAntisymmetric}
 use Rattle.std.specs.FinMap.Entries.{where_key, is_sorted-put, is_sorted-where_key, find-where_key}
-use Rattle.wasi_tree_index.specs.NameRows.{Key, NameEntry, AllNames, key_cmp, run_of, names_at}
+use Rattle.wasi_tree_index.specs.DirEntryKeys.{Key, NameEntry, AllNames, key_cmp, run_of, names_at}
 use Rattle.wasi_tree_index.proofs.EntryLemmas.{told, true_of, rises, sorted_of, Rises, AllLess}
 use Rattle.wasi_tree_index.proofs.KeyLemmas.{key_total, key_exact}
 

@@ -11,7 +11,7 @@ use Rattle.std.specs.declared.cmp.Ordering.{Ordering}
 use Rattle.std.specs.FinMap.{find, put, is_sorted, empty, empty_of_len, len, get, get-empty, insert, remove, entries, entries_sorted, get-from_sorted, get-entries, get-insert, get-remove, same_map, nat_cmp-IsAntisymmetric, slice_cmp-IsAntisymmetric}
 use Rattle.std.specs.FinMap.Entries.{where_key, is_sorted-put, is_sorted-where_key, find-put, same_entries}
 use lib.Dec.{T}
-use Rattle.wasi_tree_index.specs.NameRows.{Key, AllNames, key_cmp, names_at}
+use Rattle.wasi_tree_index.specs.DirEntryKeys.{Key, AllNames, key_cmp, names_at}
 use Rattle.wasi_tree_index.specs.OverNames.{taken, found_over, with_change, with_changes, overlaid, IsChanged}
 use Rattle.wasi_tree_index.proofs.KeyLemmas.{key_total, key_exact}
 use Rattle.wasi_tree_index.proofs.NamesLemmas.{find_without, same_key, same_number, get-names_at}

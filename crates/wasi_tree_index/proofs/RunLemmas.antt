@@ -15,12 +15,12 @@ use Rattle.std.specs.List.{filter, flat_map, slice_get, AllByRecursion}
 use Rattle.std.specs.List.Sorted.{IsStrictlySortedBy}
 use Rattle.std.specs.FinMap.{is_sorted}
 use Rattle.std.specs.declared.vec.Vec.{Vec}
-use Rattle.wasi_tree_index.specs.declared.key.NameRow.{NameRow}
+use Rattle.wasi_tree_index.specs.declared.key.DirEntryKey.{DirEntryKey}
 use Rattle.wasi_tree_index.specs.Fronts.{front_len, list_at}
 use Rattle.wasi_tree_index.specs.Places.{place_in, list_place}
-use Rattle.wasi_tree_index.specs.NameRows.{Key, NameEntry, key_cmp, run_of, row_entry}
+use Rattle.wasi_tree_index.specs.DirEntryKeys.{Key, NameEntry, key_cmp, run_of, row_entry}
 use Rattle.wasi_tree_index.specs.Blocks.{block_entries, all_entries, AreBlocks}
-use Rattle.wasi_tree_index.specs.Runs.{AllFrom, entries_from, IsRun}
+use Rattle.wasi_tree_index.specs.EntryCursors.{AllFrom, entries_from, IsRun}
 use Rattle.wasi_tree_index.proofs.EntryLemmas.{rises, Rises, AllLess, AllGreater, StartsAbove, rises_right}
 use Rattle.wasi_tree_index.proofs.ListLemmas.{lists_around, around}
 use Rattle.wasi_tree_index.proofs.KeyLemmas.{key_total}
@@ -116,7 +116,7 @@ at_place k (e ∷ es) = elim (key_cmp k e.0) as (λ q. key_cmp k e.0 ≡ q
       | Greater ↦ λ is. at_place k es
     ] refl
 
-module _ {Y : Type 0} (d : ℕ) (bs : List (Vec NameRow Y)) (h : AreBlocks bs) (k : ℕ)
+module _ {Y : Type 0} (d : ℕ) (bs : List (Vec DirEntryKey Y)) (h : AreBlocks bs) (k : ℕ)
     (is : k ≡ list_place key_cmp block_entries (d, []) bs) (lt : k < length bs)
     (at : ℕ) (here : at ≡ place_in key_cmp (d, []) (list_at block_entries bs k)) where
   place_lt : list_place key_cmp block_entries (d, []) bs < length bs
@@ -169,7 +169,7 @@ equal : (a b : ℕ) → a ≡ b → nat_eq a b ≡ true
 equal a b same = grind (arith, nat_tests)
 
 -- a run whose first row is of another directory is over
-pub run_over : {Y : Type 0} (d : ℕ) (row : NameRow) (more here : List NameRow) (rest : List (Vec NameRow Y))
+pub run_over : {Y : Type 0} (d : ℕ) (row : DirEntryKey) (more here : List DirEntryKey) (rest : List (Vec DirEntryKey Y))
     → here ≡ row ∷ more → IsRun d here rest → (row.directory ≡ d → ⊥) → run_of d (entries_from here rest) ≡ []
 run_over d row more here rest is run n =
     let run' = subst (λ rows. IsRun d rows rest) is run in
@@ -177,7 +177,7 @@ run_over d row more here rest is run n =
     ∙ run_past d (row_entry row) (map row_entry more ++ all_entries rest)
     (rises key_cmp (entries_from (row ∷ more) rest) run'.rises) run'.from.0 (differ row.directory d n)
 
-pub tail_is : {Y : Type 0} (here : List NameRow) (rest bs : List (Vec NameRow Y)) (k at : ℕ) (rows : List NameRow)
+pub tail_is : {Y : Type 0} (here : List DirEntryKey) (rest bs : List (Vec DirEntryKey Y)) (k at : ℕ) (rows : List DirEntryKey)
     → map row_entry rows ≡ list_at block_entries bs k → here ≡ drop at rows → rest ≡ drop (k + 1) bs
     → entries_from here rest ≡ drop at (list_at block_entries bs k) ++ flat_map block_entries (drop (suc k) bs)
 tail_is here rest bs k at rows are is behind =
@@ -258,7 +258,7 @@ shown_at d (e ∷ es) n r from = elim (nat_eq e.0.0 d) as (λ b. nat_eq e.0.0 d 
         by zero = ap (λ b. cond b (Some (e.0.1, e.1)) None) is
         by (suc n) = none_shown d e.0 es n (later_of d e.0.0 from.0 is) r.0
 
-module _ {Y : Type 0} (rows : List NameRow) (behind : List (Vec NameRow Y)) (n : ℕ) where
+module _ {Y : Type 0} (rows : List DirEntryKey) (behind : List (Vec DirEntryKey Y)) (n : ℕ) where
   -- there is no row past the last one
   pub none_past : length rows ≤ n → length behind ≡ 0 → slice_get (entries_from rows behind) n ≡ None
   none_past le none =
@@ -266,7 +266,7 @@ module _ {Y : Type 0} (rows : List NameRow) (behind : List (Vec NameRow Y)) (n :
       ∙ get_behind (map row_entry rows) [] n (subst (λ k. k ≤ n) (sym (length-map rows row_entry)) le)
 
   -- past the first rows, it is one of those behind them
-  pub goes_on : (block : Vec NameRow Y) (blocks : List (Vec NameRow Y)) → length rows ≤ n → behind ≡ block ∷ blocks
+  pub goes_on : (block : Vec DirEntryKey Y) (blocks : List (Vec DirEntryKey Y)) → length rows ≤ n → behind ≡ block ∷ blocks
       → slice_get (entries_from rows behind) n ≡ slice_get (entries_from block.items blocks) (n - length rows)
   goes_on block blocks le is =
       ap (λ bs. slice_get (entries_from rows bs) n) is
@@ -280,14 +280,14 @@ module _ {Y : Type 0} (rows : List NameRow) (behind : List (Vec NameRow Y)) (n :
       ∙ slice_get-map row_entry rows n
 
 -- a row that is lent shows its entry
-pub shows_entry : (o : Option (Bor NameRow)) (rows : List NameRow) (n : ℕ) → IsSome o
+pub shows_entry : (o : Option (Bor DirEntryKey)) (rows : List DirEntryKey) (n : ℕ) → IsSome o
     → IfSome o (λ row. row.now ≡ get_or rows n row.now) → n < length rows
-    → option_map (λ (row : Bor NameRow). row_entry row.now) o ≡ option_map row_entry (slice_get rows n)
+    → option_map (λ (row : Bor DirEntryKey). row_entry row.now) o ≡ option_map row_entry (slice_get rows n)
 shows_entry None rows n some read lt = absurd (cc)
 shows_entry (Some row) rows n some read lt =
     ap (option_map row_entry) (sym (slice_get_read rows (length rows) n row.now refl lt read))
 
-module _ {Y : Type 0} {d : ℕ} {here : List NameRow} {rest : List (Vec NameRow Y)} (run : IsRun d here rest) (n : ℕ) where
+module _ {Y : Type 0} {d : ℕ} {here : List DirEntryKey} {rest : List (Vec DirEntryKey Y)} (run : IsRun d here rest) (n : ℕ) where
   shown_run : (o : Option NameEntry) → o ≡ slice_get (entries_from here rest) n
       → slice_get (run_of d (entries_from here rest)) n ≡ shown_of d o
   shown_run o is = shown_at d (entries_from here rest) n (rises key_cmp _ run.rises) run.from ∙ ap (shown_of d) (sym is)

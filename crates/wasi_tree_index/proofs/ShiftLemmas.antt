@@ -7,22 +7,22 @@ use Rattle.std.specs.List.{insert, remove}
 use Rattle.std.proofs.lemmas.List.{length-map, map-append}
 use Rattle.std.proofs.lemmas.List.Edits.{insert_end, length-remove}
 use Rattle.std.specs.declared.vec.Vec.{Vec}
-use Rattle.wasi_tree_index.specs.declared.key.NameRow.{NameRow}
+use Rattle.wasi_tree_index.specs.declared.key.DirEntryKey.{DirEntryKey}
 use Rattle.wasi_tree_index.specs.Fronts.{list_at, with_list}
 use Rattle.wasi_tree_index.specs.Blocks.{block_entries, with_row, has_block, most_rows, HasSpace}
-use Rattle.wasi_tree_index.specs.NameRows.{row_entry}
+use Rattle.wasi_tree_index.specs.DirEntryKeys.{row_entry}
 use Rattle.wasi_tree_index.proofs.ListLemmas.{list_at-set, list_at-set_other, passed_on, passed_back}
 use Rattle.wasi_tree_index.proofs.BlockLemmas.{map_insert, at_block, at_len}
 
 -- a block that stays has the room that it had
-pub space_stays : {Y : Type 0} (bs : List (Vec NameRow Y)) (k : ℕ) (c : Vec NameRow Y) (free : ℕ) → (k ≡ free → ⊥)
+pub space_stays : {Y : Type 0} (bs : List (Vec DirEntryKey Y)) (k : ℕ) (c : Vec DirEntryKey Y) (free : ℕ) → (k ≡ free → ⊥)
     → HasSpace bs free → HasSpace (set bs k c) free
 space_stays bs k c free apart h = record {
   within = omega (arith, h.within, length-set bs k c);
   space = subst (λ es. length es < most_rows) (sym (list_at-set_other block_entries bs k free c apart)) h.space;
 }
 
-module _ {Y : Type 0} (bs : List (Vec NameRow Y)) (k : ℕ) (b : Vec NameRow Y) (lt : k < length bs)
+module _ {Y : Type 0} (bs : List (Vec DirEntryKey Y)) (k : ℕ) (b : Vec DirEntryKey Y) (lt : k < length bs)
     (is : b ≡ get_or bs k b) where
   pub space_here : length b.items < most_rows → HasSpace bs k
   space_here space = record {
@@ -31,7 +31,7 @@ module _ {Y : Type 0} (bs : List (Vec NameRow Y)) (k : ℕ) (b : Vec NameRow Y) 
   }
 
   -- a block from which a row was taken has room for one
-  pub space_left : (c : Vec NameRow Y) (at : ℕ) → at < length b.items → length b.items ≤ most_rows
+  pub space_left : (c : Vec DirEntryKey Y) (at : ℕ) → at < length b.items → length b.items ≤ most_rows
       → c.items ≡ remove b.items at → HasSpace (set bs k c) k
   space_left c at within most e = record {
     within = omega (arith, length-set bs k c);
@@ -39,18 +39,18 @@ module _ {Y : Type 0} (bs : List (Vec NameRow Y)) (k : ℕ) (b : Vec NameRow Y) 
         (omega (arith, length-map c.items row_entry, ap length e, length-remove b.items at within));
   }
 
-  entries_in : (at : ℕ) (row : NameRow) → map row_entry (insert b.items at row)
+  entries_in : (at : ℕ) (row : DirEntryKey) → map row_entry (insert b.items at row)
       ≡ insert (list_at block_entries bs k) at (row_entry row)
   entries_in at row = map_insert row_entry b.items at row
       ∙ ap (λ es. insert es at (row_entry row)) (sym (at_block bs k b lt is))
 
-  pub moved_on : (c : Vec NameRow Y) (at : ℕ) (row x : NameRow) → suc k < length bs
+  pub moved_on : (c : Vec DirEntryKey Y) (at : ℕ) (row x : DirEntryKey) → suc k < length bs
       → c.items ++ x ∷ [] ≡ insert b.items at row → with_row (set bs k c) (k + 1) 0 x ≡ with_row bs k at row
   moved_on c at row x next e = rw add-one (passed_on block_entries bs k c (row_entry x) next
       ∙ ap (with_list block_entries bs k)
       (sym (map-append row_entry c.items (x ∷ [])) ∙ ap (map row_entry) e ∙ entries_in at row))
 
-  pub moved_back : (c : Vec NameRow Y) (at : ℕ) (row x : NameRow) (j : ℕ) → k ≡ suc j
+  pub moved_back : (c : Vec DirEntryKey Y) (at : ℕ) (row x : DirEntryKey) (j : ℕ) → k ≡ suc j
       → x ∷ c.items ≡ insert b.items at row
       → (n : ℕ) → n ≡ length (list_at block_entries (set bs k c) j)
       → with_row (set bs k c) j n x ≡ with_row bs k at row
@@ -62,7 +62,7 @@ module _ {Y : Type 0} (bs : List (Vec NameRow Y)) (k : ℕ) (b : Vec NameRow Y) 
       (passed_back block_entries bs j c (row_entry x) (omega arith))
       ∙ ap (with_list block_entries bs k) (ap (map row_entry) e ∙ entries_in at row)
 
-module _ {Y Z : Type 0} (blocks : Vec (Vec NameRow Y) Z) (spare : Vec NameRow Y) where
+module _ {Y Z : Type 0} (blocks : Vec (Vec DirEntryKey Y) Z) (spare : Vec DirEntryKey Y) where
   pub block_given : (free : Option ℕ) → MatchOption free (has_block blocks spare ≡ true) (HasSpace blocks.items)
       → blocks.items ≡ [] → most_rows ≤ vec_capacity spare
   block_given None h none = grind (arith, nat_tests)

@@ -1,8 +1,8 @@
 pub mod Heads
 pub mod Fronts
 pub mod Places
-pub mod NameRows
+pub mod DirEntryKeys
 pub mod Blocks
-pub mod Rows
-pub mod Runs
+pub mod NameIndex
+pub mod EntryCursors
 pub mod OverNames

@@ -6,7 +6,7 @@ use Rattle.std.specs.declared.cmp.Ordering.{Ordering}
 use Rattle.std.specs.FinMap as maps
 use Rattle.std.specs.FinMap.{put}
 use Rattle.std.specs.FinMap.Entries.{where_key}
-use Rattle.wasi_tree_index.specs.NameRows.{Key, AllNames, key_cmp}
+use Rattle.wasi_tree_index.specs.DirEntryKeys.{Key, AllNames, key_cmp}
 
 -- the node that marks a name as taken
 abbrev pub taken : ℕ

@@ -8,14 +8,14 @@ ghost use Rattle.std.specs.FinMap.{is_sorted, find, put};
 ghost use Rattle.std.specs.FinMap.Entries.{where_key};
 ghost use Rattle.wasi_tree_index.specs.Fronts.{list_at, with_list};
 ghost use Rattle.wasi_tree_index.specs.Places.{place_in, first_at, starts_by, list_place, revalued};
-ghost use Rattle.wasi_tree_index.specs.NameRows.{key_cmp, row_key, row_entry};
-ghost use Rattle.wasi_tree_index.specs.NameRows.{run_of};
-ghost use Rattle.wasi_tree_index.specs.Runs.{entries_from, IsRun};
+ghost use Rattle.wasi_tree_index.specs.DirEntryKeys.{key_cmp, row_key, row_entry};
+ghost use Rattle.wasi_tree_index.specs.DirEntryKeys.{run_of};
+ghost use Rattle.wasi_tree_index.specs.EntryCursors.{entries_from, IsRun};
 ghost use Rattle.std.specs.String.{string_bytes};
 ghost use Rattle.wasi_tree_index.specs.Blocks.{block_entries, all_entries, with_row, has_block, most_rows, IsBlock, AreBlocks, IsPlace, HasSpace};
 
-use crate::key::NameRow;
-use crate::hint::Near;
+use crate::key::DirEntryKey;
+use crate::hint::SearchHint;
 use crate::shift::{insert_into, insert_row, insert_through};
 use crate::sought::Sought;
 use std::mem;
@@ -27,7 +27,7 @@ pub const BLOCK: usize = 128;
 const HALF: usize = 64;
 
 /// How many rows are before a name in a directory.
-pub fn place(rows: &[NameRow], key: &Sought<'_>) -> usize
+pub fn place(rows: &[DirEntryKey], key: &Sought<'_>) -> usize
     requires { IsTrue (is_sorted key_cmp (map row_entry rows.now)) }
     ensures place { result ≡ place_in key_cmp key.now (map row_entry rows.now) }
     ensures bound { result ≤ length rows.now }
@@ -36,7 +36,7 @@ pub fn place(rows: &[NameRow], key: &Sought<'_>) -> usize
 }
 
 /// The node of the first row, if it has this name in this directory.
-fn first_at(rows: &[NameRow], key: &Sought<'_>) -> Option<u64>
+fn first_at(rows: &[DirEntryKey], key: &Sought<'_>) -> Option<u64>
     ensures { result ≡ first_at key_cmp key.now (map row_entry rows.now) }
 {
     let Some(row) = rows.first() else {
@@ -49,7 +49,7 @@ fn first_at(rows: &[NameRow], key: &Sought<'_>) -> Option<u64>
 }
 
 /// The rows from a place on.
-fn from(rows: &[NameRow], at: usize) -> &[NameRow]
+fn from(rows: &[DirEntryKey], at: usize) -> &[DirEntryKey]
     requires { at ≤ length rows.now }
     ensures { result.now ≡ drop at rows.now }
 {
@@ -57,7 +57,7 @@ fn from(rows: &[NameRow], at: usize) -> &[NameRow]
 }
 
 /// Whether a block's first row isn't after a name in a directory.
-fn starts_by(block: &[NameRow], key: &Sought<'_>) -> bool
+fn starts_by(block: &[DirEntryKey], key: &Sought<'_>) -> bool
     ensures { result ≡ starts_by key_cmp key.now (map row_entry block.now) }
 {
     match block.first() {
@@ -67,7 +67,7 @@ fn starts_by(block: &[NameRow], key: &Sought<'_>) -> bool
 }
 
 /// The block in which a name in a directory stands, if any does; else the one in which it would.
-pub fn block_place(blocks: &Vec<Vec<NameRow>>, key: &Sought<'_>) -> usize
+pub fn block_place(blocks: &Vec<Vec<DirEntryKey>>, key: &Sought<'_>) -> usize
     requires { AreBlocks blocks.now.items }
     ensures place { result ≡ list_place key_cmp block_entries key.now blocks.now.items }
 {
@@ -75,7 +75,7 @@ pub fn block_place(blocks: &Vec<Vec<NameRow>>, key: &Sought<'_>) -> usize
 }
 
 /// The same, of a slice.
-fn place_among(blocks: &[Vec<NameRow>], key: &Sought<'_>) -> usize
+fn place_among(blocks: &[Vec<DirEntryKey>], key: &Sought<'_>) -> usize
     requires { AreBlocks blocks.now }
     ensures place { result ≡ list_place key_cmp block_entries key.now blocks.now }
 {
@@ -84,14 +84,14 @@ fn place_among(blocks: &[Vec<NameRow>], key: &Sought<'_>) -> usize
 }
 
 /// The place behind a place: the next one of its block, or else the next block's first.
-fn behind(blocks: &Vec<Vec<NameRow>>, near: Near) -> Near {
+fn behind(blocks: &Vec<Vec<DirEntryKey>>, near: SearchHint) -> SearchHint {
     let row = near.row.saturating_add(1);
     match blocks.get(near.block) {
-        Some(rows) if row < rows.len() => Near {
+        Some(rows) if row < rows.len() => SearchHint {
             block: near.block,
             row,
         },
-        _ => Near {
+        _ => SearchHint {
             block: near.block.saturating_add(1),
             row: 0,
         },
@@ -99,7 +99,7 @@ fn behind(blocks: &Vec<Vec<NameRow>>, near: Near) -> Near {
 }
 
 /// The node of the row at a place, if there is one, and it has this name in this directory.
-fn node_at(blocks: &Vec<Vec<NameRow>>, at: Near, key: &Sought<'_>) -> Option<u64>
+fn node_at(blocks: &Vec<Vec<DirEntryKey>>, at: SearchHint, key: &Sought<'_>) -> Option<u64>
     requires { AreBlocks blocks.now.items }
     ensures { IfSome result (λ n. find key_cmp key.now (all_entries blocks.now.items) ≡ Some n) }
 {
@@ -113,7 +113,7 @@ fn node_at(blocks: &Vec<Vec<NameRow>>, at: Near, key: &Sought<'_>) -> Option<u64
 }
 
 /// The node of a name in a directory. It is looked for behind the place where one was found last, before all else.
-pub fn find(blocks: &Vec<Vec<NameRow>>, near: &mut Near, key: &Sought<'_>) -> Option<u64>
+pub fn find(blocks: &Vec<Vec<DirEntryKey>>, near: &mut SearchHint, key: &Sought<'_>) -> Option<u64>
     requires { AreBlocks blocks.now.items }
     ensures { result ≡ find key_cmp key.now (all_entries blocks.now.items) }
 {
@@ -127,12 +127,12 @@ pub fn find(blocks: &Vec<Vec<NameRow>>, near: &mut Near, key: &Sought<'_>) -> Op
         return None;
     }
     let at = place_at(blocks, k, key);
-    *near = Near { block: k, row: at };
+    *near = SearchHint { block: k, row: at };
     found_at(blocks, k, at, key)
 }
 
 /// The rows of a block.
-fn rows_at(blocks: &Vec<Vec<NameRow>>, k: usize) -> &[NameRow]
+fn rows_at(blocks: &Vec<Vec<DirEntryKey>>, k: usize) -> &[DirEntryKey]
     requires { k < length blocks.now.items }
     ensures { map row_entry result.now ≡ list_at block_entries blocks.now.items k }
 {
@@ -140,7 +140,7 @@ fn rows_at(blocks: &Vec<Vec<NameRow>>, k: usize) -> &[NameRow]
 }
 
 /// How many rows of a block are before a name in a directory.
-fn place_at(blocks: &Vec<Vec<NameRow>>, k: usize, key: &Sought<'_>) -> usize
+fn place_at(blocks: &Vec<Vec<DirEntryKey>>, k: usize, key: &Sought<'_>) -> usize
     requires kept { AreBlocks blocks.now.items }
     requires within { k < length blocks.now.items }
     ensures place { result ≡ place_in key_cmp key.now (list_at block_entries blocks.now.items k) }
@@ -150,7 +150,7 @@ fn place_at(blocks: &Vec<Vec<NameRow>>, k: usize, key: &Sought<'_>) -> usize
 }
 
 /// Whether a name in a directory comes behind some rows: the last one is before it, or there is none.
-fn ends_before(rows: &[NameRow], key: &Sought<'_>) -> bool
+fn ends_before(rows: &[DirEntryKey], key: &Sought<'_>) -> bool
     requires { IsTrue (is_sorted key_cmp (map row_entry rows.now)) }
     ensures { result ≡ true → place_in key_cmp key.now (map row_entry rows.now) ≡ length rows.now }
 {
@@ -160,7 +160,7 @@ fn ends_before(rows: &[NameRow], key: &Sought<'_>) -> bool
 
 /// The block in which a name in a directory would stand, as `block_place` has it. The last block is tried first, since
 /// names often come in their order.
-fn rising_block(blocks: &Vec<Vec<NameRow>>, key: &Sought<'_>) -> usize
+fn rising_block(blocks: &Vec<Vec<DirEntryKey>>, key: &Sought<'_>) -> usize
     requires { AreBlocks blocks.now.items }
     ensures place { result ≡ list_place key_cmp block_entries key.now blocks.now.items }
 {
@@ -173,7 +173,7 @@ fn rising_block(blocks: &Vec<Vec<NameRow>>, key: &Sought<'_>) -> usize
 
 /// How many rows of a block are before a name in a directory, as `place_at` has it. The place behind them all is tried
 /// first.
-fn rising_place(blocks: &Vec<Vec<NameRow>>, k: usize, key: &Sought<'_>) -> usize
+fn rising_place(blocks: &Vec<Vec<DirEntryKey>>, k: usize, key: &Sought<'_>) -> usize
     requires kept { AreBlocks blocks.now.items }
     requires within { k < length blocks.now.items }
     ensures place { result ≡ place_in key_cmp key.now (list_at block_entries blocks.now.items k) }
@@ -187,7 +187,7 @@ fn rising_place(blocks: &Vec<Vec<NameRow>>, k: usize, key: &Sought<'_>) -> usize
 }
 
 /// Whether a name in a directory comes behind all rows, so that none has it.
-pub fn is_behind(blocks: &Vec<Vec<NameRow>>, key: &Sought<'_>) -> bool
+pub fn is_behind(blocks: &Vec<Vec<DirEntryKey>>, key: &Sought<'_>) -> bool
     requires { AreBlocks blocks.now.items }
     ensures { result ≡ true → find key_cmp key.now (all_entries blocks.now.items) ≡ None }
 {
@@ -196,7 +196,7 @@ pub fn is_behind(blocks: &Vec<Vec<NameRow>>, key: &Sought<'_>) -> bool
 }
 
 /// The node of the row at a place of a block, if it has this name in this directory.
-fn found_at(blocks: &Vec<Vec<NameRow>>, k: usize, at: usize, key: &Sought<'_>) -> Option<u64>
+fn found_at(blocks: &Vec<Vec<DirEntryKey>>, k: usize, at: usize, key: &Sought<'_>) -> Option<u64>
     requires within { k < length blocks.now.items }
     requires at { at ≤ length (list_at block_entries blocks.now.items k) }
     ensures { result ≡ first_at key_cmp key.now (drop at (list_at block_entries blocks.now.items k)) }
@@ -205,7 +205,7 @@ fn found_at(blocks: &Vec<Vec<NameRow>>, k: usize, at: usize, key: &Sought<'_>) -
 }
 
 /// Moves a block's rows from a place on into another block, which is empty and has room for them.
-fn move_tail(block: &mut Vec<NameRow>, at: usize, back: &mut Vec<NameRow>)
+fn move_tail(block: &mut Vec<DirEntryKey>, at: usize, back: &mut Vec<DirEntryKey>)
     requires within { at ≤ length block.old.items }
     requires empty { back.old.items ≡ [] }
     requires room { length block.old.items ≤ at + vec_capacity back.old }
@@ -222,7 +222,7 @@ fn move_tail(block: &mut Vec<NameRow>, at: usize, back: &mut Vec<NameRow>)
 }
 
 /// Gives a block's row at a place another node.
-fn set_node(block: &mut Vec<NameRow>, at: usize, node: u64)
+fn set_node(block: &mut Vec<DirEntryKey>, at: usize, node: u64)
     requires { at < length block.old.items }
     ensures rows { map row_entry block.new.items ≡ revalued node (map row_entry block.old.items) at }
     ensures len { length block.new.items ≡ length block.old.items }
@@ -232,7 +232,7 @@ fn set_node(block: &mut Vec<NameRow>, at: usize, node: u64)
 }
 
 /// Puts a row into the first block, where there is none.
-fn start(blocks: &mut Vec<Vec<NameRow>>, mut block: Vec<NameRow>, row: NameRow)
+fn start(blocks: &mut Vec<Vec<DirEntryKey>>, mut block: Vec<DirEntryKey>, row: DirEntryKey)
     requires none { blocks.old.items ≡ [] }
     requires room { 0 < vec_capacity blocks.old }
     requires empty { block.items ≡ [] }
@@ -247,12 +247,12 @@ fn start(blocks: &mut Vec<Vec<NameRow>>, mut block: Vec<NameRow>, row: NameRow)
 /// Puts a row at a place of a block. Where that is full, a block that has room for a row gets one, and the rows between
 /// move on by one; if none is named, the full block is split, so that its other half is the spare block.
 fn insert_at(
-    blocks: &mut Vec<Vec<NameRow>>,
-    spare: &mut Vec<NameRow>,
+    blocks: &mut Vec<Vec<DirEntryKey>>,
+    spare: &mut Vec<DirEntryKey>,
     free: Option<usize>,
     k: usize,
     at: usize,
-    row: NameRow,
+    row: DirEntryKey,
 )
     requires place { IsPlace blocks.old.items k at }
     requires empty { spare.old.items ≡ [] }
@@ -276,11 +276,11 @@ fn insert_at(
 /// Puts a row at a place of a full block, half of whose rows then stand in another block. A row that comes last stands
 /// alone there, so that rows which come in order fill their blocks.
 fn split_row(
-    block: &mut Vec<NameRow>,
-    mut back: Vec<NameRow>,
+    block: &mut Vec<DirEntryKey>,
+    mut back: Vec<DirEntryKey>,
     at: usize,
-    row: NameRow,
-) -> Vec<NameRow>
+    row: DirEntryKey,
+) -> Vec<DirEntryKey>
     requires full { length block.old.items ≡ most_rows }
     requires capacity { most_rows ≤ vec_capacity block.old }
     requires at { at ≤ most_rows }
@@ -301,7 +301,7 @@ fn split_row(
 }
 
 /// Puts a block at a place among blocks that have room for it.
-fn insert_block(blocks: &mut Vec<Vec<NameRow>>, k: usize, block: Vec<NameRow>)
+fn insert_block(blocks: &mut Vec<Vec<DirEntryKey>>, k: usize, block: Vec<DirEntryKey>)
     requires within { k ≤ length blocks.old.items }
     requires room { length blocks.old.items < vec_capacity blocks.old }
     ensures { blocks.new.items ≡ insert blocks.old.items k block }
@@ -312,7 +312,7 @@ fn insert_block(blocks: &mut Vec<Vec<NameRow>>, k: usize, block: Vec<NameRow>)
 }
 
 /// Gives the row at a place of a block another node.
-fn set_at(blocks: &mut Vec<Vec<NameRow>>, k: usize, at: usize, node: u64)
+fn set_at(blocks: &mut Vec<Vec<DirEntryKey>>, k: usize, at: usize, node: u64)
     requires within { k < length blocks.old.items }
     requires at { at < length (list_at block_entries blocks.old.items k) }
     requires each { All IsBlock blocks.old.items }
@@ -326,7 +326,7 @@ fn set_at(blocks: &mut Vec<Vec<NameRow>>, k: usize, at: usize, node: u64)
 }
 
 /// Gives a name in a directory, which has a node, another one.
-pub fn set(blocks: &mut Vec<Vec<NameRow>>, key: &Sought<'_>, node: u64)
+pub fn set(blocks: &mut Vec<Vec<DirEntryKey>>, key: &Sought<'_>, node: u64)
     requires kept { AreBlocks blocks.old.items }
     requires held { is_some (find key_cmp key.now (all_entries blocks.old.items)) ≡ true }
     ensures kept { AreBlocks blocks.new.items }
@@ -342,10 +342,10 @@ pub fn set(blocks: &mut Vec<Vec<NameRow>>, key: &Sought<'_>, node: u64)
 /// Puts a node under a name in a directory, in the place of any other, where a block is named that has room for a row,
 /// or there is room for a block more.
 pub fn put(
-    blocks: &mut Vec<Vec<NameRow>>,
-    spare: &mut Vec<NameRow>,
+    blocks: &mut Vec<Vec<DirEntryKey>>,
+    spare: &mut Vec<DirEntryKey>,
     free: Option<usize>,
-    row: NameRow,
+    row: DirEntryKey,
 )
     requires kept { AreBlocks blocks.old.items }
     requires empty { spare.old.items ≡ [] }
@@ -370,7 +370,7 @@ pub fn put(
 }
 
 /// A block, in whose place another stands that has no room yet.
-fn taken(spare: &mut Vec<NameRow>) -> Vec<NameRow>
+fn taken(spare: &mut Vec<DirEntryKey>) -> Vec<DirEntryKey>
     ensures taken { result ≡ spare.old }
     ensures empty { spare.new.items ≡ [] }
 {
@@ -381,8 +381,8 @@ fn taken(spare: &mut Vec<NameRow>) -> Vec<NameRow>
 /// Takes a name out of a directory, and gives the node that it held. Then there is room for a block more, or the block
 /// in which the name stood has room for a row.
 pub fn remove(
-    blocks: &mut Vec<Vec<NameRow>>,
-    spare: &mut Vec<NameRow>,
+    blocks: &mut Vec<Vec<DirEntryKey>>,
+    spare: &mut Vec<DirEntryKey>,
     key: &Sought<'_>,
 ) -> Option<u64>
     requires kept { AreBlocks blocks.old.items }
@@ -408,7 +408,7 @@ pub fn remove(
 }
 
 /// Takes the row at a place of a block out. A block goes with its last row, and is the spare one from then on.
-fn take_row(blocks: &mut Vec<Vec<NameRow>>, spare: &mut Vec<NameRow>, k: usize, at: usize)
+fn take_row(blocks: &mut Vec<Vec<DirEntryKey>>, spare: &mut Vec<DirEntryKey>, k: usize, at: usize)
     requires within { k < length blocks.old.items }
     requires at { at < length (list_at block_entries blocks.old.items k) }
     requires each { All IsBlock blocks.old.items }
@@ -429,7 +429,7 @@ fn take_row(blocks: &mut Vec<Vec<NameRow>>, spare: &mut Vec<NameRow>, k: usize, 
 }
 
 /// The block, unless there is room for a block more.
-fn unless_room(blocks: &Vec<Vec<NameRow>>, spare: &Vec<NameRow>, k: usize) -> Option<usize>
+fn unless_room(blocks: &Vec<Vec<DirEntryKey>>, spare: &Vec<DirEntryKey>, k: usize) -> Option<usize>
     ensures { result ≡ (if has_block blocks.now spare.now then None else Some k) }
 {
     if blocks.len() < blocks.capacity() && spare.capacity() >= BLOCK {
@@ -441,8 +441,8 @@ fn unless_room(blocks: &Vec<Vec<NameRow>>, spare: &Vec<NameRow>, k: usize) -> Op
 /// Takes a name out of a directory, and puts the node that it held under a name of a directory, in the place of any
 /// other.
 pub fn rename(
-    blocks: &mut Vec<Vec<NameRow>>,
-    spare: &mut Vec<NameRow>,
+    blocks: &mut Vec<Vec<DirEntryKey>>,
+    spare: &mut Vec<DirEntryKey>,
     key: &Sought<'_>,
     new_directory: u64,
     new_name: String,
@@ -465,15 +465,15 @@ pub fn rename(
         blocks,
         spare,
         free,
-        NameRow::new(new_directory, new_name, node),
+        DirEntryKey::new(new_directory, new_name, node),
     );
 }
 
 /// Rows and the blocks behind them, where the first rows are there if any are.
 pub fn settled<'a>(
-    here: &'a [NameRow],
-    rest: &'a [Vec<NameRow>],
-) -> (&'a [NameRow], &'a [Vec<NameRow>])
+    here: &'a [DirEntryKey],
+    rest: &'a [Vec<DirEntryKey>],
+) -> (&'a [DirEntryKey], &'a [Vec<DirEntryKey>])
     requires { All IsBlock rest.now }
     ensures same { entries_from result.0.now result.1.now ≡ entries_from here.now rest.now }
     ensures each { All IsBlock result.1.now }
@@ -489,7 +489,7 @@ pub fn settled<'a>(
 }
 
 /// The rows of a directory and of those behind it.
-pub fn rows_from(blocks: &Vec<Vec<NameRow>>, directory: u64) -> (&[NameRow], &[Vec<NameRow>])
+pub fn rows_from(blocks: &Vec<Vec<DirEntryKey>>, directory: u64) -> (&[DirEntryKey], &[Vec<DirEntryKey>])
     requires { AreBlocks blocks.now.items }
     ensures run { IsRun directory result.0.now result.1.now }
     ensures same { run_of directory (entries_from result.0.now result.1.now) ≡ run_of directory (all_entries blocks.now.items) }
@@ -504,7 +504,7 @@ pub fn rows_from(blocks: &Vec<Vec<NameRow>>, directory: u64) -> (&[NameRow], &[V
 }
 
 /// The blocks from one on.
-fn blocks_from(blocks: &Vec<Vec<NameRow>>, k: usize) -> &[Vec<NameRow>]
+fn blocks_from(blocks: &Vec<Vec<DirEntryKey>>, k: usize) -> &[Vec<DirEntryKey>]
     requires { k ≤ length blocks.now.items }
     ensures { result.now ≡ drop k blocks.now.items }
 {

@@ -5,26 +5,26 @@ ghost use Rattle.std.specs.Option.{option_map};
 ghost use Rattle.std.specs.List.Sorted.{IsStrictlySortedBy};
 ghost use Rattle.std.specs.Cmp.Lexicographic.{slice_cmp};
 ghost use Rattle.std.specs.Ordering.{nat_cmp};
-ghost use Rattle.wasi_tree_index.specs.NameRows.{row_entry};
-ghost use Rattle.wasi_tree_index.specs.Runs.{entries_from};
+ghost use Rattle.wasi_tree_index.specs.DirEntryKeys.{row_entry};
+ghost use Rattle.wasi_tree_index.specs.EntryCursors.{entries_from};
 
 use crate::blocks::settled;
-use crate::key::NameRow;
+use crate::key::DirEntryKey;
 use std::marker::Model;
 
 /// The names of a directory that are still to come, in byte order, each with the node that it holds. Contracts see them
 /// as a list.
 #[derive(Drop)]
-pub struct Run<'a> {
-    pub(crate) here: &'a [NameRow],
-    pub(crate) rest: &'a [Vec<NameRow>],
+pub struct EntryCursor<'a> {
+    pub(crate) here: &'a [DirEntryKey],
+    pub(crate) rest: &'a [Vec<DirEntryKey>],
     pub(crate) directory: u64,
 }
 
-impl<'a> Model for Run<'a> {
+impl<'a> Model for EntryCursor<'a> {
     ghost use Rattle.std.specs.Prelude.{ℕ, List};
-    ghost use Rattle.wasi_tree_index.specs.NameRows.{run_of};
-    ghost use Rattle.wasi_tree_index.specs.Runs.{entries_from, IsRun};
+    ghost use Rattle.wasi_tree_index.specs.DirEntryKeys.{run_of};
+    ghost use Rattle.wasi_tree_index.specs.EntryCursors.{entries_from, IsRun};
 
     ghost Value = { List (List ℕ × ℕ) };
 
@@ -33,12 +33,12 @@ impl<'a> Model for Run<'a> {
     ghost invariant = { λ a. IsRun a.directory a.here.now a.rest.now };
 }
 
-impl<'a> Run<'a> {
+impl<'a> EntryCursor<'a> {
     /// No names.
-    pub fn none() -> Run<'a>
+    pub fn none() -> EntryCursor<'a>
         ensures none { result ≡ [] }
     {
-        Run {
+        EntryCursor {
             here: &[],
             rest: &[],
             directory: 0,
@@ -46,11 +46,11 @@ impl<'a> Run<'a> {
     }
 
     /// The same names once more. They stand in byte order, each once.
-    pub fn again(&self) -> Run<'a>
+    pub fn again(&self) -> EntryCursor<'a>
         ensures same { result ≡ self.now }
         ensures rising { IsStrictlySortedBy (slice_cmp nat_cmp) (map (λ e. e.0) self.now) }
     {
-        Run {
+        EntryCursor {
             here: self.here,
             rest: self.rest,
             directory: self.directory,
@@ -89,7 +89,7 @@ impl<'a> Run<'a> {
 }
 
 /// The row at a place of some rows and of the blocks behind them.
-fn row_at<'a>(here: &'a [NameRow], rest: &'a [Vec<NameRow>], place: u64) -> Option<&'a NameRow>
+fn row_at<'a>(here: &'a [DirEntryKey], rest: &'a [Vec<DirEntryKey>], place: u64) -> Option<&'a DirEntryKey>
     ensures { option_map (λ row. row_entry row.now) result ≡ slice_get (entries_from here.now rest.now) place }
 {
     let mut rows = here;

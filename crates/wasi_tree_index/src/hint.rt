@@ -3,14 +3,14 @@
 /// Where a name was found last: the next name that is asked for may stand just behind it. Any place will do, whatever stands
 /// there, so contracts say nothing of it.
 #[derive(Clone, Copy, Debug)]
-pub struct Near {
+pub struct SearchHint {
     pub(crate) block: usize,
     pub(crate) row: usize,
 }
 
-impl Near {
+impl SearchHint {
     /// The first place.
-    pub fn first() -> Near {
-        Near { block: 0, row: 0 }
+    pub fn first() -> SearchHint {
+        SearchHint { block: 0, row: 0 }
     }
 }

@@ -9,7 +9,7 @@ use std::cmp::Ordering;
 /// A name in a directory, and the number of the node that it holds. What the name begins with stands in the row itself,
 /// so that most names are told apart without a look at their texts.
 #[derive(Debug, Drop)]
-pub struct NameRow {
+pub struct DirEntryKey {
     pub directory: u64,
     pub name: String,
     pub node: u64,
@@ -17,20 +17,20 @@ pub struct NameRow {
     ghost headed: { head ≡ head_of (string_bytes name) },
 }
 
-impl NameRow {
+impl DirEntryKey {
     ghost use Rattle.std.specs.Prelude.{◌≡◌};
     ghost use Rattle.std.specs.String.{string_bytes};
     ghost use Rattle.std.specs.Ordering.{is_gt, is_lt, is_eq};
-    ghost use Rattle.wasi_tree_index.specs.NameRows.{key_cmp, row_key};
+    ghost use Rattle.wasi_tree_index.specs.DirEntryKeys.{key_cmp, row_key};
 
     /// A name in a directory, with a node's number.
-    pub fn new(directory: u64, name: String, node: u64) -> NameRow
+    pub fn new(directory: u64, name: String, node: u64) -> DirEntryKey
         ensures directory { result.directory ≡ directory }
         ensures name { string_bytes result.name ≡ string_bytes name }
         ensures node { result.node ≡ node }
     {
         let head = head_of(name.as_str());
-        NameRow {
+        DirEntryKey {
             directory,
             name,
             node,

@@ -11,9 +11,9 @@ mod entries;
 mod shift;
 mod sought;
 
-pub use key::NameRow;
-pub use hint::Near;
-pub use over_index::{OverRows, names_lie_over};
-pub use over_entries::OverRun;
-pub use name_index::{Rows, directories_are_apart, names_are_apart};
-pub use entries::Run;
+pub use key::DirEntryKey;
+pub use hint::SearchHint;
+pub use over_index::{OverNameIndex, names_lie_over};
+pub use over_entries::OverEntryCursor;
+pub use name_index::{NameIndex, directories_are_apart, names_are_apart};
+pub use entries::EntryCursor;

@@ -2,12 +2,12 @@
 ghost use Rattle.std.specs.Prelude.{◌≡◌, ℕ, List, OnErr, OnOk, IfOk, Some, is_some, true, false, nat_eq};
 ghost use Rattle.std.specs.FinMap as maps;
 ghost use Rattle.std.specs.String.{string_bytes};
-ghost use Rattle.wasi_tree_index.specs.NameRows.{AllNames, Key, names_at, run_of};
+ghost use Rattle.wasi_tree_index.specs.DirEntryKeys.{AllNames, Key, names_at, run_of};
 
 use crate::blocks::{self, BLOCK};
-use crate::key::NameRow;
-use crate::hint::Near;
-use crate::entries::Run;
+use crate::key::DirEntryKey;
+use crate::hint::SearchHint;
+use crate::entries::EntryCursor;
 use crate::sought::Sought;
 use std::alloc::{AllocError, Global};
 use std::marker::Model;
@@ -16,13 +16,13 @@ use std::marker::Model;
 /// and then by the bytes of the name. It is kept in blocks, so that an insert or a removal moves the rows of one block
 /// alone. Contracts see a finite map from directories and names, and whether there is room for one more name.
 #[derive(Debug, Drop)]
-pub struct Rows {
-    blocks: Vec<Vec<NameRow>>,
-    spare: Vec<NameRow>,
+pub struct NameIndex {
+    blocks: Vec<Vec<DirEntryKey>>,
+    spare: Vec<DirEntryKey>,
 }
 
-impl Model for Rows {
-    ghost use Rattle.wasi_tree_index.specs.Rows.{HeldNames, held_names_code, held_names, AreRows};
+impl Model for NameIndex {
+    ghost use Rattle.wasi_tree_index.specs.NameIndex.{HeldNames, held_names_code, held_names, AreRows};
 
     ghost Value = { HeldNames };
 
@@ -33,19 +33,19 @@ impl Model for Rows {
     ghost invariant = { λ a. AreRows a.blocks a.spare };
 }
 
-impl Rows {
+impl NameIndex {
     /// No names.
-    pub fn new(alloc: Global) -> Rows
+    pub fn new(alloc: Global) -> NameIndex
         ensures { result.names ≡ maps.empty }
     {
-        Rows {
+        NameIndex {
             blocks: Vec::new(alloc),
             spare: Vec::new(alloc),
         }
     }
 
     /// The node of a name in a directory. It is looked for behind the place where one was found last, before all else.
-    pub fn find(&self, near: &mut Near, directory: u64, name: &str) -> Option<u64>
+    pub fn find(&self, near: &mut SearchHint, directory: u64, name: &str) -> Option<u64>
         ensures { result ≡ maps.get self.now.names (directory, name.now) }
     {
         blocks::find(&self.blocks, near, &Sought::new(directory, name))
@@ -59,7 +59,7 @@ impl Rows {
         if blocks::is_behind(&self.blocks, &key) {
             return false;
         }
-        let mut near = Near::first();
+        let mut near = SearchHint::first();
         blocks::find(&self.blocks, &mut near, &key).is_some()
     }
 
@@ -91,7 +91,7 @@ impl Rows {
         requires { self.old.has_room ≡ true }
         ensures names { self.new.names ≡ maps.insert self.old.names (directory, string_bytes name) node }
     {
-        let row = NameRow::new(directory, name, node);
+        let row = DirEntryKey::new(directory, name, node);
         blocks::put(&mut self.blocks, &mut self.spare, None, row);
     }
 
@@ -157,11 +157,11 @@ impl Rows {
     }
 
     /// The names of a directory, in byte order.
-    pub fn names(&self, directory: u64) -> Run<'_>
+    pub fn names(&self, directory: u64) -> EntryCursor<'_>
         ensures { result ≡ maps.entries (names_at self.now.names directory) }
     {
         let (here, rest) = blocks::rows_from(&self.blocks, directory);
-        Run {
+        EntryCursor {
             here,
             rest,
             directory,

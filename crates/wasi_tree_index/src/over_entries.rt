@@ -6,18 +6,18 @@ ghost use Rattle.std.specs.Ordering.{nat_cmp};
 ghost use Rattle.wasi_tree_index.specs.OverNames.{with_changes, starts_below, passed};
 
 use crate::over_index::TAKEN;
-use crate::entries::Run;
+use crate::entries::EntryCursor;
 use std::marker::Model;
 
 /// The names of a directory that are still to come, in byte order, each with the node that it holds. They are those of
 /// rows that stay, but for the names that were put or taken since. Contracts see them as a list.
 #[derive(Drop)]
-pub struct OverRun<'a> {
-    pub(crate) base: Run<'a>,
-    pub(crate) changed: Run<'a>,
+pub struct OverEntryCursor<'a> {
+    pub(crate) base: EntryCursor<'a>,
+    pub(crate) changed: EntryCursor<'a>,
 }
 
-impl<'a> Model for OverRun<'a> {
+impl<'a> Model for OverEntryCursor<'a> {
     ghost use Rattle.std.specs.Prelude.{ℕ, List};
     ghost use Rattle.std.specs.Cmp.Lexicographic.{slice_cmp};
     ghost use Rattle.std.specs.Ordering.{nat_cmp};
@@ -28,7 +28,7 @@ impl<'a> Model for OverRun<'a> {
     ghost view = { λ a. with_changes (slice_cmp nat_cmp) a.base a.changed };
 }
 
-impl<'a> OverRun<'a> {
+impl<'a> OverEntryCursor<'a> {
     /// The next name with its node. Behind the last one there is none, however often it is asked.
     pub fn next(&mut self) -> Option<(&'a str, u64)>
         ensures { MatchOption result ((self.old ≡ []) × (self.new ≡ []))
@@ -39,7 +39,7 @@ impl<'a> OverRun<'a> {
 }
 
 /// The next name of two runs. Where both have it, it is the changed one that counts.
-fn next_of<'a>(base: &mut Run<'a>, changed: &mut Run<'a>) -> Option<(&'a str, u64)>
+fn next_of<'a>(base: &mut EntryCursor<'a>, changed: &mut EntryCursor<'a>) -> Option<(&'a str, u64)>
     ensures { MatchOption result ((with_changes (slice_cmp nat_cmp) base.old changed.old ≡ [])
         × (with_changes (slice_cmp nat_cmp) base.new changed.new ≡ []))
         (λ found. with_changes (slice_cmp nat_cmp) base.old changed.old
@@ -62,7 +62,7 @@ fn next_of<'a>(base: &mut Run<'a>, changed: &mut Run<'a>) -> Option<(&'a str, u6
 }
 
 /// Whether the first name of a run comes before a name.
-fn is_below(run: &Run<'_>, name: &str) -> bool
+fn is_below(run: &EntryCursor<'_>, name: &str) -> bool
     ensures below { result ≡ starts_below (slice_cmp nat_cmp) name.now run.now }
     ensures rising { IsStrictlySortedBy (slice_cmp nat_cmp) (map (λ e. e.0) run.now) }
 {
@@ -74,7 +74,7 @@ fn is_below(run: &Run<'_>, name: &str) -> bool
 }
 
 /// Goes past the first name of a run, if it is this one.
-fn pass(run: &mut Run<'_>, name: &str)
+fn pass(run: &mut EntryCursor<'_>, name: &str)
     ensures { run.new ≡ passed (slice_cmp nat_cmp) name.now run.old }
 {
     let mut later = run.again();

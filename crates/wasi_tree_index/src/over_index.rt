@@ -1,12 +1,12 @@
 //! Names that were put or taken, over rows that stay.
 ghost use Rattle.std.specs.Prelude.{◌≡◌, ◌<◌, ◌-◌, ◌^◌, OnErr, OnOk, IfOk, Some, is_some, true, nat_eq};
 ghost use Rattle.std.specs.FinMap as maps;
-ghost use Rattle.wasi_tree_index.specs.NameRows.{AllNames, Key, names_at};
+ghost use Rattle.wasi_tree_index.specs.DirEntryKeys.{AllNames, Key, names_at};
 ghost use Rattle.wasi_tree_index.specs.OverNames.{overlaid, found_over, IsChanged};
 
-use crate::hint::Near;
-use crate::over_entries::OverRun;
-use crate::name_index::Rows;
+use crate::hint::SearchHint;
+use crate::over_entries::OverEntryCursor;
+use crate::name_index::NameIndex;
 use std::alloc::{AllocError, Global};
 use std::marker::Model;
 
@@ -17,13 +17,13 @@ pub(crate) const TAKEN: u64 = u64::MAX;
 /// A name that was taken from those that stay has a row with the mark for its node. Contracts see a finite map from
 /// directories and names.
 #[derive(Debug, Drop)]
-pub struct OverRows<'a> {
-    base: &'a Rows,
-    changed: Rows,
+pub struct OverNameIndex<'a> {
+    base: &'a NameIndex,
+    changed: NameIndex,
 }
 
-impl<'a> Model for OverRows<'a> {
-    ghost use Rattle.wasi_tree_index.specs.NameRows.{AllNames};
+impl<'a> Model for OverNameIndex<'a> {
+    ghost use Rattle.wasi_tree_index.specs.DirEntryKeys.{AllNames};
     ghost use Rattle.wasi_tree_index.specs.OverNames.{all_names_code, overlaid};
 
     ghost Value = { AllNames };
@@ -33,26 +33,26 @@ impl<'a> Model for OverRows<'a> {
     ghost view = { λ a. overlaid a.base.now.names a.changed.names };
 }
 
-impl<'a> OverRows<'a> {
+impl<'a> OverNameIndex<'a> {
     /// The names of some rows. It takes no memory.
-    pub fn new(alloc: Global, base: &'a Rows) -> OverRows<'a>
+    pub fn new(alloc: Global, base: &'a NameIndex) -> OverNameIndex<'a>
         ensures { result ≡ base.now.names }
     {
-        OverRows {
+        OverNameIndex {
             base,
-            changed: Rows::new(alloc),
+            changed: NameIndex::new(alloc),
         }
     }
 
     /// The node of a name in a directory. In the rows that stay it is looked for behind the place where one was found
     /// last, before all else.
-    pub fn find(&self, near: &mut Near, directory: u64, name: &str) -> Option<u64>
+    pub fn find(&self, near: &mut SearchHint, directory: u64, name: &str) -> Option<u64>
         ensures { result ≡ maps.get self.now (directory, name.now) }
     {
         if self.changed.is_bare() {
             return self.base.find(near, directory, name);
         }
-        let mut first = Near::first();
+        let mut first = SearchHint::first();
         match self.changed.find(&mut first, directory, name) {
             Some(node) if node == TAKEN => None,
             Some(node) => Some(node),
@@ -113,10 +113,10 @@ impl<'a> OverRows<'a> {
     }
 
     /// The names of a directory, in byte order.
-    pub fn names(&self, directory: u64) -> OverRun<'_>
+    pub fn names(&self, directory: u64) -> OverEntryCursor<'_>
         ensures { result ≡ maps.entries (names_at self.now directory) }
     {
-        OverRun {
+        OverEntryCursor {
             base: self.base.names(directory),
             changed: self.changed.names(directory),
         }
@@ -133,8 +133,8 @@ impl<'a> OverRows<'a> {
 /// Gives a name that the rows that stay have a row among the changed ones, with the node that it holds, and answers
 /// whether they have it. It can then be marked without memory.
 fn hold(
-    base: &Rows,
-    changed: &mut Rows,
+    base: &NameIndex,
+    changed: &mut NameIndex,
     directory: u64,
     name: &str,
     node: u64,
@@ -154,7 +154,7 @@ fn hold(
 
 /// Takes out a name, given whether the rows that stay have it. If they do, it has a row among the changed ones, which is
 /// marked then, and else it goes.
-fn strike(changed: &mut Rows, directory: u64, name: &str, is_below: bool)
+fn strike(changed: &mut NameIndex, directory: u64, name: &str, is_below: bool)
     requires { is_below ≡ true → is_some (maps.get changed.old.names (directory, name.now)) ≡ true }
     ensures { (base : AllNames) → is_below ≡ is_some (maps.get base (directory, name.now))
         → overlaid base changed.new.names ≡ maps.remove (overlaid base changed.old.names) (directory, name.now) }

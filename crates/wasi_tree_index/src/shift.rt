@@ -4,10 +4,10 @@ ghost use Rattle.std.specs.List.{insert};
 ghost use Rattle.std.specs.Vec.{vec_capacity};
 ghost use Rattle.wasi_tree_index.specs.Blocks.{all_entries, with_row, IsBlock, IsPlace, HasSpace};
 
-use crate::key::NameRow;
+use crate::key::DirEntryKey;
 
 /// Puts a row at a place of a block that has room for it.
-pub fn insert_row(block: &mut Vec<NameRow>, at: usize, row: NameRow)
+pub fn insert_row(block: &mut Vec<DirEntryKey>, at: usize, row: DirEntryKey)
     requires within { at ≤ length block.old.items }
     requires room { length block.old.items < vec_capacity block.old }
     ensures items { block.new.items ≡ insert block.old.items at row }
@@ -19,7 +19,7 @@ pub fn insert_row(block: &mut Vec<NameRow>, at: usize, row: NameRow)
 }
 
 /// Puts a row at a place of one of the blocks, which has room for it.
-pub fn insert_into(blocks: &mut Vec<Vec<NameRow>>, k: usize, at: usize, row: NameRow)
+pub fn insert_into(blocks: &mut Vec<Vec<DirEntryKey>>, k: usize, at: usize, row: DirEntryKey)
     requires place { IsPlace blocks.old.items k at }
     requires room { HasSpace blocks.old.items k }
     ensures each { All IsBlock blocks.new.items }
@@ -29,7 +29,7 @@ pub fn insert_into(blocks: &mut Vec<Vec<NameRow>>, k: usize, at: usize, row: Nam
 }
 
 /// Puts a row at a place of a block, and gives the row that is its last one then.
-fn pass_on(block: &mut Vec<NameRow>, at: usize, row: NameRow) -> NameRow
+fn pass_on(block: &mut Vec<DirEntryKey>, at: usize, row: DirEntryKey) -> DirEntryKey
     requires at { at ≤ length block.old.items }
     requires block { IsBlock block.old }
     ensures rows { block.new.items ++ result ∷ [] ≡ insert block.old.items at row }
@@ -44,7 +44,7 @@ fn pass_on(block: &mut Vec<NameRow>, at: usize, row: NameRow) -> NameRow
 }
 
 /// Puts a row at a place of a block, and gives the row that is its first one then.
-fn pass_back(block: &mut Vec<NameRow>, at: usize, row: NameRow) -> NameRow
+fn pass_back(block: &mut Vec<DirEntryKey>, at: usize, row: DirEntryKey) -> DirEntryKey
     requires at { at ≤ length block.old.items }
     requires block { IsBlock block.old }
     ensures rows { result ∷ block.new.items ≡ insert block.old.items at row }
@@ -60,11 +60,11 @@ fn pass_back(block: &mut Vec<NameRow>, at: usize, row: NameRow) -> NameRow
 
 /// Puts a row at a place of a block, where this block or one behind it has room for a row.
 fn move_on(
-    blocks: &mut Vec<Vec<NameRow>>,
+    blocks: &mut Vec<Vec<DirEntryKey>>,
     mut k: usize,
     mut at: usize,
     free: usize,
-    mut row: NameRow,
+    mut row: DirEntryKey,
 )
     requires order { k ≤ free }
     requires place { IsPlace blocks.old.items k at }
@@ -82,11 +82,11 @@ fn move_on(
 
 /// Puts a row at a place of a block, where this block or one before it has room for a row.
 fn move_back(
-    blocks: &mut Vec<Vec<NameRow>>,
+    blocks: &mut Vec<Vec<DirEntryKey>>,
     mut k: usize,
     mut at: usize,
     free: usize,
-    mut row: NameRow,
+    mut row: DirEntryKey,
 )
     requires order { free ≤ k }
     requires place { IsPlace blocks.old.items k at }
@@ -104,11 +104,11 @@ fn move_back(
 
 /// Puts a row at a place of a block, where some block has room for a row. The rows between the two move on by one.
 pub fn insert_through(
-    blocks: &mut Vec<Vec<NameRow>>,
+    blocks: &mut Vec<Vec<DirEntryKey>>,
     k: usize,
     at: usize,
     free: usize,
-    row: NameRow,
+    row: DirEntryKey,
 )
     requires place { IsPlace blocks.old.items k at }
     requires room { HasSpace blocks.old.items free }

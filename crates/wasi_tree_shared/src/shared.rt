@@ -2,7 +2,7 @@
 ghost use Rattle.std.specs.Prelude.{◌≡◌, ℕ, ◌+◌, ◌-◌, ◌^◌, ◌<◌, ◌≤◌, min, true, false, All};
 ghost use Rattle.wasi_host.specs.FurtherLaws.{Follow};
 ghost use Rattle.wasi_host.specs.HostLaws.{never_fails};
-ghost use Rattle.wasi_host.specs.declared.injected_fault.Fate.TheVariants.{Passes};
+ghost use Rattle.wasi_host.specs.declared.injected_fault.InjectedFault.TheVariants.{Passes};
 ghost use Rattle.wasi_tree.specs.MemState.{live_of, world_of};
 ghost use Rattle.wasi_tree_shared.specs.declared.change.Change.{Change};
 ghost use Rattle.wasi_tree_shared.specs.Changes.{AreRising, all_made, found_next, due_before, made_by_others};

@@ -14,7 +14,7 @@ use Rattle.wasi_p1_model.specs.Filestats.{filestat_in, stat_both, stream_filesta
 use Rattle.wasi_p1_model.specs.Front.{answer, ask}
 use Rattle.wasi_p1_model.specs.Parts.{open_node_in, told_of}
 use Rattle.wasi_p1_model.specs.Request.{Direct}
-use Rattle.wasi_p1_model.specs.Row.{Row, give}
+use Rattle.wasi_p1_model.specs.CallResult.{CallResult, give}
 use Rattle.wasi_p1_model.specs.RawFlags.{modes_in, or_inval}
 use Rattle.wasi_p1_model.specs.Guest.{Guest, GuestSlot, closed, stream, directory, file}
 use Rattle.wasi_p1_model.specs.Calls.{fdstat_of, filestat_of, fd_close, fd_fdstat_get, fd_fdstat_set_flags, fd_fdstat_set_rights, fd_filestat_get, fd_prestat_dir_name, fd_prestat_get, fd_renumber}
@@ -69,7 +69,7 @@ fd_filestat_get_near {g} {fd} = then _ (live_never (slice_get g.slots fd)) (λ s
     tells : (metadata : Metadata) → LeavesGuest g (told_of g metadata)
     tells metadata = from (filestat_in (stat_both metadata)) (filestat_never (stat_both metadata))
       where
-        from : (m : Row Stated) → Never m → LeavesGuest g (m >>= (λ stat. give (Filestat stat, g)))
+        from : (m : CallResult Stated) → Never m → LeavesGuest g (m >>= (λ stat. give (Filestat stat, g)))
         from (Ok stat) never = refl
         from (Err e) never = never
 

@@ -5,11 +5,11 @@ use Rattle.wasi_p1_model.specs.Guest.{Guest}
 use Rattle.wasi_p1_model.specs.Listing.{Entry}
 use Rattle.wasi_p1_model.specs.Pages.{page}
 use Rattle.wasi_p1_model.specs.Parts.{range}
-use Rattle.wasi_p1_model.specs.Row.{Row}
+use Rattle.wasi_p1_model.specs.CallResult.{CallResult}
 use Rattle.wasi_p1_model.specs.Calls.{fd_readdir}
 use Rattle.wasi_host.proofs.Leaving.{Contains-here}
 use Rattle.wasi_p1_model.proofs.Changing.{written_slots, written_ends, written_bytes}
-use Rattle.wasi_p1_model.proofs.Near.{leaves}
+use Rattle.wasi_p1_model.proofs.LocalCalls.{leaves}
 use Rattle.wasi_p1_model.proofs.Locality.Parts.{RowNear, then, asks_near, starts_near}
 use Rattle.wasi_p1_model.proofs.Paging.{page_bytes}
 use Rattle.wasi_p1_model.proofs.Wanting.{start_never, range_never, room_never}
@@ -17,7 +17,7 @@ use Rattle.wasi_p1_model.proofs.Wanting.{start_never, range_never, room_never}
 pub fd_readdir_near : {g : Guest} {fd buf buf_len cookie : ℕ} → RowNear g (calls.FdReaddir fd buf buf_len cookie)
 unfolding fd_readdir
 fd_readdir_near {g} {fd} {buf} {buf_len} {cookie} = then _ (start_never (slice_get g.slots fd)) (λ d is. then _ (room_never g.slots g.table_max 1) (λ _ _.
-    let put : List Entry → Row (List ℕ) = λ listing. range g.memory buf (length (page listing cookie buf_len)) in asks_near (record {
+    let put : List Entry → CallResult (List ℕ) = λ listing. range g.memory buf (length (page listing cookie buf_len)) in asks_near (record {
       starts = λ n has. starts_near g fd n (Contains-here fd []) is has;
       slots = λ listing. written_slots g buf (page listing cookie buf_len) (put listing);
       ends = λ t listing answered. written_ends g buf (page listing cookie buf_len) (put listing)

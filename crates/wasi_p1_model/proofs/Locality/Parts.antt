@@ -20,9 +20,9 @@ use Rattle.wasi_p1_model.specs.Guest.{Guest, GuestSlot, OpenFile, file, node_in,
 use Rattle.wasi_p1_model.specs.Parts.{OpenNode, start_in, range, permit, from_guest}
 use Rattle.wasi_p1_model.specs.AppendOnly.{Adds, AppendsAtEnd}
 use Rattle.wasi_p1_model.specs.Request.{Request, Reply, Path, reply_of, after, starts_at}
-use Rattle.wasi_p1_model.specs.Row.{Row, Program, give, made_of_reply}
+use Rattle.wasi_p1_model.specs.CallResult.{CallResult, Program, give, made_of_reply}
 use Rattle.wasi_p1_model.specs.Calls.{Stem, front, descriptors_named, itself, stem_in}
-use Rattle.wasi_p1_model.specs.Stock.{Stock}
+use Rattle.wasi_p1_model.specs.GuestEnvModel.{GuestEnvModel}
 use Rattle.wasi_p1_model.specs.Validity.{HasBytes}
 use Rattle.wasi_p1_model.specs.declared.error.P1Error.TheVariants.{Errno}
 use Rattle.wasi_host.proofs.Agreeing.{one}
@@ -30,14 +30,14 @@ use Rattle.wasi_host.proofs.Leaving.{Contains-here}
 use Rattle.wasi_p1_model.proofs.Bytes.{text_utf8}
 use Rattle.wasi_p1_model.proofs.Changing.{named_directory, named_file, directory_perms, put_nothing}
 use Rattle.wasi_p1_model.proofs.Codes.{IsKnown}
-use Rattle.wasi_p1_model.proofs.Near.{Ends, IsNamed, AllUnder, Permitted, leaves, changes, StaysNear, AsksNear, IsNear, KeepsSlots, KeepsBytes, GivesBytes, MayBeAsked, AreTexts, given_by}
+use Rattle.wasi_p1_model.proofs.LocalCalls.{Ends, IsNamed, AllUnder, Permitted, leaves, changes, StaysNear, AsksNear, IsLocal, KeepsSlots, KeepsBytes, GivesBytes, MayBeAsked, AreTexts, given_by}
 use Rattle.wasi_p1_model.proofs.Adding.{no_altering}
 use Rattle.wasi_p1_model.proofs.Keeping.{no_act}
 use Rattle.wasi_p1_model.proofs.Wanting.{IsRefusal, Never, guest_never, start_never, permit_never, range_never}
 
 -- whatever fuel there is
 pub record AlwaysNear (g : Guest) (call : Call) (m : CallFront) : Type 0 where
-  pub near : (fuel : ℕ) → IsNear g call (m fuel).0
+  pub near : (fuel : ℕ) → IsLocal g call (m fuel).0
 
 -- of a call's row
 abbrev pub RowNear : Guest → Call → Type 0
@@ -45,16 +45,16 @@ RowNear g call = AlwaysNear g call (front g call)
 
 -- ---- a part of a row, and what follows it
 
-pub then : {A : Type 0} {g : Guest} {call : Call} {next : A → CallFront} (m : Row A) → Never m
+pub then : {A : Type 0} {g : Guest} {call : Call} {next : A → CallFront} (m : CallResult A) → Never m
     → ((x : A) → m ≡ Ok x → AlwaysNear g call (next x)) → AlwaysNear g call (free m >>= next)
 then (Ok x) never near = near x refl
 then (Err e) never near = record { near = λ fuel. never }
 
 -- what fuel is taken for, if there is enough
-abbrev pub taken : ℕ → ℕ → Bool → Row (Unit {0}) × ℕ
+abbrev pub taken : ℕ → ℕ → Bool → CallResult (Unit {0}) × ℕ
 taken n fuel b = cond b (Ok tt, fuel - n) (Err (Errno errnos.Nomem), fuel)
 
-abbrev pub then_taken : {A : Type 0} → Row A × ℕ → (A → CallFront) → Row (Program (Value × Guest))
+abbrev pub then_taken : {A : Type 0} → CallResult A × ℕ → (A → CallFront) → CallResult (Program (Value × Guest))
 then_taken part next = (onward part.0 part.1 next).0
 
 -- a text
@@ -64,11 +64,11 @@ pub then_text : {call : Call} {next : List ℕ → CallFront} (g : Guest) (at n 
 unfolding charged_text charge
 then_text {call} {next} g at n near = record { near = λ fuel. by fuel (nat_le n fuel) }
   where
-    read : Row (List ℕ)
+    read : CallResult (List ℕ)
     read = from_guest (text_in g.memory at n)
 
     by : (fuel : ℕ) (b : Bool)
-        → IsNear g call (then_taken (let t = taken n fuel b in onward t.0 t.1 (λ _. free read)) next)
+        → IsLocal g call (then_taken (let t = taken n fuel b in onward t.0 t.1 (λ _. free read)) next)
     by fuel true = (then read (guest_never (text_in g.memory at n))
         (λ text is. near text (text_utf8 g.memory at n is))).near (fuel - n)
     by fuel false = refl
@@ -92,24 +92,24 @@ then_buffer {call} {next} g iovs n near = record { near = λ fuel. by fuel (nat_
     charged buffer = λ left. (let t = taken buffer.buf_len left (nat_le buffer.buf_len left) in
         onward t.0 t.1 (λ _. free (give buffer)))
 
-    by_buffer : (found : Row Iovec) → Never found → (left : ℕ)
-        → IsNear g call (then_taken (onward found left charged) next)
+    by_buffer : (found : CallResult Iovec) → Never found → (left : ℕ)
+        → IsLocal g call (then_taken (onward found left charged) next)
     by_buffer (Err e) never left = never
     by_buffer (Ok buffer) never left = by_length (nat_le buffer.buf_len left)
       where
-        by_length : (b : Bool) → IsNear g call
+        by_length : (b : Bool) → IsLocal g call
             (then_taken (let t = taken buffer.buf_len left b in onward t.0 t.1 (λ _. free (give buffer))) next)
         by_length true = (near buffer).near (left - buffer.buf_len)
         by_length false = refl
 
-    by : (fuel : ℕ) (b : Bool) → IsNear g call (then_taken (let t = taken (8 * n) fuel b in
+    by : (fuel : ℕ) (b : Bool) → IsLocal g call (then_taken (let t = taken (8 * n) fuel b in
         onward t.0 t.1 (λ _. free (from_guest (first_buffer g.memory iovs n)) >>= charged)) next)
     by fuel true = by_buffer (from_guest (first_buffer g.memory iovs n)) (guest_never (first_buffer g.memory iovs n))
         (fuel - 8 * n)
     by fuel false = refl
 
 -- and what a number stands for
-pub then_at_buffer : {A : Type 0} {call : Call} {named : Row A} {next : A → Iovec → List ℕ → CallFront} (g : Guest)
+pub then_at_buffer : {A : Type 0} {call : Call} {named : CallResult A} {next : A → Iovec → List ℕ → CallFront} (g : Guest)
     (iovs n : ℕ) → Never named
     → ((what : A) → named ≡ Ok what → (buffer : Iovec) (bytes : List ℕ)
     → range g.memory buffer.buf buffer.buf_len ≡ Ok bytes → AlwaysNear g call (next what buffer bytes))
@@ -159,7 +159,7 @@ start_perms g fd = directory_perms errnos.Badf (slice_get g.slots fd)
 -- ---- ends of rows
 
 -- an answer, where descriptors stay and memory are bytes again
-pub answers_near : {g : Guest} {call : Call} (x : Value) (memory : List ℕ) (stock : Stock) → stem_in call ≡ itself
+pub answers_near : {g : Guest} {call : Call} (x : Value) (memory : List ℕ) (stock : GuestEnvModel) → stem_in call ≡ itself
     → (HasBytes g → HasBytes (record g { memory = memory; holdings = stock }))
     → AlwaysNear g call (answer (x, record g { memory = memory; holdings = stock }))
 answers_near {g} x memory stock stems are = record {
@@ -177,13 +177,13 @@ pub slots_near : {g : Guest} {call : Call} {x : Value} {slots : List GuestSlot}
 slots_near stays = record { near = λ fuel. record { slots = stays; bytes = λ are. are } }
 
 -- one made of what a part gives
-pub tells_near : {A : Type 0} {g : Guest} {call : Call} (m : Row A) (shown : A → Value) → stem_in call ≡ itself
+pub tells_near : {A : Type 0} {g : Guest} {call : Call} (m : CallResult A) (shown : A → Value) → stem_in call ≡ itself
     → Never m → AlwaysNear g call (tells g m shown)
 tells_near {g = g} m shown stems never =
     then m never (λ x _. answers_near (shown x) g.memory g.holdings stems (λ are. are))
 
 -- a request
-pub asks_near : {g : Guest} {call : Call} {r : Request} {next : Reply r → Row (Value × Guest)} → AsksNear g call r next
+pub asks_near : {g : Guest} {call : Call} {r : Request} {next : Reply r → CallResult (Value × Guest)} → AsksNear g call r next
     → AlwaysNear g call (ask r next)
 asks_near near = record { near = λ fuel. near }
 
@@ -193,7 +193,7 @@ pub starts_near : {d : OpenNode} {call : Call} (g : Guest) (fd n : ℕ) → Cont
 starts_near = named_directory errnos.Badf
 
 -- at the file of the one number that a call names
-pub file_asked : {g : Guest} {call : Call} {f : OpenFile} {r : Request} {next : Reply r → Row (Value × Guest)} (fd : ℕ)
+pub file_asked : {g : Guest} {call : Call} {f : OpenFile} {r : Request} {next : Reply r → CallResult (Value × Guest)} (fd : ℕ)
     → descriptors_named g.memory call ≡ fd ∷ [] → slice_get g.slots fd ≡ Some (file f) → starts_at r ≡ f.node ∷ []
     → ((reply : Reply r) → KeepsSlots g (stem_in call) (given_by r reply) (next reply))
     → ((t : Tree) (reply : Reply r) → Ends (after t r ≡ t) (next reply))
@@ -211,7 +211,7 @@ file_asked {g} {call} fd named is starts slots ends permits asked bytes = asks_n
 })
 
 -- the tree is asked only where something isn't known
-pub known_near : {A B : Type 0} {g : Guest} {call : Call} (part : B → Row A) {r : Request} (next : Reply r → Row A)
+pub known_near : {A B : Type 0} {g : Guest} {call : Call} (part : B → CallResult A) {r : Request} (next : Reply r → CallResult A)
     (shown : A → Value × Guest) (base : Option B) → ((known : B) → Never (part known))
     → ((x : A) → AlwaysNear g call (answer (shown x))) → AlwaysNear g call (ask r (made_of_reply r next shown))
     → AlwaysNear g call (known_or_asked base part r next shown)
@@ -219,27 +219,27 @@ known_near part next shown (Some known) never answers asks = then (part known) (
 known_near part next shown None never answers asks = asks
 
 -- what a row ends in leaves the guest, or refuses
-abbrev pub LeavesGuest : Guest → Row (Value × Guest) → Type 0
+abbrev pub LeavesGuest : Guest → CallResult (Value × Guest) → Type 0
 LeavesGuest g (Ok p) = p.1 ≡ g
 LeavesGuest g (Err e) = IsRefusal e
 
-left_slots : {stem : Stem} (g : Guest) (given : List ℕ) (m : Row (Value × Guest)) → stem ≡ itself → LeavesGuest g m
+left_slots : {stem : Stem} (g : Guest) (given : List ℕ) (m : CallResult (Value × Guest)) → stem ≡ itself → LeavesGuest g m
     → KeepsSlots g stem given m
 left_slots g given (Ok (x, h)) stems same =
     subst (λ s. StaysNear g s given (x, h)) (sym stems) (subst (λ h. StaysNear g itself given (x, h)) (sym same) (put_nothing g))
 left_slots g given (Err e) stems same = tt
 
-left_ends : {P : Type 0} (g : Guest) (m : Row (Value × Guest)) → LeavesGuest g m → P → Ends P m
+left_ends : {P : Type 0} (g : Guest) (m : CallResult (Value × Guest)) → LeavesGuest g m → P → Ends P m
 left_ends g (Ok p) same is = tt
 left_ends g (Err e) refuses is = (refuses, is)
 
-left_bytes : (g : Guest) (m : Row (Value × Guest)) → LeavesGuest g m → HasBytes g → KeepsBytes m
+left_bytes : (g : Guest) (m : CallResult (Value × Guest)) → LeavesGuest g m → HasBytes g → KeepsBytes m
 left_bytes g (Ok (x, h)) same are = subst HasBytes (sym same) are
 left_bytes g (Err e) same are = tt
 
 -- at the node of the one number that a call names, where the tree and the guest are left
 pub look_asked : {g : Guest} {call : Call} {slot : GuestSlot} {r : Request}
-    {next : Reply r → Row (Value × Guest)} (fd : ℕ)
+    {next : Reply r → CallResult (Value × Guest)} (fd : ℕ)
     → stem_in call ≡ itself → descriptors_named g.memory call ≡ fd ∷ [] → slice_get g.slots fd ≡ Some slot
     → starts_at r ≡ node_in (Some slot) → ((t : Tree) → after t r ≡ t) → MayBeAsked r
     → ((reply : Reply r) → LeavesGuest g (next reply)) → AlwaysNear g call (ask r next)

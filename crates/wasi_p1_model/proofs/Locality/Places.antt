@@ -4,12 +4,12 @@ use Rattle.wasi_guest.specs.declared.call.Call.{Call}
 use Rattle.wasi_guest.specs.declared.call.Call.TheVariants as calls
 use Rattle.wasi_fs.specs.Calls.{may_do}
 use Rattle.wasi_fs.specs.declared.perms.FsPerms.{FsPerms}
-use Rattle.wasi_resolve.specs.EntryOps.{PlaceCall, CreateDir, RemoveDir, RemoveFile, Symlink}
+use Rattle.wasi_resolve.specs.EntryOps.{EntryOp, CreateDir, RemoveDir, RemoveFile, Symlink}
 use Rattle.wasi_resolve.specs.PathRequest.{AtPlace}
 use Rattle.wasi_p1_model.specs.Filestats.{stat_both, filestat_in}
 use Rattle.wasi_p1_model.specs.Guest.{Guest}
 use Rattle.wasi_p1_model.specs.Parts.{range, permit}
-use Rattle.wasi_p1_model.specs.Row.{Row}
+use Rattle.wasi_p1_model.specs.CallResult.{CallResult}
 use Rattle.wasi_p1_model.specs.Calls.{done_at, path_create_directory, path_remove_directory, path_unlink_file, path_filestat_get, path_readlink, path_symlink, descriptors_named, itself, stem_in}
 use Rattle.wasi_host.proofs.Leaving.{Contains-here}
 use Rattle.wasi_resolve.proofs.Asking.{HasUtf8Target}
@@ -20,12 +20,12 @@ use Rattle.wasi_p1_model.proofs.Keeping.{no_act, no_link, link_leaves}
 use Rattle.wasi_p1_model.proofs.Locality.Parts.{AddsAt, AlwaysNear, LetsThrough, RowNear, alters, then, then_text, then_path, asks_near, starts_near, done_if_at}
 use Rattle.wasi_p1_model.proofs.Locality.Spending.{making_near}
 use Rattle.wasi_p1_model.proofs.Wanting.{act_known, link_known, filestat_never, follow_never, range_never, start_never}
-use Rattle.wasi_p1_model.proofs.Near.{leaves}
+use Rattle.wasi_p1_model.proofs.LocalCalls.{leaves}
 use Rattle.wasi_fs.specs.declared.perms.Act.{Act}
 use Rattle.wasi_fs.specs.declared.perms.Act.TheVariants.{Make, Alter}
 
 -- what is done at a place by its path alone
-pub done_near : {g : Guest} {call : Call} (fd path len : ℕ) (act : Act) (what : PlaceCall) → stem_in call ≡ itself
+pub done_near : {g : Guest} {call : Call} (fd path len : ℕ) (act : Act) (what : EntryOp) → stem_in call ≡ itself
     → descriptors_named g.memory call ≡ fd ∷ [] → HasUtf8Target what
     → ((perms : FsPerms) (done : Unit {0}) → permit (may_do perms act) ≡ Ok done → (d : ℕ) (text : List ℕ)
     → LetsThrough perms (AddsAt (AtPlace d text what)))
@@ -63,7 +63,7 @@ path_filestat_get_near {g} {fd} = then _ (follow_never _) (λ follow _. then_pat
 pub path_readlink_near : {g : Guest} {fd path len buf buf_len : ℕ} → RowNear g (calls.PathReadlink fd path len buf buf_len)
 unfolding path_readlink
 path_readlink_near {g} {fd} {path} {len} {buf} {buf_len} = then_path g fd path len (λ d is text read.
-    let put : List ℕ → Row (List ℕ) = λ link. range g.memory buf (length (take buf_len link)) in asks_near (record {
+    let put : List ℕ → CallResult (List ℕ) = λ link. range g.memory buf (length (take buf_len link)) in asks_near (record {
       starts = λ n has. starts_near g fd n (Contains-here fd []) is has;
       slots = λ link. written_slots g buf (take buf_len link) (put link);
       ends = λ t link answered. written_ends g buf (take buf_len link) (put link)

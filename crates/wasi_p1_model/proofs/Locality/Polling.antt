@@ -7,13 +7,13 @@ use Rattle.wasi_p1_model.specs.Front.{CallFront, charge, ◌>>=◌}
 use Rattle.wasi_p1_model.specs.Guest.{Guest}
 use Rattle.wasi_p1_model.specs.Polling.{earliest, files_named, nodes_read, with_clocks}
 use Rattle.wasi_p1_model.specs.Calls.{poll_oneoff, look_and_tell}
-use Rattle.wasi_p1_model.specs.Stock.{Stock}
+use Rattle.wasi_p1_model.specs.GuestEnvModel.{GuestEnvModel}
 use Rattle.wasi_p1_model.specs.Subscriptions.{waited_for}
 use Rattle.wasi_p1_model.specs.Validity.{IsStock}
-use Rattle.wasi_p1_model.specs.declared.holdings.Clocks.{Clocks}
+use Rattle.wasi_p1_model.specs.declared.guest_env.Clocks.{Clocks}
 use Rattle.wasi_p1_model.specs.declared.awaited.Waited.{Waited}
 use Rattle.wasi_p1_model.proofs.Changing.{put_nothing}
-use Rattle.wasi_p1_model.proofs.Near.{IsNear, leaves}
+use Rattle.wasi_p1_model.proofs.LocalCalls.{IsLocal, leaves}
 use Rattle.wasi_p1_model.proofs.Locality.Parts.{AlwaysNear, RowNear, then, then_taken, taken}
 use Rattle.wasi_p1_model.proofs.Polling.{IsOf, some_never, lists_never, waited_never, clocks_never, files_named_by, events_bytes}
 use Rattle.wasi_p1_model.proofs.Wanting.{room_never}
@@ -24,11 +24,11 @@ then_charge : {g : Guest} {call : Call} (next : Unit {0} → CallFront) (n : ℕ
 unfolding charge
 then_charge {g} {call} next n near = record { near = λ fuel. by fuel (nat_le n fuel) }
   where
-    by : (fuel : ℕ) (b : Bool) → IsNear g call (then_taken (taken n fuel b) next)
+    by : (fuel : ℕ) (b : Bool) → IsLocal g call (then_taken (taken n fuel b) next)
     by fuel true = near.near (fuel - n)
     by fuel false = refl
 
-clocks_stock : {stock : Stock} (clocks : Clocks) → IsStock stock → IsStock (with_clocks stock clocks)
+clocks_stock : {stock : GuestEnvModel} (clocks : Clocks) → IsStock stock → IsStock (with_clocks stock clocks)
 clocks_stock clocks is =
     record { preopens = is.preopens; args = is.args; environ = is.environ; random = is.random; stdin = is.stdin }
 

@@ -10,7 +10,7 @@ use Rattle.wasi_p1_model.specs.Parts.{held_by}
 use Rattle.wasi_p1_model.specs.Request.{Direct}
 use Rattle.wasi_p1_model.specs.Calls.{itself, fd_advise, fd_allocate, fd_datasync, fd_filestat_set_size, fd_seek, fd_sync, fd_tell, seek_from}
 use Rattle.wasi_p1_model.proofs.Changing.{file_is, put_back}
-use Rattle.wasi_p1_model.proofs.Near.{StaysNear, leaves, made_bytes, made_ends, made_slots}
+use Rattle.wasi_p1_model.proofs.LocalCalls.{StaysNear, leaves, made_bytes, made_ends, made_slots}
 use Rattle.wasi_p1_model.proofs.Locality.Parts.{AlwaysNear, RowNear, alters, let_through, one_under, then, done_at_file, file_asked, known_near, slots_near, tells_near}
 use Rattle.wasi_p1_model.proofs.Locality.Spending.{growing_near}
 use Rattle.wasi_p1_model.proofs.Wanting.{act_known, file_never, inval_never, position_never}

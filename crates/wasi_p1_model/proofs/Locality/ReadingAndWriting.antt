@@ -12,7 +12,7 @@ use Rattle.wasi_p1_model.specs.Guest.{Guest, OpenFile, file, perms_in}
 use Rattle.wasi_p1_model.specs.Parts.{Source, input, from, source_in, Sink, output, into, sink_in, held_by, may_write}
 use Rattle.wasi_p1_model.specs.Quotas.{allowance}
 use Rattle.wasi_p1_model.specs.Request.{Request, Reply, Direct}
-use Rattle.wasi_p1_model.specs.Row.{give}
+use Rattle.wasi_p1_model.specs.CallResult.{give}
 use Rattle.wasi_p1_model.specs.Calls.{fd_pread, fd_pwrite, fd_read, fd_write, read_from, write_to, descriptors_named, stem_in}
 use Rattle.wasi_p1_model.specs.Services.{written}
 use Rattle.wasi_p1_model.specs.Spending.{growing}
@@ -20,7 +20,7 @@ use Rattle.wasi_p1_model.specs.Validity.{AreBytes, HasBytes}
 use Rattle.wasi_p1_model.proofs.Bytes.{put_bytes, range_bytes, input_bytes, written_stock}
 use Rattle.wasi_p1_model.proofs.Changing.{file_is, read_place_is, source_is, sink_is, put_back, put_nothing}
 use Rattle.wasi_p1_model.proofs.Keeping.{no_write}
-use Rattle.wasi_p1_model.proofs.Near.{StaysNear, given_by, leaves}
+use Rattle.wasi_p1_model.proofs.LocalCalls.{StaysNear, given_by, leaves}
 use Rattle.wasi_p1_model.proofs.Locality.Parts.{AlwaysNear, RowNear, then, then_at_buffer, file_asked, one_under, permitted_by, answers_near}
 use Rattle.wasi_p1_model.proofs.Locality.Spending.{growing_near}
 use Rattle.wasi_p1_model.proofs.Putting.{PutsInto, call_puts, request_puts}

@@ -5,7 +5,7 @@ use Rattle.wasi_guest.specs.declared.answer.Value.TheVariants.{Unit as Nothing}
 use Rattle.wasi_guest.specs.declared.call.Call.{Call}
 use Rattle.wasi_guest.specs.declared.call.Call.TheVariants as calls
 use Rattle.wasi_p1_model.specs.Guest.{Guest}
-use Rattle.wasi_p1_model.specs.Row.{Row}
+use Rattle.wasi_p1_model.specs.CallResult.{CallResult}
 use Rattle.wasi_p1_model.specs.Calls.{puts_texts, random_get, no_socket, itself, stem_in}
 use Rattle.wasi_p1_model.specs.Services.{random_bytes, random_taken}
 use Rattle.wasi_p1_model.specs.Validity.{AreBytes, HasBytes}
@@ -29,7 +29,7 @@ random_get_near {g} {buf} {buf_len} = then _ (range_never g.memory buf buf_len) 
     )))
 
 -- no number is a socket's
-pub no_socket_near : {g : Guest} {call : Call} (fd : ℕ) (flags : Row ℕ) → Never flags
+pub no_socket_near : {g : Guest} {call : Call} (fd : ℕ) (flags : CallResult ℕ) → Never flags
     → AlwaysNear g call (no_socket g fd flags)
 no_socket_near {g} fd flags never =
     then flags never (λ _ _. then _ (live_never (slice_get g.slots fd)) (λ _ _. record { near = λ fuel. refl }))

@@ -10,63 +10,63 @@ use Rattle.wasi_p1_model.specs.Front.{CallFront}
 use Rattle.wasi_p1_model.specs.Guest.{Guest}
 use Rattle.wasi_p1_model.specs.Quotas.{counted_growth, counted_making, is_used_up}
 use Rattle.wasi_p1_model.specs.Request.{Reply, Grow, after, reply_of}
-use Rattle.wasi_p1_model.specs.Row.{Row, Program, done, asking, give}
+use Rattle.wasi_p1_model.specs.CallResult.{CallResult, Program, done, asking, give}
 use Rattle.wasi_p1_model.specs.Calls.{Stem, stem_in}
 use Rattle.wasi_p1_model.specs.Spending.{made_by, making, may_make, grown_by, grown_in, growing, with_making, with_growth}
-use Rattle.wasi_p1_model.specs.Stock.{Stock}
+use Rattle.wasi_p1_model.specs.GuestEnvModel.{GuestEnvModel}
 use Rattle.wasi_p1_model.specs.Validity.{HasBytes}
 use Rattle.wasi_p1_model.specs.declared.error.P1Error.TheVariants.{Errno}
 use Rattle.wasi_p1_model.specs.declared.quotas.Allowance.{Allowance}
 use Rattle.wasi_p1_model.proofs.Bytes.{used_stock}
 use Rattle.wasi_p1_model.proofs.Lengthening.{bounded_by}
-use Rattle.wasi_p1_model.proofs.Near.{Ends, GivesBytes, IsNear, KeepsBytes, KeepsSlots, Permitted, given_by, leaves}
+use Rattle.wasi_p1_model.proofs.LocalCalls.{Ends, GivesBytes, IsLocal, KeepsBytes, KeepsSlots, Permitted, given_by, leaves}
 use Rattle.wasi_p1_model.proofs.Locality.Parts.{AlwaysNear}
 use Rattle.wasi_p1_model.proofs.Wanting.{Never}
 
 -- ---- what is counted
 
 -- an answer with other counts
-abbrev counted : (Stock → QuotaUsed) → Value × Guest → Value × Guest
+abbrev counted : (GuestEnvModel → QuotaUsed) → Value × Guest → Value × Guest
 counted used p = (p.0, record p.1 { holdings = record p.1.holdings { used = used p.1.holdings } })
 
-module _ (used : Stock → QuotaUsed) where
-  counted_slots : (g : Guest) (stem : Stem) (given : List ℕ) (m : Row (Value × Guest)) → KeepsSlots g stem given m
+module _ (used : GuestEnvModel → QuotaUsed) where
+  counted_slots : (g : Guest) (stem : Stem) (given : List ℕ) (m : CallResult (Value × Guest)) → KeepsSlots g stem given m
       → KeepsSlots g stem given (m >>= (λ p. give (counted used p)))
   counted_slots g stem given (Ok p) stays =
       record { nodes = stays.nodes; perms = stays.perms; appends = stays.appends; fits = stays.fits }
   counted_slots g stem given (Err e) stays = tt
 
-  counted_ends : {P Q : Type 0} (m : Row (Value × Guest)) → (P → Q) → Ends P m
+  counted_ends : {P Q : Type 0} (m : CallResult (Value × Guest)) → (P → Q) → Ends P m
       → Ends Q (m >>= (λ p. give (counted used p)))
   counted_ends (Ok p) then ends = tt
   counted_ends (Err e) then ends = (ends.0, then ends.1)
 
-  counted_bytes : (m : Row (Value × Guest)) → KeepsBytes m → KeepsBytes (m >>= (λ p. give (counted used p)))
+  counted_bytes : (m : CallResult (Value × Guest)) → KeepsBytes m → KeepsBytes (m >>= (λ p. give (counted used p)))
   counted_bytes (Ok p) are = (are.0, used_stock p.1.holdings (used p.1.holdings) are.1)
   counted_bytes (Err e) are = tt
 
 -- ---- makings
 
-make_never : (s : Stock) → Never (may_make s)
+make_never : (s : GuestEnvModel) → Never (may_make s)
 unfolding may_make
 make_never s = by (is_used_up s.quota.nodes s.used.nodes)
   where
-    by : (b : Bool) → Never (let m : Row (Unit {0}) = cond b (Err (Errno errnos.Dquot)) (Ok tt) in m)
+    by : (b : Bool) → Never (let m : CallResult (Unit {0}) = cond b (Err (Errno errnos.Dquot)) (Ok tt) in m)
     by true = refl
     by false = tt
 
-abbrev making_used : Stock → QuotaUsed
+abbrev making_used : GuestEnvModel → QuotaUsed
 making_used s = (counted_making s).used
 
-made_near : (g : Guest) (call : Call) (makes : Bool) (row : Row (Program (Value × Guest))) → IsNear g call row
-    → IsNear g call (made_by makes g row)
+made_near : (g : Guest) (call : Call) (makes : Bool) (row : CallResult (Program (Value × Guest))) → IsLocal g call row
+    → IsLocal g call (made_by makes g row)
 made_near g call false row near = near
 made_near g call true (Ok (done p)) near = near
 made_near g call true (Err e) near = near
 made_near g call true (Ok (asking r next)) near = by (may_make g.holdings) (make_never g.holdings)
   where
-    by : (m : Row (Unit {0})) → Never m
-        → IsNear g call (m >>= (λ _. Ok (asking r (λ reply. next reply >>= (λ p. give (with_making p))))))
+    by : (m : CallResult (Unit {0})) → Never m
+        → IsLocal g call (m >>= (λ _. Ok (asking r (λ reply. next reply >>= (λ p. give (with_making p))))))
     by (Err e) never = never
     by (Ok left) never = record {
       starts = near.starts;
@@ -84,11 +84,11 @@ making_near {g} {call} {m} makes near = record { near = λ fuel. made_near g cal
 
 -- ---- growth
 
-abbrev growth_used : ℕ → Stock → QuotaUsed
+abbrev growth_used : ℕ → GuestEnvModel → QuotaUsed
 growth_used growth s = (counted_growth growth s).used
 
-grown_near : (g : Guest) (call : Call) (limit : Option Allowance) (row : Row (Program (Value × Guest)))
-    → IsNear g call row → IsNear g call (grown_by limit row)
+grown_near : (g : Guest) (call : Call) (limit : Option Allowance) (row : CallResult (Program (Value × Guest)))
+    → IsLocal g call row → IsLocal g call (grown_by limit row)
 grown_near g call limit (Ok (done p)) near = near
 grown_near g call limit (Err e) near = near
 grown_near g call None (Ok (asking w next)) near = record {
@@ -108,7 +108,7 @@ grown_near g call (Some limit) (Ok (asking w next)) near = record {
   bytes = bytes;
 }
   where
-    grown : Reply (Grow limit w) → Row (Value × Guest)
+    grown : Reply (Grow limit w) → CallResult (Value × Guest)
     grown reply = grown_in (Some limit) w reply >>= (λ grown. next grown.1 >>= (λ p. give (with_growth grown.0 p)))
 
     slots : (reply : Reply (Grow limit w)) → KeepsSlots g (stem_in call) (given_by (Grow limit w) reply) (grown reply)

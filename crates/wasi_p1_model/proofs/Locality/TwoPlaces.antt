@@ -5,7 +5,7 @@ use Rattle.wasi_fs.specs.declared.perms.FsPerms.{FsPerms}
 use Rattle.wasi_guest.specs.declared.call.Call.{Call}
 use Rattle.wasi_guest.specs.declared.call.Call.TheVariants as calls
 use Rattle.wasi_host.specs.declared.errors.ErrorCode.{ErrorCode}
-use Rattle.wasi_resolve.specs.TwoPathOps.{TwoPlaceCall, HardLink, Rename}
+use Rattle.wasi_resolve.specs.TwoPathOps.{TwoPathOp, HardLink, Rename}
 use Rattle.wasi_resolve.specs.PathRequest.{AtTwo}
 use Rattle.wasi_p1_model.specs.Request.{Path}
 use Rattle.wasi_p1_model.specs.Guest.{Guest}
@@ -17,18 +17,18 @@ use Rattle.wasi_resolve.proofs.Requests.{from_two}
 use Rattle.wasi_p1_model.proofs.Adding.{name_adds, no_moving, same_linked, same_moved}
 use Rattle.wasi_p1_model.proofs.Keeping.{no_new_name, no_move}
 use Rattle.wasi_p1_model.proofs.Codes.{IsKnown}
-use Rattle.wasi_p1_model.proofs.Near.{IsNamed, AllUnder}
+use Rattle.wasi_p1_model.proofs.LocalCalls.{IsNamed, AllUnder}
 use Rattle.wasi_p1_model.proofs.Locality.Parts.{AddsAt, AlwaysNear, LetsThrough, RowNear, let_through, then, then_text, start_perms, starts_near, done_if_near}
 use Rattle.wasi_p1_model.proofs.Wanting.{add_name_known, rename_known, follow_never, start_never}
 
 -- what was let through at two places: what is between two directories under the same permissions
-pub record LetsBoth (old new : FsPerms) (what : TwoPlaceCall) : Type 0 where
+pub record LetsBoth (old new : FsPerms) (what : TwoPathOp) : Type 0 where
   pub same : new ≡ old
   pub lets : (d : ℕ) (text : List ℕ) (d' : ℕ) (text' : List ℕ) → LetsThrough old (AddsAt (AtTwo d text d' text' what))
 
 -- what is done at two places
 pub done_between_near : {g : Guest} {call : Call} (old_fd old_path old_len new_fd new_path new_len : ℕ)
-    (own : FsPerms → FsPerms → Option ErrorCode) (what : TwoPlaceCall)
+    (own : FsPerms → FsPerms → Option ErrorCode) (what : TwoPathOp)
     → stem_in call ≡ itself → descriptors_named g.memory call ≡ old_fd ∷ new_fd ∷ []
     → ((old new : FsPerms) (done : Unit {0}) → permit (own old new) ≡ Ok done → LetsBoth old new what)
     → ((old new : FsPerms) → IfSome (own old new) IsKnown)

@@ -13,7 +13,7 @@ use Rattle.wasi_p1_model.specs.Numbering.{renumbered}
 use Rattle.wasi_p1_model.specs.Parts.{live_in, open_node_in, told_of, with_file}
 use Rattle.wasi_p1_model.specs.RawFlags.{modes_in, or_inval}
 use Rattle.wasi_p1_model.specs.Request.{Direct}
-use Rattle.wasi_p1_model.specs.Row.{give}
+use Rattle.wasi_p1_model.specs.CallResult.{give}
 use Rattle.wasi_p1_model.specs.declared.error.P1Error.TheVariants.{Errno}
 use Rattle.wasi_p1_model.specs.declared.usage.FileUse.TheVariants.{Itself}
 

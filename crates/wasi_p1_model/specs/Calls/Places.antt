@@ -9,12 +9,12 @@ use Rattle.wasi_p1_model.specs.Parts.{start_in, link_into, told_of}
 use Rattle.wasi_p1_model.specs.RawFlags.{follow_asked}
 use Rattle.wasi_p1_model.specs.Request.{Path}
 use Rattle.wasi_p1_model.specs.Spending.{making}
-use Rattle.wasi_resolve.specs.EntryOps.{PlaceCall, CreateDir, RemoveFile, RemoveDir, Symlink, ReadLink}
+use Rattle.wasi_resolve.specs.EntryOps.{EntryOp, CreateDir, RemoveFile, RemoveDir, Symlink, ReadLink}
 use Rattle.wasi_resolve.specs.PathRequest.{LookPath, AtPlace}
 
 -- an act that isn't permitted below the directory is refused; then as the walk of the text refuses, and the host at its
 -- place
-abbrev pub done_at : Guest → ℕ → ℕ → ℕ → Act → PlaceCall → CallFront
+abbrev pub done_at : Guest → ℕ → ℕ → ℕ → Act → EntryOp → CallFront
 done_at g fd path len act what =
     at_path g fd path len (λ d text. done_if (may_do d.perms act) (Path (AtPlace d.node text what)) g)
 

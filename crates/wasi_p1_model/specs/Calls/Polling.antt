@@ -8,8 +8,8 @@ use Rattle.wasi_p1_model.specs.Guest.{Guest}
 use Rattle.wasi_p1_model.specs.Parts.{room_for}
 use Rattle.wasi_p1_model.specs.Polling.{some_asked, lists_within, all_waited, earliest, files_named, nodes_read, clocks_at, with_clocks, events, with_events}
 use Rattle.wasi_p1_model.specs.Request.{Sizes}
-use Rattle.wasi_p1_model.specs.Row.{made_of_reply, give}
-use Rattle.wasi_p1_model.specs.declared.holdings.Clocks.{Clocks}
+use Rattle.wasi_p1_model.specs.CallResult.{made_of_reply, give}
+use Rattle.wasi_p1_model.specs.declared.guest_env.Clocks.{Clocks}
 use Rattle.wasi_p1_model.specs.declared.awaited.Waited.{Waited}
 
 -- how many events there are; they stand in memory, and the clocks so

@@ -11,7 +11,7 @@ use Rattle.wasi_p1_model.specs.Parts.{Source, input, from, source_in, Sink, outp
 use Rattle.wasi_p1_model.specs.Putting.{put_call, count_in, put_request, put_in, put_answer}
 use Rattle.wasi_p1_model.specs.Quotas.{allowance}
 use Rattle.wasi_p1_model.specs.Request.{Direct}
-use Rattle.wasi_p1_model.specs.Row.{give}
+use Rattle.wasi_p1_model.specs.CallResult.{give}
 use Rattle.wasi_p1_model.specs.Services.{input_into, written}
 use Rattle.wasi_p1_model.specs.Spending.{growing}
 use Rattle.wasi_p1_model.specs.declared.usage.FileUse.TheVariants.{WriteAt}

@@ -8,7 +8,7 @@ use Rattle.wasi_p1_model.specs.Front.{CallFront, free, answer, tells, ◌>>=◌}
 use Rattle.wasi_p1_model.specs.Guest.{Guest}
 use Rattle.wasi_p1_model.specs.Parts.{range, live_in}
 use Rattle.wasi_p1_model.specs.RawFlags.{or_inval}
-use Rattle.wasi_p1_model.specs.Row.{Row, give}
+use Rattle.wasi_p1_model.specs.CallResult.{CallResult, give}
 use Rattle.wasi_p1_model.specs.Services.{sizes_of, texts_at, clock_res, clock_time, exit_with, known_signal, random_bytes, random_taken}
 use Rattle.wasi_p1_model.specs.declared.error.P1Error.TheVariants.{Errno}
 
@@ -69,7 +69,7 @@ unfoldable pub sched_yield : Guest → CallFront
 sched_yield g = answer (Nothing, g)
 
 -- an unknown bit is refused `inval`, then a number that isn't live; no number is a socket's
-abbrev pub no_socket : Guest → ℕ → Row ℕ → CallFront
+abbrev pub no_socket : Guest → ℕ → CallResult ℕ → CallFront
 no_socket g fd flags = do
   _ ← free flags
   _ ← free (live_in (slice_get g.slots fd))

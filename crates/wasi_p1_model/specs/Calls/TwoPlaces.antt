@@ -8,12 +8,12 @@ use Rattle.wasi_p1_model.specs.Guest.{Guest}
 use Rattle.wasi_p1_model.specs.Parts.{start_in}
 use Rattle.wasi_p1_model.specs.RawFlags.{follow_asked}
 use Rattle.wasi_p1_model.specs.Request.{Path}
-use Rattle.wasi_resolve.specs.TwoPathOps.{TwoPlaceCall, HardLink, Rename}
+use Rattle.wasi_resolve.specs.TwoPathOps.{TwoPathOp, HardLink, Rename}
 use Rattle.wasi_resolve.specs.PathRequest.{AtTwo}
 
 -- A number that isn't a directory's is refused, the old one first, and the texts so; then what isn't permitted below the
 -- two directories; then as the walks of the texts refuse, the old one first, and the host at the places
-abbrev pub done_between : Guest → ℕ → ℕ → ℕ → ℕ → ℕ → ℕ → (FsPerms → FsPerms → Option ErrorCode) → TwoPlaceCall
+abbrev pub done_between : Guest → ℕ → ℕ → ℕ → ℕ → ℕ → ℕ → (FsPerms → FsPerms → Option ErrorCode) → TwoPathOp
     → CallFront
 done_between g old_fd old_path old_len new_fd new_path new_len own what = do
   old ← free (start_in (slice_get g.slots old_fd))

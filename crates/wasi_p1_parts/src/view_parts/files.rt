@@ -15,10 +15,10 @@ ghost use Rattle.wasi_p2_calls.specs.Views.{files_of, AsksHost, FilesOwned, Perf
 ghost use Rattle.wasi_streams.specs.declared.entry.Entry.TheVariants.{Descriptor as AnOpened};
 ghost use Rattle.wasi_host.specs.HostLaws.{Rose};
 ghost use Rattle.wasi_p1_model.specs.CallParts.{IsReplied, Makes};
-ghost use Rattle.wasi_p1_model.specs.CallTurn.{Causes};
+ghost use Rattle.wasi_p1_model.specs.CallTransition.{Causes};
 ghost use Rattle.wasi_p1_model.specs.Owners.{handles};
 ghost use Rattle.wasi_p1_model.specs.Request.{Direct};
-ghost use Rattle.wasi_p1_model.specs.Row.{give};
+ghost use Rattle.wasi_p1_model.specs.CallResult.{give};
 
 use crate::descriptors::Descriptors;
 use crate::view_parts::{raised, resource_under};

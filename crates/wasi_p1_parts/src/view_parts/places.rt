@@ -13,7 +13,7 @@ ghost use Rattle.wasi_p2_calls.specs.Views.{Performs};
 ghost use Rattle.wasi_resolve.specs.EntryOps.{CreateDir, ReadLink, RemoveDir, RemoveFile, Symlink};
 ghost use Rattle.wasi_resolve.specs.PathRequest.{AtPlace, meant_by};
 
-use crate::view_parts::PlaceCall;
+use crate::view_parts::EntryOp;
 use wasi_host::Host;
 use wasi_p1_types::new_times::timestamp_of;
 use wasi_p2_calls::types::{DescriptorStat, MetadataHashValue, PathFlags};
@@ -27,7 +27,7 @@ pub struct CreateDirectoryAt<'p> {
     pub path: &'p str,
 }
 
-impl<'p, H: Host> PlaceCall<H> for CreateDirectoryAt<'p> {
+impl<'p, H: Host> EntryOp<H> for CreateDirectoryAt<'p> {
     type Gives = ();
 
     type Lower = ();
@@ -49,7 +49,7 @@ pub struct RemoveDirectoryAt<'p> {
     pub path: &'p str,
 }
 
-impl<'p, H: Host> PlaceCall<H> for RemoveDirectoryAt<'p> {
+impl<'p, H: Host> EntryOp<H> for RemoveDirectoryAt<'p> {
     type Gives = ();
 
     type Lower = ();
@@ -71,7 +71,7 @@ pub struct UnlinkFileAt<'p> {
     pub path: &'p str,
 }
 
-impl<'p, H: Host> PlaceCall<H> for UnlinkFileAt<'p> {
+impl<'p, H: Host> EntryOp<H> for UnlinkFileAt<'p> {
     type Gives = ();
 
     type Lower = ();
@@ -94,7 +94,7 @@ pub struct SymlinkAt<'p> {
     pub path: &'p str,
 }
 
-impl<'p, H: Host> PlaceCall<H> for SymlinkAt<'p> {
+impl<'p, H: Host> EntryOp<H> for SymlinkAt<'p> {
     type Gives = ();
 
     type Lower = ();
@@ -116,7 +116,7 @@ pub struct ReadlinkAt<'p> {
     pub path: &'p str,
 }
 
-impl<'p, H: Host> PlaceCall<H> for ReadlinkAt<'p> {
+impl<'p, H: Host> EntryOp<H> for ReadlinkAt<'p> {
     type Gives = String;
 
     type Lower = String;
@@ -139,7 +139,7 @@ pub struct StatAt<'p> {
     pub path: &'p str,
 }
 
-impl<'p, H: Host> PlaceCall<H> for StatAt<'p> {
+impl<'p, H: Host> EntryOp<H> for StatAt<'p> {
     type Gives = DescriptorStat;
 
     type Lower = wasi_fs::DescriptorStat;
@@ -166,7 +166,7 @@ pub struct MetadataHashAt<'p> {
     pub path: &'p str,
 }
 
-impl<'p, H: Host> PlaceCall<H> for MetadataHashAt<'p> {
+impl<'p, H: Host> EntryOp<H> for MetadataHashAt<'p> {
     type Gives = MetadataHashValue;
 
     type Lower = wasi_fs::MetadataHashValue;
@@ -194,7 +194,7 @@ pub struct SetTimesAt<'p> {
     pub times: NewTimes,
 }
 
-impl<'p, H: Host> PlaceCall<H> for SetTimesAt<'p> {
+impl<'p, H: Host> EntryOp<H> for SetTimesAt<'p> {
     type Gives = ();
 
     type Lower = ();

@@ -3,7 +3,7 @@ ghost use Rattle.std.specs.Prelude.{◌≡◌, slice_get, Result, Some};
 ghost use Rattle.wasi_fs.specs.Calls.{may_add_name, may_rename};
 ghost use Rattle.wasi_fs.specs.OpenHow.{is_followed};
 ghost use Rattle.wasi_fs.specs.declared.descriptor.Dir.{Dir as Directory};
-ghost use Rattle.wasi_host.specs.Lineage.{Traced, OneOf, Nothing};
+ghost use Rattle.wasi_host.specs.Lineage.{HasProvenance, OneOf, Nothing};
 ghost use Rattle.wasi_host.specs.declared.errors.HostError.{HostError};
 ghost use Rattle.wasi_p1_parts.specs.Held.{HoldsHandles};
 ghost use Rattle.wasi_p1_model.specs.Owners.{handles};
@@ -63,7 +63,7 @@ pub fn between<H: Host, C: BetweenCall<H>>(
     ensures same { descriptors.new ≡ descriptors.old }
     ensures cause { FsCause (H.faults fs.old.host) (H.faults fs.new.host) result }
     ensures live { H.live fs.new.host ≡ H.live fs.old.host }
-    ensures lineage { Traced (OneOf dir.now.dir new_dir.now.dir) Nothing Nothing
+    ensures lineage { HasProvenance (OneOf dir.now.dir new_dir.now.dir) Nothing Nothing
         (H.lookups fs.old.host) (H.lookups fs.new.host) }
     ensures did { Lowered (λ unit. unit) (C.Did call fs.old.host fs.new.host dir.now new_dir.now) result }
 {

@@ -1,7 +1,7 @@
 //! The calls of a view that put something new into its table.
 ghost use Rattle.std.specs.Prelude.{◌≡◌, true, IsTrue, None, IfOk};
 ghost use Rattle.std.specs.FinSet.{contains};
-ghost use Rattle.wasi_host.specs.Lineage.{Traced, Only, Nothing};
+ghost use Rattle.wasi_host.specs.Lineage.{HasProvenance, Only, Nothing};
 ghost use Rattle.wasi_host.specs.HostLaws.{HasCause};
 ghost use Rattle.wasi_resolve.specs.PathRequest.{meant_by};
 ghost use Rattle.wasi_resolve.specs.Resolved.{Resolved};
@@ -33,7 +33,7 @@ fn open_below<H: Host>(
     requires live { contains (H.live host.old) dir.now.dir ≡ true }
     ensures cause { HasCause (H.faults host.old) (H.faults host.new) result }
     ensures live { LiveOpened (H.live host.old) result (H.live host.new) }
-    ensures lineage { Traced (Only dir.now.dir) Nothing (GotOpened result) (H.lookups host.old) (H.lookups host.new) }
+    ensures lineage { HasProvenance (Only dir.now.dir) Nothing (GotOpened result) (H.lookups host.old) (H.lookups host.new) }
     ensures perms { IfOk result (λ d. perms_of d ≡ dir.now.perms) }
     ensures mode { IfOk result (λ d. open_mode_of d ≡ mode_of (how_named path_flags oflags flags)) }
     ensures kind { IfOk result (IsAsked (how_named path_flags oflags flags).directory) }

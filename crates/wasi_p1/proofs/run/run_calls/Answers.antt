@@ -51,28 +51,28 @@ loop-one-preserved g c = record {
   size = c.call_with-outcome.ensures.size ∙ c.loop-one.invariant.size;
   ios =
       rw c.push.ensures.answers
-      (io_counted (g.H.Host.faults c.args.context.now.host) _ (sym c.in-Some.ensures) c.call_with-outcome.ensures.bounds.cause c.loop-one.invariant.ios);
+      (io_counted (g.H.Host.faults c.args.context.now.host) _ (sym c.in-Some.ensures) c.call_with-outcome.ensures.host_laws.cause c.loop-one.invariant.ios);
   goes =
       rw c.push.ensures.answers
       (goes_on-push _ _ c.loop-one.invariant.goes (sym c.ends_run.ensures ∙ c.if-ends_run.false));
-  handles = c.call_with-outcome.ensures.bounds.handles ∙ c.loop-one.invariant.handles;
+  handles = c.call_with-outcome.ensures.host_laws.handles ∙ c.loop-one.invariant.handles;
   slots =
       let within : c.loop-one.one-index < length c.args.calls.now.items = omega arith in
       stay_on c.loop-one.one-index (slice_get-get_or c.args.calls.now.items c.loop-one.one-index (ArgsGet 0 0) within)
       (Contains-get_or _ _ _ within) c.loop-one.invariant.done c.loop-one.invariant.slots
       (rw c.deref-one-items.ensures.value at c.call_with-outcome.ensures.slots);
-  lineage = traced_on _ _ c.call_with-outcome.ensures.bounds.lineage c.loop-one.invariant.lineage;
+  lineage = traced_on _ _ c.call_with-outcome.ensures.host_laws.lineage c.loop-one.invariant.lineage;
   run = λ told.
       let within : c.loop-one.one-index < length c.args.calls.now.items = omega arith in
       let one = call_at c.args.fuel c.args.calls.now.items c.loop-one.one-index (ArgsGet 0 0) within in
-      let on = turned_on (sym c.in-Some.ensures) c.call_with-outcome.ensures.bounds.cause (c.call_with-outcome.ensures.turn told)
+      let on = turned_on (sym c.in-Some.ensures) c.call_with-outcome.ensures.host_laws.cause (c.call_with-outcome.ensures.spec told)
       (c.loop-one.invariant.run told) (sym c.ends_run.ensures ∙ c.if-ends_run.false) in
       rw (c.push.ensures.answers, one) (rw c.deref-one-items.ensures.value at on);
   touched = λ told n was.
-      (c.call_with-outcome.ensures.turn told).touched.stays n (c.loop-one.invariant.touched told n was);
+      (c.call_with-outcome.ensures.spec told).touched.stays n (c.loop-one.invariant.touched told n was);
   confined = λ told start is.
-      turn_confines (c.call_with-outcome.ensures.turn told) (c.loop-one.invariant.confined told start is);
-  valid = λ told start. turn_valid (c.call_with-outcome.ensures.turn told) (c.loop-one.invariant.valid told start);
+      turn_confines (c.call_with-outcome.ensures.spec told) (c.loop-one.invariant.confined told start is);
+  valid = λ told start. turn_valid (c.call_with-outcome.ensures.spec told) (c.loop-one.invariant.valid told start);
   done =
       let within : c.loop-one.one-index < length c.args.calls.now.items = omega arith in
       let one = take_more c.args.calls.now.items c.loop-one.one-index (ArgsGet 0 0) within in
@@ -80,7 +80,7 @@ loop-one-preserved g c = record {
       (sym c.ends_run.ensures ∙ c.if-ends_run.false) in
       rw (c.push.ensures.answers, one) (rw c.deref-one-items.ensures.value at on);
   later = omega arith;
-  most = c.call_with-outcome.ensures.bounds.cause.most ∙ c.loop-one.invariant.most;
+  most = c.call_with-outcome.ensures.host_laws.cause.most ∙ c.loop-one.invariant.most;
   count = rw (c.push.ensures.answers, length-append) (omega arith);
   room = omega arith;
 }
@@ -91,16 +91,16 @@ pub returns-in-None-clause-size : goal.returns-in-None-clause-size
 returns-in-None-clause-size g c = c.call_with-outcome.ensures.size ∙ c.loop-one.invariant.size
 
 pub returns-in-None-clause-handles : goal.returns-in-None-clause-handles
-returns-in-None-clause-handles g c = c.call_with-outcome.ensures.bounds.handles ∙ c.loop-one.invariant.handles
+returns-in-None-clause-handles g c = c.call_with-outcome.ensures.host_laws.handles ∙ c.loop-one.invariant.handles
 
 pub returns-in-None-clause-lineage : goal.returns-in-None-clause-lineage
-returns-in-None-clause-lineage g c = traced_on _ _ c.call_with-outcome.ensures.bounds.lineage c.loop-one.invariant.lineage
+returns-in-None-clause-lineage g c = traced_on _ _ c.call_with-outcome.ensures.host_laws.lineage c.loop-one.invariant.lineage
 
 pub returns-in-None-clause-memory : goal.returns-in-None-clause-memory
 returns-in-None-clause-memory g c = λ told.
     let n : c.len-in-None.result ≡ length c.loop-one.answers.answers = c.len-in-None.ensures.count in
     let at : c.loop-one.one-index ≡ c.len-in-None.result = sym (n ∙ c.loop-one.invariant.count) in
-    stood (sym c.in-None.ensures) c.call_with-outcome.ensures.bounds.cause (c.call_with-outcome.ensures.turn told) (sym n)
+    stood (sym c.in-None.ensures) c.call_with-outcome.ensures.host_laws.cause (c.call_with-outcome.ensures.spec told) (sym n)
     c.loop-one.invariant.goes (rw at at (c.loop-one.invariant.run told))
 
 pub returns-in-None-clause-until : goal.returns-in-None-clause-until
@@ -131,15 +131,15 @@ returns-in-None-clause-slots g c =
 
 pub returns-in-None-clause-touched : goal.returns-in-None-clause-touched
 returns-in-None-clause-touched g c = λ told n was.
-    (c.call_with-outcome.ensures.turn told).touched.stays n (c.loop-one.invariant.touched told n was)
+    (c.call_with-outcome.ensures.spec told).touched.stays n (c.loop-one.invariant.touched told n was)
 
 pub returns-in-None-clause-confined : goal.returns-in-None-clause-confined
 returns-in-None-clause-confined g c = λ told start is.
-    turn_confines (c.call_with-outcome.ensures.turn told) (c.loop-one.invariant.confined told start is)
+    turn_confines (c.call_with-outcome.ensures.spec told) (c.loop-one.invariant.confined told start is)
 
 pub returns-in-None-clause-valid : goal.returns-in-None-clause-valid
 returns-in-None-clause-valid g c = λ told start.
-    turn_valid (c.call_with-outcome.ensures.turn told) (c.loop-one.invariant.valid told start)
+    turn_valid (c.call_with-outcome.ensures.spec told) (c.loop-one.invariant.valid told start)
 
 -- ---- an answer that ends the run
 
@@ -154,19 +154,19 @@ returns-then-ends_run-clause-answers g c =
 pub returns-then-ends_run-clause-ios : goal.returns-then-ends_run-clause-ios
 returns-then-ends_run-clause-ios g c =
     rw c.push.ensures.answers
-    (io_counted (g.H.Host.faults c.args.context.now.host) _ (sym c.in-Some.ensures) c.call_with-outcome.ensures.bounds.cause c.loop-one.invariant.ios)
+    (io_counted (g.H.Host.faults c.args.context.now.host) _ (sym c.in-Some.ensures) c.call_with-outcome.ensures.host_laws.cause c.loop-one.invariant.ios)
 
 pub returns-then-ends_run-clause-handles : goal.returns-then-ends_run-clause-handles
-returns-then-ends_run-clause-handles g c = c.call_with-outcome.ensures.bounds.handles ∙ c.loop-one.invariant.handles
+returns-then-ends_run-clause-handles g c = c.call_with-outcome.ensures.host_laws.handles ∙ c.loop-one.invariant.handles
 
 pub returns-then-ends_run-clause-lineage : goal.returns-then-ends_run-clause-lineage
-returns-then-ends_run-clause-lineage g c = traced_on _ _ c.call_with-outcome.ensures.bounds.lineage c.loop-one.invariant.lineage
+returns-then-ends_run-clause-lineage g c = traced_on _ _ c.call_with-outcome.ensures.host_laws.lineage c.loop-one.invariant.lineage
 
 pub returns-then-ends_run-clause-run : goal.returns-then-ends_run-clause-run
 returns-then-ends_run-clause-run g c = λ told.
     let within : c.loop-one.one-index < length c.args.calls.now.items = omega arith in
     let all = calls_at c.args.fuel c.args.calls.now.items c.loop-one.one-index (ArgsGet 0 0) within in
-    let on = ended (sym c.in-Some.ensures) c.call_with-outcome.ensures.bounds.cause (c.call_with-outcome.ensures.turn told)
+    let on = ended (sym c.in-Some.ensures) c.call_with-outcome.ensures.host_laws.cause (c.call_with-outcome.ensures.spec told)
     (c.loop-one.invariant.run told) (drop (c.loop-one.one-index + 1) (map (with_fuel c.args.fuel) c.args.calls.now.items))
     (sym c.ends_run.ensures ∙ c.if-ends_run.true) in
     rw (c.push.ensures.answers) (rw (c.deref-one-items.ensures.value, all) at on)
@@ -194,15 +194,15 @@ returns-then-ends_run-clause-slots g c =
 
 pub returns-then-ends_run-clause-touched : goal.returns-then-ends_run-clause-touched
 returns-then-ends_run-clause-touched g c = λ told n was.
-    (c.call_with-outcome.ensures.turn told).touched.stays n (c.loop-one.invariant.touched told n was)
+    (c.call_with-outcome.ensures.spec told).touched.stays n (c.loop-one.invariant.touched told n was)
 
 pub returns-then-ends_run-clause-confined : goal.returns-then-ends_run-clause-confined
 returns-then-ends_run-clause-confined g c = λ told start is.
-    turn_confines (c.call_with-outcome.ensures.turn told) (c.loop-one.invariant.confined told start is)
+    turn_confines (c.call_with-outcome.ensures.spec told) (c.loop-one.invariant.confined told start is)
 
 pub returns-then-ends_run-clause-valid : goal.returns-then-ends_run-clause-valid
 returns-then-ends_run-clause-valid g c = λ told start.
-    turn_valid (c.call_with-outcome.ensures.turn told) (c.loop-one.invariant.valid told start)
+    turn_valid (c.call_with-outcome.ensures.spec told) (c.loop-one.invariant.valid told start)
 
 -- ---- all calls are answered
 

@@ -3,8 +3,8 @@ use Rattle.std.proofs.Common.{map, take, length, ◌+◌, ◌≤◌, ◌≡◌}
 use Rattle.std.specs.Prelude.{IsTrue}
 use Rattle.wasi_p1_model.specs.Guest.{State, state_of}
 use Rattle.wasi_p1_model.specs.Reach.{Confined, StaysTouched}
-use Rattle.wasi_p1_model.specs.Run.{ios, Allows, GoOn}
-use Rattle.wasi_p1_model.specs.CallTurn.{OthersStay}
+use Rattle.wasi_p1_model.specs.Trace.{ios, Allows, GoOn}
+use Rattle.wasi_p1_model.specs.CallTransition.{OthersStay}
 use Rattle.wasi_p1_model.specs.InTurn.{SlotsOfRun}
 use Rattle.wasi_p1_model.specs.Owners.{RunTraced}
 use Rattle.wasi_p1_model.specs.Validity.{IsValidState}

@@ -2,7 +2,7 @@ use Rattle.std.proofs.Common.{◌∙◌, inl, inr, map, refl, sym}
 use Rattle.wasi_guest.specs.declared.call.Call.TheVariants.{PollOneoff}
 use Rattle.wasi_p1_model.specs.Polling.{waited_by}
 use Rattle.wasi_p1_model.specs.Request.{Sizes}
-use Rattle.wasi_p1_model.specs.Row.{give}
+use Rattle.wasi_p1_model.specs.CallResult.{give}
 use Rattle.wasi_p1_model.specs.Calls.Polling.{poll_oneoff, tell_ready}
 use Rattle.wasi_p1_model.proofs.Judging.{judged_err, judged_ok}
 use Rattle.wasi_p1_model.proofs.Staying.{all_stay}
@@ -11,9 +11,9 @@ use Rattle.wasi_p1_model.proofs.Telling.{events_by}
 use Rattle.wasi_p1_model.proofs.Waiting.{wanted_front, answer_front, ask_front, none_of, some_of}
 use Rattle.wasi_p1_env_calls.proofs.polling.poll_oneoff.Goals as goal
 
-pub returns-in_err-judged-clause-turn : goal.returns-in_err-judged-clause-turn
+pub returns-in_err-judged-clause-spec : goal.returns-in_err-judged-clause-spec
 unfolding poll_oneoff
-returns-in_err-judged-clause-turn g c =
+returns-in_err-judged-clause-spec g c =
     rw (← c.context.view_is) (on_err c.from_residual-in_err-judged.ensures.1 (refused_at refl
     (rw (
       ← c.in_ok-some_asked.ensures.row,
@@ -23,9 +23,9 @@ returns-in_err-judged-clause-turn g c =
       ← judged_err _ c.in_err-judged.ensures.row,
     ) refl)))
 
-pub returns-in_err-room_at-clause-turn : goal.returns-in_err-room_at-clause-turn
+pub returns-in_err-room_at-clause-spec : goal.returns-in_err-room_at-clause-spec
 unfolding poll_oneoff
-returns-in_err-room_at-clause-turn g c =
+returns-in_err-room_at-clause-spec g c =
     let (ws, are, is) = judged_ok _ c.in_ok-judged.ensures.row in
     rw (← c.context.view_is) (on_err c.from_residual-in_err-room_at.ensures.1 (refused_at refl
     (rw (
@@ -37,9 +37,9 @@ returns-in_err-room_at-clause-turn g c =
       ← (rw is at c.in_err-room_at.ensures.row),
     ) refl)))
 
-pub returns-in_err-clocks-clause-turn : goal.returns-in_err-clocks-clause-turn
+pub returns-in_err-clocks-clause-spec : goal.returns-in_err-clocks-clause-spec
 unfolding poll_oneoff
-returns-in_err-clocks-clause-turn g c =
+returns-in_err-clocks-clause-spec g c =
     let (ws, are, is) = judged_ok _ c.in_ok-judged.ensures.row in
     rw (← c.context.view_is) (on_err c.from_residual-in_err-clocks.ensures.1 (refused_at refl
     (rw (
@@ -52,8 +52,8 @@ returns-in_err-clocks-clause-turn g c =
       ← (rw is at c.in_err-clocks.ensures.row),
     ) refl)))
 
-pub returns-in_err-waited-clause-turn : goal.returns-in_err-waited-clause-turn
-returns-in_err-waited-clause-turn g c =
+pub returns-in_err-waited-clause-spec : goal.returns-in_err-waited-clause-spec
+returns-in_err-waited-clause-spec g c =
     let (ws, are, is) = judged_ok _ c.in_ok-judged.ensures.row in
     let (program, front) = wanted_front ws (record {
       asked = c.in_ok-some_asked.ensures.row;
@@ -70,8 +70,8 @@ returns-in_err-waited-clause-turn g c =
       | inr refused ↦ absurd (let wrong = refused ∙ sym are in cc)
     ]))
 
-pub returns-then-not-reads_files-clause-turn : goal.returns-then-not-reads_files-clause-turn
-returns-then-not-reads_files-clause-turn g c =
+pub returns-then-not-reads_files-clause-spec : goal.returns-then-not-reads_files-clause-spec
+returns-then-not-reads_files-clause-spec g c =
     let given = c.tell_events.ensures in
     rw (← c.context.view_is) (answered
     (rw (given.count, given.written, given.clocks, c.deref-then-not-reads_files.ensures.value) (answer_front (g.H.Host.world c.context.inside.fs.host).held c.in_ok-waited.waited.items
@@ -88,8 +88,8 @@ returns-then-not-reads_files-clause-turn g c =
     given.size (all_stay refl) (record { failed = refl; looked = refl })
     (λ told. record { tree = refl; touched = refl; slots = refl }))
 
-pub returns-in_err-sizes-clause-turn : goal.returns-in_err-sizes-clause-turn
-returns-in_err-sizes-clause-turn g c =
+pub returns-in_err-sizes-clause-spec : goal.returns-in_err-sizes-clause-spec
+returns-in_err-sizes-clause-spec g c =
     rw (← c.context.view_is) (on_err c.from_residual-in_err-sizes.ensures.1 (makes_err {r = Sizes _} (λ sizes. give sizes)
     (tell_ready c.args.events (map (waited_by (g.H.Host.world c.context.inside.fs.host).held) c.deref-2.result.now) c.in_ok-clocks.clocks) (ask_front (g.H.Host.world c.context.inside.fs.host).held c.deref-2.result.now
     (record {
@@ -105,8 +105,8 @@ returns-in_err-sizes-clause-turn g c =
     c.context.invariant.owned c.in_err-sizes.ensures.front (λ _. refl) refl unchanged
     c.in_err-sizes.ensures.told))
 
-pub returns-clause-turn : goal.returns-clause-turn
-returns-clause-turn g c =
+pub returns-clause-spec : goal.returns-clause-spec
+returns-clause-spec g c =
     let given = c.tell_events-2.ensures in
     rw (← c.context.view_is) (makes_ok {r = Sizes _} (λ sizes. give sizes)
     (tell_ready c.args.events (map (waited_by (g.H.Host.world c.context.inside.fs.host).held) c.deref-2.result.now) c.in_ok-clocks.clocks) (ask_front (g.H.Host.world c.context.inside.fs.host).held c.deref-2.result.now

@@ -6,9 +6,9 @@ use Rattle.wasi_p1_model.proofs.Staying.{close_stays}
 use Rattle.wasi_p1_model.proofs.Taking.{answered}
 use Rattle.wasi_p1_fd_calls.proofs.descriptors.fd_close.Goals as goal
 
-pub returns-clause-turn : goal.returns-clause-turn
+pub returns-clause-spec : goal.returns-clause-spec
 unfolding fd_close
-returns-clause-turn g c = rw (← c.context.view_is) (answered
+returns-clause-spec g c = rw (← c.context.view_is) (answered
     (rw (← c.in_ok-slot.ensures.row, c.close_slot.ensures.slots, c.close_slot.ensures.max, map-set) refl) refl
     (close_stays _ (Contains-here _ []) (Contains-here _ []) c.close_slot.ensures.slots)
     (record { failed = c.close_slot.ensures.faults; looked = c.close_slot.ensures.logged })

@@ -14,9 +14,9 @@ node_filestat-requires g c = record {
   stands = ap descriptor_under (c.in_ok-slot.ensures.is ∙ ap Some c.in-Directory.is);
 }
 
-pub returns-in_err-filestat-in-Directory-clause-turn : goal.returns-in_err-filestat-in-Directory-clause-turn
+pub returns-in_err-filestat-in-Directory-clause-spec : goal.returns-in_err-filestat-in-Directory-clause-spec
 unfolding fd_filestat_get
-returns-in_err-filestat-in-Directory-clause-turn g c =
+returns-in_err-filestat-in-Directory-clause-spec g c =
     let given = c.in_err-filestat-in-Directory.ensures in
     rw (given.same, ← c.context.view_is) (on_err c.from_residual-in_err-filestat-in-Directory.ensures.1 (makes_err {r = Direct (Stat _)}
     (λ metadata. filestat_in (stat_both metadata)) with_filestat
@@ -29,25 +29,25 @@ node_filestat-requires-in-File g c = record {
   stands = ap descriptor_under (c.in_ok-slot.ensures.is ∙ ap Some c.in-File.is);
 }
 
-pub returns-in_err-filestat-in-File-clause-turn : goal.returns-in_err-filestat-in-File-clause-turn
+pub returns-in_err-filestat-in-File-clause-spec : goal.returns-in_err-filestat-in-File-clause-spec
 unfolding fd_filestat_get
-returns-in_err-filestat-in-File-clause-turn g c =
+returns-in_err-filestat-in-File-clause-spec g c =
     let given = c.in_err-filestat-in-File.ensures in
     rw (given.same, ← c.context.view_is) (on_err c.from_residual-in_err-filestat-in-File.ensures.1 (makes_err {r = Direct (Stat _)}
     (λ metadata. filestat_in (stat_both metadata)) with_filestat
     (rw (← c.in_ok-slot.ensures.row, c.in-File.is) refl) c.context.invariant.owned given.makes.front
     (λ is. absurd (given.makes.never_wants is)) refl unchanged given.makes.told))
 
-pub returns-in_ok-filestat-in-Directory-clause-turn : goal.returns-in_ok-filestat-in-Directory-clause-turn
+pub returns-in_ok-filestat-in-Directory-clause-spec : goal.returns-in_ok-filestat-in-Directory-clause-spec
 unfolding fd_filestat_get
-returns-in_ok-filestat-in-Directory-clause-turn g c =
+returns-in_ok-filestat-in-Directory-clause-spec g c =
     let given = c.in_ok-filestat-in-Directory.ensures in
     rw (given.same, ← c.context.view_is) (makes_ok {r = Direct (Stat _)} (λ metadata. filestat_in (stat_both metadata)) with_filestat
     (rw (← c.in_ok-slot.ensures.row, c.in-Directory.is) refl) c.context.invariant.owned refl given.makes.front refl refl given.makes.told)
 
-pub returns-in_ok-filestat-in-File-clause-turn : goal.returns-in_ok-filestat-in-File-clause-turn
+pub returns-in_ok-filestat-in-File-clause-spec : goal.returns-in_ok-filestat-in-File-clause-spec
 unfolding fd_filestat_get
-returns-in_ok-filestat-in-File-clause-turn g c =
+returns-in_ok-filestat-in-File-clause-spec g c =
     let given = c.in_ok-filestat-in-File.ensures in
     rw (given.same, ← c.context.view_is) (makes_ok {r = Direct (Stat _)} (λ metadata. filestat_in (stat_both metadata)) with_filestat
     (rw (← c.in_ok-slot.ensures.row, c.in-File.is) refl) c.context.invariant.owned refl given.makes.front refl refl given.makes.told)

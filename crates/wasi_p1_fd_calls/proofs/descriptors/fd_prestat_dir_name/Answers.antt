@@ -4,9 +4,9 @@ use Rattle.wasi_p1_model.proofs.Taking.{refused, on_err}
 use Rattle.wasi_p1_model.proofs.Texts.{unit_refused}
 use Rattle.wasi_p1_fd_calls.proofs.descriptors.fd_prestat_dir_name.Goals as goal
 
-pub returns-in_err-put_name-clause-turn : goal.returns-in_err-put_name-clause-turn
+pub returns-in_err-put_name-clause-spec : goal.returns-in_err-put_name-clause-spec
 unfolding fd_prestat_dir_name
-returns-in_err-put_name-clause-turn g c =
+returns-in_err-put_name-clause-spec g c =
     let given = c.in_err-put_name.ensures in
     rw (given.same, ← c.context.view_is) (on_err c.from_residual-in_err-put_name.ensures.1 (refused refl
     (rw (← c.in_ok-live_at.ensures.row, ← c.in_ok-name.ensures.row, ← unit_refused _ given.row) refl)))

@@ -9,15 +9,15 @@ use Rattle.wasi_p1_model.proofs.RowEnds.{with_text}
 use Rattle.wasi_p1_model.proofs.Taking.{makes_err, makes_ok, on_err, refused_at, unchanged}
 use Rattle.wasi_p1_fd_calls.proofs.listing.fd_readdir.Goals as goal
 
-pub returns-in_err-room_at-clause-turn : goal.returns-in_err-room_at-clause-turn
+pub returns-in_err-room_at-clause-spec : goal.returns-in_err-room_at-clause-spec
 unfolding fd_readdir
-returns-in_err-room_at-clause-turn g c =
+returns-in_err-room_at-clause-spec g c =
     rw (← c.context.view_is) (on_err c.from_residual-in_err-room_at.ensures.1 (refused_at refl
     (rw (← c.in_ok-dir.ensures.row, ← c.in_err-room_at.ensures.row) refl)))
 
-pub returns-in_err-entries-clause-turn : goal.returns-in_err-entries-clause-turn
+pub returns-in_err-entries-clause-spec : goal.returns-in_err-entries-clause-spec
 unfolding fd_readdir
-returns-in_err-entries-clause-turn g c =
+returns-in_err-entries-clause-spec g c =
     let given = c.in_err-entries.ensures in
     rw (← c.context.view_is) (on_err c.from_residual-in_err-entries.ensures.1 (makes_err {r = ListDirectory _}
     (λ listing. text_to c.args.memory.now c.args.buf (page listing c.args.cookie c.args.buf_len)) with_text
@@ -27,9 +27,9 @@ returns-in_err-entries-clause-turn g c =
       does = inl (resolved_err {r = ListDirectory _} _ (λ is. given.cause.io (ap Err is)) (given.told told));
     })))
 
-pub returns-in_err-count-clause-turn : goal.returns-in_err-count-clause-turn
+pub returns-in_err-count-clause-spec : goal.returns-in_err-count-clause-spec
 unfolding fd_readdir
-returns-in_err-count-clause-turn g c =
+returns-in_err-count-clause-spec g c =
     let given = c.in_ok-entries.ensures in
     let put = c.in_err-count.ensures in
     let listing = entries_seen c.in_ok-entries.entries.items in
@@ -45,9 +45,9 @@ returns-in_err-count-clause-turn g c =
       does = inr (listing, resolved_ok {r = ListDirectory _} (given.told told), row);
     })))
 
-pub returns-clause-turn : goal.returns-clause-turn
+pub returns-clause-spec : goal.returns-clause-spec
 unfolding fd_readdir
-returns-clause-turn g c =
+returns-clause-spec g c =
     let given = c.in_ok-entries.ensures in
     let put = c.in_ok-count.ensures in
     let listing = entries_seen c.in_ok-entries.entries.items in

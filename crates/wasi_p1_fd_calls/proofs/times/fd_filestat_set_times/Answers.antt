@@ -9,9 +9,9 @@ use Rattle.wasi_p1_model.specs.Calls.Times.{fd_filestat_set_times}
 use Rattle.wasi_p1_parts.proofs.Viewing.{lowered_err, lowered_ok, on_refusal}
 use Rattle.wasi_p1_fd_calls.proofs.times.fd_filestat_set_times.Goals as goal
 
-pub returns-in_err-about-clause-turn : goal.returns-in_err-about-clause-turn
+pub returns-in_err-about-clause-spec : goal.returns-in_err-about-clause-spec
 unfolding fd_filestat_set_times
-returns-in_err-about-clause-turn g c =
+returns-in_err-about-clause-spec g c =
     let given = c.in_err-about.ensures in
     let lower = lowered_err _ given.cause given.did in
     let node = open_node_of (g.H.Host.world c.context.inside.fs.host).held c.in_ok-descriptor.descriptor in
@@ -20,9 +20,9 @@ returns-in_err-about-clause-turn g c =
     c.context.invariant.owned refl unchanged _ lower.did.1.permit (not_wanted _ lower.did.0) (λ told none.
     (lower.did.1.does told none).keeps) (λ told none. set_err _ (λ is. lower.cause.io (ap Err is)) (lower.did.1.does told none))))
 
-pub returns-clause-turn : goal.returns-clause-turn
+pub returns-clause-spec : goal.returns-clause-spec
 unfolding fd_filestat_set_times
-returns-clause-turn g c =
+returns-clause-spec g c =
     let given = c.in_ok-about.ensures in
     let lower = lowered_ok _ given.did in
     let node = open_node_of (g.H.Host.world c.context.inside.fs.host).held c.in_ok-descriptor.descriptor in
@@ -32,8 +32,8 @@ returns-clause-turn g c =
     unchanged tt tt lower.1.permit
     (λ told none. (lower.1.does told none).keeps) (λ told none. set_ok (lower.1.does told none)))
 
-pub returns-in_err-times-clause-turn : goal.returns-in_err-times-clause-turn
+pub returns-in_err-times-clause-spec : goal.returns-in_err-times-clause-spec
 unfolding fd_filestat_set_times
-returns-in_err-times-clause-turn g c =
+returns-in_err-times-clause-spec g c =
     rw (← c.context.view_is) (on_err c.from_residual.ensures.1 (refused refl
     (rw (← (rw c.wall.ensures.wall at c.in_err-times.ensures.row)) refl)))

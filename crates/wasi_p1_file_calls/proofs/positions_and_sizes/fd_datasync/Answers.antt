@@ -8,9 +8,9 @@ use Rattle.wasi_p1_model.proofs.Taking.{unchanged}
 use Rattle.wasi_p1_parts.proofs.Viewing.{lowered_err, lowered_ok, on_refusal}
 use Rattle.wasi_p1_file_calls.proofs.positions_and_sizes.fd_datasync.Goals as goal
 
-pub returns-in_err-about_file-clause-turn : goal.returns-in_err-about_file-clause-turn
+pub returns-in_err-about_file-clause-spec : goal.returns-in_err-about_file-clause-spec
 unfolding fd_datasync
-returns-in_err-about_file-clause-turn g c =
+returns-in_err-about_file-clause-spec g c =
     let given = c.in_err-about_file.ensures in
     let lower = lowered_err _ given.cause given.did in
     rw (given.same, ← c.context.view_is) (on_refusal lower c.from_residual-in_err-about_file.ensures.1 (changed_err {own = None} {r = Direct (Sync _)}
@@ -18,9 +18,9 @@ returns-in_err-about_file-clause-turn g c =
     (λ told _. (lower.did.1.does told refl).keeps)
     (λ told _. called_err _ (λ is. lower.cause.io (ap Err is)) (lower.did.1.does told refl))))
 
-pub returns-clause-turn : goal.returns-clause-turn
+pub returns-clause-spec : goal.returns-clause-spec
 unfolding fd_datasync
-returns-clause-turn g c =
+returns-clause-spec g c =
     let given = c.in_ok-about_file.ensures in
     let lower = lowered_ok _ given.did in
     rw (given.same, ← c.context.view_is) (changed_ok {own = None} {r = Direct (Sync _)} (rw (← c.in_ok-slot.ensures.row) refl)

@@ -1,4 +1,4 @@
-use Rattle.wasi_p1_model.specs.Row.{Row}
+use Rattle.wasi_p1_model.specs.CallResult.{CallResult}
 use Rattle.std.proofs.Common.{refl, ℕ, [], to_z, of_z, w64}
 use Rattle.std.proofs.lemmas.Int.{to_z-of_z}
 use Rattle.wasi_host.proofs.Leaving.{Contains-here}
@@ -12,26 +12,26 @@ use Rattle.wasi_p1_model.proofs.RowEnds.{with_sought}
 use Rattle.wasi_p1_model.proofs.Taking.{refused, unchanged, on_err}
 use Rattle.wasi_p1_file_calls.proofs.positions_and_sizes.fd_seek.Goals as goal
 
-pub returns-in_err-file-clause-turn : goal.returns-in_err-file-clause-turn
+pub returns-in_err-file-clause-spec : goal.returns-in_err-file-clause-spec
 unfolding fd_seek
-returns-in_err-file-clause-turn g c = rw (← c.context.view_is) (on_err c.from_residual-in_err-file.ensures.1 (refused refl
+returns-in_err-file-clause-spec g c = rw (← c.context.view_is) (on_err c.from_residual-in_err-file.ensures.1 (refused refl
     (rw (← c.in_ok-place.ensures.row, ← c.in_err-file.ensures.row) refl)))
 
-pub returns-in_err-position-clause-turn : goal.returns-in_err-position-clause-turn
+pub returns-in_err-position-clause-spec : goal.returns-in_err-position-clause-spec
 unfolding fd_seek
-returns-in_err-position-clause-turn g c = let given = c.in_err-position.ensures in
+returns-in_err-position-clause-spec g c = let given = c.in_err-position.ensures in
     let back = to_z-of_z w64 c.args.offset c.ranges.offset in
-    let so : ℕ → Row ℕ = λ from. position_from from (to_z w64 (of_z w64 c.args.offset)) in
+    let so : ℕ → CallResult ℕ = λ from. position_from from (to_z w64 (of_z w64 c.args.offset)) in
     rw (← c.context.view_is) (on_err c.from_residual-in_err-position.ensures.1 (known_err {r = Direct (Stat _)}
     so (λ metadata. so metadata.size) (with_sought c.args.fd (open_file_of (g.H.Host.world c.context.inside.fs.host).held c.in_ok-file.field-0))
     (rw (← c.in_ok-place.ensures.row, ← c.in_ok-file.ensures.row, back) refl)
     c.context.invariant.owned given.known given.front (λ is. absurd (given.never_wants is)) refl unchanged given.told))
 
-pub returns-clause-turn : goal.returns-clause-turn
+pub returns-clause-spec : goal.returns-clause-spec
 unfolding fd_seek
-returns-clause-turn g c = let given = c.in_ok-position.ensures in let put = c.put_back.ensures in
+returns-clause-spec g c = let given = c.in_ok-position.ensures in let put = c.put_back.ensures in
     let back = to_z-of_z w64 c.args.offset c.ranges.offset in
-    let so : ℕ → Row ℕ = λ from. position_from from (to_z w64 (of_z w64 c.args.offset)) in
+    let so : ℕ → CallResult ℕ = λ from. position_from from (to_z w64 (of_z w64 c.args.offset)) in
     rw (← c.context.view_is) (known_put {r = Direct (Stat _)}
     so (λ metadata. so metadata.size) (with_sought c.args.fd (open_file_of (g.H.Host.world c.context.inside.fs.host).held c.in_ok-file.field-0))
     (rw (← c.in_ok-place.ensures.row, ← c.in_ok-file.ensures.row, back) refl)

@@ -5,20 +5,20 @@ use Rattle.wasi_p1_model.proofs.Taking.{refused_at, on_err}
 use Rattle.wasi_p1_file_calls.proofs.Growing.{call_grows, growth_done, growth_err, growth_refused}
 use Rattle.wasi_p1_file_calls.proofs.reading_and_writing.fd_pwrite.Goals as goal
 
-pub returns-in_err-slot-clause-turn : goal.returns-in_err-slot-clause-turn
+pub returns-in_err-slot-clause-spec : goal.returns-in_err-slot-clause-spec
 unfolding fd_pwrite
-returns-in_err-slot-clause-turn g c = rw (← c.context.view_is) (on_err c.from_residual-in_err-slot.ensures.1 (refused_at refl
+returns-in_err-slot-clause-spec g c = rw (← c.context.view_is) (on_err c.from_residual-in_err-slot.ensures.1 (refused_at refl
     (rw (← (rw c.in_ok-buffer.was at c.buffer_at.ensures.row), ← c.in_err-slot.ensures.row) refl)))
 
-pub returns-in_err-check_write-clause-turn : goal.returns-in_err-check_write-clause-turn
+pub returns-in_err-check_write-clause-spec : goal.returns-in_err-check_write-clause-spec
 unfolding fd_pwrite
-returns-in_err-check_write-clause-turn g c =
+returns-in_err-check_write-clause-spec g c =
     rw (← c.context.view_is) (on_err c.from_residual-in_err-check_write.ensures.1 (refused_at refl
     (rw (← (rw c.in_ok-buffer.was at c.buffer_at.ensures.row), ← c.in_ok-slot.ensures.row, ← c.in_ok-piece.ensures.row, ← c.in_err-check_write.ensures.row) refl)))
 
-pub returns-in_err-growth-clause-turn : goal.returns-in_err-growth-clause-turn
+pub returns-in_err-growth-clause-spec : goal.returns-in_err-growth-clause-spec
 unfolding fd_pwrite
-returns-in_err-growth-clause-turn g c =
+returns-in_err-growth-clause-spec g c =
     let slot = c.in_ok-slot.slot in
     let looked = rw c.put_end-end.ensures at c.in_err-growth.ensures in
     rw (← c.context.view_is) (on_err c.from_residual-in_err-growth.ensures.1 (growth_refused
@@ -26,9 +26,9 @@ returns-in_err-growth-clause-turn g c =
     (rw (← (rw c.in_ok-buffer.was at c.buffer_at.ensures.row), ← c.in_ok-slot.ensures.row, ← c.in_ok-piece.ensures.row, ← c.in_ok-check_write.ensures.row) refl)
     c.context.invariant.owned (record { unbound = looked.unbound; front = looked.front; tells = looked.told }) looked.never_wants))
 
-pub returns-in_err-count-clause-turn : goal.returns-in_err-count-clause-turn
+pub returns-in_err-count-clause-spec : goal.returns-in_err-count-clause-spec
 unfolding fd_pwrite
-returns-in_err-count-clause-turn g c =
+returns-in_err-count-clause-spec g c =
     let slot = c.in_ok-slot.slot in
     let looked = rw c.put_end-end.ensures at c.in_ok-growth.ensures in
     let given = rw c.in_err-count.was at c.put_piece-count.ensures in
@@ -39,9 +39,9 @@ returns-in_err-count-clause-turn g c =
     looked.cause.later looked.live c.in_ok-slot.ensures.live given.front (λ _. refl) given.told
     (λ is. given.cause.io (ap Err is)) refl (rw c.in_err-count.was at c.count_growth.ensures.counted)))
 
-pub returns-clause-turn : goal.returns-clause-turn
+pub returns-clause-spec : goal.returns-clause-spec
 unfolding fd_pwrite
-returns-clause-turn g c =
+returns-clause-spec g c =
     let slot = c.in_ok-slot.slot in
     let looked = rw c.put_end-end.ensures at c.in_ok-growth.ensures in
     let given = rw c.in_ok-count.was at c.put_piece-count.ensures in

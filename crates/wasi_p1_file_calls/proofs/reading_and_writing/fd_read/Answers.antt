@@ -6,31 +6,31 @@ use Rattle.wasi_p1_model.proofs.Taking.{refused_at, makes_err, put_ok, on_err}
 use Rattle.wasi_p1_model.proofs.RowEnds.{with_memory}
 use Rattle.wasi_p1_file_calls.proofs.reading_and_writing.fd_read.Goals as goal
 
-pub returns-in_err-count-clause-turn : goal.returns-in_err-count-clause-turn
+pub returns-in_err-count-clause-spec : goal.returns-in_err-count-clause-spec
 unfolding fd_read
-returns-in_err-count-clause-turn g c = let given = c.in_err-count.ensures in
+returns-in_err-count-clause-spec g c = let given = c.in_err-count.ensures in
     rw (← c.context.view_is) (on_err c.from_residual-in_err-count.ensures.1 (makes_err (filled_at _ _)
     (with_memory c.args.fd (open_file_of (g.H.Host.world c.context.inside.fs.host).held c.in-File.slot))
     (rw (← (rw c.in_ok-buffer.was at c.buffer_at.ensures.row), ← (rw c.in-File.is at c.in_ok-source.ensures.row), ← c.in_ok-bytes_at.ensures.row) refl)
     c.context.invariant.owned given.front (λ is. absurd (given.never_wants is)) refl
     (record { slots = refl; table_max = refl; holdings = refl; memory = given.same }) given.told))
 
-pub returns-clause-turn : goal.returns-clause-turn
+pub returns-clause-spec : goal.returns-clause-spec
 unfolding fd_read
-returns-clause-turn g c = let given = c.in_ok-count.ensures in let put = c.put_back.ensures in
+returns-clause-spec g c = let given = c.in_ok-count.ensures in let put = c.put_back.ensures in
     rw (← c.context.view_is) (put_ok (filled_at _ _) (with_memory _ _)
     (rw (← (rw c.in_ok-buffer.was at c.buffer_at.ensures.row), ← (rw c.in-File.is at c.in_ok-source.ensures.row), ← c.in_ok-bytes_at.ensures.row) refl)
     c.context.invariant.owned given.size given.front refl (record { slots = put.slots; table_max = put.max; holdings = refl })
     (Contains-here _ []) (rw c.in-File.is at c.in_ok-source.ensures.is) refl
     (rw c.in-File.is at c.in_ok-source.ensures.live) given.told)
 
-pub returns-in_err-buffer-clause-turn : goal.returns-in_err-buffer-clause-turn
+pub returns-in_err-buffer-clause-spec : goal.returns-in_err-buffer-clause-spec
 unfolding fd_read
-returns-in_err-buffer-clause-turn g c =
+returns-in_err-buffer-clause-spec g c =
     rw (← c.context.view_is) (on_err c.from_residual.ensures.1 (refused_at refl (rw (← c.in_err-buffer.ensures.row) refl)))
 
-pub returns-in_err-read-in-Input-clause-turn : goal.returns-in_err-read-in-Input-clause-turn
+pub returns-in_err-read-in-Input-clause-spec : goal.returns-in_err-read-in-Input-clause-spec
 unfolding fd_read
-returns-in_err-read-in-Input-clause-turn g c = let given = c.in_err-read-in-Input.ensures in
+returns-in_err-read-in-Input-clause-spec g c = let given = c.in_err-read-in-Input.ensures in
     rw (given.kept, given.same, ← c.context.view_is) (on_err c.from_residual-in_err-read-in-Input.ensures.1 (refused_at refl
     (rw (← (rw c.in_ok-buffer.was at c.buffer_at.ensures.row), ← (rw c.in-Input.is at c.in_ok-source.ensures.row), ← c.in_ok-bytes_at.ensures.row, ← given.row) refl)))

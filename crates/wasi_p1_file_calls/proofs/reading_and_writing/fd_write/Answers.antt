@@ -8,9 +8,9 @@ use Rattle.wasi_p1_model.proofs.Writing.{writes_whole, output_whole}
 use Rattle.wasi_p1_file_calls.proofs.Growing.{growth_err, growth_put, growth_refused, request_grows}
 use Rattle.wasi_p1_file_calls.proofs.reading_and_writing.fd_write.Goals as goal
 
-pub returns-in_err-growth-clause-turn : goal.returns-in_err-growth-clause-turn
+pub returns-in_err-growth-clause-spec : goal.returns-in_err-growth-clause-spec
 unfolding fd_write
-returns-in_err-growth-clause-turn g c =
+returns-in_err-growth-clause-spec g c =
     let slot = c.in-File.slot in
     let looked = rw c.put_end-end.ensures at c.in_err-growth.ensures in
     rw (← c.context.view_is) (on_err c.from_residual-in_err-growth.ensures.1 (growth_refused
@@ -19,9 +19,9 @@ returns-in_err-growth-clause-turn g c =
     (rw (← (rw c.in_ok-buffer.was at c.buffer_at.ensures.row), ← (rw c.in-File.is at c.in_ok-sink.ensures.row), ← c.in_ok-piece.ensures.row, ← c.in_ok-check_write.ensures.row) refl)
     c.context.invariant.owned (record { unbound = looked.unbound; front = looked.front; tells = looked.told }) looked.never_wants))
 
-pub returns-in_err-count-clause-turn : goal.returns-in_err-count-clause-turn
+pub returns-in_err-count-clause-spec : goal.returns-in_err-count-clause-spec
 unfolding fd_write
-returns-in_err-count-clause-turn g c =
+returns-in_err-count-clause-spec g c =
     let slot = c.in-File.slot in
     let looked = rw c.put_end-end.ensures at c.in_ok-growth.ensures in
     let given = rw c.in_err-count.was at c.put_next-put.ensures in
@@ -33,9 +33,9 @@ returns-in_err-count-clause-turn g c =
     looked.cause.later looked.live (rw c.in-File.is at c.in_ok-sink.ensures.live) given.front (λ _. refl) given.told
     (λ is. given.cause.io (ap Err is)) refl (rw c.in_err-count.was at c.count_growth.ensures.counted)))
 
-pub returns-clause-turn : goal.returns-clause-turn
+pub returns-clause-spec : goal.returns-clause-spec
 unfolding fd_write
-returns-clause-turn g c =
+returns-clause-spec g c =
     let slot = c.in-File.slot in
     let looked = rw c.put_end-end.ensures at c.in_ok-growth.ensures in
     let given = rw c.in_ok-count.was at c.put_next-put.ensures in
@@ -50,11 +50,11 @@ returns-clause-turn g c =
     (rw c.in-File.is at c.in_ok-sink.ensures.live) (rw c.in_ok-count.was at c.count_growth.ensures.counted) given.told)
 
 pub returns-clause-whole : goal.returns-clause-whole
-returns-clause-whole g c = λ told. writes_whole _ _ _ _ _ _ _ ((returns-clause-turn g c).turn told).turn
+returns-clause-whole g c = λ told. writes_whole _ _ _ _ _ _ _ ((returns-clause-spec g c).turn told).turn
 
-pub returns-in_err-check_write-clause-turn : goal.returns-in_err-check_write-clause-turn
+pub returns-in_err-check_write-clause-spec : goal.returns-in_err-check_write-clause-spec
 unfolding fd_write
-returns-in_err-check_write-clause-turn g c =
+returns-in_err-check_write-clause-spec g c =
     rw (← c.context.view_is) (on_err c.from_residual-in_err-check_write.ensures.1 (refused_at refl
     (rw (← (rw c.in_ok-buffer.was at c.buffer_at.ensures.row), ← (rw c.in-File.is at c.in_ok-sink.ensures.row), ← c.in_ok-piece.ensures.row, ← c.in_err-check_write.ensures.row) refl)))
 

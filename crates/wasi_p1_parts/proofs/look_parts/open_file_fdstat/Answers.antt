@@ -3,7 +3,7 @@ use Rattle.wasi_fs.specs.DescriptorStat.{descriptor_type}
 use Rattle.wasi_fs.specs.declared.descriptor.Descriptor.TheVariants.{File}
 use Rattle.wasi_host.specs.declared.metadata.Metadata.{Metadata}
 use Rattle.wasi_p1_model.specs.Fdstats.{file_fdstat}
-use Rattle.wasi_p1_model.specs.Row.{give}
+use Rattle.wasi_p1_model.specs.CallResult.{give}
 use Rattle.wasi_p1_model.proofs.LookingAt.{flags_looks, seen_err, seen_ok, seen_through, typed_reply, unflagged}
 use Rattle.wasi_p1_parts.proofs.ViewedStats.{look_refused, told_fdstat}
 use Rattle.wasi_p1_parts.proofs.Viewing.{lowered_err, lowered_shown, stands_live}

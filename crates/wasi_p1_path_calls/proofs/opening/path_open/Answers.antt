@@ -15,9 +15,9 @@ use Rattle.wasi_p1_model.proofs.Taking.{refusals, on_err}
 use Rattle.wasi_p1_path_calls.proofs.Making.{made_is, opened_err, opened_ok, opening_refused}
 use Rattle.wasi_p1_path_calls.proofs.opening.path_open.Goals as goal
 
-pub returns-in_err-number-clause-turn : goal.returns-in_err-number-clause-turn
+pub returns-in_err-number-clause-spec : goal.returns-in_err-number-clause-spec
 unfolding path_open
-returns-in_err-number-clause-turn g c =
+returns-in_err-number-clause-spec g c =
     let given = rw (c.under-below.ensures, c.in_err-number.was) at c.open_into-number.ensures in
     let counted = rw (c.creates.ensures, c.in_err-number.was) at c.count_opening.ensures.counted in
     let with = c.in_ok-with.with in
@@ -37,9 +37,9 @@ returns-in_err-number-clause-turn g c =
     (λ _. refl) (λ told. given.stays told) (λ told. given.told told none) (λ is. given.cause.io (ap Err is)) given.kept
     given.max counted refl))
 
-pub returns-clause-turn : goal.returns-clause-turn
+pub returns-clause-spec : goal.returns-clause-spec
 unfolding path_open
-returns-clause-turn g c =
+returns-clause-spec g c =
     let given = rw (c.under-below.ensures, c.in_ok-number.was) at c.open_into-number.ensures in
     let counted = rw (c.creates.ensures, c.in_ok-number.was) at c.count_opening.ensures.counted in
     let with = c.in_ok-with.with in
@@ -58,9 +58,9 @@ returns-clause-turn g c =
     (made_is how.create _ ∙ (rw (given.max, counted) refl))
     (λ told. (given.told told none, made_is how.create _ ∙ (rw (given.max, counted) refl))))
 
-pub returns-in_err-check_open-clause-turn : goal.returns-in_err-check_open-clause-turn
+pub returns-in_err-check_open-clause-spec : goal.returns-in_err-check_open-clause-spec
 unfolding path_open
-returns-in_err-check_open-clause-turn g c =
+returns-in_err-check_open-clause-spec g c =
     let with = c.in_ok-with.with in
     let modes = modes_under c.in_ok-dir.dir.perms with.modes in
     let how = how_named with.path_flags with.open_flags with.flags in
@@ -77,10 +77,10 @@ returns-in_err-check_open-clause-turn g c =
       c.in_ok-with.ensures.modes,
     ) refl)))
 
-pub returns-in_err-room_at-clause-turn : goal.returns-in_err-room_at-clause-turn
+pub returns-in_err-room_at-clause-spec : goal.returns-in_err-room_at-clause-spec
 unfolding path_open
-returns-in_err-room_at-clause-turn g c = rw (← c.context.view_is) (search (rules, refusals))
+returns-in_err-room_at-clause-spec g c = rw (← c.context.view_is) (search (rules, refusals))
 
-pub returns-in_err-dir-clause-turn : goal.returns-in_err-dir-clause-turn
+pub returns-in_err-dir-clause-spec : goal.returns-in_err-dir-clause-spec
 unfolding path_open
-returns-in_err-dir-clause-turn g c = rw (← c.context.view_is) (search (rules, refusals))
+returns-in_err-dir-clause-spec g c = rw (← c.context.view_is) (search (rules, refusals))

@@ -6,24 +6,24 @@ use Rattle.wasi_resolve.specs.PathRequest.{AtPlace}
 use Rattle.wasi_p1_model.proofs.RowEnds.{with_nothing}
 use Rattle.wasi_p1_model.proofs.Taking.{on_err}
 use Rattle.wasi_p1_model.specs.Request.{Path}
-use Rattle.wasi_p1_model.specs.Row.{give}
+use Rattle.wasi_p1_model.specs.CallResult.{give}
 use Rattle.wasi_p1_model.specs.Calls.Places.{path_create_directory}
 use Rattle.wasi_p1_parts.proofs.Raising.{lowered_to_err, lowered_to_ok}
 use Rattle.wasi_p1_path_calls.proofs.Making.{made_at_err, made_at_ok, making_refused}
 use Rattle.wasi_p1_path_calls.proofs.places.path_create_directory.Goals as goal
 
-pub returns-in_err-check_make-clause-turn : goal.returns-in_err-check_make-clause-turn
+pub returns-in_err-check_make-clause-spec : goal.returns-in_err-check_make-clause-spec
 unfolding path_create_directory
-returns-in_err-check_make-clause-turn g c =
+returns-in_err-check_make-clause-spec g c =
     let start = ((g.H.Host.world c.context.inside.fs.host).held c.in_ok-dir.dir.dir).node in
     rw (← c.context.view_is) (on_err c.from_residual-in_err-check_make.ensures.1 (making_refused true
     (may_do c.in_ok-dir.dir.perms Make) (Path (AtPlace start c.in_ok-text.text.now CreateDir)) (λ _. give tt)
     with_nothing refl (sym c.in_err-check_make.ensures.row)
     (rw (← c.in_ok-dir.ensures.row, ← c.in_ok-text.ensures.row) refl)))
 
-pub returns-in_err-make_below-clause-turn : goal.returns-in_err-make_below-clause-turn
+pub returns-in_err-make_below-clause-spec : goal.returns-in_err-make_below-clause-spec
 unfolding path_create_directory
-returns-in_err-make_below-clause-turn g c =
+returns-in_err-make_below-clause-spec g c =
     let given = c.in_err-make_below.ensures in
     let lower = lowered_to_err _ given.cause given.did in
     rw (given.same, ← c.context.view_is) (on_err c.from_residual-in_err-make_below.ensures.1 (rw lower.same (made_at_err _
@@ -31,9 +31,9 @@ returns-in_err-make_below-clause-turn g c =
     (sym c.in_ok-check_make.ensures.row) refl c.context.invariant.owned lower.error lower.cause refl lower.did.does
     (λ is. given.cause.io (ap Err (lower.same ∙ is))) (rw lower.same at given.counted))))
 
-pub returns-clause-turn : goal.returns-clause-turn
+pub returns-clause-spec : goal.returns-clause-spec
 unfolding path_create_directory
-returns-clause-turn g c =
+returns-clause-spec g c =
     let given = c.in_ok-make_below.ensures in
     let lower = lowered_to_ok _ given.did in
     rw (given.same, ← c.context.view_is) (made_at_ok _ (AtPlace _ _ CreateDir) (rw (← c.in_ok-dir.ensures.row, ← c.in_ok-text.ensures.row) refl)

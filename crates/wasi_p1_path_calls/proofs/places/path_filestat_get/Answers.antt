@@ -11,9 +11,9 @@ use Rattle.wasi_p1_parts.proofs.ViewedStats.{shown_row}
 use Rattle.wasi_p1_parts.proofs.Viewing.{lowered_err, lowered_shown, on_refusal}
 use Rattle.wasi_p1_path_calls.proofs.places.path_filestat_get.Goals as goal
 
-pub returns-in_err-both-clause-turn : goal.returns-in_err-both-clause-turn
+pub returns-in_err-both-clause-spec : goal.returns-in_err-both-clause-spec
 unfolding path_filestat_get
-returns-in_err-both-clause-turn g c =
+returns-in_err-both-clause-spec g c =
     let given = c.in_err-both.ensures in
     let lower = lowered_err _ given.cause given.did in
     rw (given.same, ← c.context.view_is) (on_refusal lower c.from_residual-in_err-both.ensures.1 (makes_err {r = Path (LookPath _ _ _)} (λ metadata. filestat_in
@@ -25,9 +25,9 @@ returns-in_err-both-clause-turn g c =
       does = inl (made_not (Path (LookPath _ _ _)) stat_both _ (λ is. lower.cause.io (ap Err is)) (lower.did.1.does told refl));
     })))
 
-pub returns-in_err-filestat-clause-turn : goal.returns-in_err-filestat-clause-turn
+pub returns-in_err-filestat-clause-spec : goal.returns-in_err-filestat-clause-spec
 unfolding path_filestat_get
-returns-in_err-filestat-clause-turn g c =
+returns-in_err-filestat-clause-spec g c =
     let given = c.in_ok-both.ensures in
     let shown = lowered_shown _ given.did in
     rw (given.same, ← c.context.view_is) (on_err c.from_residual-in_err-filestat.ensures.1 (makes_err {r = Path (LookPath _ _ _)} (λ metadata. filestat_in
@@ -40,9 +40,9 @@ returns-in_err-filestat-clause-turn g c =
           (shown_row shown.0 shown.1 c.in_err-filestat.ensures.row));
     })))
 
-pub returns-clause-turn : goal.returns-clause-turn
+pub returns-clause-spec : goal.returns-clause-spec
 unfolding path_filestat_get
-returns-clause-turn g c =
+returns-clause-spec g c =
     let given = c.in_ok-both.ensures in
     let shown = lowered_shown _ given.did in
     rw (given.same, ← c.context.view_is) (makes_ok {r = Path (LookPath _ _ _)} (λ metadata. filestat_in (stat_both metadata)) with_filestat

@@ -10,18 +10,18 @@ use Rattle.wasi_p1_model.proofs.Taking.{unchanged, on_err}
 use Rattle.wasi_p1_parts.proofs.Viewing.{lowered_err, lowered_ok, on_refusal}
 use Rattle.wasi_p1_path_calls.proofs.places.path_readlink.Goals as goal
 
-pub returns-in_err-link-clause-turn : goal.returns-in_err-link-clause-turn
+pub returns-in_err-link-clause-spec : goal.returns-in_err-link-clause-spec
 unfolding path_readlink
-returns-in_err-link-clause-turn g c =
+returns-in_err-link-clause-spec g c =
     let given = c.in_err-link.ensures in
     let lower = lowered_err _ given.cause given.did in
     rw (given.same, ← c.context.view_is) (on_refusal lower c.from_residual-in_err-link.ensures.1 (found_err {p = AtPlace _ _ ReadLink} (λ link. text_to c.args.memory.now c.args.buf (take c.args.buf_len link)) with_text
     (rw (← c.in_ok-dir.ensures.row, ← c.in_ok-text.ensures.row) refl) c.context.invariant.owned _ lower.cause refl
     refl unchanged (λ told. lower.did.1.does told refl)))
 
-pub returns-in_err-count-clause-turn : goal.returns-in_err-count-clause-turn
+pub returns-in_err-count-clause-spec : goal.returns-in_err-count-clause-spec
 unfolding path_readlink
-returns-in_err-count-clause-turn g c =
+returns-in_err-count-clause-spec g c =
     let given = c.in_ok-link.ensures in
     let lower = lowered_ok _ given.did in
     let same : c.as_bytes.result.now ≡ string_bytes c.in_ok-link.link = c.as_bytes.ensures.value in
@@ -30,9 +30,9 @@ returns-in_err-count-clause-turn g c =
     (lower.0.some, lower.0.most, lower.0.unrooted) (λ told. lower.1.does told refl) (rw same at (sym c.in_err-count.ensures.row)) refl
     (record { slots = refl; table_max = refl; holdings = refl; memory = c.in_err-count.ensures.same })))
 
-pub returns-clause-turn : goal.returns-clause-turn
+pub returns-clause-spec : goal.returns-clause-spec
 unfolding path_readlink
-returns-clause-turn g c =
+returns-clause-spec g c =
     let given = c.in_ok-link.ensures in
     let lower = lowered_ok _ given.did in
     let same : c.as_bytes.result.now ≡ string_bytes c.in_ok-link.link = c.as_bytes.ensures.value in

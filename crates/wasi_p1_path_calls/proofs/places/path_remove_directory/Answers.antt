@@ -6,18 +6,18 @@ use Rattle.wasi_p1_model.specs.Calls.Places.{path_remove_directory}
 use Rattle.wasi_p1_parts.proofs.Viewing.{lowered_err, lowered_ok, on_refusal}
 use Rattle.wasi_p1_path_calls.proofs.places.path_remove_directory.Goals as goal
 
-pub returns-in_err-below-clause-turn : goal.returns-in_err-below-clause-turn
+pub returns-in_err-below-clause-spec : goal.returns-in_err-below-clause-spec
 unfolding path_remove_directory
-returns-in_err-below-clause-turn g c =
+returns-in_err-below-clause-spec g c =
     let given = c.in_err-below.ensures in
     let lower = lowered_err _ given.cause given.did in
     rw (given.same, ← c.context.view_is) (on_refusal lower c.from_residual-in_err-below.ensures.1 (done_err
     (AtPlace _ _ RemoveDir) (rw (← c.in_ok-dir.ensures.row, ← c.in_ok-text.ensures.row) refl) c.context.invariant.owned _
     lower.cause lower.did.permit refl refl lower.did.does))
 
-pub returns-clause-turn : goal.returns-clause-turn
+pub returns-clause-spec : goal.returns-clause-spec
 unfolding path_remove_directory
-returns-clause-turn g c =
+returns-clause-spec g c =
     let given = c.in_ok-below.ensures in
     let lower = lowered_ok _ given.did in
     rw (given.same, ← c.context.view_is) (done_ok (AtPlace _ _ RemoveDir)

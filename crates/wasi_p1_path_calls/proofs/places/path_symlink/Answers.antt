@@ -6,14 +6,14 @@ use Rattle.wasi_p1_model.proofs.Taking.{on_err}
 use Rattle.wasi_p1_model.specs.Calls.Places.{path_symlink}
 use Rattle.wasi_p1_model.proofs.RowEnds.{with_nothing}
 use Rattle.wasi_p1_model.specs.Request.{Path}
-use Rattle.wasi_p1_model.specs.Row.{give}
+use Rattle.wasi_p1_model.specs.CallResult.{give}
 use Rattle.wasi_p1_parts.proofs.Raising.{lowered_to_err, lowered_to_ok}
 use Rattle.wasi_p1_path_calls.proofs.Making.{made_at_err, made_at_ok, making_refused}
 use Rattle.wasi_p1_path_calls.proofs.places.path_symlink.Goals as goal
 
-pub returns-in_err-make_below-clause-turn : goal.returns-in_err-make_below-clause-turn
+pub returns-in_err-make_below-clause-spec : goal.returns-in_err-make_below-clause-spec
 unfolding path_symlink
-returns-in_err-make_below-clause-turn g c =
+returns-in_err-make_below-clause-spec g c =
     let given = c.in_err-make_below.ensures in
     let lower = lowered_to_err _ given.cause given.did in
     rw (given.same, ← c.context.view_is) (on_err c.from_residual-in_err-make_below.ensures.1 (rw lower.same (made_at_err _
@@ -21,17 +21,17 @@ returns-in_err-make_below-clause-turn g c =
     (sym c.in_ok-check_link.ensures.row) refl c.context.invariant.owned lower.error lower.cause refl lower.did.does
     (λ is. given.cause.io (ap Err (lower.same ∙ is))) (rw lower.same at given.counted))))
 
-pub returns-clause-turn : goal.returns-clause-turn
+pub returns-clause-spec : goal.returns-clause-spec
 unfolding path_symlink
-returns-clause-turn g c =
+returns-clause-spec g c =
     let given = c.in_ok-make_below.ensures in
     let lower = lowered_to_ok _ given.did in
     rw (given.same, ← c.context.view_is) (made_at_ok _ (AtPlace _ _ (Symlink _)) (rw (← c.in_ok-dir.ensures.row, ← c.in_ok-target.ensures.row, ← c.in_ok-text.ensures.row) refl)
     (sym c.in_ok-check_link.ensures.row) refl c.context.invariant.owned tt lower.does given.counted)
 
-pub returns-in_err-check_link-clause-turn : goal.returns-in_err-check_link-clause-turn
+pub returns-in_err-check_link-clause-spec : goal.returns-in_err-check_link-clause-spec
 unfolding path_symlink
-returns-in_err-check_link-clause-turn g c =
+returns-in_err-check_link-clause-spec g c =
     let start = ((g.H.Host.world c.context.inside.fs.host).held c.in_ok-dir.dir.dir).node in
     let target = c.in_ok-target.target.now in
     rw (← c.context.view_is) (on_err c.from_residual-in_err-check_link.ensures.1 (making_refused true

@@ -7,36 +7,36 @@ use Rattle.wasi_p1_model.proofs.Taking.{refusals}
 use Rattle.wasi_p1_parts.proofs.Viewing.{lowered_err, lowered_ok, on_refusal}
 use Rattle.wasi_p1_path_calls.proofs.two_places.path_link.Goals as goal
 
-pub returns-in_err-between-clause-turn : goal.returns-in_err-between-clause-turn
+pub returns-in_err-between-clause-spec : goal.returns-in_err-between-clause-spec
 unfolding path_link
-returns-in_err-between-clause-turn g c =
+returns-in_err-between-clause-spec g c =
     let given = c.in_err-between.ensures in
     let lower = lowered_err _ given.cause given.did in
     rw (given.same, ← c.context.view_is) (on_refusal lower c.from_residual-in_err-between.ensures.1 (done_err (AtTwo _ _ _ _ HardLink)
     (rw (← c.in_ok-flags.ensures.row, ← c.in_ok-old.ensures.row, ← c.in_ok-new.ensures.row, ← c.in_ok-old_text.ensures.row, ← c.in_ok-new_text.ensures.row) refl) c.context.invariant.owned _ lower.cause
     lower.did.permit refl refl lower.did.does))
 
-pub returns-clause-turn : goal.returns-clause-turn
+pub returns-clause-spec : goal.returns-clause-spec
 unfolding path_link
-returns-clause-turn g c =
+returns-clause-spec g c =
     let given = c.in_ok-between.ensures in
     let lower = lowered_ok _ given.did in
     rw (given.same, ← c.context.view_is) (done_ok (AtTwo _ _ _ _ HardLink)
     (rw (← c.in_ok-flags.ensures.row, ← c.in_ok-old.ensures.row, ← c.in_ok-new.ensures.row, ← c.in_ok-old_text.ensures.row, ← c.in_ok-new_text.ensures.row) refl) c.context.invariant.owned
     tt lower.permit lower.does)
 
-pub returns-in_err-old_text-clause-turn : goal.returns-in_err-old_text-clause-turn
+pub returns-in_err-old_text-clause-spec : goal.returns-in_err-old_text-clause-spec
 unfolding path_link
-returns-in_err-old_text-clause-turn g c = rw (← c.context.view_is) (search (rules, refusals))
+returns-in_err-old_text-clause-spec g c = rw (← c.context.view_is) (search (rules, refusals))
 
-pub returns-in_err-new_text-clause-turn : goal.returns-in_err-new_text-clause-turn
+pub returns-in_err-new_text-clause-spec : goal.returns-in_err-new_text-clause-spec
 unfolding path_link
-returns-in_err-new_text-clause-turn g c = rw (← c.context.view_is) (search (rules, refusals))
+returns-in_err-new_text-clause-spec g c = rw (← c.context.view_is) (search (rules, refusals))
 
-pub returns-in_err-old-clause-turn : goal.returns-in_err-old-clause-turn
+pub returns-in_err-old-clause-spec : goal.returns-in_err-old-clause-spec
 unfolding path_link
-returns-in_err-old-clause-turn g c = rw (← c.context.view_is) (search (rules, refusals))
+returns-in_err-old-clause-spec g c = rw (← c.context.view_is) (search (rules, refusals))
 
-pub returns-in_err-new-clause-turn : goal.returns-in_err-new-clause-turn
+pub returns-in_err-new-clause-spec : goal.returns-in_err-new-clause-spec
 unfolding path_link
-returns-in_err-new-clause-turn g c = rw (← c.context.view_is) (search (rules, refusals))
+returns-in_err-new-clause-spec g c = rw (← c.context.view_is) (search (rules, refusals))

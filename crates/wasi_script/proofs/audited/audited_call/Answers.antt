@@ -14,7 +14,7 @@ effect_of-requires c =
       faults = c.forget_touched.ensures.faults;
       fueled = c.set_hostcall_fuel.ensures.set;
     } in
-    record { short = short_call c.call.result (sym c.in-Some.ensures) (ready_turn ready (rw value at c.call.ensures.turn)) c.requires.short }
+    record { short = short_call c.call.result (sym c.in-Some.ensures) (ready_turn ready (rw value at c.call.ensures.spec)) c.requires.short }
 
 pub returns : goal.returns
 returns c =
@@ -26,8 +26,8 @@ returns c =
       faults = c.forget_touched.ensures.faults;
       fueled = c.set_hostcall_fuel.ensures.set;
     } in
-    rw (written_back c.args.memory.now c.call.new.memory (c.call.ensures.turn.size ∙ ap length value))
-    (noted_call ready c.call.result c.in_ok-named.named.items c.in_ok-touched.touched.items (rw value at c.call.ensures.turn)
-    c.call.ensures.bounds.cause (sym c.in-Some.ensures)
+    rw (written_back c.args.memory.now c.call.new.memory (c.call.ensures.spec.size ∙ ap length value))
+    (noted_call ready c.call.result c.in_ok-named.named.items c.in_ok-touched.touched.items (rw value at c.call.ensures.spec)
+    c.call.ensures.host_laws.cause (sym c.in-Some.ensures)
     (rw (c.inner.ensures.inner, c.host.ensures.host) at c.in_ok-touched.ensures.nodes) c.in_ok-named.ensures.numbers
     (rw (c.as_slice.ensures.value, c.as_slice-2.ensures.value, c.effect_of.ensures) at c.in_ok-note.ensures.ok))

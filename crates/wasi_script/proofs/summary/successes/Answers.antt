@@ -2,7 +2,7 @@ use Rattle.std.proofs.Common.{◌+◌, ◌∙◌, ap, arith, sym, take_all}
 use Rattle.std.specs.Prelude.{count_by}
 use Rattle.std.proofs.lemmas.List.Sums.{count_by_more_yes, count_by_more_no}
 use Rattle.std.proofs.lemmas.Option.{get_or_from_slice_get}
-use Rattle.wasi_p1_model.specs.Run.{is_success}
+use Rattle.wasi_p1_model.specs.Trace.{is_success}
 use Rattle.wasi_script.proofs.summary.successes.Goals.{then-is_success, else-is_success}
 use Rattle.wasi_script.proofs.summary.successes.Goals as goal
 

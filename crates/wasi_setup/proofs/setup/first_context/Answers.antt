@@ -4,8 +4,8 @@ use Rattle.wasi_form.specs.Plan.{planned_preopen}
 use Rattle.wasi_setup.proofs.Starts.{begun_by, given_length}
 use Rattle.wasi_setup.proofs.setup.first_context.Goals as goal
 
-pub given_handles-requires : goal.given_handles-requires
-given_handles-requires g c = record { directories = c.requires.directories; none = c.requires.none }
+pub preopen_handles-requires : goal.preopen_handles-requires
+preopen_handles-requires g c = record { directories = c.requires.directories; none = c.requires.none }
 
 pub returns-in-Ok : goal.returns-in-Ok
 returns-in-Ok g c =

@@ -4,7 +4,7 @@ use Rattle.wasi_paths.specs.Name.{name_bytes}
 use Rattle.wasi_host.specs.Tree.{next_of, child}
 use Rattle.wasi_host.specs.Step.{new_file}
 use Rattle.wasi_host.proofs.ValidSteps.{can_make_file}
-use Rattle.wasi_tree.specs.declared.looked.Looked.{Looked}
+use Rattle.wasi_tree.specs.declared.name_lookup.NameLookup.{NameLookup}
 use Rattle.wasi_tree.proofs.GoodNames.{may_name}
 use Rattle.wasi_tree.proofs.SoundLemmas.{bare}
 use Rattle.wasi_tree.proofs.TouchedLemmas.{IsFree, none_of, held_stays, found_held, made_held, opens_found, opens_made}
@@ -18,7 +18,7 @@ free g c = record { none = sym (rw (c.in_ok-looked.ensures.tree, c.in_ok-looked.
 -- what the name holds
 found : (g : Over) (c : In_default g)
     → c.in_ok-looked.looked.found ≡ child (g.S.NodeStore.seen c.args.store.now).tree c.args.directory (name_bytes c.args.name)
-found g c = ap (λ (looked : Looked). looked.found) c.in_ok-looked.ensures.looked
+found g c = ap (λ (looked : NameLookup). looked.found) c.in_ok-looked.ensures.looked
 
 -- ---- the name is there
 

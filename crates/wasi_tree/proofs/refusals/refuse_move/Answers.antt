@@ -1,5 +1,5 @@
 use Rattle.std.proofs.Common.{◌∙◌, Some, sym, ap}
-use Rattle.wasi_host.specs.Refusal.{first_row, access_rows, replacing_rows}
+use Rattle.wasi_host.specs.Refusal.{first_rule, access_rows, replacing_rows}
 use Rattle.wasi_host.proofs.Refusals.{refused_before, left_behind}
 use Rattle.wasi_tree.proofs.refusals.refuse_move.Goals as goal
 
@@ -11,6 +11,6 @@ returns-in-Some g c =
 pub returns : goal.returns
 returns g c =
     c.refuse_replace.ensures
-    ∙ ap (λ there. first_row (replacing_rows (g.S.NodeStore.seen c.args.store.now).tree (Some c.args.node) there)) (sym c.in-Some-there.is)
+    ∙ ap (λ there. first_rule (replacing_rows (g.S.NodeStore.seen c.args.store.now).tree (Some c.args.node) there)) (sym c.in-Some-there.is)
     ∙ sym (left_behind (access_rows (g.S.NodeStore.seen c.args.store.now).tree c.args.old c.args.new (Some c.args.node))
     (replacing_rows (g.S.NodeStore.seen c.args.store.now).tree (Some c.args.node) c.args.there) (sym c.in_default.ensures))

@@ -1,7 +1,7 @@
 use Rattle.std.proofs.Common.{◌≡◌, ◌∙◌, ◌+◌, length, sym, ap, arith}
 use Rattle.std.proofs.lemmas.Grind.{common_steps}
 use Rattle.std.proofs.lemmas.List.{length-append}
-use Rattle.wasi_tree_index.specs.NameRows.{names_at}
+use Rattle.wasi_tree_index.specs.DirEntryKeys.{names_at}
 use Rattle.wasi_tree.proofs.RowLemmas.{node_told}
 use Rattle.wasi_tree.proofs.store.new_nodes.Goals as goal
 

@@ -1,7 +1,7 @@
 use Rattle.std.proofs.Common.{arith, ◌-◌, length, map, sym, ◌∙◌}
 use Rattle.std.proofs.lemmas.List.{length-map}
 use Rattle.std.specs.Ordering.{is_gt}
-use Rattle.wasi_tree_index.specs.NameRows.{key_cmp, row_entry, row_key}
+use Rattle.wasi_tree_index.specs.DirEntryKeys.{key_cmp, row_entry, row_key}
 use Rattle.wasi_tree_index.proofs.FrontLemmas.{front_all, front_within}
 use Rattle.wasi_tree_index.proofs.RowLemmas.{closed_rows, front_rows}
 use Rattle.wasi_tree_index.proofs.blocks.ends_before.Goals as goal

@@ -1,6 +1,6 @@
 use Rattle.std.proofs.Common.{◌∙◌, ap, map}
 use Rattle.wasi_tree_index.specs.Places.{first_at}
-use Rattle.wasi_tree_index.specs.NameRows.{key_cmp, row_entry}
+use Rattle.wasi_tree_index.specs.DirEntryKeys.{key_cmp, row_entry}
 use Rattle.wasi_tree_index.proofs.RowLemmas.{first_from}
 use Rattle.wasi_tree_index.proofs.blocks.found_at.Goals as goal
 

@@ -1,6 +1,6 @@
 use Rattle.std.proofs.Common.{arith, ◌-◌, ◌∙◌, sym}
 use Rattle.std.proofs.lemmas.List.{length-map}
-use Rattle.wasi_tree_index.specs.NameRows.{row_entry}
+use Rattle.wasi_tree_index.specs.DirEntryKeys.{row_entry}
 use Rattle.wasi_tree_index.proofs.BlockLemmas.{behind_all}
 use Rattle.wasi_tree_index.proofs.RowLemmas.{list_sorted}
 use Rattle.wasi_tree_index.proofs.blocks.is_behind.Goals as goal

@@ -2,7 +2,7 @@ use Rattle.std.proofs.Common.{◌≡◌, ℕ, IfSome, Option, Some, None, drop, 
 use Rattle.std.specs.FinMap.{find}
 use Rattle.wasi_tree_index.specs.Fronts.{list_at}
 use Rattle.wasi_tree_index.specs.Places.{first_at}
-use Rattle.wasi_tree_index.specs.NameRows.{key_cmp}
+use Rattle.wasi_tree_index.specs.DirEntryKeys.{key_cmp}
 use Rattle.wasi_tree_index.specs.Blocks.{all_entries, block_entries}
 use Rattle.wasi_tree_index.proofs.BlockLemmas.{find_there}
 use Rattle.wasi_tree_index.proofs.blocks.node_at.Goals as goal

@@ -1,7 +1,7 @@
 use Rattle.std.proofs.Common.{◌∙◌, rules}
 use Rattle.std.proofs.lemmas.List.Sorted.{IsPartitionPoint-from_clause}
 use Rattle.std.specs.Ordering.{is_gt}
-use Rattle.wasi_tree_index.specs.NameRows.{key_cmp, row_key}
+use Rattle.wasi_tree_index.specs.DirEntryKeys.{key_cmp, row_key}
 use Rattle.wasi_tree_index.proofs.FrontLemmas.{front_is, partitioned}
 use Rattle.wasi_tree_index.proofs.RowLemmas.{closed_rows, front_rows}
 use Rattle.wasi_tree_index.proofs.blocks.place.Goals as goal

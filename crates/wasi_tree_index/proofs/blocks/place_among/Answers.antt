@@ -2,7 +2,7 @@ use Rattle.std.proofs.Common.{◌∙◌, ◌-◌, ap, rules}
 use Rattle.std.proofs.Math.Numerals.{sub-one}
 use Rattle.std.proofs.lemmas.List.Sorted.{IsPartitionPoint-from_clause}
 use Rattle.wasi_tree_index.specs.Places.{starts_by}
-use Rattle.wasi_tree_index.specs.NameRows.{key_cmp}
+use Rattle.wasi_tree_index.specs.DirEntryKeys.{key_cmp}
 use Rattle.wasi_tree_index.specs.Blocks.{block_entries}
 use Rattle.wasi_tree_index.proofs.FrontLemmas.{front_is, partitioned}
 use Rattle.wasi_tree_index.proofs.RowLemmas.{closed_blocks}

@@ -1,5 +1,5 @@
 use Rattle.std.proofs.Common.{◌∙◌, arith}
-use Rattle.wasi_tree_index.specs.NameRows.{row_key}
+use Rattle.wasi_tree_index.specs.DirEntryKeys.{row_key}
 use Rattle.wasi_tree_index.proofs.BlockLemmas.{put_found, put_absent, put_kept, no_blocks, put_first}
 use Rattle.wasi_tree_index.proofs.ShiftLemmas.{block_given}
 use Rattle.wasi_tree_index.proofs.blocks.put.Goals as goal

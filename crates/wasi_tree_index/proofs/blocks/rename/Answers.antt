@@ -1,6 +1,6 @@
 use Rattle.std.proofs.Common.{◌≡◌, ◌∙◌, refl}
 use Rattle.std.specs.FinMap.{put}
-use Rattle.wasi_tree_index.specs.NameRows.{key_cmp, row_key}
+use Rattle.wasi_tree_index.specs.DirEntryKeys.{key_cmp, row_key}
 use Rattle.wasi_tree_index.proofs.ShiftLemmas.{room_given}
 use Rattle.wasi_tree_index.proofs.blocks.rename.Goals as goal
 

@@ -1,5 +1,5 @@
 use Rattle.std.proofs.Common.{◌∙◌, sym, ap, map}
-use Rattle.wasi_tree_index.specs.NameRows.{row_entry}
+use Rattle.wasi_tree_index.specs.DirEntryKeys.{row_entry}
 use Rattle.wasi_tree_index.proofs.BlockLemmas.{at_block}
 use Rattle.wasi_tree_index.proofs.blocks.rows_at.Goals as goal
 

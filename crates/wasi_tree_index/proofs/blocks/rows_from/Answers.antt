@@ -1,5 +1,5 @@
 use Rattle.std.proofs.Common.{◌∙◌, sym, ap, arith}
-use Rattle.wasi_tree_index.specs.NameRows.{key_cmp, run_of}
+use Rattle.wasi_tree_index.specs.DirEntryKeys.{key_cmp, run_of}
 use Rattle.wasi_tree_index.specs.Blocks.{all_entries}
 use Rattle.wasi_tree_index.proofs.EntryLemmas.{sorted_of}
 use Rattle.wasi_tree_index.proofs.BlockLemmas.{no_blocks}

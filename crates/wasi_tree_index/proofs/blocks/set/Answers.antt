@@ -3,16 +3,16 @@ use Rattle.std.specs.Prelude.{is_some}
 use Rattle.std.proofs.lemmas.Bool.{true≢false}
 use Rattle.std.specs.declared.vec.Vec.{Vec}
 use Rattle.std.specs.FinMap.{find}
-use Rattle.wasi_tree_index.specs.declared.key.NameRow.{NameRow}
+use Rattle.wasi_tree_index.specs.declared.key.DirEntryKey.{DirEntryKey}
 use Rattle.wasi_tree_index.specs.Fronts.{list_at}
 use Rattle.wasi_tree_index.specs.Places.{place_in, list_place, first_at}
-use Rattle.wasi_tree_index.specs.NameRows.{Key, key_cmp}
+use Rattle.wasi_tree_index.specs.DirEntryKeys.{Key, key_cmp}
 use Rattle.wasi_tree_index.specs.Blocks.{block_entries, all_entries, AreBlocks}
 use Rattle.wasi_tree_index.proofs.RowLemmas.{find_none}
 use Rattle.wasi_tree_index.proofs.BlockLemmas.{find_here, found_within, put_found, put_kept}
 use Rattle.wasi_tree_index.proofs.blocks.set.Goals as goal
 
-module _ {Y : Type 0} (key : Key) (bs : List (Vec NameRow Y)) (h : AreBlocks bs)
+module _ {Y : Type 0} (key : Key) (bs : List (Vec DirEntryKey Y)) (h : AreBlocks bs)
     (held : is_some (find key_cmp key (all_entries bs)) ≡ true) where
   -- a key that is held has a block
   held_within : list_place key_cmp block_entries key bs < length bs

@@ -1,6 +1,6 @@
 use Rattle.std.proofs.Common.{length, ◌≡◌}
 use Rattle.std.specs.List.{slice_get}
-use Rattle.wasi_tree_index.specs.Runs.{entries_from}
+use Rattle.wasi_tree_index.specs.EntryCursors.{entries_from}
 use Rattle.wasi_tree_index.proofs.entries.row_at.Given as goal
 
 abbrev pub invariant-loop-rows : goal.invariant-loop-rows

@@ -1,5 +1,5 @@
 use Rattle.std.proofs.Common.{◌∙◌, sym, ap, subst}
-use Rattle.wasi_tree_index.specs.NameRows.{AllNames}
+use Rattle.wasi_tree_index.specs.DirEntryKeys.{AllNames}
 use Rattle.wasi_tree_index.specs.OverNames.{overlaid, IsChanged}
 use Rattle.wasi_tree_index.proofs.OverLemmas.{overlaid-held, changed-here}
 use Rattle.wasi_tree_index.proofs.over_index.hold.Goals as goal

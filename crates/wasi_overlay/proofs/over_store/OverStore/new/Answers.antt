@@ -1,5 +1,5 @@
 use Rattle.std.proofs.Common.{◌∙◌, ap}
-use Rattle.wasi_tree_index.specs.NameRows.{names_at}
+use Rattle.wasi_tree_index.specs.DirEntryKeys.{names_at}
 use Rattle.wasi_overlay.specs.OverStore.{parts_of}
 use Rattle.wasi_overlay.proofs.Beginning.{Begun, begun_over, begun_tree}
 use Rattle.wasi_overlay.proofs.over_store.OverStore.new.Goals as goal

@@ -6,7 +6,7 @@ use Rattle.wasi_host.specs.Tree.{Names, Nodes}
 use Rattle.wasi_host.specs.Step.{name_moved_onto}
 use Rattle.wasi_host.proofs.Changes.{directory_within}
 use Rattle.wasi_tree_index.proofs.NamesLemmas.{get-names_at}
-use Rattle.wasi_tree_index.specs.NameRows.{Key}
+use Rattle.wasi_tree_index.specs.DirEntryKeys.{Key}
 use Rattle.wasi_tree.proofs.MoveLemmas.{names_apart}
 use Rattle.wasi_tree.specs.Move.{IsMove}
 use Rattle.wasi_overlay.specs.OverStore.{Overlaid, Parts, nodes_lost, parts_of, tree_over, worked_lost}

@@ -11,14 +11,14 @@ returns g c =
       looks = tree.same_lookups;
       quiet = tree.no_faults;
     } in
-    let bounds = c.call-outcome.ensures.bounds in
+    let bounds = c.call-outcome.ensures.host_laws in
     let did : Did _ c.call-outcome.new.context _ _ _ _ g.T.Host.told g.T.Host.world g.T.Host.live g.T.Host.lookups g.T.Host.faults = record {
       cause = bounds.cause;
       handles = bounds.handles;
       lineage = bounds.lineage;
       logged = bounds.logged;
       unchanged = c.call-outcome.ensures.unchanged;
-      turn = c.call-outcome.ensures.turn;
+      turn = c.call-outcome.ensures.spec;
       complete = c.call-outcome.ensures.complete tree.is_told;
       errnos = c.call-outcome.ensures.errnos tree.is_told;
     } in

@@ -1,0 +1,26 @@
+use Rattle.std.proofs.Common.{◌≡◌, ◌∙◌, ◌++◌, true, List, map, sym, ap, subst}
+use Rattle.std.proofs.lemmas.List.{append-nil}
+use Rattle.std.specs.List.{All}
+use Rattle.wasi_paths.specs.Text.{is_entry_name}
+use Rattle.wasi_host.specs.Tree.{Tree, node_at, names_of, next_of}
+use Rattle.wasi_tree.proofs.ListLemmas.{listed_good}
+use Rattle.std.specs.FinMap as maps
+use Rattle.wasi_host.specs.Answer.{Listed, entry_of, listed}
+use Rattle.wasi_tree.proofs.RowLemmas.{names_here, sound_at}
+use Rattle.wasi_tree.proofs.store.InodeStore.list_names.Goals as goal
+
+pub loop-name-init : goal.loop-name-init
+loop-name-init c =
+    ap (λ es. map entry_of es ++ map (listed c.args.self.now) c.names-names.result) c.new-entries.ensures.items
+    ∙ ap (map (listed c.args.self.now)) (c.names-names.ensures
+    ∙ ap maps.entries (sym (names_here (record { stands = c.self.view_is; directory = c.requires }))))
+
+-- the names are those of a sound node
+pub returns-clause-named : goal.returns-clause-named
+returns-clause-named c =
+    let t : Tree = c.args.self.now in
+    let all : map entry_of c.loop-name.entries.items ≡ map (listed t) (maps.entries (names_of (node_at t c.args.directory).content)) =
+    sym (append-nil (map entry_of c.loop-name.entries.items))
+    ∙ ap (λ ns. map entry_of c.loop-name.entries.items ++ map (listed t) ns) (sym c.in_default.ensures.0) ∙ c.loop-name.invariant in
+    subst (λ (l : List Listed). All (λ (entry : Listed). is_entry_name entry.0 ≡ true) l) (sym all)
+    (listed_good t (next_of t) (node_at t c.args.directory) ((sound_at c.self.view_is c.self.invariant).nodes c.args.directory))

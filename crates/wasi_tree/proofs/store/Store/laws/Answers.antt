@@ -1,5 +1,0 @@
-use Rattle.wasi_tree.proofs.RowLemmas.{sound_at}
-use Rattle.wasi_tree.proofs.store.Store.laws.Goals as goal
-
-pub returns : goal.returns
-returns c = λ n. (sound_at c.self.view_is c.self.invariant).nodes n
