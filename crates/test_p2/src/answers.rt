@@ -2,10 +2,10 @@
 use bitflags::Flags;
 use std::alloc::Global;
 use std::fmt::Debug;
+use test_support::{Told, number, told, word};
 use wasi_p2_calls::types::{NewTimestamp, WallDatetime};
 use wasi_p2_calls::{FsResult, PreopenEntry, ReadResult};
 use wasi_streams::Resource;
-use test_support::{Told, number, told, word};
 
 /// The resource of a word: the number of those that were answered before it in the line. No such number stands for a
 /// resource that isn't there.

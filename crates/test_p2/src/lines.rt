@@ -10,14 +10,14 @@ use crate::calls::{named_call, view_call};
 use crate::guests::{Guest, Guests};
 use crate::trees::tree;
 use std::alloc::{AllocError, Global};
+use test_support::{Answering, Asked, Told, number, unknown, word};
 use wasi_fs::{Dir, FsPerms, OpenMode};
 use wasi_host::{Host, SystemTime};
-use wasi_p2_calls::{Preopen, WasiFilesystemCtx, WasiFilesystemCtxView};
 use wasi_p2::{
     FilesystemPair, NamedId, WasiCtxNamedView, WasiFilesystemNamedView, WasiFilesystemView,
 };
+use wasi_p2_calls::{Preopen, WasiFilesystemCtx, WasiFilesystemCtxView};
 use wasi_streams::ResourceTable;
-use test_support::{Answering, Asked, Told, number, unknown, word};
 use wasi_tree::MemTree;
 
 /// What answers the lines.

@@ -4,11 +4,11 @@ ghost use Rattle.std.specs.FinSet.{contains};
 ghost use Rattle.wasi_fs.specs.Calls.{handle_of};
 
 use std::alloc::Global;
+use test_support::{Asked, Told, done, refused, time_of, told, word};
 use wasi_fs::{
     Descriptor, DescriptorFlags, Dir, File, Flags, FsPerms, OpenFlags, OpenMode, PathFlags,
 };
 use wasi_host::{Advice, Handle, Host, HostError};
-use test_support::{Asked, Told, done, refused, time_of, told, word};
 
 /// `ATIME MTIME`: sets the times of the directory itself.
 pub fn set_own_times<H: Host>(host: &mut H, root: Handle, asked: &Asked<'_>) -> Told

@@ -3,9 +3,9 @@ ghost use Rattle.std.specs.Prelude.{◌≡◌, true};
 ghost use Rattle.std.specs.FinSet.{contains};
 
 use crate::descriptors::{opened, set_own_times, store_own};
+use test_support::{Asked, Told, answered, done, time_of, unknown, word};
 use wasi_fs::{Dir, Flags, FsPerms, OpenMode, PathFlags};
 use wasi_host::{Handle, Host};
-use test_support::{Asked, Told, answered, done, time_of, unknown, word};
 
 /// `CALL PATH ARGUMENTS`, of node 0 with all permissions.
 pub fn dir_call<H: Host>(host: &mut H, root: Handle, asked: &Asked<'_>) -> Told

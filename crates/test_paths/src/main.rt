@@ -8,8 +8,8 @@ mod paths;
 mod trees;
 
 use std::process::ExitCode;
-use trees::PathRows;
 use test_support::try_table;
+use trees::PathRows;
 
 fn main(rt: HostRuntime) -> ExitCode {
     let Ok(mut rows) = PathRows::new(rt.alloc()) else {

@@ -3,13 +3,13 @@ ghost use Rattle.std.specs.Prelude.{◌≡◌, true};
 ghost use Rattle.std.specs.FinSet.{contains};
 
 use std::alloc::Global;
+use test_support::{
+    Asked, Told, answered, done, refused, time_of, told, told_node, told_times, unknown, word,
+};
 use wasi_host::{Handle, Host, HostError, OpenOptions};
 use wasi_resolve::{
     MaybeOwned, create_dir, hard_link, open, open_dir, open_parent, read_dir, read_link,
     remove_dir, remove_file, rename, set_times, set_times_nofollow, stat, symlink,
-};
-use test_support::{
-    Asked, Told, answered, done, refused, time_of, told, told_node, told_times, unknown, word,
 };
 
 /// `CALL PATH ARGUMENTS`.

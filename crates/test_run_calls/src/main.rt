@@ -15,18 +15,18 @@
 //! Empty lines and those that begin with `#` are nothing.
 #![tactic(auto)]
 
-mod setup;
 mod by_calls;
 mod by_script;
 mod faults;
 mod refused;
+mod setup;
 
 use faults::try_faults;
 use refused::try_refused;
 use std::process::ExitCode;
 use std::{env, io};
-use wasi_script_gen::gen_script;
 use test_support::{Tally, input_text};
+use wasi_script_gen::gen_script;
 
 const WANTED_ELSEWHERE: u8 = 3;
 

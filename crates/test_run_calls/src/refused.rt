@@ -2,8 +2,8 @@
 use crate::setup::Begun;
 use std::alloc::{AllocError, Global};
 use std::io;
-use wasi_p1::RunError;
 use test_support::Tally;
+use wasi_p1::RunError;
 
 /// What came of a script in which memory may have been refused.
 #[derive(Clone, Copy)]

@@ -1,8 +1,8 @@
 //! A script that has begun.
 use std::alloc::{AllocError, Global};
-use wasi_host_faults::FailAt;
 use wasi_form::{Shown, read_script};
 use wasi_guest::{Answers, Call, GuestMemory, slice_at};
+use wasi_host_faults::FailAt;
 use wasi_p1::{RunError, WasiP1Ctx, run_calls};
 use wasi_report::{Outcome, report};
 use wasi_setup::begin;

@@ -2,9 +2,9 @@
 use crate::line::{Asked, Program, Wanted};
 use crate::repeats::expanded;
 use std::alloc::{AllocError, Global};
-use wasi_io::{BytesSink, BytesSource, write_all};
 use wasi_form::{Refusal, ScriptError};
 use wasi_guests::run_guest_script;
+use wasi_io::{BytesSink, BytesSource, write_all};
 use wasi_script::run_script;
 
 // The sink takes so many bytes; the longest report has a few more than 33,554,432.

@@ -3,8 +3,8 @@ ghost use Rattle.std.specs.Prelude.{◌≡◌, ℕ, true, OnOk};
 ghost use Rattle.std.specs.FinSet.{contains, remove};
 
 use std::alloc::{AllocError, Global};
-use wasi_host::Host;
 use test_support::{Asked, Told};
+use wasi_host::Host;
 
 /// A stream that answers calls by their names.
 pub trait Calls<H: Host>: Drop {

@@ -5,13 +5,13 @@ ghost use Rattle.std.specs.Result.{result_map_both};
 ghost use Rattle.wasi_host.specs.HostLaws.{LiveGot};
 
 use std::alloc::{AllocError, Global};
+use test_support::{Asked, Told, number, refused, told};
 use wasi_fs::{File, FsPerms, OpenMode};
 use wasi_host::{Handle, Host, HostError, OpenOptions};
 use wasi_paths::Name;
 use wasi_streams::{
     Entry, FileInputStream, FileOutputStream, ResourceTable, StreamError, TableError,
 };
-use test_support::{Asked, Told, number, refused, told};
 use wasi_tree::{Limits, MemTree, NewContent, NewEntry, NewNode, TreeError};
 
 /// The most bytes that one write takes.

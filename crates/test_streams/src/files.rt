@@ -7,10 +7,10 @@ use crate::inputs::input_line;
 use crate::outputs::output_line;
 use crate::tables::table_line;
 use std::alloc::{AllocError, Global};
+use test_support::{Answering, Asked, Told, refused, unknown};
 use wasi_fs::{File, Flags, FsPerms, OpenMode};
 use wasi_host::{Handle, Host, OpenOptions};
 use wasi_paths::Name;
-use test_support::{Answering, Asked, Told, refused, unknown};
 use wasi_tree::{Limits, MemTree, NewContent, NewEntry, NewNode, TreeError};
 
 /// What answers the lines.

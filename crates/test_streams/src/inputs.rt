@@ -5,10 +5,10 @@ ghost use Rattle.std.specs.FinSet.{contains};
 use crate::along::{Calls, along};
 use bytes::Bytes;
 use std::alloc::{AllocError, Global};
+use test_support::{Asked, Told, number, refused, told, unknown};
 use wasi_fs::File;
 use wasi_host::Host;
 use wasi_streams::{FileInputStream, StreamError};
-use test_support::{Asked, Told, number, refused, told, unknown};
 
 /// `OFFSET: CALL; CALL ..`: the answers of calls of a stream from this offset on.
 #[tactic(auto, using(wasi_host::proofs::Chain::live_rules))]

@@ -8,10 +8,10 @@ use crate::along::{Calls, along};
 use bytes::Bytes;
 use std::alloc::{AllocError, Global};
 use std::fmt::Debug;
+use test_support::{Asked, Told, number, refused, told, unknown};
 use wasi_fs::File;
 use wasi_host::{Handle, Host, HostError};
 use wasi_streams::{FileOutputStream, StreamError};
-use test_support::{Asked, Told, number, refused, told, unknown};
 
 /// `OFFSET: CALL; CALL ..`: the answers of calls of a stream from this offset on, and then the file's text. The offset
 /// `end` is behind the file's last byte.

@@ -1,7 +1,7 @@
 //! Calls of a table of resources.
 use std::alloc::{AllocError, Global};
-use wasi_streams::{Entry, Resource, ResourceTable, TableError, TableRefused};
 use test_support::{Asked, Told, told, unknown};
+use wasi_streams::{Entry, Resource, ResourceTable, TableError, TableRefused};
 
 /// `MAX: CALL; CALL ..`: the answers of calls of a table of so many entries. A number stands for the one that was given
 /// so many pushes before it in the line, of which the first is 0.

@@ -4,12 +4,12 @@ ghost use Rattle.std.specs.FinSet.{contains};
 ghost use Rattle.wasi_tree.specs.MemState.{live_of};
 
 use std::alloc::Global;
-use wasi_host::{Advice, Handle, Host, HostError};
-use wasi_paths::Name;
 use test_support::{
     Asked, Told, answered, coded, done, number, refused, time_of, told, told_node, told_times,
     unknown, word,
 };
+use wasi_host::{Advice, Handle, Host, HostError};
+use wasi_paths::Name;
 use wasi_tree::{HandleError, MemTree};
 
 /// The name of a text, or `.` where that isn't plain.

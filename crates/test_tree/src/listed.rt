@@ -1,7 +1,7 @@
 //! Trees from texts.
 use std::alloc::{AllocError, Global};
-use wasi_host::SystemTime;
 use test_support::{list_of, number, time_of};
+use wasi_host::SystemTime;
 use wasi_tree::{Bits, Limits, MemTree, NewContent, NewEntry, NewNode, TreeError};
 
 fn entries(alloc: Global, text: &str) -> Result<Vec<NewEntry>, AllocError> {

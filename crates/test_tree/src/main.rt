@@ -11,8 +11,8 @@ mod reports;
 mod trees;
 
 use std::process::ExitCode;
-use trees::TreeRows;
 use test_support::try_table;
+use trees::TreeRows;
 
 fn main(rt: HostRuntime) -> ExitCode {
     let Ok(mut rows) = TreeRows::new(rt.alloc()) else {

@@ -5,8 +5,8 @@ ghost use Rattle.wasi_tree.specs.MemState.{live_of};
 
 use crate::calls::{call, name_of, start_of};
 use std::alloc::{AllocError, Global};
-use wasi_host::{ErrorCode, Handle, Host, HostError, OpenOptions};
 use test_support::{Asked, Told, refused, word};
+use wasi_host::{ErrorCode, Handle, Host, HostError, OpenOptions};
 use wasi_tree::MemTree;
 
 /// The options that the letters of a word ask for.

@@ -5,9 +5,9 @@ ghost use Rattle.wasi_tree.specs.MemState.{live_of};
 
 use crate::calls::{at_two, change};
 use std::alloc::{AllocError, Global};
+use test_support::{Asked, Told, done, told, unknown, word};
 use wasi_host::{Handle, Host};
 use wasi_overlay::Overlay;
-use test_support::{Asked, Told, done, told, unknown, word};
 use wasi_tree::MemTree;
 
 /// `WHAT CALL; CALL ..`: the answers of the calls, each made by a handle of node 0 of an overlay over the tree, and then

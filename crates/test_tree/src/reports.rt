@@ -1,8 +1,8 @@
 //! Reports of outcomes.
 use std::alloc::{AllocError, Global};
+use test_support::{Told, list_of, number, word};
 use wasi_guest::{Answer, Answers, Errno, Filestat, TrapKind, Value};
 use wasi_report::{Outcome, report};
-use test_support::{Told, list_of, number, word};
 use wasi_tree::MemTree;
 
 /// `ANSWERS SHOWN STDOUT STDERR TOUCHED`, or nothing: the report of this outcome with the tree, without the newline at its

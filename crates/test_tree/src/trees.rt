@@ -8,8 +8,8 @@ use crate::overlays::over;
 use crate::readers::{told_entry, told_entry_at, told_view};
 use crate::reports::told_report;
 use std::alloc::{AllocError, Global};
-use wasi_host::{Forget, Limits};
 use test_support::{Answering, Asked, Told, done, number, told, word};
+use wasi_host::{Forget, Limits};
 use wasi_tree::{MemTree, NewNode, TreeError};
 
 /// What answers the lines: the tree that the last `tree` gave.

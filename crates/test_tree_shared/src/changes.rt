@@ -1,8 +1,8 @@
 //! Changes as texts.
 use std::alloc::{AllocError, Global};
-use wasi_tree_shared::Change;
 use test_support::{number, word};
 use wasi_tree::TreeChange;
+use wasi_tree_shared::Change;
 
 /// The changes of a list, between which `; ` stands.
 pub fn changes_of(alloc: Global, list: &str) -> Result<Vec<Change>, AllocError> {

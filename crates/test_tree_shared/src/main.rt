@@ -7,8 +7,8 @@ mod trees;
 mod walks;
 
 use std::process::ExitCode;
-use walks::WalkRows;
 use test_support::try_table;
+use walks::WalkRows;
 
 fn main(rt: HostRuntime) -> ExitCode {
     try_table(rt.alloc(), rt.stdin(), rt.stdout(), &mut WalkRows)

@@ -5,11 +5,11 @@ ghost use Rattle.std.specs.FinSet.{contains};
 use crate::changes::changes_of;
 use crate::trees::{small_tree, walked_tree};
 use std::alloc::{AllocError, Global};
+use test_support::{Answering, Asked, Told, answered, coded, unknown};
 use wasi_host::{Handle, Host, HostError, dir_options};
 use wasi_resolve::open;
-use wasi_tree_shared::Shared;
-use test_support::{Answering, Asked, Told, answered, coded, unknown};
 use wasi_tree::{MemTree, TreeError};
+use wasi_tree_shared::Shared;
 
 /// What answers the lines.
 #[derive(Drop)]

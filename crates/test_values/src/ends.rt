@@ -1,7 +1,7 @@
 //! Sources and sinks in memory.
 use std::alloc::{AllocError, Global};
-use wasi_io::{BytesSink, BytesSource, Sink, Source};
 use test_support::{list_of, number, told, unknown, word};
+use wasi_io::{BytesSink, BytesSource, Sink, Source};
 
 pub fn answer(alloc: Global, what: &str, rest: &str) -> Result<String, AllocError> {
     let (first, rest) = word(rest);

@@ -2,11 +2,11 @@
 use bitflags::Flags;
 use std::alloc::{AllocError, Global};
 use std::fmt::Debug;
+use test_support::{number, told, unknown, word};
 use wasi_fs::{DescriptorFlags, OpenFlags, OpenMode, PathFlags};
 use wasi_guest::{
     EventRwFlags, FdFlags, FstFlags, LookupFlags, OFlags, RiFlags, Rights, SdFlags, SubclockFlags,
 };
-use test_support::{number, told, unknown, word};
 
 pub fn answer(alloc: Global, what: &str, rest: &str) -> Result<String, AllocError> {
     let bits = number(rest);

@@ -1,7 +1,7 @@
 //! A guest's memory.
 use std::alloc::{AllocError, Global};
-use wasi_guest::GuestMemory;
 use test_support::{list_of, told, unknown, word};
+use wasi_guest::GuestMemory;
 
 pub fn answer(alloc: Global, what: &str, rest: &str) -> Result<String, AllocError> {
     let (bytes, rest) = word(rest);

@@ -1,10 +1,10 @@
 //! Times, numbers and options of a host.
 use std::alloc::{AllocError, Global};
+use test_support::{number, told, unknown, word};
 use wasi_host::{
     FollowSymlinks, Handle, OpenOptions, SystemTime, compute_oflags, dir_options, readdir_options,
     system_time_from_rustix, to_timespec,
 };
-use test_support::{number, told, unknown, word};
 
 pub fn answer(alloc: Global, what: &str, rest: &str) -> Result<String, AllocError> {
     let (first, second) = word(rest);

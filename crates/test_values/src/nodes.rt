@@ -1,8 +1,8 @@
 //! What is said of nodes.
 use std::alloc::{AllocError, Global};
+use test_support::{number, time_of, told, unknown, word};
 use wasi_fs::{Descriptor, DescriptorStat, Dir, File, Flags, FsPerms, MetadataHashValue, OpenMode};
 use wasi_host::{FileType, Handle, Metadata, SystemTime};
-use test_support::{number, time_of, told, unknown, word};
 
 pub fn answer(alloc: Global, what: &str, rest: &str) -> Result<String, AllocError> {
     match what {

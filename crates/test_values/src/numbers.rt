@@ -1,7 +1,7 @@
 //! Numbers of enumerations.
 use std::alloc::{AllocError, Global};
-use wasi_guest::{Advice, Clockid, Errno, Eventtype, Filetype, Whence, is_signal};
 use test_support::{told, unknown};
+use wasi_guest::{Advice, Clockid, Errno, Eventtype, Filetype, Whence, is_signal};
 
 pub fn answer(alloc: Global, what: &str, rest: &str) -> Result<String, AllocError> {
     let number = rest.parse::<u32>().unwrap_or(0);

@@ -1,10 +1,10 @@
 //! Texts of paths, and names.
 use std::alloc::{AllocError, Global};
+use test_support::{told, unknown, word};
 use wasi_paths::{
     Name, ends_with_parent, has_root, parts, path_has_trailing_dot, path_has_trailing_slash,
     path_requires_dir, split_parent, strip_dir_suffix,
 };
-use test_support::{told, unknown, word};
 
 pub fn answer(alloc: Global, what: &str, rest: &str) -> Result<String, AllocError> {
     let (text, rest) = word(rest);

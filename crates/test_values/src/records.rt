@@ -1,7 +1,7 @@
 //! Records as they stand in a guest's memory.
 use std::alloc::{AllocError, Global};
-use wasi_guest::{Dirent, Event};
 use test_support::{number, told, unknown, word};
+use wasi_guest::{Dirent, Event};
 
 pub fn answer(alloc: Global, what: &str, rest: &str) -> Result<String, AllocError> {
     match what {

@@ -4,8 +4,8 @@
 ghost use Rattle.std.specs.Prelude.{◌≡◌};
 ghost use Rattle.wasi_c.specs.Codes.{code_of, refusal_code, start_code};
 
-use wasi_sandbox::{P1Error, StartError, TrapKind, Value};
 use wasi_form::Refusal;
+use wasi_sandbox::{P1Error, StartError, TrapKind, Value};
 
 /// The guest gave an address outside its memory, or one that isn't aligned.
 const TRAP_POINTER: u32 = 256;

@@ -6,13 +6,13 @@
 //! others what the sandbox holds has its own.
 #![tactic(auto)]
 
+mod answer;
 mod base;
+mod boxed;
 mod calls;
 mod codes;
 mod handle;
 mod life;
-mod boxed;
-mod answer;
 
 pub use base::BaseHandle;
 pub use handle::SandboxHandle;

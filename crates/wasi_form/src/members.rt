@@ -25,9 +25,9 @@ use crate::shapes::Reading;
 use crate::tokens::pass;
 use json::Reader;
 use std::alloc::Global;
-use wasi_host_faults::Fault;
 use wasi_guest::{Call, Quota};
 use wasi_host::Limits;
+use wasi_host_faults::Fault;
 use wasi_tree::NewNode;
 
 /// How much fuel each call has in a script that doesn't say it.

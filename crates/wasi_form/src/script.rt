@@ -1,11 +1,11 @@
 //! A script: a tree of files, what the guest is given of it, its memory, and its calls.
 
 use smallvec::SmallVec;
-use wasi_host_faults::Fault;
 use wasi_fs::FsPerms;
 use wasi_guest::{Call, Quota, Services};
 use wasi_host::Limits;
-use wasi_tree::{WellFormedNodes, NewNode};
+use wasi_host_faults::Fault;
+use wasi_tree::{NewNode, WellFormedNodes};
 
 /// A directory that the guest is given: its node's number, the name under which the guest knows it, and what may be
 /// done below it.

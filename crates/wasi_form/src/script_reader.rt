@@ -20,9 +20,9 @@ use json::{Reader, Scratch};
 use simdutf8::compat::from_utf8;
 use std::alloc::{AllocError, Allocator, Global};
 use thiserror::Error;
-use wasi_io::MOST_BYTES;
 use wasi_host::Limits;
-use wasi_tree::{WellFormedNodes, NewNode, TreeError};
+use wasi_io::MOST_BYTES;
+use wasi_tree::{NewNode, TreeError, WellFormedNodes};
 
 // How deep lists and objects nest in a script.
 const DEPTH: usize = 127;
@@ -152,7 +152,11 @@ pub fn read_guest_script<A: Allocator + Copy>(
 }
 
 // The nodes, where a tree can be made of them.
-fn fit_nodes(alloc: Global, nodes: Vec<NewNode>, limits: Limits) -> Result<WellFormedNodes, ScriptError>
+fn fit_nodes(
+    alloc: Global,
+    nodes: Vec<NewNode>,
+    limits: Limits,
+) -> Result<WellFormedNodes, ScriptError>
     ensures { IsTestOf (record { nodes = map given nodes.items; limits = limits }) result }
 {
     match WellFormedNodes::new(alloc, nodes, limits) {

@@ -4,16 +4,16 @@
 mod descriptor;
 mod descriptor_stat;
 mod dir;
+mod dir_two_paths;
 mod file;
-mod stat;
 mod metadata_hash;
 mod open_flags;
 mod open_how;
 mod open_mode;
 mod perms;
+mod stat;
 mod syncs;
 mod times;
-mod dir_two_paths;
 
 pub use bitflags::Flags;
 pub use descriptor::{Descriptor, Dir, File};

@@ -12,6 +12,7 @@ mod fdstat;
 mod filestat;
 mod filetype;
 mod flags;
+mod guest_env;
 mod guest_error;
 mod iovec;
 mod kept;
@@ -20,7 +21,6 @@ mod prestat;
 mod quota;
 mod range;
 mod records;
-mod guest_env;
 mod subscription;
 
 pub use answer::{Answer, TrapKind, Value};
@@ -37,6 +37,7 @@ pub use filetype::Filetype;
 pub use flags::{
     EventRwFlags, FdFlags, FstFlags, LookupFlags, OFlags, RiFlags, Rights, SdFlags, SubclockFlags,
 };
+pub use guest_env::{EnvPair, Services, WallDatetime};
 pub use guest_error::GuestError;
 pub use iovec::Iovec;
 pub use memory::GuestMemory;
@@ -44,5 +45,4 @@ pub use prestat::PrestatDir;
 pub use quota::{Quota, QuotaUsed};
 pub use range::{in_memory, slice_at, write_bytes};
 pub use records::{first_buffer, iovec_in, subscription_in, text_in, u32_in};
-pub use guest_env::{EnvPair, Services, WallDatetime};
 pub use subscription::{Subscription, SubscriptionKind};

@@ -11,8 +11,8 @@ ghost use Rattle.wasi_guests.specs.Joint.{content_renumbered};
 
 use crate::plan::{GuestEnd, GuestPlan};
 use std::alloc::{AllocError, Global};
-use wasi_host_faults::FailAt;
 use wasi_guest::{Answer, Answers, Call, GuestMemory};
+use wasi_host_faults::FailAt;
 use wasi_overlay::Overlay;
 use wasi_p1::{WasiP1Ctx, answer_of, call, ends_run};
 use wasi_setup::first_context;

@@ -8,15 +8,15 @@ mod holders;
 mod insides;
 mod laws;
 mod plan;
+mod program;
 mod run;
 mod status;
-mod program;
 mod turns;
 mod walk;
 
 pub use insides::lowest_shared;
 pub use laws::schedules_agree;
 pub use plan::{GuestEnd, GuestPlan, GuestPreopen, GuestsError, GuestsOutcome};
+pub use program::run_guest_script;
 pub use run::run_guests;
 pub use status::{GuestRefusal, GuestStatus};
-pub use program::run_guest_script;

@@ -12,8 +12,8 @@ use crate::guest_script::text_of;
 use crate::status::{GuestStatus, refusal_line};
 use bumpalo::Bump;
 use std::alloc::{Allocator, Global};
-use wasi_io::{Sink, Source, read_all, write_under};
 use wasi_form::{GuestScript, read_guest_script};
+use wasi_io::{Sink, Source, read_all, write_under};
 
 const USAGE: &str = "usage: wasiguests run\n";
 

@@ -4,8 +4,8 @@ ghost use Rattle.wasi_guests.specs.GuestsDue.{refusal_line};
 ghost use Rattle.wasi_guests.specs.Status.{exit_code, guests_status, message_of, refusal_of, script_status, unfinished_status, why_refused};
 
 use crate::plan::GuestsError;
-use wasi_io::Unfinished;
 use wasi_form::{Refusal, ScriptError};
+use wasi_io::Unfinished;
 
 /// Why the guests of a script aren't run. The first that holds is the refusal.
 #[derive(Clone, Copy, Debug, PartialEq, Eq)]

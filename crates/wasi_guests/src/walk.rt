@@ -6,8 +6,8 @@ ghost use Rattle.wasi_guests.specs.declared.holders.Holders.TheVariants.{Several
 
 use crate::holders::Holders;
 use std::alloc::{AllocError, Global};
-use wasi_tree_index::EntryCursor;
 use wasi_tree::MemTree;
+use wasi_tree_index::EntryCursor;
 
 /// A walk over a tree from the directories of all guests at once. The names of a directory are gone over at most twice:
 /// for the guest that comes to it first, and for the next one.

@@ -7,8 +7,8 @@ use crate::schedule::Schedule;
 use std::alloc::Global;
 use std::marker::Model;
 use wasi_host::{
-    Advice, DirEntry, ErrorCode, InjectedFault, Forget, Handle, Host, HostError, Metadata, OpenOptions,
-    SyncFlags, SystemTime,
+    Advice, DirEntry, ErrorCode, Forget, Handle, Host, HostError, InjectedFault, Metadata,
+    OpenOptions, SyncFlags, SystemTime,
 };
 use wasi_paths::Name;
 

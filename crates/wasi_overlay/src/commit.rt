@@ -9,8 +9,8 @@ ghost use Rattle.wasi_overlay.specs.OverStore.{HoldsNames};
 use crate::over_store::OverStore;
 use std::alloc::{AllocError, Global};
 use wasi_host::Metadata;
+use wasi_tree::{Inode, InodeContent, MemStore, NodeStore, add_entries};
 use wasi_tree_index::NameIndex;
-use wasi_tree::{MemStore, NodeStore, Inode, InodeContent, add_entries};
 
 impl<'a> OverStore<'a> {
     /// The tree as it is, on which no step has worked, in memory of its own.

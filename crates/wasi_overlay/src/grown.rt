@@ -8,7 +8,7 @@ ghost use Rattle.wasi_overlay.specs.Grown.{grown};
 use std::alloc::{AllocError, Global};
 use std::marker::Model;
 use wasi_host::{Bits, FileType, Metadata};
-use wasi_tree::{MemStore, NodeStore, Inode};
+use wasi_tree::{Inode, MemStore, NodeStore};
 
 /// The nodes of a tree that stays, and behind them nodes that were made. Contracts see the nodes by number, and how many
 /// more can be made before memory is taken.

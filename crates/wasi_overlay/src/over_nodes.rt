@@ -16,7 +16,7 @@ use crate::seats::Seats;
 use std::alloc::{AllocError, Global};
 use std::marker::Model;
 use wasi_host::{Bits, FileType, Metadata, SystemTime};
-use wasi_tree::{MemStore, Inode};
+use wasi_tree::{Inode, MemStore};
 
 /// The nodes of an overlay over a tree that stays: those of the tree and those that were made, each with what its seat
 /// keeps of it. What a step comes to has a seat from then on. Contracts see the nodes, and the numbers of seats.

@@ -16,9 +16,9 @@ use crate::over_parents::OverParents;
 use std::alloc::{AllocError, Global};
 use std::marker::Model;
 use wasi_host::{Bits, DirEntry, FileType, Limits, Metadata, SystemTime};
-use wasi_tree_index::{SearchHint, OverNameIndex};
 use wasi_paths::Name;
-use wasi_tree::{NameLookup, MemStore, NewContent, NewEntry, NewNode, NodeStore, Inode};
+use wasi_tree::{Inode, MemStore, NameLookup, NewContent, NewEntry, NewNode, NodeStore};
+use wasi_tree_index::{OverNameIndex, SearchHint};
 
 /// The nodes of a tree that stays, with what changed of them since: the nodes that were come to, those that were made, and
 /// the names that were put or taken. Contracts see the tree that both together are, the touched nodes, and the nodes that

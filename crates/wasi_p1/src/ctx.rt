@@ -6,9 +6,9 @@ use std::alloc::Global;
 use std::marker::Model;
 use wasi_guest::{Quota, QuotaUsed, Services};
 use wasi_host::{Forget, Host};
+use wasi_p1_model::P1Preopen;
 use wasi_p1_state::{CtxRefused, Ended, P1State};
 use wasi_streams::ResourceTable;
-use wasi_p1_model::P1Preopen;
 
 /// The calls of one guest over a host: the crate's `WasiP1Ctx` of `preview1.rs`. Each call is a method with the name, the
 /// arguments and the rule of the call in `wasi_snapshot_preview1`. Contracts see the host, the descriptors, the guest's

@@ -18,7 +18,6 @@ pub use wasi_guest::{
     Answer, Answers, Call, EnvPair, Errno, GuestMemory, Quota, QuotaUsed, Services, TrapKind,
     Value, WallDatetime,
 };
-pub use wasi_p1_state::{CtxRefused, Ended, FUEL, P1State};
 pub use wasi_p1_model::{
     CtxError, DirectorySlot, FileModes, FileSlot, GuestEnv, Output, Outputs, P1Error, P1Preopen,
     RunError, Slot, Stream, append_only_runs_keep, append_only_turns_add, bytes_put_are_got,
@@ -28,3 +27,4 @@ pub use wasi_p1_model::{
     runs_agree, runs_are_functions, runs_stay_valid, runs_stay_within_quotas, turns_agree,
     turns_are_confined, valid_calls_are_answered, writes_are_whole,
 };
+pub use wasi_p1_state::{CtxRefused, Ended, FUEL, P1State};

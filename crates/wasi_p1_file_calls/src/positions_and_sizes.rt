@@ -4,11 +4,11 @@ ghost use Rattle.wasi_p1_model.specs.Method.{KeepsHostLaws, MeetsSpec};
 
 use wasi_guest::{Errno, Value};
 use wasi_host::Host;
-use wasi_p1_state::P1State;
+use wasi_p1_model::{FileEnd, FileSlot, FileUse, P1Error, advice_of, whence_of};
 use wasi_p1_parts::call_parts::put_back;
 use wasi_p1_parts::file_parts::{check_alter, check_growth, file_at, position_sought, view_advice};
 use wasi_p1_parts::view_parts::files::{AdviseOf, SyncDataOf, SyncOf, about_file, set_size};
-use wasi_p1_model::{FileEnd, FileSlot, FileUse, P1Error, advice_of, whence_of};
+use wasi_p1_state::P1State;
 
 /// Tells the host how `len` bytes of a file from `offset` on will be used, of which nothing changes. Refusals, in
 /// this order: Inval where the advice is none of preview1's; Badf where the number isn't a file's. No host refuses

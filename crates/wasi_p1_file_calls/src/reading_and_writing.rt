@@ -7,10 +7,12 @@ ghost use Rattle.wasi_p1_model.specs.Writing.{WritesWhole};
 
 use wasi_guest::{Iovec, Value};
 use wasi_host::Host;
-use wasi_p1_state::P1State;
+use wasi_p1_model::{
+    FileSlot, FileUse, P1Error, Put, Sink, Source, buffer_at, bytes_at, check_write,
+};
 use wasi_p1_parts::call_parts::{put_back, read_into, sink_at, source_at};
 use wasi_p1_parts::file_parts::{check_growth, file_at, put_end, put_next, put_piece, read_place};
-use wasi_p1_model::{FileSlot, FileUse, P1Error, Put, Sink, Source, buffer_at, bytes_at, check_write};
+use wasi_p1_state::P1State;
 
 /// How many bytes a read at an offset fills at most.
 const MOST_READ: u32 = 65_536;

@@ -34,10 +34,12 @@ use crate::view_parts::places::{MetadataHashAt, StatAt};
 use wasi_fs::{Descriptor, Dir, File};
 use wasi_guest::{Errno, Iovec, TrapKind};
 use wasi_host::{Handle, Host};
+use wasi_p1_model::{
+    DirectorySlot, FileModes, FileSlot, Output, P1Error, Sink, Slot, Source, Stream,
+};
 use wasi_p1_types::open_with::OpenWith;
 use wasi_p2_calls::types::PathFlags;
 use wasi_p2_calls::{FsResult, WasiFilesystemCtx};
-use wasi_p1_model::{DirectorySlot, FileModes, FileSlot, Output, P1Error, Sink, Slot, Source, Stream};
 
 /// What a live number stands for.
 #[tactic(auto, using(wasi_p1_model::proofs::SlotRules::slots))]

@@ -32,11 +32,11 @@ use bitflags::Flags;
 use wasi_fs::{Act, Descriptor, File, FsPerms};
 use wasi_guest::{Advice, Errno, FdFlags, Whence, write_bytes};
 use wasi_host::{Handle, Host};
-use wasi_p2_calls::types;
 use wasi_p1_model::{
     Allowance, FileEnd, FileModes, FileSlot, FileUse, GuestEnv, INVALID, P1Error, Put, Slot,
     Stream, bytes_at,
 };
+use wasi_p2_calls::types;
 
 /// How a standard stream is refused where a file is asked for.
 fn stream_refusal(wanted: FileUse, stream: Stream) -> P1Error

@@ -5,8 +5,8 @@ ghost use Rattle.wasi_p1_parts.specs.ViewedStats.{filetype_named, viewed_filesta
 
 use wasi_fs::{DescriptorStat, DescriptorType, MetadataHashValue};
 use wasi_guest::{Filestat, Filetype, WallDatetime};
-use wasi_p2_calls::types;
 use wasi_p1_model::{P1Error, nanoseconds_of};
+use wasi_p2_calls::types;
 
 /// What preview2 says of a node, by its two calls.
 #[derive(Clone, Copy, Debug, PartialEq, Eq)]

@@ -22,8 +22,8 @@ use crate::view_parts::nodes::{FlagsOf, MetadataHashOf, StatOf, TypeOf};
 use wasi_fs::{Descriptor, Dir};
 use wasi_guest::{Fdstat, Filestat};
 use wasi_host::Host;
-use wasi_p2_calls::{FsResult, WasiFilesystemCtx};
 use wasi_p1_model::{FileSlot, P1Error, directory_fdstat, file_fdstat};
+use wasi_p2_calls::{FsResult, WasiFilesystemCtx};
 
 /// What is told of a descriptor's node: its two answers, which make one record.
 fn looked_at<H: Host>(

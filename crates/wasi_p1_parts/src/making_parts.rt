@@ -18,10 +18,10 @@ use crate::view_parts::{EntryOp, below, raised};
 use wasi_fs::{Act, Descriptor, Dir, FsPerms};
 use wasi_guest::Errno;
 use wasi_host::Host;
+use wasi_p1_model::{GuestEnv, P1Error};
 use wasi_p1_types::open_with::OpenWith;
 use wasi_p2_calls::WasiFilesystemCtx;
 use wasi_paths::has_root;
-use wasi_p1_model::{GuestEnv, P1Error};
 
 /// Whether a directory may be made: Perm where making isn't permitted, and then Dquot where no making is left.
 #[tactic(auto, unfolding(wasi_fs::specs::Calls::may_do))]

@@ -25,10 +25,10 @@ pub mod two_places;
 use crate::descriptors::Descriptors;
 use wasi_fs::{Descriptor, Dir};
 use wasi_host::Host;
+use wasi_p1_model::P1Error;
 use wasi_p1_types::items::{Item, item_under};
 use wasi_p2_calls::{FsResult, WasiFilesystemCtx, WasiFilesystemCtxView};
 use wasi_streams::Resource;
-use wasi_p1_model::P1Error;
 
 /// The resource that a live number names.
 #[tactic(auto, using(crate::proofs::Viewing::given_open))]

@@ -4,11 +4,11 @@ ghost use Rattle.wasi_p1_model.specs.Method.{KeepsHostLaws, MeetsSpec};
 
 use wasi_guest::{Errno, Value};
 use wasi_host::Host;
-use wasi_p1_state::P1State;
+use wasi_p1_model::{P1Error, text_at};
 use wasi_p1_parts::call_parts::{directory_at, open_into, room_at};
 use wasi_p1_parts::making_parts::check_open;
+use wasi_p1_state::P1State;
 use wasi_p1_types::open_with::OpenWith;
-use wasi_p1_model::{P1Error, text_at};
 
 /// Opens the path in a range of memory from the directory of a descriptor, and answers the number of the new
 /// descriptor, which has that directory's permissions and, of a file, position 0.

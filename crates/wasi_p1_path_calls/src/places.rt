@@ -4,15 +4,15 @@ ghost use Rattle.wasi_p1_model.specs.Method.{KeepsHostLaws, MeetsSpec};
 
 use wasi_guest::{Errno, Value};
 use wasi_host::Host;
-use wasi_p1_state::P1State;
+use wasi_p1_model::{P1Error, text_at, write_front};
 use wasi_p1_parts::call_parts::{directory_at, stat_both};
 use wasi_p1_parts::making_parts::{check_link, check_make, make_below};
 use wasi_p1_parts::view_parts::below;
 use wasi_p1_parts::view_parts::places::{
     CreateDirectoryAt, ReadlinkAt, RemoveDirectoryAt, SymlinkAt, UnlinkFileAt,
 };
+use wasi_p1_state::P1State;
 use wasi_p1_types::open_with::path_flags_of;
-use wasi_p1_model::{P1Error, text_at, write_front};
 
 /// Makes an empty directory at the path in a range of memory, from the directory of a descriptor; slashes behind
 /// its name are let go. Refusals, in this order: Badf where the number isn't a directory's; Nomem where the range

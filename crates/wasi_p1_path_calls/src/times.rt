@@ -4,12 +4,12 @@ ghost use Rattle.wasi_p1_model.specs.Method.{KeepsHostLaws, MeetsSpec};
 
 use wasi_guest::{Errno, Value};
 use wasi_host::Host;
-use wasi_p1_state::P1State;
+use wasi_p1_model::{NewTimes, P1Error, text_at};
 use wasi_p1_parts::call_parts::directory_at;
 use wasi_p1_parts::view_parts::below;
 use wasi_p1_parts::view_parts::places::SetTimesAt;
+use wasi_p1_state::P1State;
 use wasi_p1_types::open_with::path_flags_of;
-use wasi_p1_model::{NewTimes, P1Error, text_at};
 
 /// Sets the times of the last read and of the last change of the node that the path in a range of memory names,
 /// from the directory of a descriptor: each by preview1's `fstflags` to the given nanoseconds since the epoch or to

@@ -4,11 +4,11 @@ ghost use Rattle.wasi_p1_model.specs.Method.{KeepsHostLaws, MeetsSpec};
 
 use wasi_guest::{Errno, Value};
 use wasi_host::Host;
-use wasi_p1_state::P1State;
+use wasi_p1_model::{P1Error, text_at};
 use wasi_p1_parts::call_parts::directory_at;
 use wasi_p1_parts::view_parts::two_places::{LinkAt, RenameAt, between};
+use wasi_p1_state::P1State;
 use wasi_p1_types::open_with::path_flags_of;
-use wasi_p1_model::{P1Error, text_at};
 
 /// Gives the file or link under the path in one range of memory a further name, the path in another, each from the
 /// directory of a descriptor of its own; a link itself gets the name, not what it leads to. Refusals, in this

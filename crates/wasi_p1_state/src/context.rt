@@ -6,10 +6,10 @@ use std::alloc::Global;
 use std::marker::Model;
 use wasi_guest::{Quota, QuotaUsed, Services};
 use wasi_host::{Forget, Host, SystemTime};
+use wasi_p1_model::{CtxError, GuestEnv, P1Preopen};
 use wasi_p1_parts::descriptors::Descriptors;
 use wasi_p2_calls::WasiFilesystemCtx;
 use wasi_streams::ResourceTable;
-use wasi_p1_model::{CtxError, GuestEnv, P1Preopen};
 
 /// The state of one guest: preview2's files of a host, the guest's descriptors, and its environment. The preopens are
 /// descriptors from the first, so the files have none of their own. The calls are functions over it, which have its fields;

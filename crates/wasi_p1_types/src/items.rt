@@ -6,8 +6,8 @@ ghost use Rattle.wasi_p1_model.specs.Slots.{is_closed_slot};
 
 use std::alloc::AllocError;
 use wasi_fs::{Descriptor, Dir, File};
-use wasi_streams::{Entry, Resource, ResourceTable, TableError};
 use wasi_p1_model::{DirectorySlot, FileModes, FileSlot, Slot, Stream};
+use wasi_streams::{Entry, Resource, ResourceTable, TableError};
 
 /// The resource of a descriptor, and what the table doesn't say of it. A position is in bytes.
 #[derive(Clone, Copy, Debug, PartialEq, Eq)]

@@ -19,8 +19,8 @@ use std::alloc::{AllocError, Global};
 use wasi_fs::{DescriptorType, Dir};
 use wasi_guest::{Dirent, write_bytes};
 use wasi_host::{DirEntry, FileType, Host, HostError};
-use wasi_paths::Name;
 use wasi_p1_model::{Entry, P1Error, bytes_at, filetype_of};
+use wasi_paths::Name;
 
 /// A name under which a directory lists itself.
 fn dot(alloc: Global, name: &str, node: u64) -> Result<Entry, AllocError>

@@ -18,8 +18,8 @@ ghost use Rattle.wasi_p2_types.specs.FlagNames.{how_named};
 use bitflags::Flags;
 use wasi_fs::{Act, FsPerms};
 use wasi_guest::{Errno, FdFlags, LookupFlags, OFlags, Rights};
-use wasi_p2_types::{DescriptorFlags, OpenFlags, PathFlags};
 use wasi_p1_model::{FileModes, INVALID, P1Error};
+use wasi_p2_types::{DescriptorFlags, OpenFlags, PathFlags};
 
 /// What the flags and rights of `path_open` ask for, as the flags of an open below a directory.
 #[derive(Clone, Copy, Debug, PartialEq, Eq)]

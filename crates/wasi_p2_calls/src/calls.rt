@@ -1,9 +1,9 @@
 //! The calls of a view, by family.
 
+mod descriptor_ops;
 mod directories;
 mod dropping;
 mod error_codes;
-mod descriptor_ops;
 mod opening;
 mod path_ops;
 mod reading_and_writing;

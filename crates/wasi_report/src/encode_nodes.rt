@@ -11,8 +11,8 @@ use crate::encode::{DigitRoom, Told, tell_bytes};
 use json::Writer;
 use std::alloc::{AllocError, Allocator};
 use wasi_host::{Bits, SystemTime};
-use wasi_tree_index::EntryCursor;
 use wasi_tree::{ContentView, NewContent, NewEntry, NewNode, NodeView};
+use wasi_tree_index::EntryCursor;
 
 /// The names of a directory that are still to come, each with the number of the node that it holds.
 pub trait Names<'a> {

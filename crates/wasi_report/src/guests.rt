@@ -6,9 +6,9 @@ ghost use Rattle.wasi_report.specs.GuestsReadBack.{FitsGuest, FitsGuests};
 ghost use Rattle.wasi_report.specs.ReadBack.{HasRisingNames};
 ghost use Rattle.wasi_report.specs.Told.{told};
 
-use crate::outcome::tell_outcome_members;
 use crate::encode::{DigitRoom, Told, tell_list_at};
 use crate::encode_nodes::tell_new_nodes;
+use crate::outcome::tell_outcome_members;
 use json::Writer;
 use std::alloc::{AllocError, Allocator, Global};
 use wasi_guest::Answers;

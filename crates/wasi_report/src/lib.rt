@@ -2,12 +2,12 @@
 #![tactic(auto)]
 
 mod audit;
-mod guests;
-mod laws;
-mod outcome;
 mod encode;
 mod encode_answers;
 mod encode_nodes;
+mod guests;
+mod laws;
+mod outcome;
 mod trial;
 
 pub use audit::{PreopenNodes, audit_in};

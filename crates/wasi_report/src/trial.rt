@@ -5,8 +5,8 @@ ghost use Rattle.wasi_report.specs.Told.{told};
 ghost use Rattle.wasi_report.specs.Trial.{trial_by, trial_text, trial_value};
 ghost use Rattle.wasi_report.specs.TrialReadBack.{FitsTrial};
 
-use crate::outcome::{Outcome, tell_outcome, tell_tree};
 use crate::encode::{DigitRoom, tell_list_at};
+use crate::outcome::{Outcome, tell_outcome, tell_tree};
 use json::Writer;
 use std::alloc::{AllocError, Allocator, Global};
 use wasi_tree::MemTree;

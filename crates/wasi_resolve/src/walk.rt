@@ -14,9 +14,9 @@ ghost use Rattle.wasi_resolve.specs.WalkSteps.{Walked, TakesPart, Stopped, EndsI
 
 use crate::MAX_SYMLINK_EXPANSIONS;
 use crate::found::{Aim, Found, Reach, Stop};
-use crate::parts_left::{PartLeft, put_parts};
 use crate::name_left::NameLeft;
 use crate::name_lookup::{at_last, go_down};
+use crate::parts_left::{PartLeft, put_parts};
 use crate::stack::{close_all, leave, top_of};
 use crate::walk_state::Way;
 use bumpalo::Bump;

@@ -6,8 +6,8 @@ ghost use Rattle.wasi_sandbox.specs.Telling.{Tells};
 ghost use Rattle.wasi_overlay.specs.Overlay.{IsFreshOn};
 ghost use Rattle.wasi_p1_model.specs.Quotas.{IsWithinQuota};
 
-use crate::sandbox::Sandbox;
 use crate::result_layout::Places;
+use crate::sandbox::Sandbox;
 use std::alloc::{AllocError, Global};
 use wasi_guest::QuotaUsed;
 use wasi_overlay::Overlay;

@@ -16,9 +16,9 @@ ghost use Rattle.wasi_p1_model.specs.Guest.{guest_of, state_of};
 
 use std::alloc::{AllocError, Global};
 use wasi_audit::{Audit, AuditEffect};
-use wasi_host_faults::FailAt;
 use wasi_form::{Script, ScriptPreopen};
 use wasi_guest::{Answer, Call, GuestMemory, Value};
+use wasi_host_faults::FailAt;
 use wasi_p1::{WasiP1Ctx, answer_of, call, ends_run, named};
 use wasi_report::{PreopenNodes, audit_in};
 use wasi_setup::{Setup, begin};

@@ -3,14 +3,14 @@
 #![tactic(auto)]
 
 mod audited;
+mod program;
 mod run;
 mod status;
 mod summary;
-mod program;
 mod trial;
 mod words;
 
-pub use status::Status;
 pub use program::run_script;
+pub use status::Status;
 pub use wasi_io::words_after_name;
 pub use words::{ScriptTask, Task, task_of};

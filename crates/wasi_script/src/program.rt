@@ -19,8 +19,8 @@ use crate::trial::trial_of;
 use crate::words::{ScriptTask, Task, task_of};
 use bumpalo::Bump;
 use std::alloc::{AllocError, Allocator, Global};
-use wasi_io::{Sink, Source, read_all, write_all};
 use wasi_form::{Refusal, Script, read_script};
+use wasi_io::{Sink, Source, read_all, write_all};
 use wasi_report::report_in;
 
 const USAGE: &str = "usage: wasirun run | wasirun gen N | wasirun audit | wasirun trial\n";

@@ -13,10 +13,10 @@ ghost use Rattle.wasi_tree.specs.Given.{Given, tree_of};
 ghost use Rattle.wasi_tree.specs.MemState.{live_of};
 
 use std::alloc::{AllocError, Global};
-use wasi_host_faults::FailAt;
 use wasi_form::{Script, Session, Shown};
 use wasi_guest::{Answers, Call, GuestMemory};
 use wasi_host::Host;
+use wasi_host_faults::FailAt;
 use wasi_p1::{WasiP1Ctx, run_calls};
 use wasi_report::Outcome;
 use wasi_setup::{ScriptTree, begin_over, shown};

@@ -2,8 +2,8 @@
 ghost use Rattle.std.specs.Prelude.{◌≡◌, ◌↔◌, ◌⊎◌, option_map, IsNone};
 ghost use Rattle.wasi_script.specs.Exit.{exit_code, message_of, why_refused, unfinished_status, script_status};
 
-use wasi_io::Unfinished;
 use wasi_form::{Refusal, ScriptError};
+use wasi_io::Unfinished;
 
 /// How the program ended.
 #[derive(Clone, Copy, Debug, PartialEq, Eq)]

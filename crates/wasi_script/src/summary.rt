@@ -6,8 +6,8 @@ ghost use Rattle.wasi_script.specs.Summary as specs;
 
 use crate::run::run;
 use std::alloc::{AllocError, Global};
-use wasi_script_gen::gen_script;
 use wasi_guest::{Answer, Answers, Call, Value};
+use wasi_script_gen::gen_script;
 
 fn is_success(answer: Answer) -> bool
     ensures { result ≡ is_success answer }

@@ -8,7 +8,7 @@ ghost use Rattle.wasi_script_gen.specs.GenNodes.{root_entry, nodes_of_kind};
 
 use std::alloc::{AllocError, Global};
 use wasi_host::Limits;
-use wasi_tree::{WellFormedNodes, NewContent, NewEntry, NewNode, TreeError};
+use wasi_tree::{NewContent, NewEntry, NewNode, TreeError, WellFormedNodes};
 
 /// What a node below node 0 is.
 #[derive(Clone, Copy)]

@@ -6,8 +6,8 @@ ghost use Rattle.wasi_guest.specs.Quotas.{IsQuota};
 ghost use Rattle.wasi_guest.specs.Services.{handed};
 ghost use Rattle.wasi_script_gen.specs.GenScript as specs;
 
-use crate::nodes::gen_nodes;
 use crate::calls::{Turns, all_turns};
+use crate::nodes::gen_nodes;
 use std::alloc::{AllocError, Global};
 use wasi_form::{DEFAULT_FUEL, DEFAULT_LIMITS, DEFAULT_TABLE, Script, ScriptPreopen, Session};
 use wasi_fs::FsPerms;

@@ -15,13 +15,13 @@ ghost use Rattle.wasi_setup.specs.ReportAfter.{bytes_shown};
 
 use crate::script_tree::ScriptTree;
 use std::alloc::{AllocError, Global};
-use wasi_host_faults::{FailAt, Fault};
 use wasi_form::{Piece, Script, ScriptPreopen, Session, Shown};
 use wasi_guest::{Call, GuestMemory, Quota, Services, slice_at};
 use wasi_host::Host;
+use wasi_host_faults::{FailAt, Fault};
+use wasi_p1_model::{CtxError, P1Preopen};
 use wasi_p1_state::P1State;
 use wasi_tree::{HandleError, MemTree};
-use wasi_p1_model::{CtxError, P1Preopen};
 
 /// Where the calls of a script begin: the memory and the context, and what of the script is left to be done.
 #[derive(Drop)]

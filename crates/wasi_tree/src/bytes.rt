@@ -10,7 +10,7 @@ ghost use Rattle.wasi_tree.specs.TouchedTree.{Grows, MeansCode};
 
 use crate::node_store::NodeStore;
 use std::alloc::AllocError;
-use wasi_host::{ErrorCode, FILE_MAX, OpenHandle, HostError};
+use wasi_host::{ErrorCode, FILE_MAX, HostError, OpenHandle};
 
 /// Reads a file's bytes from an offset on into the front of `buf`, and answers how many.
 #[tactic(auto, unfolding(wasi_host::specs::Refusal::refusal))]
@@ -74,7 +74,11 @@ pub fn put_at<S: NodeStore>(
 
 /// Puts a piece of bytes behind a file's last one, and answers how many: all.
 #[tactic(auto, unfolding(wasi_host::specs::Refusal::refusal))]
-pub fn put_behind<S: NodeStore>(store: &mut S, file: OpenHandle, piece: &[u8]) -> Result<usize, HostError>
+pub fn put_behind<S: NodeStore>(
+    store: &mut S,
+    file: OpenHandle,
+    piece: &[u8],
+) -> Result<usize, HostError>
     requires within { file.node < next_of (S.seen store.old).tree }
     requires at { S.HasRoom store.old file.node }
     ensures meaning { MatchResult result

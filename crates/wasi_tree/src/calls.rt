@@ -17,17 +17,18 @@ ghost use Rattle.wasi_tree.specs.Sound.{NodesStay, IsSoundText};
 ghost use Rattle.wasi_tree.specs.TouchedTree.{FollowsTable, Grows};
 
 use crate::bytes::{get_at, put_at, put_behind, put_size};
-use crate::name_lookup::NameLookup;
+use crate::inode::Inode;
 use crate::moves::node_to_move;
+use crate::name_lookup::NameLookup;
 use crate::node_store::NodeStore;
 use crate::refusals::{
     access_of, list_of, node_to_link, node_to_remove, node_to_unlink, node_under, refuse_make_dir,
     refuse_open, refuse_symlink, stat_of, text_under,
 };
-use crate::inode::Inode;
 use std::alloc::{AllocError, Global};
 use wasi_host::{
-    Advice, DirEntry, ErrorCode, OpenHandle, HostError, Metadata, OpenOptions, SyncFlags, SystemTime,
+    Advice, DirEntry, ErrorCode, HostError, Metadata, OpenHandle, OpenOptions, SyncFlags,
+    SystemTime,
 };
 use wasi_paths::Name;
 
@@ -483,7 +484,11 @@ pub fn write_at<S: NodeStore>(
 }
 
 /// Puts a piece of bytes behind a file's last one, and answers how many: all.
-pub fn append<S: NodeStore>(store: &mut S, file: OpenHandle, piece: &[u8]) -> Result<usize, HostError>
+pub fn append<S: NodeStore>(
+    store: &mut S,
+    file: OpenHandle,
+    piece: &[u8],
+) -> Result<usize, HostError>
     requires within { file.node < next_of (S.seen store.old).tree }
     requires at { S.HasRoom store.old file.node }
     ensures does { FollowsTable (S.seen store.old) (S.seen store.new) (Append file piece.now) (λ n. n) result }

@@ -14,7 +14,7 @@ ghost use Rattle.wasi_host.specs.Answer.{kind_of, size_of, metadata_from};
 use crate::node::{ContentView, NewContent, NewEntry, NewNode, NodeView, new_bits};
 use std::alloc::{AllocError, Global};
 use wasi_host::{Bits, FileType, Metadata, SystemTime};
-use wasi_tree_index::{NameIndex, EntryCursor};
+use wasi_tree_index::{EntryCursor, NameIndex};
 
 /// What a node is, with how many names it has. The names that a directory holds stand in the rows of all names.
 #[derive(Debug, Drop)]
@@ -254,7 +254,12 @@ impl Inode {
 
     /// The row of the node of a number, which so many entries of its list give. The names of a directory come among the
     /// others; of two entries of one name the first one stays.
-    pub fn new(node: NewNode, number: u64, links: u64, names: &mut NameIndex) -> Result<Inode, AllocError>
+    pub fn new(
+        node: NewNode,
+        number: u64,
+        links: u64,
+        names: &mut NameIndex,
+    ) -> Result<Inode, AllocError>
         requires { names_at names.old.names number ≡ maps.empty }
         ensures row { IfOk result (λ row. (all : List Given) → entry_count number all ≡ links
             → with_names (names_at names.new.names number) (stored_node row) ≡ node_from all number (given node)) }

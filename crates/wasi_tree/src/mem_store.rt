@@ -10,20 +10,20 @@ ghost use Rattle.wasi_tree.specs.Sound.{IsSoundNode};
 ghost use Rattle.wasi_tree.specs.StoredTree.{stored_tree, IsStored};
 ghost use Rattle.wasi_tree.specs.Viewed.{Views};
 
-use crate::well_formed_nodes::WellFormedNodes;
-use crate::name_lookup::NameLookup;
+use crate::inode::Inode;
 use crate::marks::Marks;
+use crate::name_lookup::NameLookup;
 use crate::node::{NewNode, NodeView};
 use crate::node_store::NodeStore;
 use crate::parents::Parents;
-use crate::inode::Inode;
 use crate::store::InodeStore;
 use crate::way::TellsParents;
+use crate::well_formed_nodes::WellFormedNodes;
 use std::alloc::{AllocError, Global};
 use std::marker::Model;
 use wasi_host::{Bits, DirEntry, Limits, Metadata, SystemTime};
-use wasi_tree_index::{SearchHint, NameIndex, EntryCursor};
 use wasi_paths::Name;
+use wasi_tree_index::{EntryCursor, NameIndex, SearchHint};
 
 /// The nodes of a tree with the parents of its directories, and which of them calls have touched. Contracts see all three.
 /// Each node has room.

@@ -14,11 +14,11 @@ ghost use Rattle.wasi_tree.specs.MemState.{live_of};
 
 use crate::change::TreeChange;
 use crate::errors::TreeError;
-use crate::well_formed_nodes::WellFormedNodes;
 use crate::mem_store::MemStore;
 use crate::node::{EntryView, NewNode, NodeView};
 use crate::node_store::NodeStore;
 use crate::tree_host::TreeHost;
+use crate::well_formed_nodes::WellFormedNodes;
 use std::alloc::{AllocError, Global};
 use wasi_host::Limits;
 use wasi_tree_index::EntryCursor;

@@ -21,9 +21,9 @@ ghost use Rattle.wasi_tree.specs.Sound.{NodesStay, IsSoundNode, IsSoundText};
 ghost use Rattle.wasi_tree.specs.StoredTree.{stored_node};
 ghost use Rattle.wasi_tree.specs.TouchedTree.{Touched, Grows, with_touched, with_tree};
 
+use crate::inode::Inode;
 use crate::name_lookup::NameLookup;
 use crate::node::NewNode;
-use crate::inode::Inode;
 use std::alloc::{AllocError, Global};
 use wasi_host::{Bits, DirEntry, Limits, Metadata, SystemTime};
 use wasi_paths::Name;

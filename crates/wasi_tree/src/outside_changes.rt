@@ -10,9 +10,9 @@ ghost use Rattle.wasi_tree.specs.Move.{HasName};
 ghost use Rattle.wasi_tree.specs.Sound.{NodesStay};
 
 use crate::change::TreeChange;
-use crate::name_lookup::NameLookup;
 use crate::mem_store::MemStore;
 use crate::moves::node_to_move;
+use crate::name_lookup::NameLookup;
 use crate::node_store::NodeStore;
 use crate::refusals::{node_to_remove, node_to_unlink};
 use wasi_paths::Name;

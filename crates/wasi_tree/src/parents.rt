@@ -5,9 +5,9 @@ ghost use Rattle.wasi_tree.specs.Given.{given};
 ghost use Rattle.wasi_tree.specs.FitTests.{entry_numbers};
 ghost use Rattle.wasi_tree.specs.ParentOf.{is_on_way, without_parent, ArePut, TellParents};
 
-use crate::well_formed::entries_of;
 use crate::node::{NewEntry, NewNode};
 use crate::way::{TellsParents, is_below};
+use crate::well_formed::entries_of;
 use std::alloc::{AllocError, Global};
 
 /// For each node, in which directory it stands; nothing of the root, and of a directory that is removed. What it says of

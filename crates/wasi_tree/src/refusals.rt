@@ -17,7 +17,7 @@ ghost use Rattle.wasi_tree.specs.TouchedTree.{MeansCode};
 use crate::name_lookup::NameLookup;
 use crate::node_store::NodeStore;
 use std::alloc::Global;
-use wasi_host::{DirEntry, ErrorCode, OpenHandle, HostError, LINK_MAX, Metadata, OpenOptions};
+use wasi_host::{DirEntry, ErrorCode, HostError, LINK_MAX, Metadata, OpenHandle, OpenOptions};
 use wasi_paths::Name;
 
 /// What is wrong with a name in a directory.
@@ -216,7 +216,10 @@ pub fn refuse_symlink<S: NodeStore>(
 
 /// The text of the link that a name holds.
 #[tactic(auto, using(crate::proofs::StoreLemmas::store_rules))]
-pub fn text_under<'s, S: NodeStore>(store: &'s S, looked: &NameLookup<'_>) -> Result<&'s str, ErrorCode>
+pub fn text_under<'s, S: NodeStore>(
+    store: &'s S,
+    looked: &NameLookup<'_>,
+) -> Result<&'s str, ErrorCode>
     requires { IsLooked (S.seen store.now).tree looked.now }
     ensures meaning { MatchResult result
         (λ text. link_answer (S.seen store.now).tree looked.now.directory (name_bytes looked.now.name) ≡ Ok text.now)
@@ -277,7 +280,11 @@ pub fn node_to_drop<S: NodeStore>(
 
 /// What is wrong with two names in directories, the old one first.
 #[tactic(auto, using(crate::proofs::StoreLemmas::store_rules))]
-pub fn refuse_both<S: NodeStore>(store: &S, old: &NameLookup<'_>, new: &NameLookup<'_>) -> Option<ErrorCode>
+pub fn refuse_both<S: NodeStore>(
+    store: &S,
+    old: &NameLookup<'_>,
+    new: &NameLookup<'_>,
+) -> Option<ErrorCode>
     requires old { IsLooked (S.seen store.now).tree old.now }
     requires new { IsLooked (S.seen store.now).tree new.now }
     ensures { result

@@ -16,15 +16,15 @@ ghost use Rattle.wasi_tree.specs.StoredTree.{stored_node, stored_tree, named_fro
 ghost use Rattle.std.specs.FinMap as maps;
 ghost use Rattle.wasi_tree_index.specs.DirEntryKeys.{names_at};
 
-use crate::well_formed_nodes::WellFormedNodes;
+use crate::inode::Inode;
 use crate::marks::Marks;
 use crate::node::{NewNode, NodeView};
-use crate::inode::Inode;
+use crate::well_formed_nodes::WellFormedNodes;
 use std::alloc::{AllocError, Global};
 use std::marker::Model;
 use wasi_host::{Bits, DirEntry, FileType, Limits, Metadata, SystemTime};
-use wasi_tree_index::{SearchHint, NameIndex, EntryCursor};
 use wasi_paths::Name;
+use wasi_tree_index::{EntryCursor, NameIndex, SearchHint};
 
 /// The nodes of a tree, with the names of its directories, its limits and the nodes that steps have worked on. Contracts
 /// see the tree.
@@ -259,7 +259,12 @@ impl InodeStore {
 
     /// Makes a node under a name of a directory, and gives its number. All room is taken first, so that nothing has
     /// changed where memory is wanted.
-    pub fn make_node(&mut self, directory: u64, name: Name<'_>, row: Inode) -> Result<u64, AllocError>
+    pub fn make_node(
+        &mut self,
+        directory: u64,
+        name: Name<'_>,
+        row: Inode,
+    ) -> Result<u64, AllocError>
         requires directory { is_directory (node_at self.old directory).content ≡ true }
         requires named { IsTrue (is_entry_name (name_bytes name)) }
         requires sound { IsSoundNode 0 (stored_node row) }

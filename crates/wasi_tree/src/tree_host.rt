@@ -17,8 +17,8 @@ use crate::slots::Slots;
 use std::alloc::{AllocError, Global};
 use std::marker::Model;
 use wasi_host::{
-    AccessMode, Advice, DirEntry, ErrorCode, Forget, Handle, OpenHandle, Host, HostError, LookKind,
-    Lookup, LookupLog, Metadata, OpenOptions, SyncFlags, SystemTime,
+    AccessMode, Advice, DirEntry, ErrorCode, Forget, Handle, Host, HostError, LookKind, Lookup,
+    LookupLog, Metadata, OpenHandle, OpenOptions, SyncFlags, SystemTime,
 };
 use wasi_paths::Name;
 

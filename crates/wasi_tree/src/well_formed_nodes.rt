@@ -5,8 +5,8 @@ ghost use Rattle.wasi_tree.specs.WellFormed.{AreFit, IsTreeCause};
 ghost use Rattle.wasi_tree.specs.WellFormedNodes.{NodeList};
 
 use crate::errors::TreeError;
-use crate::well_formed::counted_names;
 use crate::node::NewNode;
+use crate::well_formed::counted_names;
 use std::alloc::Global;
 use std::marker::Model;
 use wasi_host::Limits;
@@ -48,7 +48,11 @@ impl WellFormedNodes {
     /// directory that holds it. A wrong number of names, entries of a directory without a name, and not being found from
     /// node 0 count for the directory itself. A number at the limit, a count of names, a size or a link's text counts
     /// for its node. An empty list, or a node 0 that isn't a directory, is `Invalid(0)`.
-    pub fn new(alloc: Global, nodes: Vec<NewNode>, limits: Limits) -> Result<WellFormedNodes, TreeError>
+    pub fn new(
+        alloc: Global,
+        nodes: Vec<NewNode>,
+        limits: Limits,
+    ) -> Result<WellFormedNodes, TreeError>
         ensures kept { IfOk result (λ f. f ≡ record { nodes = map given nodes.items; limits = limits }) }
         ensures fit { OnOk result (AreFit limits (map given nodes.items)) }
         ensures cause { IfErr result (IsTreeCause limits (map given nodes.items)) }

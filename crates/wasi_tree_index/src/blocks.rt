@@ -14,8 +14,8 @@ ghost use Rattle.wasi_tree_index.specs.EntryCursors.{entries_from, IsRun};
 ghost use Rattle.std.specs.String.{string_bytes};
 ghost use Rattle.wasi_tree_index.specs.Blocks.{block_entries, all_entries, with_row, has_block, most_rows, IsBlock, AreBlocks, IsPlace, HasSpace};
 
-use crate::key::DirEntryKey;
 use crate::hint::SearchHint;
+use crate::key::DirEntryKey;
 use crate::shift::{insert_into, insert_row, insert_through};
 use crate::sought::Sought;
 use std::mem;
@@ -489,7 +489,10 @@ pub fn settled<'a>(
 }
 
 /// The rows of a directory and of those behind it.
-pub fn rows_from(blocks: &Vec<Vec<DirEntryKey>>, directory: u64) -> (&[DirEntryKey], &[Vec<DirEntryKey>])
+pub fn rows_from(
+    blocks: &Vec<Vec<DirEntryKey>>,
+    directory: u64,
+) -> (&[DirEntryKey], &[Vec<DirEntryKey>])
     requires { AreBlocks blocks.now.items }
     ensures run { IsRun directory result.0.now result.1.now }
     ensures same { run_of directory (entries_from result.0.now result.1.now) ≡ run_of directory (all_entries blocks.now.items) }

@@ -89,7 +89,11 @@ impl<'a> EntryCursor<'a> {
 }
 
 /// The row at a place of some rows and of the blocks behind them.
-fn row_at<'a>(here: &'a [DirEntryKey], rest: &'a [Vec<DirEntryKey>], place: u64) -> Option<&'a DirEntryKey>
+fn row_at<'a>(
+    here: &'a [DirEntryKey],
+    rest: &'a [Vec<DirEntryKey>],
+    place: u64,
+) -> Option<&'a DirEntryKey>
     ensures { option_map (λ row. row_entry row.now) result ≡ slice_get (entries_from here.now rest.now) place }
 {
     let mut rows = here;

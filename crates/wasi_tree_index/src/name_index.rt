@@ -5,9 +5,9 @@ ghost use Rattle.std.specs.String.{string_bytes};
 ghost use Rattle.wasi_tree_index.specs.DirEntryKeys.{AllNames, Key, names_at, run_of};
 
 use crate::blocks::{self, BLOCK};
-use crate::key::DirEntryKey;
-use crate::hint::SearchHint;
 use crate::entries::EntryCursor;
+use crate::hint::SearchHint;
+use crate::key::DirEntryKey;
 use crate::sought::Sought;
 use std::alloc::{AllocError, Global};
 use std::marker::Model;

@@ -5,8 +5,8 @@ ghost use Rattle.std.specs.Cmp.Lexicographic.{slice_cmp};
 ghost use Rattle.std.specs.Ordering.{nat_cmp};
 ghost use Rattle.wasi_tree_index.specs.OverNames.{with_changes, starts_below, passed};
 
-use crate::over_index::TAKEN;
 use crate::entries::EntryCursor;
+use crate::over_index::TAKEN;
 use std::marker::Model;
 
 /// The names of a directory that are still to come, in byte order, each with the node that it holds. They are those of

@@ -5,8 +5,8 @@ ghost use Rattle.wasi_tree_index.specs.DirEntryKeys.{AllNames, Key, names_at};
 ghost use Rattle.wasi_tree_index.specs.OverNames.{overlaid, found_over, IsChanged};
 
 use crate::hint::SearchHint;
-use crate::over_entries::OverEntryCursor;
 use crate::name_index::NameIndex;
+use crate::over_entries::OverEntryCursor;
 use std::alloc::{AllocError, Global};
 use std::marker::Model;
 

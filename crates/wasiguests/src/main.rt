@@ -5,8 +5,8 @@
 use std::env;
 use std::io::ErrorKind;
 use std::process::ExitCode;
-use wasi_io::{StdinSource, StdoutSink, words_after_name};
 use wasi_guests::{GuestStatus, run_guest_script};
+use wasi_io::{StdinSource, StdoutSink, words_after_name};
 
 // The words after the program's name; none where one of them isn't a text.
 fn command_line(rt: &HostRuntime) -> Option<Vec<String>> {

@@ -1,10 +1,10 @@
 //! The calls of a view.
 ghost use Rattle.wasi_p2_calls.specs.Views.{FilesOwned, files_of};
 
+use test_support::{Asked, Told};
 use wasi_host::Host;
 use wasi_p2_calls::WasiFilesystemCtxView;
 use wasi_streams::Resource;
-use test_support::{Asked, Told};
 
 /// `CALL ARGUMENTS`. The numbers of resources that are answered are kept.
 pub fn view_call<H: Host>(

@@ -2,10 +2,10 @@
 ghost use Rattle.std.specs.Prelude.{◌<◌, length};
 ghost use Rattle.test_p2.specs.AllOwned.{AllOwned, StayOwned};
 
+use test_support::{Asked, Told};
 use wasi_host::Host;
 use wasi_p2::{NamedId, WasiCtxNamedView, WasiFilesystemNamedView};
 use wasi_streams::Resource;
-use test_support::{Asked, Told};
 
 /// `CALL ARGUMENTS`, of the view at a place. The numbers of resources that are answered are kept.
 pub fn named_call<H: Host, T: WasiFilesystemNamedView<H>>(

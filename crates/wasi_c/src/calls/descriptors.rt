@@ -3,8 +3,8 @@ ghost use Rattle.std.specs.Prelude.{◌≡◌, None, IsSome};
 ghost use Rattle.wasi_guest.specs.declared.call.Call.TheVariants as calls;
 ghost use Rattle.wasi_c.specs.Told.{first_at, nowhere, TellsCall};
 
-use crate::handle::SandboxHandle;
 use crate::answer::{NOWHERE, call_in, first_at};
+use crate::handle::SandboxHandle;
 use std::alloc::Global;
 use wasi_sandbox::Call;
 

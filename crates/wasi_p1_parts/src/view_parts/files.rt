@@ -24,10 +24,10 @@ use crate::descriptors::Descriptors;
 use crate::view_parts::{raised, resource_under};
 use wasi_fs::{Descriptor, File};
 use wasi_host::Host;
+use wasi_p1_model::P1Error;
 use wasi_p2_calls::types::Advice;
 use wasi_p2_calls::{FsResult, WasiFilesystemCtx, WasiFilesystemCtxView};
 use wasi_streams::Resource;
-use wasi_p1_model::P1Error;
 
 /// A call of a view about a file, which looks up no name of one.
 pub trait FileCall<H: Host> {

@@ -12,11 +12,11 @@ ghost use Rattle.wasi_p2_calls.specs.Views.{Performs};
 
 use crate::view_parts::NodeCall;
 use wasi_host::Host;
+use wasi_p1_model::NewTimes;
 use wasi_p1_types::new_times::timestamp_of;
 use wasi_p2_calls::types::{DescriptorFlags, DescriptorStat, DescriptorType, MetadataHashValue};
 use wasi_p2_calls::{FsResult, WasiFilesystemCtxView};
 use wasi_streams::Resource;
-use wasi_p1_model::NewTimes;
 
 /// Sets the times of a node, of which none may be before the epoch.
 #[derive(Clone, Copy)]

@@ -13,11 +13,11 @@ ghost use Rattle.wasi_p2_calls.specs.Views.{files_of};
 
 use wasi_fs::{Descriptor, Dir};
 use wasi_host::Host;
+use wasi_p1_model::FileModes;
 use wasi_p1_types::items::Item;
 use wasi_p1_types::open_with::OpenWith;
 use wasi_p2_calls::{FsResult, WasiFilesystemCtx, WasiFilesystemCtxView};
 use wasi_streams::{Entry, Resource, ResourceTable};
-use wasi_p1_model::FileModes;
 
 /// Opens a path below the directory of a resource.
 fn open_at<H: Host>(

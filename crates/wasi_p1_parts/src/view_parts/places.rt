@@ -15,11 +15,11 @@ ghost use Rattle.wasi_resolve.specs.PathRequest.{AtPlace, meant_by};
 
 use crate::view_parts::EntryOp;
 use wasi_host::Host;
+use wasi_p1_model::NewTimes;
 use wasi_p1_types::new_times::timestamp_of;
 use wasi_p2_calls::types::{DescriptorStat, MetadataHashValue, PathFlags};
 use wasi_p2_calls::{FsResult, WasiFilesystemCtxView};
 use wasi_streams::Resource;
-use wasi_p1_model::NewTimes;
 
 /// Makes an empty directory.
 #[derive(Clone, Copy)]
