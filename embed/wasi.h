@@ -12,6 +12,11 @@
 #include <stddef.h>
 #include <stdint.h>
 
+/// The version of this header and of the library that it declares.
+#define WASI_C_VERSION_MAJOR 0
+#define WASI_C_VERSION_MINOR 1
+#define WASI_C_VERSION_PATCH 0
+
 #ifdef __cplusplus
 extern "C" {
 #endif
