@@ -53,6 +53,7 @@ impl<'a> Grown<'a> {
     }
 
     /// How many nodes there are.
+    #[inline(always)]
     pub fn count(&self) -> u64
         ensures { result ≡ length self.now.nodes }
     {
@@ -60,6 +61,7 @@ impl<'a> Grown<'a> {
     }
 
     /// Whether a number is a directory's.
+    #[inline(always)]
     pub fn is_directory(&self, n: u64) -> bool
         ensures { result ≡ is_directory (slice_index_or self.now.nodes n stray).content }
     {
@@ -73,6 +75,7 @@ impl<'a> Grown<'a> {
     }
 
     /// Whether a number is a file's.
+    #[inline(always)]
     pub fn is_file(&self, n: u64) -> bool
         requires { n < length self.now.nodes }
         ensures { result ≡ is_file (slice_index_or self.now.nodes n stray).content }
@@ -84,6 +87,7 @@ impl<'a> Grown<'a> {
     }
 
     /// Whether a number is a link's.
+    #[inline(always)]
     pub fn is_link(&self, n: u64) -> bool
         requires { n < length self.now.nodes }
         ensures { result ≡ is_link (slice_index_or self.now.nodes n stray).content }
@@ -95,6 +99,7 @@ impl<'a> Grown<'a> {
     }
 
     /// What kind of node a number is. That of no node is shown as a file.
+    #[inline(always)]
     pub fn kind(&self, n: u64) -> FileType
         ensures { result ≡ kind_of (slice_index_or self.now.nodes n stray).content }
     {
@@ -108,6 +113,7 @@ impl<'a> Grown<'a> {
     }
 
     /// Whether a number is that of a directory that is gone.
+    #[inline(always)]
     pub fn is_gone(&self, n: u64) -> bool
         requires { n < length self.now.nodes }
         ensures { result ≡ is_gone (slice_index_or self.now.nodes n stray).content }
@@ -119,6 +125,7 @@ impl<'a> Grown<'a> {
     }
 
     /// The bits of a node.
+    #[inline(always)]
     pub fn bits(&self, n: u64) -> Bits
         requires { n < length self.now.nodes }
         ensures { result ≡ (slice_index_or self.now.nodes n stray).bits }
@@ -130,6 +137,7 @@ impl<'a> Grown<'a> {
     }
 
     /// A file's bytes. Nothing of what is no file.
+    #[inline(always)]
     pub fn bytes(&self, n: u64) -> &[u8]
         requires { n < length self.now.nodes }
         ensures { result.now ≡ bytes_of (slice_index_or self.now.nodes n stray).content }
@@ -152,6 +160,7 @@ impl<'a> Grown<'a> {
     }
 
     /// The metadata of a node.
+    #[inline(always)]
     pub fn metadata(&self, n: u64) -> Metadata
         requires { n < length self.now.nodes }
         ensures { result ≡ metadata_from n (slice_index_or self.now.nodes n stray) }
@@ -181,6 +190,7 @@ impl<'a> Grown<'a> {
 }
 
 /// The row of the node of a number, where it was made.
+#[inline(always)]
 fn row_of<'a>(base: &MemStore, made: &'a [Inode], n: u64) -> Option<&'a Inode>
     requires { n < length (grown base.now.tree.nodes made.now) }
     ensures made { IfSome result (λ row. stored_node row.now ≡ slice_index_or (grown base.now.tree.nodes made.now) n stray) }

@@ -46,6 +46,7 @@ impl Seat {
     }
 
     /// The seat of a node with this metadata, of which it changes nothing.
+    #[inline(always)]
     pub fn new(below: Metadata, gone: bool) -> Seat
         ensures { result ≡ seat_of below gone }
     {
@@ -86,6 +87,7 @@ impl Seat {
     }
 
     /// The metadata of a node, given that of the node below.
+    #[inline(always)]
     pub fn metadata(&self, below: Metadata) -> Metadata
         ensures { (n : ℕ) (node : Node) → below ≡ metadata_from n node
             → result ≡ metadata_from n (node_over self.now node) }
@@ -100,6 +102,7 @@ impl Seat {
     }
 
     /// A file's size, and that of anything else as the node below has it.
+    #[inline(always)]
     fn size(&self, below: Metadata) -> u64
         ensures { (n : ℕ) (node : Node) → below ≡ metadata_from n node
             → result ≡ size_of (content_over self.now node.content) }
@@ -111,6 +114,7 @@ impl Seat {
     }
 
     /// How many names a file or a link has. A directory's are shown as 1.
+    #[inline(always)]
     fn shown_links(&self, below: Metadata) -> u64
         ensures { (n : ℕ) (node : Node) → below ≡ metadata_from n node
             → result ≡ links_of (content_over self.now node.content) }
@@ -122,6 +126,7 @@ impl Seat {
     }
 
     /// The bytes of its own, or those below.
+    #[inline(always)]
     pub fn bytes_over<'b>(&'b self, below: &'b [u8]) -> &'b [u8]
         ensures { result.now ≡ bytes_over self.now.bytes below.now }
     {
@@ -132,6 +137,7 @@ impl Seat {
     }
 
     /// Touches the node in a round.
+    #[inline(always)]
     pub fn touch(&mut self, round: u32)
         ensures { self.new ≡ in_round round self.old }
     {

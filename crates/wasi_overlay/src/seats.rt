@@ -42,6 +42,7 @@ impl Seats {
     }
 
     /// The seat of a number.
+    #[inline(always)]
     pub fn get(&self, n: u64) -> Option<&Seat>
         ensures { option_copied result ≡ maps.get self.now n }
     {
@@ -49,6 +50,7 @@ impl Seats {
     }
 
     /// Whether a number has a seat.
+    #[inline(always)]
     pub fn has(&self, n: u64) -> bool
         ensures { result ≡ is_some (maps.get self.now n) }
     {
@@ -68,6 +70,7 @@ impl Seats {
     }
 
     /// Touches the seat of a number in a round.
+    #[inline(always)]
     pub fn touch(&mut self, n: u64, round: u32)
         ensures { self.new ≡ seat_changed self.old n (in_round round) }
     {

@@ -53,6 +53,7 @@ impl<T> Pages<T> {
     }
 
     /// The thing of a number.
+    #[inline(always)]
     pub fn get(&self, n: u64) -> Option<&T>
         ensures { option_copied result ≡ maps.get self.now n }
     {
@@ -61,6 +62,7 @@ impl<T> Pages<T> {
     }
 
     /// Whether a number has a thing.
+    #[inline(always)]
     pub fn has(&self, n: u64) -> bool
         ensures { result ≡ is_some (maps.get self.now n) }
     {
@@ -68,6 +70,7 @@ impl<T> Pages<T> {
     }
 
     /// The thing of a number for writing.
+    #[inline(always)]
     pub fn get_mut(&mut self, n: u64) -> Option<&mut T>
         ensures* writes_back { sem 𝓛 (lends_get T.row self.entry n result) }
         ensures value { option_copied_mut result ≡ maps.get self.old n }
@@ -79,6 +82,7 @@ impl<T> Pages<T> {
         }
     }
 
+    #[inline(always)]
     fn value_mut(&mut self, n: u64) -> &mut T
         requires { is_some (maps.get self.old n) ≡ true }
         ensures* writes_back { sem 𝓛 (lends_value T.row self.entry n result) }
@@ -103,8 +107,8 @@ impl<T> Pages<T> {
             return Err(AllocError);
         }
         reach(&mut self.pages, n)?;
-        self.numbers.reserve(1)?;
-        self.things.reserve(1)?;
+        self.numbers.reserve(more(&self.numbers))?;
+        self.things.reserve(more(&self.things))?;
         self.numbers.push_reserved(n);
         self.things.push_reserved(thing);
         set(&mut self.pages, n, self.things.len() as u32);
@@ -117,5 +121,17 @@ impl<T> Pages<T> {
         ensures below { IfSome result (λ n. n < 2 ^ 64 - 1) }
     {
         first_from(self.pages.as_slice(), from)
+    }
+}
+
+/// How much room is made for one element more: where there is none left, for three times as many again, so that few are
+/// moved.
+fn more<X>(list: &Vec<X>) -> usize
+    ensures { 0 < result }
+{
+    if list.len() < list.capacity() {
+        1
+    } else {
+        list.len().saturating_mul(3).saturating_add(1)
     }
 }

@@ -12,6 +12,7 @@ const PAGE: usize = 256;
 const MOST_PAGES: u64 = 1 << 48;
 
 /// Where the thing of a number is, if it has one.
+#[inline(always)]
 pub(crate) fn find(pages: &[Vec<u32>], n: u64) -> Option<usize>
     ensures { result ≡ place_in pages.now n }
 {
@@ -41,6 +42,7 @@ pub(crate) fn first_from(pages: &[Vec<u32>], from: u64) -> Option<u64>
 }
 
 /// Makes room for the place of a number. For one of 2^56 or more it fails as for want of memory.
+#[inline(always)]
 pub(crate) fn reach(pages: &mut Vec<Vec<u32>>, n: u64) -> Result<(), AllocError>
     ensures reached { OnOk result (n % 256 < length (page_at pages.new.items (n / 256))) }
     ensures same { (m : ℕ) → place_at pages.new.items m ≡ place_at pages.old.items m }
@@ -83,6 +85,7 @@ fn open(pages: &mut Vec<Vec<u32>>, k: usize) -> Result<(), AllocError>
 }
 
 /// Sets the place of a number.
+#[inline(always)]
 pub(crate) fn set(pages: &mut Vec<Vec<u32>>, n: u64, place: u32)
     requires { n % 256 < length (page_at pages.old.items (n / 256)) }
     ensures set { (m : ℕ) → place_at pages.new.items m
