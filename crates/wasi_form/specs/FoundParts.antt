@@ -6,7 +6,7 @@ use Rattle.wasi_tree.specs.Given.{given}
 use Rattle.wasi_guest.specs.Services.{env_pair}
 use Rattle.wasi_form.specs.declared.limits.LimitsParts.{LimitsParts}
 use Rattle.wasi_form.specs.declared.memory.MemoryParts.{MemoryParts}
-use Rattle.wasi_form.specs.declared.members.Parts.{Parts}
+use Rattle.wasi_form.specs.declared.script_members.Parts.{Parts}
 use Rattle.wasi_form.specs.declared.preopens.PreopenParts.{PreopenParts}
 use Rattle.wasi_form.specs.declared.quota.QuotaParts.{QuotaParts}
 use Rattle.wasi_form.specs.declared.services.ServiceKey.{ServiceKey}

@@ -1,7 +1,7 @@
 use Rattle.std.proofs.Common.{rules, map}
 use Rattle.wasi_tree.specs.Given.{given}
 use Rattle.wasi_form.specs.ScriptForm.{session_found, script_found}
-use Rattle.wasi_form.proofs.members.Parts.draft.Goals as goal
+use Rattle.wasi_form.proofs.script_members.Parts.draft.Goals as goal
 
 pub returns-in_err-session : goal.returns-in_err-session
 unfolding script_found session_found

@@ -2,7 +2,7 @@ use Rattle.std.proofs.Common.{None}
 use Rattle.wasi_form.specs.FoundParts.{found_of, with_beside}
 use Rattle.wasi_form.specs.Tokens.{nothing}
 use Rattle.wasi_form.proofs.Unreads.{unmade}
-use Rattle.wasi_form.proofs.members.Parts.with_unknown.Goals as goal
+use Rattle.wasi_form.proofs.script_members.Parts.with_unknown.Goals as goal
 
 pub returns-in_err-pass : goal.returns-in_err-pass
 returns-in_err-pass c =

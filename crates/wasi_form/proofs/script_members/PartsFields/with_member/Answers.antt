@@ -4,7 +4,7 @@ use Rattle.wasi_form.specs.QuotaForm.{quota_of}
 use Rattle.wasi_form.specs.FoundParts.{found_of, with_member}
 use Rattle.wasi_form.specs.Shapes.{u64_of, u32_of}
 use Rattle.wasi_form.proofs.Unreads.{unmade}
-use Rattle.wasi_form.proofs.members.PartsFields.with_member.Goals as goal
+use Rattle.wasi_form.proofs.script_members.PartsFields.with_member.Goals as goal
 
 pub returns-in_err-self-in-limits : goal.returns-in_err-self-in-limits
 returns-in_err-self-in-limits c =
