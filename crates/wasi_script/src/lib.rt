@@ -12,5 +12,13 @@ mod words;
 
 pub use program::run_script;
 pub use status::Status;
-pub use wasi_io::words_after_name;
+pub use wasi_form::{
+    Piece, Refusal, Script, ScriptError, ScriptPreopen, Shown, read_script,
+};
+pub use wasi_io::{
+    BytesSink, BytesSource, ReaderSource, Sink, Source, StdinSource, StdoutSink, WriterSink,
+    words_after_name,
+};
+pub use wasi_report::{Outcome, report};
+pub use wasi_script_gen::gen_script;
 pub use words::{ScriptTask, Task, task_of};
