@@ -5,8 +5,8 @@ use Rattle.wasi_form.specs.declared.script_reader.Refusal.TheVariants.{Long, Jso
 use Rattle.wasi_guest.specs.Errnos.{errno_number}
 use Rattle.wasi_guest.specs.declared.answer.TrapKind.TheVariants.{Pointer, TableFull, ExitStatus}
 use Rattle.wasi_guest.specs.declared.answer.Value.{Value}
-use Rattle.wasi_p1_model.specs.declared.error.P1Error.{P1Error}
-use Rattle.wasi_p1_model.specs.declared.error.P1Error.TheVariants.{Errno, Trap, Exit, Memory}
+use Rattle.wasi_p1_types.specs.declared.error.P1Error.{P1Error}
+use Rattle.wasi_p1_types.specs.declared.error.P1Error.TheVariants.{Errno, Trap, Exit, Memory}
 use Rattle.wasi_sandbox.specs.declared.error.StartError.{StartError}
 use Rattle.wasi_sandbox.specs.declared.error.StartError.TheVariants as starts
 

@@ -20,7 +20,7 @@ use Rattle.wasi_setup.proofs.Starts.{confined_at_start}
 use Rattle.wasi_setup.proofs.ToldNodes.{told_at}
 use Rattle.wasi_tree.specs.Given.{Given, directory, content_given, given_of}
 use Rattle.wasi_tree.specs.Sound.{IsSoundNode}
-use Rattle.wasi_p1_model.specs.Guest.{State, open_nodes}
+use Rattle.wasi_p1_types.specs.Guest.{State, open_nodes}
 use Rattle.wasi_p1_model.specs.Reach.{Inside}
 use Rattle.wasi_guests.specs.Alone.{AloneRun, End, IsAlone, Starting, end_alone, made_by, starting, turns_of}
 use Rattle.wasi_guests.specs.AsIfAlone.{AsIfAlone, IsGuest, MayBegin, directories_given}

@@ -7,7 +7,7 @@ use Rattle.std.proofs.lemmas.List.Elements.{All-append, All-cons, All-map, All-n
 use Rattle.std.proofs.lemmas.Option.{get_or_from_slice_get, slice_get_within}
 use Rattle.std.proofs.lemmas.List.Sums.{sum_by-set}
 use Rattle.wasi_host.specs.Tree.{Tree, next_of}
-use Rattle.wasi_p1_model.specs.Guest.{State}
+use Rattle.wasi_p1_types.specs.Guest.{State}
 use Rattle.wasi_guests.proofs.PlaceLemmas.{is_there, set_apart, set_here, some_same}
 use Rattle.wasi_guests.specs.Alone.{AloneRun, Starting, made_by, turns_at, turns_in, turns_of}
 use Rattle.wasi_guests.specs.AsIfAlone.{IsGuest}

@@ -9,8 +9,8 @@ use Rattle.wasi_host.specs.Tree.{next_of}
 use Rattle.wasi_host.specs.HostLaws.{Rose}
 use Rattle.wasi_tree_index.proofs.RunLemmas.{get_within}
 use Rattle.wasi_setup.specs.Start.{world_behind}
-use Rattle.wasi_p1_model.specs.Front.{FueledCall, with_fuel}
-use Rattle.wasi_p1_model.specs.Guest.{State, state_of}
+use Rattle.wasi_p1_types.specs.Front.{FueledCall, with_fuel}
+use Rattle.wasi_p1_types.specs.Guest.{State, state_of}
 use Rattle.wasi_p1_model.specs.Reach.{Confined}
 use Rattle.wasi_p1_model.specs.Trace.{TraceStep, Played, Trace, answers_of, ends}
 use Rattle.wasi_p1_model.proofs.Confining.{turn_confines}

@@ -6,8 +6,8 @@ use Rattle.wasi_guest.specs.declared.answer.Answer.{Answer}
 use Rattle.wasi_host.specs.Tree.{Tree, next_of}
 use Rattle.wasi_form.specs.Plan.{planned_preopen}
 use Rattle.wasi_setup.specs.Start.{begun}
-use Rattle.wasi_p1_model.specs.Front.{FueledCall, with_fuel}
-use Rattle.wasi_p1_model.specs.Guest.{State}
+use Rattle.wasi_p1_types.specs.Front.{FueledCall, with_fuel}
+use Rattle.wasi_p1_types.specs.Guest.{State}
 use Rattle.wasi_p1_model.specs.Trace.{TraceStep, Trace, answers_of}
 use Rattle.wasi_guests.specs.declared.plan.GuestEnd.{GuestEnd}
 use Rattle.wasi_guests.specs.declared.plan.GuestPlan.{GuestPlan}

@@ -12,12 +12,12 @@ use Rattle.wasi_setup.specs.Start.{world_behind}
 use Rattle.wasi_tree.specs.Given.{Given, given_of}
 use Rattle.wasi_tree.specs.MemState.{MemState}
 use Rattle.wasi_p1_model.specs.CallTransition.{Causes, Transitions}
-use Rattle.wasi_p1_model.specs.Front.{FueledCall, with_fuel}
-use Rattle.wasi_p1_model.specs.Guest.{State, state_of}
+use Rattle.wasi_p1_types.specs.Front.{FueledCall, with_fuel}
+use Rattle.wasi_p1_types.specs.Guest.{State, state_of}
 use Rattle.wasi_p1_model.specs.Reach.{Confined}
 use Rattle.wasi_p1_model.specs.Trace.{TraceStep, Trace, answer_of, answers_of, ends}
-use Rattle.wasi_p1_model.specs.Slots.{View}
-use Rattle.wasi_p1_model.specs.declared.error.P1Error.{P1Error}
+use Rattle.wasi_p1_types.specs.Slots.{View}
+use Rattle.wasi_p1_types.specs.declared.error.P1Error.{P1Error}
 use Rattle.wasi_guests.specs.Alone.{AloneRun, End, IsAlone, Starting, made_by, starting, turns_at, turns_of}
 use Rattle.wasi_guests.specs.AsIfAlone.{IsGuest}
 use Rattle.wasi_guests.specs.Joint.{MadeNode, made_before, made_in, numbers_from, renumbered}

@@ -14,7 +14,7 @@ use Rattle.wasi_report.specs.GuestsReadBack.{FitsGuests}
 use Rattle.wasi_setup.specs.ReportAfter.{bytes_shown}
 use Rattle.wasi_setup.specs.Start.{start, with_pieces}
 use Rattle.wasi_tree.specs.Given.{Given, tree_of}
-use Rattle.wasi_p1_model.specs.Front.{with_fuel}
+use Rattle.wasi_p1_types.specs.Front.{with_fuel}
 use Rattle.wasi_guests.specs.Alone.{End, Starting}
 use Rattle.wasi_guests.specs.AsIfAlone.{AsIfAlone}
 use Rattle.wasi_guests.specs.Insides.{IsLowestShared}

@@ -6,11 +6,11 @@ use Rattle.wasi_host.specs.HostLaws.{World, FaultCount}
 use Rattle.wasi_host.specs.Tree.{Nodes}
 use Rattle.wasi_p1.specs.RunQuotas.{KeepsToQuotas, KeptToQuotas}
 use Rattle.wasi_p1_model.specs.CallTransition.{Turns, in_world}
-use Rattle.wasi_p1_model.specs.Front.{FueledCall}
-use Rattle.wasi_p1_model.specs.Guest.{Guest, State}
+use Rattle.wasi_p1_types.specs.Front.{FueledCall}
+use Rattle.wasi_p1_types.specs.Guest.{Guest, State}
 use Rattle.wasi_p1_model.specs.QuotaLaws.{WritesAsOpened}
 use Rattle.wasi_p1_model.specs.Trace.{RefinesTrace, StoodAt}
-use Rattle.wasi_p1_model.specs.declared.error.P1Error.{P1Error}
+use Rattle.wasi_p1_types.specs.declared.error.P1Error.{P1Error}
 use Rattle.wasi_p1_model.proofs.Moving.{turn_moves}
 use Rattle.wasi_p1_model.proofs.QuotaRuns.{run_counts, run_opened, run_within}
 use Rattle.wasi_p1_model.proofs.QuotaTurns.{answered_spends}

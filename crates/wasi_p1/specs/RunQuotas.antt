@@ -1,8 +1,8 @@
 -- What a run makes and grows, against the quota of its context.
 use Rattle.std.specs.Prelude.{ℕ, ◌≡◌, List, length, take, All}
 use Rattle.wasi_guest.specs.declared.answer.Answer.{Answer}
-use Rattle.wasi_p1_model.specs.Front.{FueledCall}
-use Rattle.wasi_p1_model.specs.Guest.{State}
+use Rattle.wasi_p1_types.specs.Front.{FueledCall}
+use Rattle.wasi_p1_types.specs.Guest.{State}
 use Rattle.wasi_p1_model.specs.QuotaLaws.{CountsUse, StaysWithinQuotas, WritesAsOpened}
 use Rattle.wasi_p1_model.specs.Trace.{TraceStep, Trace, answers_of}
 

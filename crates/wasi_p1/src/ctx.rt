@@ -6,7 +6,7 @@ use std::alloc::Global;
 use std::marker::Model;
 use wasi_guest::{Quota, QuotaUsed, Services};
 use wasi_host::{Forget, Host};
-use wasi_p1_model::P1Preopen;
+use wasi_p1_types::P1Preopen;
 use wasi_p1_state::{CtxRefused, Ended, P1State};
 use wasi_streams::ResourceTable;
 
@@ -19,7 +19,7 @@ pub struct WasiP1Ctx<H: Host> {
 }
 
 impl<H: Host> Model for WasiP1Ctx<H> {
-    ghost use Rattle.wasi_p1_model.specs.Slots.{View};
+    ghost use Rattle.wasi_p1_types.specs.Slots.{View};
 
     ghost Value = { View H };
 
@@ -27,15 +27,15 @@ impl<H: Host> Model for WasiP1Ctx<H> {
 }
 
 impl<H: Host> WasiP1Ctx<H> {
-    ghost use Rattle.wasi_p1_parts.specs.LiveEntries.{AreLiveDescriptors};
-    ghost use Rattle.wasi_p1_model.specs.Numbering.{live_count};
+    ghost use Rattle.wasi_p1_state.specs.LiveEntries.{AreLiveDescriptors};
+    ghost use Rattle.wasi_p1_types.specs.Numbering.{live_count};
     ghost use Rattle.wasi_p1_model.specs.Owners.{OwnedApart, handles};
-    ghost use Rattle.wasi_p1_model.specs.Slots.{first_slots, given_name, is_closed_slot};
-    ghost use Rattle.wasi_p1_model.specs.declared.error.CtxError.TheVariants.{Full};
+    ghost use Rattle.wasi_p1_types.specs.Slots.{first_slots, given_name, is_closed_slot};
+    ghost use Rattle.wasi_p1_types.specs.declared.error.CtxError.TheVariants.{Full};
     ghost use Rattle.wasi_guest.specs.Quotas.{IsQuota};
     ghost use Rattle.wasi_guest.specs.Services.{handed};
-    ghost use Rattle.wasi_p1_model.specs.Quotas.{with_quota, IsWithinQuota};
-    ghost use Rattle.wasi_p1_model.specs.GuestEnvModel.{first_fuel, first_stock};
+    ghost use Rattle.wasi_p1_types.specs.Quotas.{with_quota, IsWithinQuota};
+    ghost use Rattle.wasi_p1_types.specs.GuestEnvModel.{first_fuel, first_stock};
 
     /// A context with the three standard streams as descriptors 0 to 2, and then the preopens, in order, which takes their
     /// handles over. Each handle is live, and given once. Nothing is asked of the host. The fuel left is `FUEL`.

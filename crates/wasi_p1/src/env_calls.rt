@@ -10,7 +10,7 @@ use wasi_p1_env_calls::{
     poll_oneoff, proc_exit, proc_raise, random_get, sched_yield, sock_accept, sock_recv, sock_send,
     sock_shutdown,
 };
-use wasi_p1_model::P1Error;
+use wasi_p1_types::P1Error;
 
 impl<H: Host> WasiP1Ctx<H> {
     /// Waits until one of a list of subscriptions comes, writes an event for each that has come, and answers how many.

@@ -9,7 +9,7 @@ use wasi_p1_fd_calls::{
     fd_close, fd_fdstat_get, fd_fdstat_set_flags, fd_fdstat_set_rights, fd_filestat_get,
     fd_filestat_set_times, fd_prestat_dir_name, fd_prestat_get, fd_readdir, fd_renumber,
 };
-use wasi_p1_model::P1Error;
+use wasi_p1_types::P1Error;
 
 impl<H: Host> WasiP1Ctx<H> {
     /// Closes a descriptor. Its number may be used again. Refusals: docs/calls.md.

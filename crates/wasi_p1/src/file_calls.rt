@@ -9,7 +9,7 @@ use wasi_p1_file_calls::{
     fd_advise, fd_allocate, fd_datasync, fd_filestat_set_size, fd_pread, fd_pwrite, fd_read,
     fd_seek, fd_sync, fd_tell, fd_write,
 };
-use wasi_p1_model::P1Error;
+use wasi_p1_types::P1Error;
 
 impl<H: Host> WasiP1Ctx<H> {
     /// Tells the host how `len` bytes of a file from `offset` on will be used, as POSIX's `posix_fadvise`. Nothing

@@ -1,16 +1,16 @@
 //! A list of calls, one after another.
 ghost use Rattle.std.specs.Prelude.{◌≡◌, ◌≤◌, length, map, Err, All, IsTrue, IfOk, IfErr, IfSome};
-ghost use Rattle.wasi_p1_model.specs.ErrorNumbers.{MayCome};
-ghost use Rattle.wasi_p1_model.specs.Front.{with_fuel};
+ghost use Rattle.wasi_p1_types.specs.ErrorNumbers.{MayCome};
+ghost use Rattle.wasi_p1_types.specs.Front.{with_fuel};
 ghost use Rattle.wasi_fs.specs.declared.perms.FsPerms.TheVariants.{AppendOnly};
 ghost use Rattle.wasi_p1_model.specs.AppendOnly.{Adds, AppendsAtEnd};
 ghost use Rattle.wasi_p1_model.specs.CallTransition.{IsAnswered, IsValidCall, NamesUnder, OthersStay, Transitions};
 ghost use Rattle.wasi_p1_model.specs.Method.{KeepsHostLaws, MeetsSpec};
 ghost use Rattle.wasi_host.specs.HostLaws.{Rose};
-ghost use Rattle.wasi_p1_model.specs.Guest.{State, guest_of, state_of};
+ghost use Rattle.wasi_p1_types.specs.Guest.{State, guest_of, state_of};
 ghost use Rattle.wasi_p1_model.specs.Calls.{may_run_out_of_memory};
 ghost use Rattle.wasi_p1_model.specs.Trace.{AnswersEach, answer_of, ends, ios, Allows, answered_in, OutOfMemoryAt, RefinesTrace, StoodAt};
-ghost use Rattle.wasi_p1_model.specs.declared.error.P1Error.TheVariants.{Memory};
+ghost use Rattle.wasi_p1_types.specs.declared.error.P1Error.TheVariants.{Memory};
 ghost use Rattle.wasi_p1_model.specs.Owners.{RunTraced, SlotsOfCall};
 ghost use Rattle.wasi_p1_model.specs.Reach.{Confined, StaysTouched};
 ghost use Rattle.wasi_p1_model.specs.InTurn.{DoesCall, DoCalls, DoCallsUntil, SlotsOfRun};
@@ -24,7 +24,7 @@ use crate::ctx::WasiP1Ctx;
 use std::alloc::Global;
 use wasi_guest::{Answer, Answers, Call, Value};
 use wasi_host::Host;
-use wasi_p1_model::{P1Error, RunError};
+use wasi_p1_types::{P1Error, RunError};
 
 /// The answer of a call; want of memory is none.
 pub fn answer_of(outcome: Result<Value, P1Error>) -> Option<Answer>

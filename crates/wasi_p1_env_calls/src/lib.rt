@@ -1,6 +1,7 @@
 //! The calls of `wasi_snapshot_preview1` on what a guest has beside its files, and the one that waits.
 #![tactic(auto)]
 
+mod subscriptions;
 mod polling;
 mod services;
 

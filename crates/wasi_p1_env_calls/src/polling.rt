@@ -4,11 +4,9 @@ ghost use Rattle.wasi_p1_model.specs.Method.{KeepsHostLaws, MeetsSpec};
 
 use wasi_guest::{Event, Subscription, Value};
 use wasi_host::Host;
-use wasi_p1_model::{P1Error, charge};
-use wasi_p1_parts::call_parts::room_at;
-use wasi_p1_parts::poll_parts::{
-    all_waited, judged_at, lists_within, reads_files, sizes_of, some_asked, tell_events,
-};
+use wasi_p1_types::{P1Error, charge};
+use wasi_p1_state::lookups::room_at;
+use crate::subscriptions::{all_waited, judged_at, lists_within, reads_files, sizes_of, some_asked, tell_events};
 use wasi_p1_state::P1State;
 
 /// Waits until something of so many subscriptions comes, and writes an event of each that has come, in order, from

@@ -4,8 +4,8 @@ ghost use Rattle.wasi_p1_model.specs.Method.{KeepsHostLaws, MeetsSpec};
 
 use wasi_guest::{Errno, FdFlags, RiFlags, SdFlags, Value};
 use wasi_host::Host;
-use wasi_p1_model::{INVALID, P1Error, bytes_at, exit_with, known_signal};
-use wasi_p1_parts::call_parts::live_at;
+use wasi_p1_types::{INVALID, P1Error, bytes_at, exit_with, known_signal};
+use wasi_p1_state::lookups::live_at;
 use wasi_p1_state::P1State;
 
 /// Writes the addresses of the arguments from `argv` on, and the arguments, each with a zero behind it, from

@@ -5,13 +5,13 @@ ghost use Rattle.wasi_p1_model.specs.Method.{KeepsHostLaws, MeetsSpec};
 use wasi_fs::Descriptor;
 use wasi_guest::{Errno, Value};
 use wasi_host::Host;
-use wasi_p1_model::{
-    DirectorySlot, FileSlot, FileUse, P1Error, Slot, fdflags_of, preopen_fdstat, rights_of,
-    stream_fdstat, stream_filestat,
-};
-use wasi_p1_parts::call_parts::{close_slot, descriptor_at, live_at, put_back, renumber_slot};
-use wasi_p1_parts::file_parts::{file_at, keeps_append, not_synchronized, preopen_at, put_name};
-use wasi_p1_parts::look_parts::{dir_fdstat, node_filestat, open_file_fdstat};
+use wasi_p1_types::{DirectorySlot, FileSlot, FileUse, P1Error, Slot, fdflags_of, preopen_fdstat, rights_of, stream_fdstat, stream_filestat};
+use crate::slots::{close_slot, renumber_slot};
+use wasi_p1_state::lookups::{descriptor_at, live_at, put_back};
+use wasi_p1_state::lookups::file_at;
+use crate::fdflags::{keeps_append, not_synchronized};
+use crate::preopens::{preopen_at, put_name};
+use crate::stat::{dir_fdstat, node_filestat, open_file_fdstat};
 use wasi_p1_state::P1State;
 use wasi_p1_types::open_with::file_modes;
 

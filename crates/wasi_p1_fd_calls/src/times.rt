@@ -4,10 +4,10 @@ ghost use Rattle.wasi_p1_model.specs.Method.{KeepsHostLaws, MeetsSpec};
 
 use wasi_guest::Value;
 use wasi_host::Host;
-use wasi_p1_model::{NewTimes, P1Error};
-use wasi_p1_parts::call_parts::descriptor_at;
-use wasi_p1_parts::view_parts::about;
-use wasi_p1_parts::view_parts::nodes::SetTimesOf;
+use wasi_p1_types::{NewTimes, P1Error};
+use wasi_p1_state::lookups::descriptor_at;
+use wasi_p1_state::views::about;
+use crate::node_calls::SetTimesOf;
 use wasi_p1_state::P1State;
 
 /// Sets the times of the node of a descriptor, as `path_filestat_set_times` does. It takes no memory. Refusals, in

@@ -9,28 +9,28 @@ use Rattle.wasi_host.specs.HostCall.{SetSize}
 use Rattle.wasi_host.specs.HostLaws.{World, Handles, FaultCount, Rose}
 use Rattle.wasi_host.specs.declared.open_handle.OpenHandle.{OpenHandle}
 use Rattle.wasi_host.specs.declared.lookup.Lookup.{Lookup}
-use Rattle.wasi_p1_model.specs.CallParts.{IsReplied, Makes, WantsNoMemory}
+use Rattle.wasi_p1_types.specs.CallParts.{IsReplied, Makes, WantsNoMemory}
 use Rattle.wasi_p1_model.specs.CallTransition.{FollowsRow}
-use Rattle.wasi_p1_model.specs.Front.{ask}
-use Rattle.wasi_p1_model.specs.Guest.{Guest, guest_by, guest_of}
+use Rattle.wasi_p1_types.specs.Front.{ask}
+use Rattle.wasi_p1_types.specs.Guest.{Guest, guest_by, guest_of}
 use Rattle.wasi_p1_model.specs.Owners.{handles, Owned, SlotsOfCall}
 use Rattle.wasi_p1_model.specs.Putting.{count_in, put_call, put_end, put_in, put_request}
-use Rattle.wasi_p1_model.specs.Quotas.{counted_growth}
-use Rattle.wasi_p1_model.specs.Request.{Request, Reply, Direct, end_after, written_by}
-use Rattle.wasi_p1_model.specs.CallResult.{CallResult, give, made_of_reply}
+use Rattle.wasi_p1_types.specs.Quotas.{counted_growth}
+use Rattle.wasi_p1_types.specs.Request.{Request, Reply, Direct, end_after, written_by}
+use Rattle.wasi_p1_types.specs.CallResult.{CallResult, give, made_of_reply}
 use Rattle.wasi_p1_model.specs.Calls.{descriptors_named, front, may_run_out_of_memory}
-use Rattle.wasi_p1_model.specs.Slots.{View}
-use Rattle.wasi_p1_model.specs.Spending.{growing, makes, on_outcome, spent, with_growth}
-use Rattle.wasi_p1_model.specs.GuestEnvModel.{GuestEnvModel}
-use Rattle.wasi_p1_model.specs.declared.error.P1Error.{P1Error}
-use Rattle.wasi_p1_model.specs.declared.error.P1Error.TheVariants.{Errno, Memory}
-use Rattle.wasi_p1_model.specs.declared.quotas.Allowance.{Allowance}
-use Rattle.wasi_p1_model.specs.declared.quotas.FileEnd.{FileEnd}
-use Rattle.wasi_p1_model.specs.declared.quotas.FileEnd.TheVariants.{At}
-use Rattle.wasi_p1_model.specs.declared.slots.FileSlot.{FileSlot}
-use Rattle.wasi_p1_model.specs.declared.slots.Slot.{Slot}
-use Rattle.wasi_p1_model.specs.declared.slots.Slot.TheVariants.{File}
-use Rattle.wasi_p1_model.specs.declared.usage.Put.{Put}
+use Rattle.wasi_p1_types.specs.Slots.{View}
+use Rattle.wasi_p1_types.specs.Spending.{growing, makes, on_outcome, spent, with_growth}
+use Rattle.wasi_p1_types.specs.GuestEnvModel.{GuestEnvModel}
+use Rattle.wasi_p1_types.specs.declared.error.P1Error.{P1Error}
+use Rattle.wasi_p1_types.specs.declared.error.P1Error.TheVariants.{Errno, Memory}
+use Rattle.wasi_p1_types.specs.declared.quotas.Allowance.{Allowance}
+use Rattle.wasi_p1_types.specs.declared.quotas.FileEnd.{FileEnd}
+use Rattle.wasi_p1_types.specs.declared.quotas.FileEnd.TheVariants.{At}
+use Rattle.wasi_p1_types.specs.declared.slots.FileSlot.{FileSlot}
+use Rattle.wasi_p1_types.specs.declared.slots.Slot.{Slot}
+use Rattle.wasi_p1_types.specs.declared.slots.Slot.TheVariants.{File}
+use Rattle.wasi_p1_types.specs.declared.usage.Put.{Put}
 use Rattle.wasi_p1_model.proofs.Exiting.{grow_err, grow_ok, grow_refused}
 use Rattle.wasi_p1_model.proofs.GuestSlots.{guest_slots_stay}
 use Rattle.wasi_p1_model.proofs.Lengths.{ChecksGrowth, IsWriting, grow_shown}

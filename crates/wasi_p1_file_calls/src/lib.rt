@@ -1,6 +1,9 @@
 //! The calls of `wasi_snapshot_preview1` on the bytes, the position, the size and the storing of an open file.
 #![tactic(auto)]
 
+mod file_ops;
+mod file_pieces;
+mod transfer;
 mod positions_and_sizes;
 mod reading_and_writing;
 

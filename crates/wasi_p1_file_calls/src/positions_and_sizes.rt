@@ -4,10 +4,12 @@ ghost use Rattle.wasi_p1_model.specs.Method.{KeepsHostLaws, MeetsSpec};
 
 use wasi_guest::{Errno, Value};
 use wasi_host::Host;
-use wasi_p1_model::{FileEnd, FileSlot, FileUse, P1Error, advice_of, whence_of};
-use wasi_p1_parts::call_parts::put_back;
-use wasi_p1_parts::file_parts::{check_alter, check_growth, file_at, position_sought, view_advice};
-use wasi_p1_parts::view_parts::files::{AdviseOf, SyncDataOf, SyncOf, about_file, set_size};
+use wasi_p1_types::{FileEnd, FileSlot, FileUse, P1Error, advice_of, whence_of};
+use wasi_p1_state::lookups::put_back;
+use crate::file_pieces::{check_alter, check_growth, position_sought, view_advice};
+use wasi_p1_state::lookups::file_at;
+use crate::file_ops::{AdviseOf, SyncDataOf, SyncOf, set_size};
+use wasi_p1_state::views::files::about_file;
 use wasi_p1_state::P1State;
 
 /// Tells the host how `len` bytes of a file from `offset` on will be used, of which nothing changes. Refusals, in

@@ -26,12 +26,12 @@ use Rattle.wasi_resolve.specs.Paths.{Opening, Place, opening, opening_of, step_o
 use Rattle.wasi_resolve.specs.Walk.{Open, Outcome, Stop, Name, Dot, walk}
 use Rattle.wasi_resolve.proofs.Requests.{as_opened}
 use Rattle.wasi_p1_model.specs.AppendOnly.{IsFree, Adds, nothing, make_file, make_directory, make_link, add_name, put_at_end}
-use Rattle.wasi_p1_model.specs.Files.{keeps_append}
-use Rattle.wasi_p1_model.specs.Parts.{permit}
+use Rattle.wasi_p1_types.specs.Files.{keeps_append}
+use Rattle.wasi_p1_types.specs.Parts.{permit}
 use Rattle.wasi_p1_model.specs.Putting.{put_call, put_request}
-use Rattle.wasi_p1_model.specs.RawFlags.{modes_under}
-use Rattle.wasi_p1_model.specs.Request.{Path, Direct, reply_of, after}
-use Rattle.wasi_p1_model.specs.declared.slots.FileModes.{FileModes}
+use Rattle.wasi_p1_types.specs.RawFlags.{modes_under}
+use Rattle.wasi_p1_types.specs.Request.{Path, Direct, reply_of, after}
+use Rattle.wasi_p1_types.specs.declared.slots.FileModes.{FileModes}
 
 -- ---- a path is opened
 

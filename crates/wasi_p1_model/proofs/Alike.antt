@@ -3,16 +3,16 @@ use Rattle.std.proofs.Common.{ℕ, ◌≡◌, inl, inr, [], refl, subst, arith, 
 use Rattle.std.specs.Prelude.{Contains}
 use Rattle.wasi_host.specs.Tree.{Tree}
 use Rattle.wasi_host.specs.declared.errors.ErrorCode.{ErrorCode}
-use Rattle.wasi_p1_model.specs.Guest.{Guest, State}
-use Rattle.wasi_p1_model.specs.Request.{Request, Reply, reply_of, after, starts_at}
+use Rattle.wasi_p1_types.specs.Guest.{Guest, State}
+use Rattle.wasi_p1_types.specs.Request.{Request, Reply, reply_of, after, starts_at}
 use Rattle.wasi_host.specs.Steps.{◌>>=◌}
-pub use Rattle.wasi_p1_model.specs.CallResult.{row_on}
-use Rattle.wasi_p1_model.specs.CallResult.{CallResult, give, Program, done, asking, beside, from_host, with_tree}
+pub use Rattle.wasi_p1_types.specs.CallResult.{row_on}
+use Rattle.wasi_p1_types.specs.CallResult.{CallResult, give, Program, done, asking, beside, from_host, with_tree}
 use Rattle.wasi_p1_model.specs.Calls.{Stem, stem_in, row, turn}
 use Rattle.wasi_p1_model.proofs.LocalCalls.{given_by, KeepsSlots, StaysNear, IsLocal, AsksNear}
 use Rattle.wasi_p1_model.specs.StatesAgree.{Alike, AnswerAlike}
 use Rattle.wasi_guest.specs.declared.call.Call.{Call}
-use Rattle.wasi_p1_model.specs.Front.{FueledCall}
+use Rattle.wasi_p1_types.specs.Front.{FueledCall}
 use Rattle.wasi_guest.specs.declared.answer.Value.{Value}
 use Rattle.wasi_host.proofs.Agreeing.{same_agree, still_closed}
 use Rattle.wasi_p1_model.proofs.Changing.{named_has, nodes_stay}

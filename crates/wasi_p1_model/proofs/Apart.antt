@@ -20,10 +20,10 @@ use Rattle.wasi_host.proofs.Changes.{node_at-past}
 use Rattle.wasi_host.proofs.Leaving.{LeavesFor, Contains-here, named_in, no_name, stays_near}
 use Rattle.wasi_p1_model.specs.AppendOnly.{AppendsAtEnd, AreApart, AppendingStays, KeepsNode, MayAlterNothing, NodesAreThere, OnlyGrows, ReachedUnder, opened, under, RunsKeepWhatIsApart, RunsOnlyGrow}
 use Rattle.wasi_p1_model.specs.CallTransition.{Turns, NamesUnder, in_world}
-use Rattle.wasi_p1_model.specs.Front.{FueledCall}
-use Rattle.wasi_p1_model.specs.Guest.{Guest, State}
-use Rattle.wasi_p1_model.specs.Request.{Request, Reply, reply_of, after}
-use Rattle.wasi_p1_model.specs.CallResult.{CallResult, Program, done, asking}
+use Rattle.wasi_p1_types.specs.Front.{FueledCall}
+use Rattle.wasi_p1_types.specs.Guest.{Guest, State}
+use Rattle.wasi_p1_types.specs.Request.{Request, Reply, reply_of, after}
+use Rattle.wasi_p1_types.specs.CallResult.{CallResult, Program, done, asking}
 use Rattle.wasi_p1_model.specs.Calls.{through, stem_in, descriptors_named, row, turn}
 use Rattle.wasi_p1_model.specs.Trace.{TraceStep, Played, Faulted}
 use Rattle.wasi_p1_model.specs.Stems.{stems_by, HasPerms}
@@ -32,7 +32,7 @@ use Rattle.wasi_p1_model.proofs.Alike.{row_on}
 use Rattle.wasi_p1_model.proofs.Changing.{slot_perms}
 use Rattle.wasi_p1_model.proofs.Elsewhere.{StaysOr, request_stays}
 use Rattle.wasi_p1_model.proofs.Growing.{adds_grow, still_grows, grows_on, keeps_itself, keeps_same, keeps_on}
-use Rattle.wasi_p1_model.specs.declared.error.P1Error.{P1Error}
+use Rattle.wasi_p1_types.specs.declared.error.P1Error.{P1Error}
 use Rattle.wasi_p1_model.proofs.Moving.{Moves, turn_moves, turned_moves, run_keeps, over_tree, over_guest, replied_by}
 use Rattle.wasi_p1_model.proofs.LocalCalls.{IsLocal, IsNamed, AllUnder, AsksNear, HasNode, KeepsSlots, StaysNear, Permitted, leaves, changes, given_by}
 use Rattle.wasi_p1_model.proofs.Locality.{row_near}

@@ -20,14 +20,14 @@ use Rattle.wasi_host.specs.declared.open_handle.OpenHandle.{OpenHandle}
 use Rattle.wasi_host.specs.declared.metadata.Metadata.{Metadata}
 use Rattle.wasi_host.proofs.Touching.{touches_with, touches_same, no_ends}
 use Rattle.wasi_guest.specs.declared.errno.Errno.TheVariants as errnos
-use Rattle.wasi_p1_model.specs.Asked.{Asked, GivesOrElse, Hidden}
-use Rattle.wasi_p1_model.specs.CallParts.{Makes}
-use Rattle.wasi_p1_model.specs.Errnos.{errno_of}
+use Rattle.wasi_p1_types.specs.Asked.{Asked, GivesOrElse, Hidden}
+use Rattle.wasi_p1_types.specs.CallParts.{Makes}
+use Rattle.wasi_p1_types.specs.Errnos.{errno_of}
 use Rattle.wasi_p1_model.specs.Putting.{appended_in}
-use Rattle.wasi_p1_model.specs.Request.{Direct, Behind, reply_of}
-use Rattle.wasi_p1_model.specs.CallResult.{CallResult, from_host, give}
-use Rattle.wasi_p1_model.specs.declared.error.P1Error.{P1Error}
-use Rattle.wasi_p1_model.specs.declared.error.P1Error.TheVariants.{Errno, Memory as Wanted}
+use Rattle.wasi_p1_types.specs.Request.{Direct, Behind, reply_of}
+use Rattle.wasi_p1_types.specs.CallResult.{CallResult, from_host, give}
+use Rattle.wasi_p1_types.specs.declared.error.P1Error.{P1Error}
+use Rattle.wasi_p1_types.specs.declared.error.P1Error.TheVariants.{Errno, Memory as Wanted}
 use Rattle.wasi_p1_model.proofs.Reading.{keeps_all}
 
 -- ---- the look

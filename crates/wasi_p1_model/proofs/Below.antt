@@ -14,20 +14,20 @@ use Rattle.wasi_resolve.specs.Resolved.{Resolved}
 use Rattle.wasi_guest.specs.declared.answer.Value.{Value}
 use Rattle.wasi_guest.specs.declared.answer.Value.TheVariants.{Unit as Nothing}
 use Rattle.wasi_guest.specs.declared.call.Call.{Call}
-use Rattle.wasi_p1_model.specs.Asked.{Asked}
-use Rattle.wasi_p1_model.specs.CallParts.{Refused, Follows, IsReplied}
+use Rattle.wasi_p1_types.specs.Asked.{Asked}
+use Rattle.wasi_p1_types.specs.CallParts.{Refused, Follows, IsReplied}
 use Rattle.wasi_p1_model.specs.CallTransition.{FollowsRow, Kept}
-use Rattle.wasi_p1_model.specs.Errnos.{errno_of, error_of}
-use Rattle.wasi_p1_model.specs.Guest.{Guest, guest_slots, guest_of, guest_by}
+use Rattle.wasi_p1_types.specs.Errnos.{errno_of, error_of}
+use Rattle.wasi_p1_types.specs.Guest.{Guest, guest_slots, guest_of, guest_by}
 use Rattle.wasi_p1_model.specs.Owners.{handles, Owned, SlotsOfCall}
-use Rattle.wasi_p1_model.specs.Request.{Request, Reply, MayReply, Path}
-use Rattle.wasi_p1_model.specs.CallResult.{CallResult, give, made_of_reply}
-use Rattle.wasi_p1_model.specs.Front.{ask, done_if}
+use Rattle.wasi_p1_types.specs.Request.{Request, Reply, MayReply, Path}
+use Rattle.wasi_p1_types.specs.CallResult.{CallResult, give, made_of_reply}
+use Rattle.wasi_p1_types.specs.Front.{ask, done_if}
 use Rattle.wasi_p1_model.specs.Calls.{front, may_run_out_of_memory}
-use Rattle.wasi_p1_model.specs.Slots.{View}
-use Rattle.wasi_p1_model.specs.Spending.{spends_nothing}
-use Rattle.wasi_p1_model.specs.declared.error.P1Error.{P1Error}
-use Rattle.wasi_p1_model.specs.declared.error.P1Error.TheVariants.{Errno, Memory}
+use Rattle.wasi_p1_types.specs.Slots.{View}
+use Rattle.wasi_p1_types.specs.Spending.{spends_nothing}
+use Rattle.wasi_p1_types.specs.declared.error.P1Error.{P1Error}
+use Rattle.wasi_p1_types.specs.declared.error.P1Error.TheVariants.{Errno, Memory}
 use Rattle.wasi_p1_model.proofs.RowEnds.{tail, with_nothing}
 use Rattle.wasi_p1_model.proofs.GuestSlots.{guest_slots_stay}
 use Rattle.wasi_p1_model.proofs.Staying.{all_stay}

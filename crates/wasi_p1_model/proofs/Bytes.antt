@@ -5,13 +5,13 @@ use Rattle.std.specs.Int.{to_le_bytes, w32}
 use Rattle.std.specs.List.{range_with_len}
 use Rattle.std.proofs.lemmas.Bool.{leb-true, and_parts}
 use Rattle.std.proofs.lemmas.Bool.Decides.{nat_tests}
-use Rattle.wasi_p1_model.specs.CallResult.{give}
-use Rattle.wasi_p1_model.specs.Services.{next_input, input_into, written, aligned, total_of, with_texts, put_texts, texts_at, random_bytes, random_taken}
+use Rattle.wasi_p1_types.specs.CallResult.{give}
+use Rattle.wasi_p1_types.specs.Services.{next_input, input_into, written, aligned, total_of, with_texts, put_texts, texts_at, random_bytes, random_taken}
 use Rattle.wasi_guest.specs.declared.iovec.Iovec.{Iovec}
 use Rattle.wasi_guest.specs.declared.quota.QuotaUsed.{QuotaUsed}
-use Rattle.wasi_p1_model.specs.GuestEnvModel.{GuestEnvModel}
-use Rattle.wasi_p1_model.specs.declared.guest_env.Output.{Output}
-use Rattle.wasi_p1_model.specs.declared.guest_env.Output.TheVariants as outputs
+use Rattle.wasi_p1_types.specs.GuestEnvModel.{GuestEnvModel}
+use Rattle.wasi_p1_types.specs.declared.guest_env.Output.{Output}
+use Rattle.wasi_p1_types.specs.declared.guest_env.Output.TheVariants as outputs
 use Rattle.wasi_p1_model.specs.Validity.{IsStock}
 use Rattle.std.specs.Str.{is_utf8}
 use Rattle.std.proofs.lemmas.Grind.{common_steps}
@@ -25,13 +25,13 @@ use Rattle.wasi_guest.specs.declared.answer.TrapKind.TheVariants.{Pointer}
 use Rattle.std.proofs.lemmas.List.Elements.{All-head, All-tail}
 use Rattle.wasi_guest.specs.declared.errno.Errno.{Errno as ErrorNumber}
 use Rattle.wasi_guest.specs.declared.errno.Errno.TheVariants as errnos
-use Rattle.wasi_p1_model.specs.Files.{name_at, name_of, name_into, name_within, or_refused}
-use Rattle.wasi_p1_model.specs.Guest.{GuestSlot, directory}
-use Rattle.wasi_p1_model.specs.CallResult.{CallResult}
+use Rattle.wasi_p1_types.specs.Files.{name_at, name_of, name_into, name_within, or_refused}
+use Rattle.wasi_p1_types.specs.Guest.{GuestSlot, directory}
+use Rattle.wasi_p1_types.specs.CallResult.{CallResult}
 use Rattle.wasi_guest.specs.Records.{Found, read_on, bytes_in, text_from, text_in}
 use Rattle.wasi_guest.specs.declared.guest_error.GuestError.TheVariants as guests
-use Rattle.wasi_p1_model.specs.Parts.{range, from_guest, guest_fault}
-use Rattle.wasi_p1_model.specs.declared.error.P1Error.TheVariants.{Errno, Trap}
+use Rattle.wasi_p1_types.specs.Parts.{range, from_guest, guest_fault}
+use Rattle.wasi_p1_types.specs.declared.error.P1Error.TheVariants.{Errno, Trap}
 use Rattle.wasi_p1_model.proofs.LocalCalls.{AreBytes}
 
 -- ---- bytes

@@ -3,15 +3,15 @@ use Rattle.std.proofs.Common.{ℕ, ◌≡◌, ◌≤◌, inl, inr, List, [], ◌
 use Rattle.wasi_host.specs.Lineage.{HasProvenance, Only, OneOf, Nothing}
 use Rattle.wasi_host.proofs.Tracing.{traced_none, traced_then, traced_given, traced_kept}
 use Rattle.wasi_host.specs.declared.lookup.Lookup.{Lookup}
-use Rattle.wasi_p1_model.specs.Numbering.{with_new}
+use Rattle.wasi_p1_types.specs.Numbering.{with_new}
 use Rattle.wasi_fs.specs.Calls.{handle_of, GotOpened}
 use Rattle.wasi_fs.specs.declared.descriptor.Descriptor.{Descriptor}
 use Rattle.wasi_fs.specs.declared.descriptor.Descriptor.TheVariants as descriptors
-use Rattle.wasi_p1_model.specs.Slots.{is_closed_slot, slot_of}
+use Rattle.wasi_p1_types.specs.Slots.{is_closed_slot, slot_of}
 use Rattle.wasi_p1_model.specs.Owners.{handle_in, handles, uses, uses_in, HasHandle, IsHandle, under}
-use Rattle.wasi_p1_model.specs.declared.slots.FileModes.{FileModes}
-use Rattle.wasi_p1_model.specs.declared.slots.Slot.{Slot}
-use Rattle.wasi_p1_model.specs.declared.slots.Slot.TheVariants.{Closed}
+use Rattle.wasi_p1_types.specs.declared.slots.FileModes.{FileModes}
+use Rattle.wasi_p1_types.specs.declared.slots.Slot.{Slot}
+use Rattle.wasi_p1_types.specs.declared.slots.Slot.TheVariants.{Closed}
 use Rattle.wasi_p1_model.proofs.Counting.{one_of, item_is, named_is, is_named, also_named}
 use Rattle.wasi_p1_model.proofs.Owning.{uses-new, uses-closed}
 

@@ -17,24 +17,24 @@ use Rattle.wasi_guest.specs.declared.call.Call.{Call}
 use Rattle.wasi_guest.specs.declared.errno.Errno.{Errno as ErrorNumber}
 use Rattle.wasi_guest.specs.declared.filestat.Filestat.{Filestat}
 use Rattle.wasi_p1_model.specs.DescriptorLaws.{FitsTable}
-use Rattle.wasi_p1_model.specs.Guest.{Guest, GuestSlot, OpenFile, closed, stream, directory, file, is_closed, new_number, with_guest_slot, node_in, open_nodes, perms_in}
-use Rattle.wasi_p1_model.specs.Numbering.{last_where, free_number, live_count, put_at, with_new}
+use Rattle.wasi_p1_types.specs.Guest.{Guest, GuestSlot, OpenFile, closed, stream, directory, file, is_closed, new_number, with_guest_slot, node_in, open_nodes, perms_in}
+use Rattle.wasi_p1_types.specs.Numbering.{last_where, free_number, live_count, put_at, with_new}
 use Rattle.wasi_resolve.specs.PathRequest.{Opened}
-use Rattle.wasi_p1_model.specs.CallResult.{CallResult, give}
-use Rattle.wasi_p1_model.specs.Files.{file_in, read_place_in}
-use Rattle.wasi_p1_model.specs.Parts.{OpenNode, node_of, directory_or, from, source_in, into, sink_in, open_node_in, new_guest_slot, room_for, with_file, live_in}
+use Rattle.wasi_p1_types.specs.CallResult.{CallResult, give}
+use Rattle.wasi_p1_types.specs.Files.{file_in, read_place_in}
+use Rattle.wasi_p1_types.specs.Parts.{OpenNode, node_of, directory_or, from, source_in, into, sink_in, open_node_in, new_guest_slot, room_for, with_file, live_in}
 use Rattle.wasi_guest.specs.declared.answer.TrapKind.TheVariants.{TableFull}
-use Rattle.wasi_p1_model.specs.declared.error.P1Error.TheVariants.{Trap}
-use Rattle.wasi_p1_model.specs.declared.slots.FileModes.{FileModes}
-use Rattle.wasi_p1_model.specs.declared.slots.Stream.TheVariants as streams
-use Rattle.wasi_p1_model.specs.declared.usage.FileUse.{FileUse}
-use Rattle.wasi_p1_model.specs.declared.usage.FileUse.TheVariants.{ReadAt}
-use Rattle.wasi_p1_model.specs.GuestEnvModel.{GuestEnvModel}
+use Rattle.wasi_p1_types.specs.declared.error.P1Error.TheVariants.{Trap}
+use Rattle.wasi_p1_types.specs.declared.slots.FileModes.{FileModes}
+use Rattle.wasi_p1_types.specs.declared.slots.Stream.TheVariants as streams
+use Rattle.wasi_p1_types.specs.declared.usage.FileUse.{FileUse}
+use Rattle.wasi_p1_types.specs.declared.usage.FileUse.TheVariants.{ReadAt}
+use Rattle.wasi_p1_types.specs.GuestEnvModel.{GuestEnvModel}
 use Rattle.wasi_p1_model.specs.Validity.{HasBytes}
 use Rattle.wasi_p1_model.proofs.LocalCalls.{Ends, Has, IsNamed, KeepsSlots, StaysNear, AreBytes, KeepsBytes}
 use Rattle.wasi_p1_model.proofs.Bytes.{put_bytes}
 use Rattle.wasi_p1_model.proofs.Numbers.{all_live, last_passes}
-use Rattle.wasi_p1_model.proofs.Wanting.{Never}
+use Rattle.wasi_p1_types.proofs.Wanting.{Never}
 use Rattle.wasi_p1_model.proofs.RowEnds.{with_slots, with_text, with_filestat}
 use Rattle.wasi_p1_model.specs.Calls.{Stem, itself, through, descriptors_named}
 

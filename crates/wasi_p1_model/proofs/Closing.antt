@@ -5,16 +5,16 @@ use Rattle.wasi_guest.specs.declared.answer.Answer.TheVariants as answers
 use Rattle.wasi_guest.specs.declared.answer.Value.{Value}
 use Rattle.wasi_guest.specs.declared.call.Call.{Call}
 use Rattle.wasi_guest.specs.declared.call.Call.TheVariants as calls
-use Rattle.wasi_p1_model.specs.Front.{with_fuel}
-use Rattle.wasi_p1_model.specs.Guest.{GuestSlot, State, closed, perms_in}
-use Rattle.wasi_p1_model.specs.Numbering.{renumbered}
-use Rattle.wasi_p1_model.specs.Parts.{live_in}
-use Rattle.wasi_p1_model.specs.CallResult.{CallResult}
+use Rattle.wasi_p1_types.specs.Front.{with_fuel}
+use Rattle.wasi_p1_types.specs.Guest.{GuestSlot, State, closed, perms_in}
+use Rattle.wasi_p1_types.specs.Numbering.{renumbered}
+use Rattle.wasi_p1_types.specs.Parts.{live_in}
+use Rattle.wasi_p1_types.specs.CallResult.{CallResult}
 use Rattle.wasi_p1_model.specs.Calls.{fd_close, fd_renumber, turn}
 use Rattle.wasi_p1_model.specs.Trace.{TraceStep, Played, Faulted, Gives, answer_of}
 use Rattle.wasi_p1_model.specs.Stems.{HasPerms}
-use Rattle.wasi_p1_model.specs.declared.error.P1Error.{P1Error}
-use Rattle.wasi_p1_model.specs.declared.error.P1Error.TheVariants.{Errno, Trap, Exit, Memory}
+use Rattle.wasi_p1_types.specs.declared.error.P1Error.{P1Error}
+use Rattle.wasi_p1_types.specs.declared.error.P1Error.TheVariants.{Errno, Trap, Exit, Memory}
 use Rattle.wasi_p1_model.proofs.Changing.{IsUnder, in_set}
 use Rattle.wasi_p1_model.proofs.Moving.{gave}
 use Rattle.wasi_p1_model.proofs.Writing.{state_is}

@@ -4,10 +4,10 @@ use Rattle.std.specs.Prelude.{Contains}
 use Rattle.wasi_host.specs.Agree.{IsClosed, OrMade}
 use Rattle.wasi_host.specs.Tree.{Tree, next_of}
 use Rattle.wasi_host.specs.HostLaws.{World}
-use Rattle.wasi_p1_model.specs.Guest.{Guest, State}
-use Rattle.wasi_p1_model.specs.Request.{reply_of, after}
+use Rattle.wasi_p1_types.specs.Guest.{Guest, State}
+use Rattle.wasi_p1_types.specs.Request.{reply_of, after}
 use Rattle.wasi_host.specs.Steps.{◌>>=◌}
-use Rattle.wasi_p1_model.specs.CallResult.{with_tree, CallResult, Program, done, asking, from_host, starts}
+use Rattle.wasi_p1_types.specs.CallResult.{with_tree, CallResult, Program, done, asking, from_host, starts}
 use Rattle.wasi_p1_model.specs.Calls.{row, turn}
 use Rattle.wasi_p1_model.proofs.LocalCalls.{Has, IsLocal}
 use Rattle.wasi_p1_model.specs.Transition.{IsTransition, ReachesHost, used_by}
@@ -15,8 +15,8 @@ use Rattle.wasi_p1_model.specs.StatesAgree.{Alike, AnswerAlike}
 use Rattle.wasi_p1_model.specs.CallTransition.{Turns, in_world}
 use Rattle.wasi_p1_model.specs.Reach.{Inside, InReach, Confined}
 use Rattle.wasi_guest.specs.declared.call.Call.{Call}
-use Rattle.wasi_p1_model.specs.Front.{FueledCall}
-use Rattle.wasi_p1_model.specs.declared.error.P1Error.{P1Error}
+use Rattle.wasi_p1_types.specs.Front.{FueledCall}
+use Rattle.wasi_p1_types.specs.declared.error.P1Error.{P1Error}
 use Rattle.wasi_guest.specs.declared.answer.Value.{Value}
 use Rattle.wasi_p1_model.proofs.Changing.{named_has}
 use Rattle.wasi_p1_model.proofs.Moving.{Moves, TookStep, turn_moves}

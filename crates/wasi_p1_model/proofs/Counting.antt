@@ -7,7 +7,7 @@ use Rattle.std.proofs.lemmas.Option.{get_or_from_slice_get, slice_get-map, slice
 use Rattle.std.proofs.lemmas.List.{map-append, map-set}
 use Rattle.std.proofs.lemmas.List.Sums.{sum_by-append, sum_by-cons, sum_by-set, sum_by_push, get_or-le-sum_by}
 use Rattle.wasi_p1_model.specs.Owners.{handle_in, handles, one_if, uses_in, uses, IsHandle, under}
-use Rattle.wasi_p1_model.specs.declared.slots.Slot.{Slot}
+use Rattle.wasi_p1_types.specs.declared.slots.Slot.{Slot}
 
 -- ---- a list of handles, some of them missing
 

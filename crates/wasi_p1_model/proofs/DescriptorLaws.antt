@@ -11,17 +11,17 @@ use Rattle.wasi_guest.specs.declared.answer.Value.TheVariants.{Number}
 use Rattle.wasi_host.specs.HostCall.{Pread, Stat}
 use Rattle.wasi_host.specs.Steps.{◌>>=◌}
 use Rattle.wasi_p1_model.specs.DescriptorLaws.{IsLiveNumber, IsClosedNumber, NumbersAreDense, IsLargestClosed, OpensTheLargestClosed, SeeksAreTold, LeavesDescriptors, OffsetsLeavePositions}
-use Rattle.wasi_p1_model.specs.Files.{base_in, file_in, position_from, read_place_in, sought}
-use Rattle.wasi_p1_model.specs.Guest.{Guest, GuestSlot, OpenFile, State, closed, stream, directory, file, is_closed, new_number}
-use Rattle.wasi_p1_model.specs.Numbering.{last_where, later_or_here, free_number}
-use Rattle.wasi_p1_model.specs.Parts.{directory_in, range, room_for, permit, may_write, held_by, at_position, with_file}
-use Rattle.wasi_p1_model.specs.RawFlags.{open_how, or_inval}
+use Rattle.wasi_p1_types.specs.Files.{base_in, file_in, position_from, read_place_in, sought}
+use Rattle.wasi_p1_types.specs.Guest.{Guest, GuestSlot, OpenFile, State, closed, stream, directory, file, is_closed, new_number}
+use Rattle.wasi_p1_types.specs.Numbering.{last_where, later_or_here, free_number}
+use Rattle.wasi_p1_types.specs.Parts.{directory_in, range, room_for, permit, may_write, held_by, at_position, with_file}
+use Rattle.wasi_p1_types.specs.RawFlags.{open_how, or_inval}
 use Rattle.wasi_p1_model.specs.Putting.{count_in, put_call}
-use Rattle.wasi_p1_model.specs.Quotas.{allowance}
-use Rattle.wasi_p1_model.specs.Request.{Path, Direct}
-use Rattle.wasi_p1_model.specs.CallResult.{CallResult, give}
+use Rattle.wasi_p1_types.specs.Quotas.{allowance}
+use Rattle.wasi_p1_types.specs.Request.{Path, Direct}
+use Rattle.wasi_p1_types.specs.CallResult.{CallResult, give}
 use Rattle.wasi_p1_model.specs.Calls.{fd_pread, fd_pwrite, fd_seek, fd_tell, path_open, seek_from}
-use Rattle.wasi_p1_model.specs.declared.usage.FileUse.TheVariants.{Position, WriteAt}
+use Rattle.wasi_p1_types.specs.declared.usage.FileUse.TheVariants.{Position, WriteAt}
 use Rattle.wasi_p1_model.proofs.Alike.{row_on}
 use Rattle.wasi_p1_model.proofs.Changing.{file_is}
 use Rattle.wasi_p1_model.proofs.Moving.{gave, gave_buffer, gave_text, replied_by}

@@ -30,7 +30,7 @@ use Rattle.wasi_resolve.specs.PathRequest.{PathRequest, OpenPath, LookPath, AtPl
 use Rattle.wasi_resolve.proofs.PathAgreeing as paths
 use Rattle.wasi_resolve.proofs.Requests.{as_opened, from_two}
 use Rattle.wasi_resolve.proofs.WalkAgreeing.{from_one}
-use Rattle.wasi_p1_model.specs.Request.{Request, Reply, Path, Direct, Behind, ListDirectory, Sizes, Grow, reply_of, after, starts_at}
+use Rattle.wasi_p1_types.specs.Request.{Request, Reply, Path, Direct, Behind, ListDirectory, Sizes, Grow, reply_of, after, starts_at}
 use Rattle.wasi_p1_model.proofs.Lengthening.{bounded_by}
 
 -- a node that was there stays as it is, or is one of these, and is a directory as before, or none

@@ -9,21 +9,21 @@ use Rattle.wasi_guest.specs.declared.answer.Answer.{Answer}
 use Rattle.wasi_guest.specs.declared.answer.Value.{Value}
 use Rattle.wasi_guest.specs.declared.call.Call.{Call}
 use Rattle.wasi_p1_model.specs.CallTransition.{Turns, in_world}
-use Rattle.wasi_p1_model.specs.ErrorNumbers.{MayCome}
-use Rattle.wasi_p1_model.specs.Front.{FueledCall}
-use Rattle.wasi_p1_model.specs.Guest.{Guest, State}
-use Rattle.wasi_p1_model.specs.Request.{Reply, after, reply_of}
-use Rattle.wasi_p1_model.specs.CallResult.{CallResult, Program, asking, done, row_on}
+use Rattle.wasi_p1_types.specs.ErrorNumbers.{MayCome}
+use Rattle.wasi_p1_types.specs.Front.{FueledCall}
+use Rattle.wasi_p1_types.specs.Guest.{Guest, State}
+use Rattle.wasi_p1_types.specs.Request.{Reply, after, reply_of}
+use Rattle.wasi_p1_types.specs.CallResult.{CallResult, Program, asking, done, row_on}
 use Rattle.wasi_p1_model.specs.Calls.{row, turn}
 use Rattle.wasi_p1_model.specs.Trace.{RefinesTrace, Faulted, Gives, Played, Trace, TraceStep, answer_of, answers_of}
-use Rattle.wasi_p1_model.specs.declared.error.P1Error.{P1Error}
-use Rattle.wasi_p1_model.specs.declared.error.P1Error.TheVariants.{Errno, Trap, Exit, Memory}
+use Rattle.wasi_p1_types.specs.declared.error.P1Error.{P1Error}
+use Rattle.wasi_p1_types.specs.declared.error.P1Error.TheVariants.{Errno, Trap, Exit, Memory}
 use Rattle.wasi_p1_model.proofs.Alike.{over, replied}
-use Rattle.wasi_p1_model.proofs.Codes.{Knows, reply_known}
+use Rattle.wasi_p1_types.proofs.Codes.{Knows, reply_known}
 use Rattle.wasi_p1_model.proofs.Moving.{each_turn}
 use Rattle.wasi_p1_model.proofs.LocalCalls.{Ends, IsLocal}
 use Rattle.wasi_p1_model.proofs.Locality.{row_near}
-use Rattle.wasi_p1_model.proofs.Wanting.{IsRefusal, Never}
+use Rattle.wasi_p1_types.proofs.Wanting.{IsRefusal, Never}
 
 -- ---- of a row over a tree
 

@@ -9,22 +9,22 @@ use Rattle.wasi_host.specs.declared.lookup.Lookup.{Lookup}
 use Rattle.wasi_guest.specs.declared.answer.Value.{Value}
 use Rattle.wasi_guest.specs.declared.call.Call.{Call}
 use Rattle.wasi_guest.specs.declared.errno.Errno.TheVariants.{Io}
-use Rattle.wasi_p1_model.specs.CallParts.{Follows, IsReplied, Makes, WantsNoMemory}
+use Rattle.wasi_p1_types.specs.CallParts.{Follows, IsReplied, Makes, WantsNoMemory}
 use Rattle.wasi_p1_model.specs.CallTransition.{FollowsRow, Kept, KeptBut, OnlyUses}
-use Rattle.wasi_p1_model.specs.Front.{ask, with_fuel}
-use Rattle.wasi_p1_model.specs.Guest.{Guest, guest_by, guest_of, guest_slots, state_of}
+use Rattle.wasi_p1_types.specs.Front.{ask, with_fuel}
+use Rattle.wasi_p1_types.specs.Guest.{Guest, guest_by, guest_of, guest_slots, state_of}
 use Rattle.wasi_p1_model.specs.Owners.{handles, Owned, SlotsOfCall}
-use Rattle.wasi_p1_model.specs.Quotas.{counted_makings}
-use Rattle.wasi_p1_model.specs.Request.{Request, Reply, end_after, growth_in, written_by}
-use Rattle.wasi_p1_model.specs.CallResult.{CallResult, made_of_reply}
+use Rattle.wasi_p1_types.specs.Quotas.{counted_makings}
+use Rattle.wasi_p1_types.specs.Request.{Request, Reply, end_after, growth_in, written_by}
+use Rattle.wasi_p1_types.specs.CallResult.{CallResult, made_of_reply}
 use Rattle.wasi_p1_model.specs.Calls.{front, may_run_out_of_memory}
-use Rattle.wasi_p1_model.specs.Slots.{View}
-use Rattle.wasi_p1_model.specs.Spending.{check_to_make, growing, grows, makes, making, on_outcome, spent}
-use Rattle.wasi_p1_model.specs.GuestEnvModel.{GuestEnvModel}
-use Rattle.wasi_p1_model.specs.declared.error.P1Error.{P1Error}
-use Rattle.wasi_p1_model.specs.declared.error.P1Error.TheVariants.{Errno, Memory}
-use Rattle.wasi_p1_model.specs.declared.quotas.Allowance.{Allowance}
-use Rattle.wasi_p1_model.specs.declared.slots.Slot.{Slot}
+use Rattle.wasi_p1_types.specs.Slots.{View}
+use Rattle.wasi_p1_types.specs.Spending.{check_to_make, growing, grows, makes, making, on_outcome, spent}
+use Rattle.wasi_p1_types.specs.GuestEnvModel.{GuestEnvModel}
+use Rattle.wasi_p1_types.specs.declared.error.P1Error.{P1Error}
+use Rattle.wasi_p1_types.specs.declared.error.P1Error.TheVariants.{Errno, Memory}
+use Rattle.wasi_p1_types.specs.declared.quotas.Allowance.{Allowance}
+use Rattle.wasi_p1_types.specs.declared.slots.Slot.{Slot}
 use Rattle.wasi_p1_model.proofs.GuestSlots.{guest_slots_stay}
 use Rattle.wasi_p1_model.proofs.Lengths.{ChecksGrowth, IsWriting, grow_counts, grow_front_err, grow_front_ok, grow_made_err, grow_made_ok, grow_next, grow_shown, grow_tail, growth_refused_front, growth_refused_leaves, growth_refused_made, made, made_tail}
 use Rattle.wasi_p1_model.proofs.RowEnds.{tail}

@@ -4,21 +4,21 @@ use Rattle.std.proofs.lemmas.List.{map-set}
 use Rattle.std.specs.FinSet.{contains}
 use Rattle.wasi_host.specs.HostLaws.{World, Handles}
 use Rattle.wasi_host.specs.declared.open_handle.OpenHandle.{OpenHandle}
-use Rattle.wasi_p1_model.specs.Numbering.{free_number, with_new, live_count}
-use Rattle.wasi_p1_model.specs.Slots.{is_closed_slot, slot_of}
-use Rattle.wasi_p1_model.specs.Guest.{GuestSlot, guest_slot, guest_slots, directory_by, file_by, is_closed, new_number, with_guest_slot, directory, file}
+use Rattle.wasi_p1_types.specs.Numbering.{free_number, with_new, live_count}
+use Rattle.wasi_p1_types.specs.Slots.{is_closed_slot, slot_of}
+use Rattle.wasi_p1_types.specs.Guest.{GuestSlot, guest_slot, guest_slots, directory_by, file_by, is_closed, new_number, with_guest_slot, directory, file}
 use Rattle.wasi_p1_model.specs.Owners.{handle_in, handles, uses_in, uses, without, Owned}
-use Rattle.wasi_p1_model.specs.CallParts.{Rests, Stays}
-use Rattle.wasi_p1_model.specs.Parts.{new_guest_slot, opened_among}
+use Rattle.wasi_p1_types.specs.CallParts.{Rests, Stays}
+use Rattle.wasi_p1_types.specs.Parts.{new_guest_slot, opened_among}
 use Rattle.wasi_fs.specs.Calls.{perms_of, open_mode_of, opened_of}
 use Rattle.wasi_fs.specs.declared.descriptor.Descriptor.{Descriptor}
 use Rattle.wasi_fs.specs.declared.descriptor.Descriptor.TheVariants as descriptors
 use Rattle.wasi_fs.specs.declared.open_mode.OpenMode.{OpenMode}
 use Rattle.wasi_fs.specs.declared.perms.FsPerms.{FsPerms}
-use Rattle.wasi_p1_model.specs.declared.slots.FileModes.{FileModes}
-use Rattle.wasi_p1_model.specs.declared.slots.FileSlot.{FileSlot}
-use Rattle.wasi_p1_model.specs.declared.slots.Slot.{Slot}
-use Rattle.wasi_p1_model.specs.declared.slots.Slot.TheVariants as slots
+use Rattle.wasi_p1_types.specs.declared.slots.FileModes.{FileModes}
+use Rattle.wasi_p1_types.specs.declared.slots.FileSlot.{FileSlot}
+use Rattle.wasi_p1_types.specs.declared.slots.Slot.{Slot}
+use Rattle.wasi_p1_types.specs.declared.slots.Slot.TheVariants as slots
 use Rattle.wasi_p1_model.proofs.Numbers.{free_number-map, with_new-map, live_count-map}
 use Rattle.wasi_p1_model.proofs.Counting.{uses-cons, uses_itself, handles-cons}
 use Rattle.wasi_p1_model.proofs.Owning.{used_live, without_live, owns_closed}

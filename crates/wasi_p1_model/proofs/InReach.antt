@@ -5,8 +5,8 @@ use Rattle.wasi_host.specs.HostLaws.{FaultCount, Rose}
 use Rattle.wasi_host.specs.Tree.{Nodes}
 use Rattle.wasi_host.specs.ValidTree.{root, held}
 use Rattle.wasi_guest.specs.declared.answer.Answer.{Answer}
-use Rattle.wasi_p1_model.specs.Guest.{Guest, State, open_nodes}
-use Rattle.wasi_p1_model.specs.Front.{FueledCall}
+use Rattle.wasi_p1_types.specs.Guest.{Guest, State, open_nodes}
+use Rattle.wasi_p1_types.specs.Front.{FueledCall}
 use Rattle.wasi_p1_model.specs.Reach.{Inside}
 use Rattle.wasi_p1_model.specs.Trace.{TraceStep, Trace, Allows, RefinesTrace, answers_of}
 use Rattle.wasi_p1_model.specs.StatesAgree.{Alike, Agrees, ReachIsOne, Noninterferes}

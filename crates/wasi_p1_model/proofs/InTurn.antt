@@ -9,11 +9,11 @@ use Rattle.wasi_guest.specs.declared.call.Call.{Call}
 use Rattle.wasi_p1_model.specs.InTurn.{DoesCall, IsAnsweredSo, DoCalls, DoCallsUntil, SlotsOfRun}
 use Rattle.wasi_p1_model.specs.Owners.{SlotsOfCall}
 use Rattle.wasi_p1_model.specs.Trace.{answer_of, ends, GoOn}
-use Rattle.wasi_p1_model.specs.Slots.{View}
+use Rattle.wasi_p1_types.specs.Slots.{View}
 use Rattle.wasi_p1_model.specs.Unchanged.{AsBefore}
-use Rattle.wasi_p1_model.specs.declared.error.P1Error.{P1Error}
-use Rattle.wasi_p1_model.specs.declared.slots.Slot.{Slot}
-use Rattle.wasi_p1_model.specs.declared.error.P1Error.TheVariants.{Memory}
+use Rattle.wasi_p1_types.specs.declared.error.P1Error.{P1Error}
+use Rattle.wasi_p1_types.specs.declared.slots.Slot.{Slot}
+use Rattle.wasi_p1_types.specs.declared.error.P1Error.TheVariants.{Memory}
 use Rattle.wasi_p1_model.proofs.Unchanged.{any_fuel, leaves_all}
 
 -- Calls with these answers were done, and none of the answers ends the run: whatever calls are done from there on, all

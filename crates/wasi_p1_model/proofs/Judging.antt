@@ -3,15 +3,15 @@ use Rattle.std.proofs.Common.{ℕ, suc, ◌+◌, ◌-◌, ◌*◌, ◌^◌, ◌�
 use Rattle.std.proofs.lemmas.List.{map-append}
 use Rattle.wasi_host.specs.Steps.{◌>>=◌}
 use Rattle.wasi_host.specs.declared.open_handle.OpenHandle.{OpenHandle}
-use Rattle.wasi_p1_model.specs.Guest.{GuestSlot}
-use Rattle.wasi_p1_model.specs.Polling.{awaited_by, waited_by, waited_at, all_waited, comes_at, files_in, earliest, files_named, judged_in, judged_of, judged_with}
-use Rattle.wasi_p1_model.specs.CallResult.{CallResult, give}
-use Rattle.wasi_p1_model.specs.GuestEnvModel.{GuestEnvModel}
-use Rattle.wasi_p1_model.specs.declared.error.P1Error.{P1Error}
-use Rattle.wasi_p1_model.specs.declared.awaited.Awaited.{Awaited}
-use Rattle.wasi_p1_model.specs.declared.awaited.Awaited.TheVariants as awaiteds
-use Rattle.wasi_p1_model.specs.declared.awaited.Judged.{Judged}
-use Rattle.wasi_p1_model.specs.declared.awaited.Waited.{Waited}
+use Rattle.wasi_p1_types.specs.Guest.{GuestSlot}
+use Rattle.wasi_p1_types.specs.Polling.{awaited_by, waited_by, waited_at, all_waited, comes_at, files_in, earliest, files_named, judged_in, judged_of, judged_with}
+use Rattle.wasi_p1_types.specs.CallResult.{CallResult, give}
+use Rattle.wasi_p1_types.specs.GuestEnvModel.{GuestEnvModel}
+use Rattle.wasi_p1_types.specs.declared.error.P1Error.{P1Error}
+use Rattle.wasi_p1_types.specs.declared.awaited.Awaited.{Awaited}
+use Rattle.wasi_p1_types.specs.declared.awaited.Awaited.TheVariants as awaiteds
+use Rattle.wasi_p1_types.specs.declared.awaited.Judged.{Judged}
+use Rattle.wasi_p1_types.specs.declared.awaited.Waited.{Waited}
 
 -- ---- one subscription
 

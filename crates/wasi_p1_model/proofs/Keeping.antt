@@ -18,8 +18,8 @@ use Rattle.wasi_resolve.specs.Paths.{Opening, Place, opening_of, opening, step_o
 use Rattle.wasi_resolve.specs.PathRequest.{AtPlace, Opened, answer_at, as_asked}
 use Rattle.wasi_resolve.proofs.Requests.{as_opened}
 use Rattle.wasi_resolve.proofs.Tables.{open_leaves}
-use Rattle.wasi_p1_model.specs.Request.{Path, reply_of, after as tree_after}
-use Rattle.wasi_p1_model.specs.Parts.{permit, may_write}
+use Rattle.wasi_p1_types.specs.Request.{Path, reply_of, after as tree_after}
+use Rattle.wasi_p1_types.specs.Parts.{permit, may_write}
 
 -- ---- an open that neither makes nor cuts
 

@@ -6,20 +6,20 @@ use Rattle.wasi_guest.specs.declared.answer.Value.{Value}
 use Rattle.wasi_guest.specs.declared.call.Call.{Call}
 use Rattle.wasi_host.specs.HostLaws.{World, Handles, FaultCount}
 use Rattle.wasi_host.specs.declared.lookup.Lookup.{Lookup}
-use Rattle.wasi_p1_model.specs.CallParts.{Follows, IsReplied, Knows}
+use Rattle.wasi_p1_types.specs.CallParts.{Follows, IsReplied, Knows}
 use Rattle.wasi_p1_model.specs.CallTransition.{FollowsRow, Kept}
-use Rattle.wasi_p1_model.specs.Front.{answer, known_or_asked, onward}
-use Rattle.wasi_p1_model.specs.Guest.{Guest, guest_of}
+use Rattle.wasi_p1_types.specs.Front.{answer, known_or_asked, onward}
+use Rattle.wasi_p1_types.specs.Guest.{Guest, guest_of}
 use Rattle.wasi_p1_model.specs.Owners.{handles, Owned}
-use Rattle.wasi_p1_model.specs.Request.{Request, Reply}
-use Rattle.wasi_p1_model.specs.CallResult.{CallResult, Program, done}
+use Rattle.wasi_p1_types.specs.Request.{Request, Reply}
+use Rattle.wasi_p1_types.specs.CallResult.{CallResult, Program, done}
 use Rattle.wasi_p1_model.specs.Calls.{front, descriptors_named, may_run_out_of_memory}
-use Rattle.wasi_p1_model.specs.Slots.{View}
-use Rattle.wasi_p1_model.specs.Spending.{spends_nothing}
-use Rattle.wasi_p1_model.specs.declared.slots.FileSlot.{FileSlot}
-use Rattle.wasi_p1_model.specs.declared.slots.Slot.TheVariants.{File}
-use Rattle.wasi_p1_model.specs.declared.error.P1Error.{P1Error}
-use Rattle.wasi_p1_model.specs.declared.error.P1Error.TheVariants.{Memory}
+use Rattle.wasi_p1_types.specs.Slots.{View}
+use Rattle.wasi_p1_types.specs.Spending.{spends_nothing}
+use Rattle.wasi_p1_types.specs.declared.slots.FileSlot.{FileSlot}
+use Rattle.wasi_p1_types.specs.declared.slots.Slot.TheVariants.{File}
+use Rattle.wasi_p1_types.specs.declared.error.P1Error.{P1Error}
+use Rattle.wasi_p1_types.specs.declared.error.P1Error.TheVariants.{Memory}
 use Rattle.wasi_p1_model.proofs.Below.{same_view}
 use Rattle.wasi_p1_model.proofs.Taking.{refused_at, makes_err, put_answered, put_ok, guest_put, Made, PutBack}
 

@@ -2,9 +2,9 @@
 use Rattle.std.proofs.Common.{ℕ, ◌≡◌, Bool, true, false, cond, refl, ap, sym, ◌∙◌, Option, Some, None, Result, Ok, Err}
 use Rattle.wasi_host.specs.Tree.{Tree}
 use Rattle.wasi_host.specs.declared.errors.ErrorCode.{ErrorCode}
-use Rattle.wasi_p1_model.specs.Quotas.{is_above}
-use Rattle.wasi_p1_model.specs.Request.{Request, Reply, Grow, after, growth_at, grown_reply, reply_of}
-use Rattle.wasi_p1_model.specs.declared.quotas.Allowance.{Allowance}
+use Rattle.wasi_p1_types.specs.Quotas.{is_above}
+use Rattle.wasi_p1_types.specs.Request.{Request, Reply, Grow, after, growth_at, grown_reply, reply_of}
+use Rattle.wasi_p1_types.specs.declared.quotas.Allowance.{Allowance}
 
 -- the bound is passed, and so the tree is left
 pub record IsPassed (t : Tree) (limit : Allowance) (w : Request) : Type 0 where

@@ -12,20 +12,20 @@ use Rattle.wasi_host.specs.declared.errors.ErrorCode.{ErrorCode}
 use Rattle.wasi_host.specs.declared.metadata.Metadata.{Metadata}
 use Rattle.wasi_guest.specs.declared.answer.Value.{Value}
 use Rattle.wasi_guest.specs.declared.errno.Errno.TheVariants as errnos
-use Rattle.wasi_p1_model.specs.Asked.{Asked, Does, GivesOrElse}
-use Rattle.wasi_p1_model.specs.CallParts.{Follows, IsReplied, Makes}
-use Rattle.wasi_p1_model.specs.Errnos.{errno_of}
-use Rattle.wasi_p1_model.specs.Front.{ask}
-use Rattle.wasi_p1_model.specs.Guest.{Guest}
-use Rattle.wasi_p1_model.specs.Quotas.{growth_within, is_above}
-use Rattle.wasi_p1_model.specs.Request.{Request, Reply, Direct, Grow, after, comes_to, end_after, growth_at, growth_in, grown_reply, reply_of, size_at, starts_at, written_by}
-use Rattle.wasi_p1_model.specs.CallResult.{CallResult, asking, from_host, give, made_of_reply}
-use Rattle.wasi_p1_model.specs.Spending.{check_to_make, grow_request, grown_in, growing, growth_from, making, with_growth, with_making}
-use Rattle.wasi_p1_model.specs.GuestEnvModel.{GuestEnvModel}
-use Rattle.wasi_p1_model.specs.declared.error.P1Error.{P1Error}
-use Rattle.wasi_p1_model.specs.declared.error.P1Error.TheVariants.{Errno, Memory}
-use Rattle.wasi_p1_model.specs.declared.quotas.Allowance.{Allowance}
-use Rattle.wasi_p1_model.specs.declared.quotas.FileEnd.{FileEnd}
+use Rattle.wasi_p1_types.specs.Asked.{Asked, Does, GivesOrElse}
+use Rattle.wasi_p1_types.specs.CallParts.{Follows, IsReplied, Makes}
+use Rattle.wasi_p1_types.specs.Errnos.{errno_of}
+use Rattle.wasi_p1_types.specs.Front.{ask}
+use Rattle.wasi_p1_types.specs.Guest.{Guest}
+use Rattle.wasi_p1_types.specs.Quotas.{growth_within, is_above}
+use Rattle.wasi_p1_types.specs.Request.{Request, Reply, Direct, Grow, after, comes_to, end_after, growth_at, growth_in, grown_reply, reply_of, size_at, starts_at, written_by}
+use Rattle.wasi_p1_types.specs.CallResult.{CallResult, asking, from_host, give, made_of_reply}
+use Rattle.wasi_p1_types.specs.Spending.{check_to_make, grow_request, grown_in, growing, growth_from, making, with_growth, with_making}
+use Rattle.wasi_p1_types.specs.GuestEnvModel.{GuestEnvModel}
+use Rattle.wasi_p1_types.specs.declared.error.P1Error.{P1Error}
+use Rattle.wasi_p1_types.specs.declared.error.P1Error.TheVariants.{Errno, Memory}
+use Rattle.wasi_p1_types.specs.declared.quotas.Allowance.{Allowance}
+use Rattle.wasi_p1_types.specs.declared.quotas.FileEnd.{FileEnd}
 use Rattle.wasi_p1_model.proofs.RowEnds.{tail}
 use Rattle.wasi_p1_model.proofs.Appending.{seen}
 

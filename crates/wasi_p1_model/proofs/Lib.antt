@@ -10,8 +10,6 @@ pub mod RequestsLeave
 pub mod RequestsAgree
 pub mod RowEnds
 pub mod Changing
-pub mod Codes
-pub mod Wanting
 pub mod Bytes
 pub mod Paging
 pub mod PagingLaws
@@ -68,8 +66,6 @@ pub mod RunsAlike
 pub mod InReach
 pub mod InTurn
 pub mod Confining
-pub mod Texts
-pub mod Cycling
 pub mod Apart
 pub mod TotalBytes
 pub mod QuotaRequests

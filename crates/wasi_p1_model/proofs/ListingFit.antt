@@ -29,7 +29,7 @@ use Rattle.wasi_resolve.specs.Meanings.{listing_options, lists_at}
 use Rattle.wasi_resolve.specs.Paths.{looked}
 use Rattle.wasi_resolve.specs.PathRequest.{LookPath, path_reply}
 use Rattle.wasi_resolve.proofs.PathAgreeing.{looked_seen}
-use Rattle.wasi_p1_model.specs.Listing.{Entry, dots, numbered_at, all_numbered_at, listing_at}
+use Rattle.wasi_p1_types.specs.Listing.{Entry, dots, numbered_at, all_numbered_at, listing_at}
 use Rattle.wasi_p1_model.specs.PageLaws.{EntryFits, ListingFits, ListingsFit}
 use Rattle.wasi_p1_model.proofs.Listings.{both_ok, entry_is_short}
 use Rattle.wasi_fs.proofs.Looking.{node_known}

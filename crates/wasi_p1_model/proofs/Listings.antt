@@ -23,9 +23,9 @@ use Rattle.wasi_resolve.specs.WalkSteps.{OnlyLooks}
 use Rattle.wasi_resolve.proofs.Calls.{call_ok, call_err, looks_none, looks_of, means_then, resolved_err, resolved_then, same_live, found_ok}
 use Rattle.wasi_p1_model.proofs.Appending.{with_ends}
 use Rattle.wasi_p1_model.specs.EntriesSeen.{entry_seen, entries_seen, reads_from, numbered_behind, IsListed}
-use Rattle.wasi_p1_model.specs.Listing.{Entry, dots, numbered_at, all_numbered_at, listing_at, HasShortNames}
-use Rattle.wasi_p1_model.specs.Request.{ListDirectory, meant_of}
-use Rattle.wasi_p1_model.specs.declared.looked.Entry.{Entry as Stored}
+use Rattle.wasi_p1_types.specs.Listing.{Entry, dots, numbered_at, all_numbered_at, listing_at, HasShortNames}
+use Rattle.wasi_p1_types.specs.Request.{ListDirectory, meant_of}
+use Rattle.wasi_p1_types.specs.declared.looked.Entry.{Entry as Stored}
 
 -- ---- steps and lists
 

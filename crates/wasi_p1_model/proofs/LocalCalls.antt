@@ -15,17 +15,17 @@ use Rattle.wasi_guest.specs.declared.answer.Value.{Value}
 use Rattle.wasi_guest.specs.declared.call.Call.{Call}
 use Rattle.wasi_p1_model.specs.AppendOnly.{Adds, AppendsAtEnd}
 use Rattle.wasi_p1_model.specs.DescriptorLaws.{FitsTable}
-use Rattle.wasi_p1_model.specs.Guest.{Guest, node_in, open_nodes}
-use Rattle.wasi_p1_model.specs.Listing.{Entry}
-use Rattle.wasi_p1_model.specs.Request.{Request, Reply, Path, Direct, Behind, ListDirectory, Sizes, Grow, reply_of, after, starts_at}
+use Rattle.wasi_p1_types.specs.Guest.{Guest, node_in, open_nodes}
+use Rattle.wasi_p1_types.specs.Listing.{Entry}
+use Rattle.wasi_p1_types.specs.Request.{Request, Reply, Path, Direct, Behind, ListDirectory, Sizes, Grow, reply_of, after, starts_at}
 use Rattle.wasi_host.specs.Steps.{◌>>=◌}
-use Rattle.wasi_p1_model.specs.CallResult.{CallResult, Program, done, asking, give}
+use Rattle.wasi_p1_types.specs.CallResult.{CallResult, Program, done, asking, give}
 use Rattle.wasi_p1_model.specs.Stems.{stems_by, HasPerms}
 use Rattle.wasi_resolve.specs.EntryOps.{ReadLink}
 use Rattle.wasi_resolve.proofs.Asking.{HasUtf8Target}
 use Rattle.wasi_resolve.specs.PathRequest.{PathRequest, OpenPath, LookPath, AtPlace, TimesPath, AtTwo, PathReply, path_gives}
 use Rattle.wasi_p1_model.specs.Calls.{Stem, through, stem_in, descriptors_named}
-use Rattle.wasi_p1_model.proofs.Wanting.{IsRefusal, Never}
+use Rattle.wasi_p1_types.proofs.Wanting.{IsRefusal, Never}
 
 -- ---- of each kind of request
 

@@ -3,12 +3,12 @@ use Rattle.std.proofs.Common.{refl}
 use Rattle.wasi_guest.specs.declared.answer.Value.TheVariants.{Unit as Nothing}
 use Rattle.wasi_guest.specs.declared.call.Call.{Call}
 use Rattle.wasi_guest.specs.declared.call.Call.TheVariants as calls
-use Rattle.wasi_p1_model.specs.Front.{FueledCall}
-use Rattle.wasi_p1_model.specs.Guest.{Guest}
-use Rattle.wasi_p1_model.specs.CallResult.{give}
+use Rattle.wasi_p1_types.specs.Front.{FueledCall}
+use Rattle.wasi_p1_types.specs.Guest.{Guest}
+use Rattle.wasi_p1_types.specs.CallResult.{give}
 use Rattle.wasi_p1_model.specs.Calls.{row, args_get, args_sizes_get, environ_get, environ_sizes_get, clock_res_get, clock_time_get, proc_exit, proc_raise, sched_yield, sock_accept, sock_recv, sock_send, sock_shutdown}
 use Rattle.wasi_p1_model.proofs.LocalCalls.{IsLocal}
-use Rattle.wasi_p1_model.proofs.Wanting.{inval_never, sizes_never, clock_res_never, clock_time_never, exit_never, signal_never}
+use Rattle.wasi_p1_types.proofs.Wanting.{inval_never, sizes_never, clock_res_never, clock_time_never, exit_never, signal_never}
 pub mod Parts
 mod Spending
 mod Opening

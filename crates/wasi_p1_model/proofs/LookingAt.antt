@@ -28,10 +28,10 @@ use Rattle.wasi_host.proofs.Touching.{at_root}
 use Rattle.wasi_resolve.specs.Resolved.{Resolved}
 use Rattle.wasi_resolve.specs.WalkSteps.{OnlyLooks}
 use Rattle.wasi_resolve.proofs.Calls.{looks_of, resolved_then, resolved_err}
-use Rattle.wasi_p1_model.specs.Asked.{Asked}
-use Rattle.wasi_p1_model.specs.Errnos.{error_of}
-use Rattle.wasi_p1_model.specs.Filestats.{stat_both}
-use Rattle.wasi_p1_model.specs.Request.{Direct}
+use Rattle.wasi_p1_types.specs.Asked.{Asked}
+use Rattle.wasi_p1_types.specs.Errnos.{error_of}
+use Rattle.wasi_p1_types.specs.Filestats.{stat_both}
+use Rattle.wasi_p1_types.specs.Request.{Direct}
 use Rattle.wasi_p1_model.proofs.Resolving.{made_ok, made_not}
 
 -- what is made of what a host says of a node

@@ -18,8 +18,8 @@ use Rattle.wasi_resolve.specs.PathRequest.{LookPath, meant_by, path_reply}
 use Rattle.wasi_resolve.specs.Resolved.{Resolved}
 use Rattle.wasi_resolve.specs.WalkSteps.{OnlyLooks}
 use Rattle.wasi_resolve.proofs.Calls.{looks_of, resolved_then, resolved_err}
-use Rattle.wasi_p1_model.specs.Filestats.{stat_both}
-use Rattle.wasi_p1_model.specs.declared.looked.StatBoth.{StatBoth}
+use Rattle.wasi_p1_types.specs.Filestats.{stat_both}
+use Rattle.wasi_p1_types.specs.declared.looked.StatBoth.{StatBoth}
 
 -- what is made of what a look at a path's end gives
 abbrev pub LooksAs : {B : Type 0} → (Metadata → B) → Handles → World → World → ℕ → List ℕ → Bool → Result B HostError → Type 0

@@ -4,19 +4,19 @@ use Rattle.std.specs.Prelude.{All, MatchBool}
 use Rattle.std.proofs.lemmas.List.Elements.{All-nil, All-cons}
 use Rattle.wasi_host.specs.Tree.{Tree}
 use Rattle.wasi_host.specs.declared.errors.ErrorCode.{ErrorCode}
-use Rattle.wasi_p1_model.specs.Guest.{Guest, State}
-use Rattle.wasi_p1_model.specs.Request.{Request, Reply, reply_of, after}
-use Rattle.wasi_p1_model.specs.CallResult.{with_tree, CallResult, give, asking}
+use Rattle.wasi_p1_types.specs.Guest.{Guest, State}
+use Rattle.wasi_p1_types.specs.Request.{Request, Reply, reply_of, after}
+use Rattle.wasi_p1_types.specs.CallResult.{with_tree, CallResult, give, asking}
 use Rattle.wasi_guest.specs.Iovec.{first_buffer}
 use Rattle.wasi_guest.specs.Records.{Found, text_in}
 use Rattle.wasi_guest.specs.declared.iovec.Iovec.{Iovec}
-use Rattle.wasi_p1_model.specs.Front.{Front, CallFront, FueledCall, onward, free, charge, charged_text, charged_buffer, ◌>>=◌}
-use Rattle.wasi_p1_model.specs.Parts.{from_guest}
+use Rattle.wasi_p1_types.specs.Front.{Front, CallFront, FueledCall, onward, free, charge, charged_text, charged_buffer, ◌>>=◌}
+use Rattle.wasi_p1_types.specs.Parts.{from_guest}
 use Rattle.wasi_p1_model.specs.Calls.{turn}
 use Rattle.wasi_p1_model.specs.Trace.{TraceStep, Played, Faulted, Gives, Trace, Spends, ends}
 use Rattle.wasi_p1_model.specs.Transition.{AfterFault, IsTransition, StepTaken, used_by}
 use Rattle.wasi_guest.specs.declared.quota.QuotaUsed.{QuotaUsed}
-use Rattle.wasi_p1_model.specs.declared.error.P1Error.{P1Error}
+use Rattle.wasi_p1_types.specs.declared.error.P1Error.{P1Error}
 use Rattle.wasi_guest.specs.declared.answer.Value.{Value}
 use Rattle.wasi_p1_model.proofs.Alike.{over, row_on, replied}
 use Rattle.wasi_p1_model.proofs.Locality.Parts.{taken}

@@ -4,11 +4,11 @@ use Rattle.std.specs.Prelude.{count_by}
 use Rattle.std.proofs.lemmas.Bool.Decides.{nat_tests}
 use Rattle.std.proofs.lemmas.List.{map-append, map-set, length-map}
 use Rattle.std.proofs.lemmas.List.Sums.{sum_by-cons}
-use Rattle.wasi_p1_model.specs.Slots.{first_slots, given_slot, given_slots, is_closed_slot}
-use Rattle.wasi_p1_model.specs.declared.slots.P1Preopen.{P1Preopen}
-use Rattle.wasi_p1_model.specs.Numbering.{passes_at, later_or_here, last_where, put_at, free_number, with_new, live_count}
-use Rattle.wasi_p1_model.specs.declared.slots.Slot.TheVariants.{Stream}
-use Rattle.wasi_p1_model.specs.declared.slots.Stream.TheVariants.{Input, Output, Error}
+use Rattle.wasi_p1_types.specs.Slots.{first_slots, given_slot, given_slots, is_closed_slot}
+use Rattle.wasi_p1_types.specs.declared.slots.P1Preopen.{P1Preopen}
+use Rattle.wasi_p1_types.specs.Numbering.{passes_at, later_or_here, last_where, put_at, free_number, with_new, live_count}
+use Rattle.wasi_p1_types.specs.declared.slots.Slot.TheVariants.{Stream}
+use Rattle.wasi_p1_types.specs.declared.slots.Stream.TheVariants.{Input, Output, Error}
 
 pub not_true : (b : Bool) → (b ≡ true → ⊥) → b ≡ false
 not_true true h = absurd (h refl)

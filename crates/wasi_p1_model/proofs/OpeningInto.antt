@@ -9,11 +9,11 @@ use Rattle.wasi_host.specs.HostLaws.{World, Handles}
 use Rattle.wasi_host.specs.declared.errors.ErrorCode.{ErrorCode}
 use Rattle.wasi_host.specs.declared.errors.HostError.{HostError}
 use Rattle.wasi_host.specs.declared.open_handle.OpenHandle.{OpenHandle}
-use Rattle.wasi_p1_model.specs.Guest.{guest_slots}
+use Rattle.wasi_p1_types.specs.Guest.{guest_slots}
 use Rattle.wasi_p1_model.specs.Owners.{handle_in, handles, Got, Owned}
-use Rattle.wasi_p1_model.specs.Slots.{is_closed_slot, slot_of}
-use Rattle.wasi_p1_model.specs.declared.slots.FileModes.{FileModes}
-use Rattle.wasi_p1_model.specs.declared.slots.Slot.{Slot}
+use Rattle.wasi_p1_types.specs.Slots.{is_closed_slot, slot_of}
+use Rattle.wasi_p1_types.specs.declared.slots.FileModes.{FileModes}
+use Rattle.wasi_p1_types.specs.declared.slots.Slot.{Slot}
 use Rattle.wasi_p1_model.proofs.GuestSlots.{guest_slots_stay}
 
 -- the descriptor of what was opened is in use

@@ -11,17 +11,17 @@ use Rattle.std.specs.FinSet.{contains, insert, remove, contains-retain, members,
 use Rattle.std.specs.Cmp.{nat_cmp_total}
 use Rattle.std.specs.Ordering.{nat_cmp}
 use Rattle.wasi_host.specs.HostLaws.{Handles}
-use Rattle.wasi_p1_model.specs.Numbering.{last_where, put_at, with_new}
-use Rattle.wasi_p1_model.specs.Slots.{file_under, first_slots, given_slot, given_slots, is_closed_slot}
-use Rattle.wasi_p1_model.specs.CallParts.{IsLive}
+use Rattle.wasi_p1_types.specs.Numbering.{last_where, put_at, with_new}
+use Rattle.wasi_p1_types.specs.Slots.{file_under, first_slots, given_slot, given_slots, is_closed_slot}
+use Rattle.wasi_p1_types.specs.CallParts.{IsLive}
 use Rattle.wasi_fs.specs.declared.descriptor.File.{File as OpenedFile}
-use Rattle.wasi_p1_model.specs.declared.slots.FileSlot.{FileSlot}
-use Rattle.wasi_p1_model.specs.declared.slots.P1Preopen.{P1Preopen}
-use Rattle.wasi_p1_model.specs.declared.slots.Stream.{Stream as StandardStream}
-use Rattle.wasi_p1_model.specs.declared.slots.Stream.TheVariants.{Input, Output, Error}
+use Rattle.wasi_p1_types.specs.declared.slots.FileSlot.{FileSlot}
+use Rattle.wasi_p1_types.specs.declared.slots.P1Preopen.{P1Preopen}
+use Rattle.wasi_p1_types.specs.declared.slots.Stream.{Stream as StandardStream}
+use Rattle.wasi_p1_types.specs.declared.slots.Stream.TheVariants.{Input, Output, Error}
 use Rattle.wasi_p1_model.specs.Owners.{handle_in, handles, one_if, uses_in, uses, Owned, Owns, unowned, Got, without, OwnedApart, LiveStays}
-use Rattle.wasi_p1_model.specs.declared.slots.Slot.{Slot}
-use Rattle.wasi_p1_model.specs.declared.slots.Slot.TheVariants as slots
+use Rattle.wasi_p1_types.specs.declared.slots.Slot.{Slot}
+use Rattle.wasi_p1_types.specs.declared.slots.Slot.TheVariants as slots
 use Rattle.wasi_p1_model.proofs.Numbers.{last_passes}
 use Rattle.wasi_p1_model.proofs.Counting.{uses-cons, uses-push, uses-set, uses_here, uses_itself, handle_at, handle_put, handle_pushed, handles-cons}
 

@@ -8,13 +8,13 @@ use Rattle.wasi_host.specs.declared.file_type.FileType.{FileType}
 use Rattle.wasi_host.specs.declared.file_type.FileType.TheVariants as kinds
 use Rattle.wasi_guest.specs.Dirent.{dirent_bytes}
 use Rattle.wasi_guest.specs.FiletypeNumber.{filetype_number}
-use Rattle.wasi_p1_model.specs.Filestats.{filetype_of}
+use Rattle.wasi_p1_types.specs.Filestats.{filetype_of}
 use Rattle.std.specs.String.{string_bytes}
 use Rattle.wasi_guest.specs.Range.{with_bytes}
 use Rattle.wasi_p1_model.specs.EntriesSeen.{entry_seen, entries_seen}
-use Rattle.wasi_p1_model.specs.Listing.{Entry, HasShortNames, dots}
-use Rattle.wasi_p1_model.specs.declared.looked.Entry.{Entry as Stored}
-use Rattle.wasi_p1_model.proofs.Texts.{with_both}
+use Rattle.wasi_p1_types.specs.Listing.{Entry, HasShortNames, dots}
+use Rattle.wasi_p1_types.specs.declared.looked.Entry.{Entry as Stored}
+use Rattle.wasi_p1_types.proofs.Texts.{with_both}
 use Rattle.wasi_p1_model.specs.Pages.{dirent_of, record_of, record_size, records_from, records_after, page}
 use Rattle.wasi_p1_model.specs.PageLaws.{PageLength, PastTheEnd}
 use Rattle.wasi_p1_model.proofs.Bytes.{byte_of, word_bytes, joined, cut}

@@ -7,7 +7,7 @@ use Rattle.std.proofs.lemmas.List.Elements.{All-head, All-tail, All-drop}
 use Rattle.std.proofs.lemmas.Bool.{cond-true, cond-false, leb-true, leb-false, le-leb, lt-leb, ltb-true, ltb-false}
 use Rattle.std.proofs.lemmas.Nat.{from_le_bytes-to_le_bytes_4, from_le_bytes-to_le_bytes_8}
 use Rattle.wasi_guest.specs.Dirent.{dirent_bytes}
-use Rattle.wasi_p1_model.specs.Listing.{Entry}
+use Rattle.wasi_p1_types.specs.Listing.{Entry}
 use Rattle.wasi_p1_model.specs.Pages.{dirent_of, record_of, record_size, records_from, page}
 use Rattle.wasi_p1_model.specs.PageReading.{ReadRecord, first_dirent, first_record, first_length, whole_up_to, whole_records, cookie_after, read_by, EachHolds, fitting, read_entry, as_read, all_records}
 use Rattle.wasi_p1_model.specs.PageLaws.{EntryFits, ListingFits, WholeOfPage, LargePagesHold, PagesInOrder, PagesHaveAll, EmptyPageEnds}

@@ -8,13 +8,13 @@ use Rattle.wasi_guest.specs.declared.answer.Value.{Value}
 use Rattle.wasi_guest.specs.declared.call.Call.{Call}
 use Rattle.wasi_p1_model.specs.AppendOnly.{Adds, nothing, AppendsAtEnd, AppendOnlyTurnsAdd}
 use Rattle.wasi_p1_model.specs.CallTransition.{Turns, NamesUnder}
-use Rattle.wasi_p1_model.specs.Front.{FueledCall}
-use Rattle.wasi_p1_model.specs.Guest.{Guest, State}
+use Rattle.wasi_p1_types.specs.Front.{FueledCall}
+use Rattle.wasi_p1_types.specs.Guest.{Guest, State}
 use Rattle.wasi_p1_model.specs.ReadOnly.{IsReadOnlyGuest, ReadOnlyTurnsLeaveTheTree, ReadOnlyRunsLeaveTheTree}
-use Rattle.wasi_p1_model.specs.CallResult.{CallResult, Program, done, asking}
+use Rattle.wasi_p1_types.specs.CallResult.{CallResult, Program, done, asking}
 use Rattle.wasi_p1_model.specs.Calls.{row, turn}
 use Rattle.wasi_p1_model.specs.Trace.{TraceStep, Played, Faulted}
-use Rattle.wasi_p1_model.specs.declared.error.P1Error.{P1Error}
+use Rattle.wasi_p1_types.specs.declared.error.P1Error.{P1Error}
 use Rattle.wasi_p1_model.proofs.Alike.{row_on}
 use Rattle.wasi_p1_model.proofs.Moving.{Moves, turn_moves, turned_moves, run_keeps, over_tree, replied_by}
 use Rattle.wasi_p1_model.proofs.LocalCalls.{IsLocal, Permitted, leaves, changes}

@@ -23,8 +23,8 @@ use Rattle.wasi_resolve.specs.Resolved.{Resolved}
 use Rattle.wasi_resolve.specs.Walk.{Look, Name, is_to_be_read, walk}
 use Rattle.wasi_resolve.proofs.Calls.{call_err, call_ok, found_ok, looks_of, means_then, resolved_err, same_live}
 use Rattle.wasi_p1_model.specs.EntriesSeen.{entry_seen, reads_from}
-use Rattle.wasi_p1_model.specs.Listing.{numbered_at}
-use Rattle.wasi_p1_model.specs.declared.looked.Entry.{Entry as Stored}
+use Rattle.wasi_p1_types.specs.Listing.{numbered_at}
+use Rattle.wasi_p1_types.specs.declared.looked.Entry.{Entry as Stored}
 
 -- ---- the parts of a plain name
 

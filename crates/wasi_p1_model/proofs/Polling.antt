@@ -20,24 +20,24 @@ use Rattle.wasi_guest.specs.declared.subscription.Subscription.{Subscription}
 use Rattle.wasi_guest.specs.declared.subscription.SubscriptionKind.{SubscriptionKind}
 use Rattle.wasi_guest.specs.declared.subscription.SubscriptionKind.TheVariants as kinds
 use Rattle.wasi_host.specs.Steps.{◌>>=◌}
-use Rattle.wasi_p1_model.specs.Guest.{GuestSlot, node_in}
-use Rattle.wasi_p1_model.specs.Parts.{from_guest, Source, input, from, source_in, Sink, output, into, sink_in}
-use Rattle.wasi_p1_model.specs.Polling.{some_asked, lists_within, end_of, clock_end, waiting_to_read, waiting_to_write, waiting_for, waited_at, all_waited, nodes_in, nodes_read, comes_at, type_of, nbytes_in, event_flags, wall_later, clocks_at, event_of, first_size, events, with_events}
-use Rattle.wasi_p1_model.specs.RawFlags.{or_inval}
-use Rattle.wasi_p1_model.specs.CallResult.{CallResult, give}
-use Rattle.wasi_p1_model.specs.Services.{nanoseconds_of}
-use Rattle.wasi_p1_model.specs.GuestEnvModel.{GuestEnvModel}
+use Rattle.wasi_p1_types.specs.Guest.{GuestSlot, node_in}
+use Rattle.wasi_p1_types.specs.Parts.{from_guest, Source, input, from, source_in, Sink, output, into, sink_in}
+use Rattle.wasi_p1_types.specs.Polling.{some_asked, lists_within, end_of, clock_end, waiting_to_read, waiting_to_write, waiting_for, waited_at, all_waited, nodes_in, nodes_read, comes_at, type_of, nbytes_in, event_flags, wall_later, clocks_at, event_of, first_size, events, with_events}
+use Rattle.wasi_p1_types.specs.RawFlags.{or_inval}
+use Rattle.wasi_p1_types.specs.CallResult.{CallResult, give}
+use Rattle.wasi_p1_types.specs.Services.{nanoseconds_of}
+use Rattle.wasi_p1_types.specs.GuestEnvModel.{GuestEnvModel}
 use Rattle.wasi_p1_model.specs.Subscriptions.{descriptor_awaited, named_in, waited_for}
-use Rattle.wasi_p1_model.specs.declared.error.P1Error.{P1Error}
-use Rattle.wasi_p1_model.specs.declared.error.P1Error.TheVariants.{Errno}
-use Rattle.wasi_p1_model.specs.declared.guest_env.Clocks.{Clocks}
-use Rattle.wasi_p1_model.specs.declared.awaited.Awaited.{Awaited}
-use Rattle.wasi_p1_model.specs.declared.awaited.Awaited.TheVariants as awaiteds
-use Rattle.wasi_p1_model.specs.declared.awaited.Waited.{Waited}
+use Rattle.wasi_p1_types.specs.declared.error.P1Error.{P1Error}
+use Rattle.wasi_p1_types.specs.declared.error.P1Error.TheVariants.{Errno}
+use Rattle.wasi_p1_types.specs.declared.guest_env.Clocks.{Clocks}
+use Rattle.wasi_p1_types.specs.declared.awaited.Awaited.{Awaited}
+use Rattle.wasi_p1_types.specs.declared.awaited.Awaited.TheVariants as awaiteds
+use Rattle.wasi_p1_types.specs.declared.awaited.Waited.{Waited}
 use Rattle.wasi_p1_model.specs.Validity.{AreBytes}
 use Rattle.wasi_p1_model.proofs.Bytes.{joined, put_bytes}
 use Rattle.wasi_p1_model.proofs.Changing.{source_is}
-use Rattle.wasi_p1_model.proofs.Wanting.{IsRefusal, Never, after, when, guest_never, inval_never, source_never, sink_never}
+use Rattle.wasi_p1_types.proofs.Wanting.{IsRefusal, Never, after, when, guest_never, inval_never, source_never, sink_never}
 
 -- ---- refusals
 

@@ -19,21 +19,21 @@ use Rattle.wasi_guest.specs.Range.{with_bytes}
 use Rattle.wasi_guest.specs.declared.answer.Value.TheVariants.{Number}
 use Rattle.wasi_guest.specs.declared.answer.Value.{Value}
 use Rattle.wasi_guest.proofs.Ranges.{length_part, with_whole}
-use Rattle.wasi_p1_model.specs.Files.{file_in, read_place_in}
-use Rattle.wasi_p1_model.specs.Front.{ask}
-use Rattle.wasi_p1_model.specs.Guest.{Guest, OpenFile, State, file, file_by, guest_slot}
-use Rattle.wasi_p1_model.specs.Parts.{range, may_write, held_by}
+use Rattle.wasi_p1_types.specs.Files.{file_in, read_place_in}
+use Rattle.wasi_p1_types.specs.Front.{ask}
+use Rattle.wasi_p1_types.specs.Guest.{Guest, OpenFile, State, file, file_by, guest_slot}
+use Rattle.wasi_p1_types.specs.Parts.{range, may_write, held_by}
 use Rattle.wasi_p1_model.specs.PutBytes.{file_bytes, bytes_from, PutsAt, BytesArePut, FilesAreHeld, PutBytesStand, BytesAreGot, PutBytesAreGot}
 use Rattle.wasi_p1_model.specs.Putting.{count_in, put_call, put_end}
-use Rattle.wasi_p1_model.specs.Quotas.{allowance, growth_to}
-use Rattle.wasi_p1_model.specs.Request.{Reply, Direct, size_at}
-use Rattle.wasi_p1_model.specs.CallResult.{CallResult, give}
+use Rattle.wasi_p1_types.specs.Quotas.{allowance, growth_to}
+use Rattle.wasi_p1_types.specs.Request.{Reply, Direct, size_at}
+use Rattle.wasi_p1_types.specs.CallResult.{CallResult, give}
 use Rattle.wasi_p1_model.specs.Calls.{fd_pread, fd_pwrite, write_into}
-use Rattle.wasi_p1_model.specs.Spending.{growing}
+use Rattle.wasi_p1_types.specs.Spending.{growing}
 use Rattle.wasi_p1_model.specs.Writing.{put_growth, with_grown}
-use Rattle.wasi_p1_model.specs.declared.slots.Slot.{Slot}
-use Rattle.wasi_p1_model.specs.declared.slots.Slot.TheVariants as slots
-use Rattle.wasi_p1_model.specs.declared.usage.FileUse.TheVariants.{WriteAt}
+use Rattle.wasi_p1_types.specs.declared.slots.Slot.{Slot}
+use Rattle.wasi_p1_types.specs.declared.slots.Slot.TheVariants as slots
+use Rattle.wasi_p1_types.specs.declared.usage.FileUse.TheVariants.{WriteAt}
 use Rattle.wasi_p1_model.proofs.Alike.{row_on}
 use Rattle.wasi_p1_model.proofs.Bytes.{range_is}
 use Rattle.wasi_p1_model.proofs.Changing.{file_is, read_place_is}

@@ -4,7 +4,7 @@ use Rattle.wasi_host.specs.Tree.{Tree}
 use Rattle.wasi_host.specs.declared.open_handle.OpenHandle.{OpenHandle}
 use Rattle.wasi_p1_model.specs.AppendOnly.{Adds}
 use Rattle.wasi_p1_model.specs.Putting.{put_call, put_request}
-use Rattle.wasi_p1_model.specs.Request.{Request, Direct, after, starts_at}
+use Rattle.wasi_p1_types.specs.Request.{Request, Direct, after, starts_at}
 use Rattle.wasi_p1_model.specs.Validity.{AreBytes}
 use Rattle.wasi_p1_model.proofs.Adding.{call_adds, request_adds}
 use Rattle.wasi_p1_model.proofs.LocalCalls.{MayBeAsked}

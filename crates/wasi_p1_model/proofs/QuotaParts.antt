@@ -16,21 +16,21 @@ use Rattle.wasi_host.specs.Refusal.{can_write}
 use Rattle.wasi_host.specs.Steps.{◌>>=◌}
 use Rattle.wasi_host.specs.Tree.{Tree, next_of}
 use Rattle.wasi_resolve.specs.PathRequest.{Opened}
-use Rattle.wasi_p1_model.specs.Guest.{Guest, OpenFile, closed, file, with_guest_slot}
-use Rattle.wasi_p1_model.specs.Numbering.{renumbered}
-use Rattle.wasi_p1_model.specs.Parts.{new_guest_slot, with_file}
+use Rattle.wasi_p1_types.specs.Guest.{Guest, OpenFile, closed, file, with_guest_slot}
+use Rattle.wasi_p1_types.specs.Numbering.{renumbered}
+use Rattle.wasi_p1_types.specs.Parts.{new_guest_slot, with_file}
 use Rattle.wasi_p1_model.specs.QuotaLaws.{WritesAsOpened, total_bytes}
-use Rattle.wasi_p1_model.specs.Quotas.{allowance, count_on, counted_growth, counted_making, is_used_up}
-use Rattle.wasi_p1_model.specs.Request.{Request, Reply, Grow, after, growth_at, growth_in, reply_of}
-use Rattle.wasi_p1_model.specs.CallResult.{CallResult, Program, done, asking, give}
-use Rattle.wasi_p1_model.specs.Services.{input_into, next_input, written}
-use Rattle.wasi_p1_model.specs.Spending.{grown_by, grown_in, made_by, may_make, spent, with_growth, with_making}
-use Rattle.wasi_p1_model.specs.GuestEnvModel.{GuestEnvModel}
-use Rattle.wasi_p1_model.specs.declared.error.P1Error.TheVariants.{Errno}
-use Rattle.wasi_p1_model.specs.declared.guest_env.Output.{Output}
-use Rattle.wasi_p1_model.specs.declared.guest_env.Output.TheVariants as outputs
-use Rattle.wasi_p1_model.specs.declared.quotas.Allowance.{Allowance}
-use Rattle.wasi_p1_model.specs.declared.slots.FileModes.{FileModes}
+use Rattle.wasi_p1_types.specs.Quotas.{allowance, count_on, counted_growth, counted_making, is_used_up}
+use Rattle.wasi_p1_types.specs.Request.{Request, Reply, Grow, after, growth_at, growth_in, reply_of}
+use Rattle.wasi_p1_types.specs.CallResult.{CallResult, Program, done, asking, give}
+use Rattle.wasi_p1_types.specs.Services.{input_into, next_input, written}
+use Rattle.wasi_p1_types.specs.Spending.{grown_by, grown_in, made_by, may_make, spent, with_growth, with_making}
+use Rattle.wasi_p1_types.specs.GuestEnvModel.{GuestEnvModel}
+use Rattle.wasi_p1_types.specs.declared.error.P1Error.TheVariants.{Errno}
+use Rattle.wasi_p1_types.specs.declared.guest_env.Output.{Output}
+use Rattle.wasi_p1_types.specs.declared.guest_env.Output.TheVariants as outputs
+use Rattle.wasi_p1_types.specs.declared.quotas.Allowance.{Allowance}
+use Rattle.wasi_p1_types.specs.declared.slots.FileModes.{FileModes}
 use Rattle.wasi_p1_model.proofs.Changing.{IsFileOf, file_open, in_set, new_stems}
 use Rattle.wasi_p1_model.proofs.Lengthening.{IsBounded, Lengthens, bounded_by}
 use Rattle.wasi_p1_model.proofs.QuotaRequests.{Grows, IsWrite, grow_within}

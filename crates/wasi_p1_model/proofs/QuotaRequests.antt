@@ -30,10 +30,10 @@ use Rattle.wasi_resolve.specs.Walk.{Open, Outcome, Stop, Name, Dot, walk}
 use Rattle.wasi_resolve.proofs.Requests.{as_opened}
 use Rattle.wasi_resolve.proofs.WalkAgreeing.{there}
 use Rattle.wasi_p1_model.specs.Putting.{put_call, put_request}
-use Rattle.wasi_p1_model.specs.RawFlags.{how_by, open_how, or_inval}
-use Rattle.wasi_p1_model.specs.Request.{Request, Reply, Direct, Grow, after, growth_at, growth_in, reply_of}
-use Rattle.wasi_p1_model.specs.CallResult.{CallResult, give}
-use Rattle.wasi_p1_model.specs.declared.quotas.Allowance.{Allowance}
+use Rattle.wasi_p1_types.specs.RawFlags.{how_by, open_how, or_inval}
+use Rattle.wasi_p1_types.specs.Request.{Request, Reply, Direct, Grow, after, growth_at, growth_in, reply_of}
+use Rattle.wasi_p1_types.specs.CallResult.{CallResult, give}
+use Rattle.wasi_p1_types.specs.declared.quotas.Allowance.{Allowance}
 use Rattle.wasi_p1_model.proofs.Lengthening.{Lengthens}
 use Rattle.wasi_p1_model.proofs.TotalBytes.{Within, found_within, full_growth, step_within, within_itself, within_more}
 

@@ -23,28 +23,28 @@ use Rattle.wasi_host.specs.declared.metadata.Metadata.{Metadata}
 use Rattle.wasi_resolve.specs.EntryOps.{EntryOp, CreateDir, ReadLink, RemoveDir, RemoveFile, Symlink}
 use Rattle.wasi_resolve.specs.TwoPathOps.{TwoPathOp, HardLink, Rename}
 use Rattle.wasi_resolve.specs.PathRequest.{Opened, path_reply, AtPlace, AtTwo, PathRequest, TimesPath}
-use Rattle.wasi_p1_model.specs.Fdstats.{directory_fdstat, preopen_fdstat}
-use Rattle.wasi_p1_model.specs.Files.{base_in, file_in, host_advice, keeps_append, name_at, name_into, not_synchronized, or_refused, position_from, read_place_in, sought}
-use Rattle.wasi_p1_model.specs.Filestats.{filestat_in, stat_both}
-use Rattle.wasi_p1_model.specs.Front.{Front, CallFront, FueledCall, onward, free, answer, ask, at_path, at_buffer, charge, charged_buffer, charged_text, done_if, tells, ◌>>=◌}
-use Rattle.wasi_p1_model.specs.Guest.{Guest, GuestSlot, OpenFile, closed, directory, file, stream, with_guest_slot}
-use Rattle.wasi_p1_model.specs.Parts.{OpenNode, directory_in, open_node_in, room_for, new_guest_slot, live_in, may_write, told_of, link_into, text_to, Source, input, from, Sink, output, into, held_by, opened_in, permit, range, sink_in, source_in, start_in}
+use Rattle.wasi_p1_types.specs.Fdstats.{directory_fdstat, preopen_fdstat}
+use Rattle.wasi_p1_types.specs.Files.{base_in, file_in, host_advice, keeps_append, name_at, name_into, not_synchronized, or_refused, position_from, read_place_in, sought}
+use Rattle.wasi_p1_types.specs.Filestats.{filestat_in, stat_both}
+use Rattle.wasi_p1_types.specs.Front.{Front, CallFront, FueledCall, onward, free, answer, ask, at_path, at_buffer, charge, charged_buffer, charged_text, done_if, tells, ◌>>=◌}
+use Rattle.wasi_p1_types.specs.Guest.{Guest, GuestSlot, OpenFile, closed, directory, file, stream, with_guest_slot}
+use Rattle.wasi_p1_types.specs.Parts.{OpenNode, directory_in, open_node_in, room_for, new_guest_slot, live_in, may_write, told_of, link_into, text_to, Source, input, from, Sink, output, into, held_by, opened_in, permit, range, sink_in, source_in, start_in}
 use Rattle.wasi_p1_model.specs.Putting.{count_in, put_answer, put_in}
-use Rattle.wasi_p1_model.specs.Quotas.{allowance}
-use Rattle.wasi_p1_model.specs.RawFlags.{follow_asked, modes_in, modes_under, open_how, or_inval}
-use Rattle.wasi_p1_model.specs.NewTimes.{times_asked}
+use Rattle.wasi_p1_types.specs.Quotas.{allowance}
+use Rattle.wasi_p1_types.specs.RawFlags.{follow_asked, modes_in, modes_under, open_how, or_inval}
+use Rattle.wasi_p1_types.specs.NewTimes.{times_asked}
 use Rattle.wasi_p1_model.specs.Pages.{page}
-use Rattle.wasi_p1_model.specs.Polling.{all_waited, clocks_at, earliest, files_named, lists_within, nodes_read, some_asked}
-use Rattle.wasi_p1_model.specs.Request.{Request, Reply, Direct, Path, after, growth_in}
-use Rattle.wasi_p1_model.specs.CallResult.{CallResult, Program, done, asking, give}
+use Rattle.wasi_p1_types.specs.Polling.{all_waited, clocks_at, earliest, files_named, lists_within, nodes_read, some_asked}
+use Rattle.wasi_p1_types.specs.Request.{Request, Reply, Direct, Path, after, growth_in}
+use Rattle.wasi_p1_types.specs.CallResult.{CallResult, Program, done, asking, give}
 use Rattle.wasi_p1_model.specs.Calls.{done_at, done_between, fdstat_of, filestat_of, front, look_and_tell, no_socket, puts_texts, read_from, row, seek_from, stored, write_into, write_to, args_get, args_sizes_get, environ_get, environ_sizes_get, clock_res_get, clock_time_get, fd_advise, fd_allocate, fd_close, fd_datasync, fd_sync, fd_fdstat_get, fd_fdstat_set_flags, fd_fdstat_set_rights, fd_filestat_get, fd_filestat_set_size, fd_filestat_set_times, fd_pread, fd_prestat_get, fd_prestat_dir_name, fd_pwrite, fd_read, fd_readdir, fd_renumber, fd_seek, fd_tell, fd_write, path_create_directory, path_filestat_get, path_filestat_set_times, path_link, path_open, path_readlink, path_remove_directory, path_unlink_file, path_rename, path_symlink, poll_oneoff, proc_exit, proc_raise, random_get, sched_yield, sock_accept, sock_recv, sock_send, sock_shutdown}
-use Rattle.wasi_p1_model.specs.Services.{clock_res, clock_time, input_into, known_signal, random_taken, sizes_of, texts_at}
-use Rattle.wasi_p1_model.specs.Spending.{growing, making, makes}
-use Rattle.wasi_p1_model.specs.declared.error.P1Error.{P1Error}
-use Rattle.wasi_p1_model.specs.declared.awaited.Waited.{Waited}
-use Rattle.wasi_p1_model.specs.declared.guest_env.Clocks.{Clocks}
-use Rattle.wasi_p1_model.specs.declared.slots.FileModes.{FileModes}
-use Rattle.wasi_p1_model.specs.declared.usage.FileUse.TheVariants.{Itself, Position, WriteAt}
+use Rattle.wasi_p1_types.specs.Services.{clock_res, clock_time, input_into, known_signal, random_taken, sizes_of, texts_at}
+use Rattle.wasi_p1_types.specs.Spending.{growing, making, makes}
+use Rattle.wasi_p1_types.specs.declared.error.P1Error.{P1Error}
+use Rattle.wasi_p1_types.specs.declared.awaited.Waited.{Waited}
+use Rattle.wasi_p1_types.specs.declared.guest_env.Clocks.{Clocks}
+use Rattle.wasi_p1_types.specs.declared.slots.FileModes.{FileModes}
+use Rattle.wasi_p1_types.specs.declared.usage.FileUse.TheVariants.{Itself, Position, WriteAt}
 use Rattle.wasi_p1_model.proofs.Changing.{file_is, sink_is, source_is}
 use Rattle.wasi_p1_model.proofs.QuotaRequests.{IsWrite, creates_asked, made_by, open_as_asked, open_finds, open_makes, path_within, put_is_write, request_is_write, size_is_write}
 use Rattle.wasi_p1_model.proofs.TotalBytes.{Within, step_within, within_itself}

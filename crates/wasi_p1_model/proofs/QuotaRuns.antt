@@ -5,8 +5,8 @@ use Rattle.std.proofs.lemmas.List.Sums.{sum_by-cons}
 use Rattle.wasi_guest.specs.declared.quota.Quota.{Quota}
 use Rattle.wasi_guest.specs.declared.quota.QuotaUsed.{QuotaUsed}
 use Rattle.wasi_host.specs.Tree.{next_of}
-use Rattle.wasi_p1_model.specs.Front.{FueledCall}
-use Rattle.wasi_p1_model.specs.Guest.{State}
+use Rattle.wasi_p1_types.specs.Front.{FueledCall}
+use Rattle.wasi_p1_types.specs.Guest.{State}
 use Rattle.wasi_p1_model.specs.QuotaLaws.{CountsUse, OpenedStays, QuotasAreCounted, RunsStayWithinQuotas, StaysWithinQuotas, WritesAsOpened, quota_of, total_bytes, used_of}
 use Rattle.wasi_p1_model.specs.Trace.{Faulted, Played, Trace, TraceStep, ends}
 use Rattle.wasi_p1_model.proofs.Moving.{each_turn, run_keeps, turned_by}

@@ -5,16 +5,16 @@ use Rattle.std.proofs.lemmas.Result.{IfOk-at_ok}
 use Rattle.wasi_guest.specs.declared.answer.Answer.{Answer}
 use Rattle.wasi_guest.specs.declared.answer.Answer.TheVariants as answers
 use Rattle.wasi_guest.specs.declared.answer.Value.{Value}
-use Rattle.wasi_p1_model.specs.Front.{FueledCall}
-use Rattle.wasi_p1_model.specs.Guest.{Guest, State}
+use Rattle.wasi_p1_types.specs.Front.{FueledCall}
+use Rattle.wasi_p1_types.specs.Guest.{Guest, State}
 use Rattle.wasi_p1_model.specs.QuotaLaws.{CountsUse, quota_of, used_of}
-use Rattle.wasi_p1_model.specs.CallResult.{Program, CallResult, done, asking, row_on, with_tree}
+use Rattle.wasi_p1_types.specs.CallResult.{Program, CallResult, done, asking, row_on, with_tree}
 use Rattle.wasi_p1_model.specs.Calls.{row, turn}
 use Rattle.wasi_p1_model.specs.Trace.{Faulted, Gives, Played, TraceStep, answer_of, is_success}
-use Rattle.wasi_p1_model.specs.Spending.{growth_of, makes}
+use Rattle.wasi_p1_types.specs.Spending.{growth_of, makes}
 use Rattle.wasi_p1_model.specs.Transition.{AfterFault, StepTaken, used_by}
-use Rattle.wasi_p1_model.specs.declared.error.P1Error.{P1Error}
-use Rattle.wasi_p1_model.specs.declared.error.P1Error.TheVariants.{Errno, Trap, Exit, Memory}
+use Rattle.wasi_p1_types.specs.declared.error.P1Error.{P1Error}
+use Rattle.wasi_p1_types.specs.declared.error.P1Error.TheVariants.{Errno, Trap, Exit, Memory}
 use Rattle.wasi_p1_model.proofs.Moving.{replied_by}
 use Rattle.wasi_p1_model.proofs.QuotaParts.{SpendsWithin, Uses, counted_alone, nothing_done}
 use Rattle.wasi_p1_model.proofs.QuotaRows.{row_uses}

@@ -11,14 +11,14 @@ use Rattle.wasi_host.specs.declared.errors.HostError.{HostError}
 use Rattle.wasi_host.specs.declared.errors.HostError.TheVariants.{Code}
 use Rattle.wasi_host.specs.declared.open_handle.OpenHandle.{OpenHandle}
 use Rattle.wasi_host.specs.Steps.{◌>>=◌}
-use Rattle.wasi_p1_model.specs.Asked.{Does}
-use Rattle.wasi_p1_model.specs.Errnos.{errno_of, error_of}
+use Rattle.wasi_p1_types.specs.Asked.{Does}
+use Rattle.wasi_p1_types.specs.Errnos.{errno_of, error_of}
 use Rattle.wasi_guest.specs.Range.{with_bytes}
-use Rattle.wasi_p1_model.specs.CallParts.{Makes, ReadsInto, filled_at}
-use Rattle.wasi_p1_model.specs.Request.{Request, Reply, Direct}
-use Rattle.wasi_p1_model.specs.CallResult.{CallResult, give}
-use Rattle.wasi_p1_model.specs.declared.error.P1Error.{P1Error}
-use Rattle.wasi_p1_model.specs.declared.error.P1Error.TheVariants.{Errno}
+use Rattle.wasi_p1_types.specs.CallParts.{Makes, ReadsInto, filled_at}
+use Rattle.wasi_p1_types.specs.Request.{Request, Reply, Direct}
+use Rattle.wasi_p1_types.specs.CallResult.{CallResult, give}
+use Rattle.wasi_p1_types.specs.declared.error.P1Error.{P1Error}
+use Rattle.wasi_p1_types.specs.declared.error.P1Error.TheVariants.{Errno}
 use Rattle.wasi_guest.proofs.Ranges.{with_filled}
 use Rattle.wasi_p1_model.proofs.Resolving.{asked_ok, asked_err}
 

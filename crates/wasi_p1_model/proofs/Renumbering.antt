@@ -9,14 +9,14 @@ use Rattle.wasi_host.specs.Lineage.{HasProvenance, Nothing}
 use Rattle.wasi_host.specs.HostLaws.{World, Handles}
 use Rattle.wasi_host.specs.declared.lookup.Lookup.{Lookup}
 use Rattle.wasi_guest.specs.declared.answer.Value.{Value}
-use Rattle.wasi_p1_model.specs.CallParts.{Rests, Stays}
+use Rattle.wasi_p1_types.specs.CallParts.{Rests, Stays}
 use Rattle.wasi_p1_model.specs.DescriptorLaws.{FitsTable}
-use Rattle.wasi_p1_model.specs.Guest.{Guest, GuestSlot, closed}
-use Rattle.wasi_p1_model.specs.Numbering.{renumbered}
+use Rattle.wasi_p1_types.specs.Guest.{Guest, GuestSlot, closed}
+use Rattle.wasi_p1_types.specs.Numbering.{renumbered}
 use Rattle.wasi_p1_model.specs.Calls.{renumbering}
 use Rattle.wasi_p1_model.specs.Owners.{handle_in, handles, uses, uses_in, without, IsHandle, Owned, Owns, SlotsStay}
-use Rattle.wasi_p1_model.specs.declared.slots.Slot.{Slot}
-use Rattle.wasi_p1_model.specs.declared.slots.Slot.TheVariants as slots
+use Rattle.wasi_p1_types.specs.declared.slots.Slot.{Slot}
+use Rattle.wasi_p1_types.specs.declared.slots.Slot.TheVariants as slots
 use Rattle.wasi_p1_model.proofs.CallTracing.{traced_less}
 use Rattle.wasi_p1_model.proofs.Changing.{IsOfOpen, IsUnder, IsAt, IsFileOf, under_open, at_open, file_open, in_set, set_fits}
 use Rattle.wasi_p1_model.proofs.Counting.{handle_at, handle_put, uses-set}

@@ -16,11 +16,11 @@ use Rattle.wasi_host.proofs.Agreeing.{step_agree, same_agree, answer_same, reach
 use Rattle.wasi_resolve.proofs.Requests.{path_reply_same, path_after_agree, path_given_seen}
 use Rattle.wasi_resolve.specs.Meanings.{listing_options, lists_at}
 use Rattle.wasi_resolve.specs.PathRequest.{LookPath}
-use Rattle.wasi_p1_model.specs.Listing.{all_numbered_at, dots, listing_at}
-use Rattle.wasi_p1_model.specs.Quotas.{end_of_piece, growth_within, is_above}
-use Rattle.wasi_p1_model.specs.Request.{Request, Reply, Path, Direct, Behind, ListDirectory, Sizes, Grow, reply_of, after, growth_at, grown_reply, starts_at, size_at}
-use Rattle.wasi_p1_model.specs.declared.quotas.Allowance.{Allowance}
-use Rattle.wasi_p1_model.specs.declared.quotas.FileEnd.TheVariants as ends
+use Rattle.wasi_p1_types.specs.Listing.{all_numbered_at, dots, listing_at}
+use Rattle.wasi_p1_types.specs.Quotas.{end_of_piece, growth_within, is_above}
+use Rattle.wasi_p1_types.specs.Request.{Request, Reply, Path, Direct, Behind, ListDirectory, Sizes, Grow, reply_of, after, growth_at, grown_reply, starts_at, size_at}
+use Rattle.wasi_p1_types.specs.declared.quotas.Allowance.{Allowance}
+use Rattle.wasi_p1_types.specs.declared.quotas.FileEnd.TheVariants as ends
 use Rattle.std.proofs.lemmas.List.Elements.{Contains-append_left, Contains-append_right}
 use Rattle.wasi_p1_model.proofs.Lengthening.{bounded_by}
 use Rattle.wasi_p1_model.proofs.LocalCalls.{given_by}

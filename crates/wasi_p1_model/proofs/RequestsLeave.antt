@@ -4,8 +4,8 @@ use Rattle.wasi_host.specs.HostCall.{Append}
 use Rattle.wasi_host.specs.Tree.{Tree}
 use Rattle.wasi_host.proofs.Leaving.{LeavesNear, stays_near, step_leaves}
 use Rattle.wasi_resolve.proofs.Requests.{path_leaves}
-use Rattle.wasi_p1_model.specs.Quotas.{is_above}
-use Rattle.wasi_p1_model.specs.Request.{Request, Path, Direct, Behind, ListDirectory, Sizes, Grow, after, growth_at, starts_at}
+use Rattle.wasi_p1_types.specs.Quotas.{is_above}
+use Rattle.wasi_p1_types.specs.Request.{Request, Path, Direct, Behind, ListDirectory, Sizes, Grow, after, growth_at, starts_at}
 
 -- one that may be left out
 left_or : {t u : Tree} {ns : List ℕ} (b : Bool) → LeavesNear t ns u → LeavesNear t ns (cond b t u)

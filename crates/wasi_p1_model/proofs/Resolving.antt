@@ -14,11 +14,11 @@ use Rattle.wasi_host.specs.declared.errors.ErrorCode.TheVariants.{Io}
 use Rattle.wasi_host.specs.declared.errors.HostError.{HostError}
 use Rattle.wasi_host.specs.declared.errors.HostError.TheVariants.{Code, Memory}
 use Rattle.wasi_resolve.specs.Resolved.{Resolved, TreeAfter}
-use Rattle.wasi_p1_model.specs.Asked.{Asked, Hidden}
-use Rattle.wasi_p1_model.specs.Errnos.{error_of}
+use Rattle.wasi_p1_types.specs.Asked.{Asked, Hidden}
+use Rattle.wasi_p1_types.specs.Errnos.{error_of}
 use Rattle.wasi_resolve.proofs.Calls.{call_ok, call_err, same_live}
-use Rattle.wasi_p1_model.specs.Request.{Request, Reply, Direct, after, reply_of, meant_of}
-use Rattle.wasi_p1_model.specs.CallResult.{from_host}
+use Rattle.wasi_p1_types.specs.Request.{Request, Reply, Direct, after, reply_of, meant_of}
+use Rattle.wasi_p1_types.specs.CallResult.{from_host}
 
 -- it would have been answered
 hidden : (t t' : Tree) (r : Request) → is_ok (reply_of t r) ≡ true → t' ≡ after t r → Hidden t t' r

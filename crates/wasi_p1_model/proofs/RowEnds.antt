@@ -5,14 +5,14 @@ use Rattle.wasi_guest.specs.declared.answer.Value.TheVariants.{Number, Unit as N
 use Rattle.wasi_guest.specs.declared.fdstat.Fdstat.{Fdstat}
 use Rattle.wasi_guest.specs.declared.filestat.Filestat.{Filestat}
 use Rattle.wasi_host.specs.declared.errors.ErrorCode.{ErrorCode}
-use Rattle.wasi_p1_model.specs.Front.{CallFront, free, ask, ◌>>=◌}
-use Rattle.wasi_p1_model.specs.Guest.{Guest, GuestSlot, OpenFile}
-use Rattle.wasi_p1_model.specs.Files.{sought}
-use Rattle.wasi_p1_model.specs.Parts.{permit, at_position, with_file}
-use Rattle.wasi_p1_model.specs.Request.{Request, Reply}
+use Rattle.wasi_p1_types.specs.Front.{CallFront, free, ask, ◌>>=◌}
+use Rattle.wasi_p1_types.specs.Guest.{Guest, GuestSlot, OpenFile}
+use Rattle.wasi_p1_types.specs.Files.{sought}
+use Rattle.wasi_p1_types.specs.Parts.{permit, at_position, with_file}
+use Rattle.wasi_p1_types.specs.Request.{Request, Reply}
 use Rattle.wasi_p1_model.specs.Putting.{put_answer}
-use Rattle.wasi_p1_model.specs.CallResult.{CallResult, made_of_reply}
-use Rattle.wasi_p1_model.specs.declared.usage.Put.{Put}
+use Rattle.wasi_p1_types.specs.CallResult.{CallResult, made_of_reply}
+use Rattle.wasi_p1_types.specs.declared.usage.Put.{Put}
 
 -- of a row that asks for what has to be permitted
 abbrev pub tail : {A : Type 0} → Option ErrorCode → (r : Request) → (Reply r → CallResult A) → (Guest → A → Value × Guest)

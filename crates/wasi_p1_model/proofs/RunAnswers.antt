@@ -2,7 +2,7 @@
 use Rattle.std.proofs.Common.{◌<◌, ◌≡◌, true, false, List, [], ◌∷◌, ◌++◌, length, refl, arith}
 use Rattle.wasi_p1_model.specs.Trace.{AnswersEach, GoOn, ends}
 use Rattle.wasi_guest.specs.declared.answer.Answer.{Answer}
-use Rattle.wasi_p1_model.specs.Front.{FueledCall}
+use Rattle.wasi_p1_types.specs.Front.{FueledCall}
 
 pub goes_on-push : (answers : List Answer) (a : Answer) → GoOn answers → ends a ≡ false → GoOn (answers ++ a ∷ [])
 goes_on-push [] a goes is = (is, tt)

@@ -1,12 +1,12 @@
 -- A run in which no turn is faulted is a function of its start and its calls.
 use Rattle.std.proofs.Common.{◌≡◌, inl, inr, true, false, Bool, List, [], ◌∷◌, refl, sym, ◌∙◌, subst, arith, Option, Some, Ok, Err}
 use Rattle.std.specs.Prelude.{MatchBool}
-use Rattle.wasi_p1_model.specs.Guest.{State}
-use Rattle.wasi_p1_model.specs.CallResult.{CallResult}
+use Rattle.wasi_p1_types.specs.Guest.{State}
+use Rattle.wasi_p1_types.specs.CallResult.{CallResult}
 use Rattle.wasi_p1_model.specs.Calls.{turn}
 use Rattle.wasi_p1_model.specs.Trace.{TraceStep, Trace, Gives, ends}
 use Rattle.wasi_guest.specs.declared.answer.Answer.{Answer}
-use Rattle.wasi_p1_model.specs.Front.{FueledCall}
+use Rattle.wasi_p1_types.specs.Front.{FueledCall}
 use Rattle.wasi_guest.specs.declared.answer.Value.{Value}
 
 -- what comes after a turn: nothing where its answer ends the run

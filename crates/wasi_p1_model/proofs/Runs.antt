@@ -6,10 +6,10 @@ use Rattle.std.proofs.lemmas.List.{map-append, take-append-drop, take_more}
 use Rattle.std.proofs.lemmas.List.Elements.{All-nil, All-append, All-weaker}
 use Rattle.wasi_host.specs.Tree.{Tree, Nodes}
 use Rattle.wasi_host.specs.HostLaws.{World, Rose, FaultCount}
-use Rattle.wasi_p1_model.specs.Guest.{State, Guest}
+use Rattle.wasi_p1_types.specs.Guest.{State, Guest}
 use Rattle.wasi_p1_model.specs.Calls.{row, turn, may_run_out_of_memory}
-use Rattle.wasi_p1_model.specs.Request.{Path}
-use Rattle.wasi_p1_model.specs.CallResult.{CallResult, Program, done, asking, request_ends, request_comes}
+use Rattle.wasi_p1_types.specs.Request.{Path}
+use Rattle.wasi_p1_types.specs.CallResult.{CallResult, Program, done, asking, request_ends, request_comes}
 use Rattle.wasi_p1_model.specs.Transition.{IsTransition, ReachesHost, named_by, come_to_by, used_by}
 use Rattle.wasi_p1_model.specs.CallTransition.{Turns, Causes, in_world}
 use Rattle.wasi_p1_model.proofs.Completing.{run_completes}
@@ -17,14 +17,14 @@ use Rattle.wasi_p1_model.specs.Trace.{TraceStep, Trace, Spends, Played, Faulted,
 use Rattle.wasi_guest.specs.declared.answer.Answer.{Answer}
 use Rattle.wasi_guest.specs.declared.answer.Answer.TheVariants as answers
 use Rattle.wasi_guest.specs.declared.call.Call.{Call}
-use Rattle.wasi_p1_model.specs.Front.{FueledCall, with_fuel}
+use Rattle.wasi_p1_types.specs.Front.{FueledCall, with_fuel}
 use Rattle.std.proofs.lemmas.List.{get_or-map, length-map}
 use Rattle.std.proofs.lemmas.Option.{slice_get-get_or}
 use Rattle.wasi_guest.specs.declared.errno.Errno.{Errno as ErrorNumber}
 use Rattle.wasi_guest.specs.declared.errno.Errno.TheVariants.{Io}
 use Rattle.wasi_p1_model.specs.Owners.{one_if}
-use Rattle.wasi_p1_model.specs.declared.error.P1Error.{P1Error}
-use Rattle.wasi_p1_model.specs.declared.error.P1Error.TheVariants.{Errno, Trap, Exit, Memory}
+use Rattle.wasi_p1_types.specs.declared.error.P1Error.{P1Error}
+use Rattle.wasi_p1_types.specs.declared.error.P1Error.TheVariants.{Errno, Trap, Exit, Memory}
 use Rattle.wasi_guest.specs.declared.answer.Value.{Value}
 
 -- ---- how many answers are `io`

@@ -2,14 +2,14 @@
 use Rattle.std.proofs.Common.{ℕ, ◌≤◌, ◌≡◌, inl, true, false, Bool, List, [], ◌∷◌, refl, ap, sym, ◌∙◌, subst, arith, Some, Ok, Err}
 use Rattle.wasi_host.specs.Agree.{OrMade}
 use Rattle.wasi_host.specs.Tree.{next_of}
-use Rattle.wasi_p1_model.specs.Guest.{State}
-use Rattle.wasi_p1_model.specs.CallResult.{CallResult}
+use Rattle.wasi_p1_types.specs.Guest.{State}
+use Rattle.wasi_p1_types.specs.CallResult.{CallResult}
 use Rattle.wasi_p1_model.specs.Calls.{row, turn}
 use Rattle.wasi_p1_model.specs.StatesAgree.{Alike, AnswerAlike}
 use Rattle.wasi_p1_model.specs.Trace.{TraceStep, Trace, Gives, ends, answer_of, answers_of}
 use Rattle.wasi_guest.specs.declared.answer.Answer.{Answer}
 use Rattle.wasi_guest.specs.declared.answer.Answer.TheVariants as answers
-use Rattle.wasi_p1_model.specs.Front.{FueledCall}
+use Rattle.wasi_p1_types.specs.Front.{FueledCall}
 use Rattle.wasi_guest.specs.declared.answer.Value.{Value}
 use Rattle.wasi_host.proofs.Agreeing.{none_made, once, twice}
 use Rattle.wasi_p1_model.proofs.Alike.{turn_alike}

@@ -12,10 +12,10 @@ use Rattle.wasi_host.specs.declared.errors.HostError.{HostError}
 use Rattle.wasi_host.specs.declared.errors.HostError.TheVariants.{Code, Memory}
 use Rattle.wasi_host.specs.declared.system_time.SystemTime.{SystemTime}
 use Rattle.wasi_resolve.specs.Resolved.{Resolved}
-use Rattle.wasi_p1_model.specs.Asked.{Asked}
-use Rattle.wasi_p1_model.specs.Errnos.{error_of}
-use Rattle.wasi_p1_model.specs.Request.{Direct}
-use Rattle.wasi_p1_model.specs.declared.error.P1Error.TheVariants.{Memory as Wanted}
+use Rattle.wasi_p1_types.specs.Asked.{Asked}
+use Rattle.wasi_p1_types.specs.Errnos.{error_of}
+use Rattle.wasi_p1_types.specs.Request.{Direct}
+use Rattle.wasi_p1_types.specs.declared.error.P1Error.TheVariants.{Memory as Wanted}
 use Rattle.wasi_p1_model.proofs.Resolving.{resolved_ok, resolved_err}
 
 module _ {A : Type 0} {live : Handles} {w v : World} {call : HostCall} {n : ℕ} {shown : A → HostAnswer call} {rose : Type 0} where

@@ -17,17 +17,17 @@ use Rattle.wasi_host.specs.declared.open_handle.OpenHandle.{OpenHandle}
 use Rattle.wasi_host.specs.declared.metadata.Metadata.{Metadata}
 use Rattle.wasi_host.proofs.Touching.{no_ends, touches_same, touches_through}
 use Rattle.wasi_guest.specs.declared.errno.Errno.TheVariants as errnos
-use Rattle.wasi_p1_model.specs.Asked.{GivesOrElse}
-use Rattle.wasi_p1_model.specs.CallParts.{Makes}
-use Rattle.wasi_p1_model.specs.Errnos.{errno_of}
-use Rattle.wasi_p1_model.specs.Polling.{OfReading, awaited_by, waited_by, nodes_in, nodes_read}
-use Rattle.wasi_p1_model.specs.Request.{Sizes, size_at}
-use Rattle.wasi_p1_model.specs.CallResult.{give}
-use Rattle.wasi_p1_model.specs.declared.error.P1Error.{P1Error}
-use Rattle.wasi_p1_model.specs.declared.error.P1Error.TheVariants.{Errno, Memory}
-use Rattle.wasi_p1_model.specs.declared.awaited.Awaited.{Awaited}
-use Rattle.wasi_p1_model.specs.declared.awaited.Awaited.TheVariants as awaiteds
-use Rattle.wasi_p1_model.specs.declared.awaited.Waited.{Waited}
+use Rattle.wasi_p1_types.specs.Asked.{GivesOrElse}
+use Rattle.wasi_p1_types.specs.CallParts.{Makes}
+use Rattle.wasi_p1_types.specs.Errnos.{errno_of}
+use Rattle.wasi_p1_types.specs.Polling.{OfReading, awaited_by, waited_by, nodes_in, nodes_read}
+use Rattle.wasi_p1_types.specs.Request.{Sizes, size_at}
+use Rattle.wasi_p1_types.specs.CallResult.{give}
+use Rattle.wasi_p1_types.specs.declared.error.P1Error.{P1Error}
+use Rattle.wasi_p1_types.specs.declared.error.P1Error.TheVariants.{Errno, Memory}
+use Rattle.wasi_p1_types.specs.declared.awaited.Awaited.{Awaited}
+use Rattle.wasi_p1_types.specs.declared.awaited.Awaited.TheVariants as awaiteds
+use Rattle.wasi_p1_types.specs.declared.awaited.Waited.{Waited}
 use Rattle.wasi_p1_model.proofs.Appending.{look, seen, touched_one, with_ends}
 use Rattle.wasi_p1_model.proofs.Reading.{keeps_all}
 

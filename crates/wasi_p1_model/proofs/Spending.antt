@@ -7,15 +7,15 @@ use Rattle.wasi_fs.specs.declared.open_mode.OpenMode.{OpenMode}
 use Rattle.wasi_guest.specs.declared.answer.Value.{Value}
 use Rattle.wasi_host.specs.Steps.{◌>>=◌}
 use Rattle.wasi_host.specs.Tree.{Tree}
-use Rattle.wasi_p1_model.specs.Front.{ask}
-use Rattle.wasi_p1_model.specs.Guest.{Guest, State}
-use Rattle.wasi_p1_model.specs.Quotas.{allowance, count_on, counted_growth, counted_makings, growth_to}
-use Rattle.wasi_p1_model.specs.Request.{Request, Reply, Grow, after, reply_of, end_after, growth_at, size_at, written_by}
-use Rattle.wasi_p1_model.specs.CallResult.{CallResult, asking, give}
-use Rattle.wasi_p1_model.specs.Spending.{grown_in, growing, making, may_make, with_growth, with_making}
-use Rattle.wasi_p1_model.specs.GuestEnvModel.{GuestEnvModel}
+use Rattle.wasi_p1_types.specs.Front.{ask}
+use Rattle.wasi_p1_types.specs.Guest.{Guest, State}
+use Rattle.wasi_p1_types.specs.Quotas.{allowance, count_on, counted_growth, counted_makings, growth_to}
+use Rattle.wasi_p1_types.specs.Request.{Request, Reply, Grow, after, reply_of, end_after, growth_at, size_at, written_by}
+use Rattle.wasi_p1_types.specs.CallResult.{CallResult, asking, give}
+use Rattle.wasi_p1_types.specs.Spending.{grown_in, growing, making, may_make, with_growth, with_making}
+use Rattle.wasi_p1_types.specs.GuestEnvModel.{GuestEnvModel}
 use Rattle.wasi_p1_model.specs.Writing.{with_grown}
-use Rattle.wasi_p1_model.specs.declared.quotas.Allowance.{Allowance}
+use Rattle.wasi_p1_types.specs.declared.quotas.Allowance.{Allowance}
 use Rattle.wasi_p1_model.proofs.Alike.{row_on}
 use Rattle.wasi_p1_model.proofs.Lengthening.{bounded_by}
 use Rattle.wasi_p1_model.proofs.Listings.{both_ok}

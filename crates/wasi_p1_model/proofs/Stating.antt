@@ -6,9 +6,9 @@ use Rattle.wasi_fs.specs.declared.descriptor_stat.DescriptorStat.{DescriptorStat
 use Rattle.wasi_fs.specs.declared.metadata_hash.MetadataHashValue.{MetadataHashValue}
 use Rattle.wasi_guest.specs.declared.filestat.Filestat.{Filestat}
 use Rattle.wasi_host.specs.declared.metadata.Metadata.{Metadata}
-use Rattle.wasi_p1_model.specs.Filestats.{stat_both, filestat_in, IsStated}
-use Rattle.wasi_p1_model.specs.CallResult.{CallResult}
-use Rattle.wasi_p1_model.specs.declared.looked.StatBoth.{StatBoth}
+use Rattle.wasi_p1_types.specs.Filestats.{stat_both, filestat_in, IsStated}
+use Rattle.wasi_p1_types.specs.CallResult.{CallResult}
+use Rattle.wasi_p1_types.specs.declared.looked.StatBoth.{StatBoth}
 
 -- some metadata have both: those of the first, with the node of the second
 pub stated : {stat : DescriptorStat} {hash : MetadataHashValue} → IsStat stat → IsHash hash

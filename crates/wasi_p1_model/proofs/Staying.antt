@@ -4,11 +4,11 @@ use Rattle.std.specs.Option.{option_map}
 use Rattle.std.proofs.lemmas.Option.{slice_get-map, slice_get_within}
 use Rattle.wasi_host.specs.Lineage.{Nothing}
 use Rattle.wasi_streams.proofs.OneChanged.{set_cases, push_cases}
-use Rattle.wasi_p1_model.specs.Numbering.{last_where, put_at, with_new}
+use Rattle.wasi_p1_types.specs.Numbering.{last_where, put_at, with_new}
 use Rattle.wasi_p1_model.specs.Owners.{handle_in, handles, HasHandle, SlotsStay}
-use Rattle.wasi_p1_model.specs.Slots.{is_closed_slot}
-use Rattle.wasi_p1_model.specs.declared.slots.Slot.{Slot}
-use Rattle.wasi_p1_model.specs.declared.slots.Slot.TheVariants as slots
+use Rattle.wasi_p1_types.specs.Slots.{is_closed_slot}
+use Rattle.wasi_p1_types.specs.declared.slots.Slot.{Slot}
+use Rattle.wasi_p1_types.specs.declared.slots.Slot.TheVariants as slots
 use Rattle.wasi_p1_model.proofs.Counting.{handle_at, handle_put}
 use Rattle.wasi_p1_model.proofs.Owning.{put_same, closed_at}
 

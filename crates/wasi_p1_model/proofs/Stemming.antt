@@ -7,16 +7,16 @@ use Rattle.wasi_guest.specs.declared.answer.Answer.TheVariants as answers
 use Rattle.wasi_guest.specs.declared.answer.Value.{Value}
 use Rattle.wasi_guest.specs.declared.call.Call.{Call}
 use Rattle.wasi_p1_model.specs.DescriptorLaws.{FitsTable, NumbersFit}
-use Rattle.wasi_p1_model.specs.Front.{FueledCall}
+use Rattle.wasi_p1_types.specs.Front.{FueledCall}
 use Rattle.wasi_guest.specs.declared.errno.Errno.TheVariants as errnos
 use Rattle.wasi_host.specs.Tree.{Tree}
-use Rattle.wasi_p1_model.specs.Guest.{Guest, State, perms_in}
-use Rattle.wasi_p1_model.specs.CallResult.{CallResult, Program, done, asking}
+use Rattle.wasi_p1_types.specs.Guest.{Guest, State, perms_in}
+use Rattle.wasi_p1_types.specs.CallResult.{CallResult, Program, done, asking}
 use Rattle.wasi_p1_model.specs.Calls.{Stem, itself, through, renumbering, stem_in, row, turn}
 use Rattle.wasi_p1_model.specs.Trace.{TraceStep, Trace, Played, Faulted, Gives, answer_of, ends, is_success}
 use Rattle.wasi_p1_model.specs.Stems.{stems_by, stems_from, stem_of, HasPerms}
-use Rattle.wasi_p1_model.specs.declared.error.P1Error.{P1Error}
-use Rattle.wasi_p1_model.specs.declared.error.P1Error.TheVariants.{Errno, Trap, Exit, Memory}
+use Rattle.wasi_p1_types.specs.declared.error.P1Error.{P1Error}
+use Rattle.wasi_p1_types.specs.declared.error.P1Error.TheVariants.{Errno, Trap, Exit, Memory}
 use Rattle.wasi_p1_model.proofs.Alike.{row_on}
 use Rattle.wasi_p1_model.proofs.Moving.{over_guest, replied_by, faulted_stays, turned_by}
 use Rattle.wasi_p1_model.proofs.LocalCalls.{IsLocal, KeepsSlots, given_by}

@@ -7,31 +7,31 @@ use Rattle.std.specs.FinSet.{contains}
 use Rattle.wasi_host.specs.HostLaws.{World, Handles, Rose, FaultCount}
 use Rattle.wasi_host.specs.declared.open_handle.OpenHandle.{OpenHandle}
 use Rattle.wasi_host.specs.declared.lookup.Lookup.{Lookup}
-use Rattle.wasi_p1_model.specs.Slots.{View}
-use Rattle.wasi_p1_model.specs.Guest.{Guest, guest_slots, guest_of, guest_by, state_of}
-use Rattle.wasi_p1_model.specs.Request.{Request, Reply}
-use Rattle.wasi_p1_model.specs.CallResult.{CallResult, Program, give, done, asking, made_of_reply}
-use Rattle.wasi_p1_model.specs.Front.{with_fuel, ask}
-use Rattle.wasi_p1_model.specs.Parts.{with_file}
+use Rattle.wasi_p1_types.specs.Slots.{View}
+use Rattle.wasi_p1_types.specs.Guest.{Guest, guest_slots, guest_of, guest_by, state_of}
+use Rattle.wasi_p1_types.specs.Request.{Request, Reply}
+use Rattle.wasi_p1_types.specs.CallResult.{CallResult, Program, give, done, asking, made_of_reply}
+use Rattle.wasi_p1_types.specs.Front.{with_fuel, ask}
+use Rattle.wasi_p1_types.specs.Parts.{with_file}
 use Rattle.wasi_p1_model.specs.Calls.{front, row, fuel_left, descriptors_named, may_run_out_of_memory}
 use Rattle.wasi_p1_model.specs.Owners.{handles, Owned, SlotsOfCall}
-use Rattle.wasi_p1_model.specs.CallParts.{Follows, IsReplied, Makes, WantsNoMemory, Stays, open_file_of}
-use Rattle.wasi_p1_model.specs.Asked.{Answered, Does}
-use Rattle.wasi_p1_model.specs.Spending.{spends_nothing}
+use Rattle.wasi_p1_types.specs.CallParts.{Follows, IsReplied, Makes, WantsNoMemory, Stays, open_file_of}
+use Rattle.wasi_p1_types.specs.Asked.{Answered, Does}
+use Rattle.wasi_p1_types.specs.Spending.{spends_nothing}
 use Rattle.wasi_p1_model.specs.Transition.{used_by}
 use Rattle.wasi_p1_model.specs.CallTransition.{FollowsRow, Kept, KeptBut, Same, Quiet, AtFront, Transitions}
 use Rattle.wasi_guest.specs.declared.call.Call.{Call}
-use Rattle.wasi_p1_model.specs.declared.error.P1Error.{P1Error}
+use Rattle.wasi_p1_types.specs.declared.error.P1Error.{P1Error}
 use Rattle.wasi_guest.specs.declared.answer.Value.{Value}
 use Rattle.wasi_fs.specs.declared.descriptor.File.{File as OpenedFile}
-use Rattle.wasi_p1_model.specs.declared.slots.FileSlot.{FileSlot}
-use Rattle.wasi_p1_model.specs.declared.slots.Slot.TheVariants.{File}
+use Rattle.wasi_p1_types.specs.declared.slots.FileSlot.{FileSlot}
+use Rattle.wasi_p1_types.specs.declared.slots.Slot.TheVariants.{File}
 use Rattle.wasi_guest.specs.declared.errno.Errno.{Errno as ErrorNumber}
-use Rattle.wasi_p1_model.specs.declared.error.P1Error.TheVariants.{Errno, Memory}
+use Rattle.wasi_p1_types.specs.declared.error.P1Error.TheVariants.{Errno, Memory}
 use Rattle.wasi_host.specs.declared.errors.HostError.TheVariants.{Memory as NoMemory}
 use Rattle.wasi_p1_model.proofs.LocalCalls.{IsLocal}
 use Rattle.wasi_p1_model.proofs.Locality.{row_near}
-use Rattle.wasi_p1_model.proofs.Wanting.{wants_none}
+use Rattle.wasi_p1_types.proofs.Wanting.{wants_none}
 use Rattle.wasi_p1_model.proofs.TouchingNear.{turn_touches_near}
 use Rattle.wasi_p1_model.proofs.Permitting.{turn_permits}
 use Rattle.wasi_p1_model.proofs.GuestSlots.{guest_slots_stay, put_file_at}

@@ -6,10 +6,10 @@ use Rattle.wasi_guest.specs.Range.{with_bytes}
 use Rattle.wasi_guest.specs.declared.event.Event.{Event}
 use Rattle.wasi_guest.proofs.Ranges.{with_bytes_length}
 use Rattle.wasi_host.specs.declared.open_handle.OpenHandle.{OpenHandle}
-use Rattle.wasi_p1_model.specs.Polling.{awaited_by, waited_by, comes_at, event_of, events, first_size, nodes_in, nodes_read, with_events}
-use Rattle.wasi_p1_model.specs.declared.awaited.Awaited.{Awaited}
-use Rattle.wasi_p1_model.specs.declared.awaited.Awaited.TheVariants as awaiteds
-use Rattle.wasi_p1_model.specs.declared.awaited.Waited.{Waited}
+use Rattle.wasi_p1_types.specs.Polling.{awaited_by, waited_by, comes_at, event_of, events, first_size, nodes_in, nodes_read, with_events}
+use Rattle.wasi_p1_types.specs.declared.awaited.Awaited.{Awaited}
+use Rattle.wasi_p1_types.specs.declared.awaited.Awaited.TheVariants as awaiteds
+use Rattle.wasi_p1_types.specs.declared.awaited.Waited.{Waited}
 
 -- those of the subscriptions from one on, with the sizes from one on
 abbrev pub left_events : ℕ → List Waited → List ℕ → ℕ → ℕ → List Event

@@ -13,8 +13,8 @@ use Rattle.wasi_host.specs.declared.system_time.SystemTime.{SystemTime}
 use Rattle.wasi_host.proofs.Leaving.{each_kind, made_next, set_cases}
 use Rattle.wasi_host.proofs.Pieces.{length-with_piece, length-with_size}
 use Rattle.wasi_p1_model.specs.QuotaLaws.{total_bytes}
-use Rattle.wasi_p1_model.specs.Quotas.{end_of_piece, growth_to}
-use Rattle.wasi_p1_model.specs.Request.{Request, Direct, end_after, size_at, written_by}
+use Rattle.wasi_p1_types.specs.Quotas.{end_of_piece, growth_to}
+use Rattle.wasi_p1_types.specs.Request.{Request, Direct, end_after, size_at, written_by}
 
 -- at most so many nodes are made, and the files have at most so many bytes more
 pub record Within (made grown : ℕ) (t u : Tree) : Type 0 where

@@ -8,12 +8,12 @@ use Rattle.wasi_host.specs.ValidTree.{root}
 use Rattle.wasi_guest.specs.declared.answer.Value.{Value}
 use Rattle.wasi_guest.specs.declared.call.Call.{Call}
 use Rattle.wasi_p1_model.specs.CallTransition.{Turns}
-use Rattle.wasi_p1_model.specs.Front.{FueledCall}
-use Rattle.wasi_p1_model.specs.Guest.{Guest, node_in}
+use Rattle.wasi_p1_types.specs.Front.{FueledCall}
+use Rattle.wasi_p1_types.specs.Guest.{Guest, node_in}
 use Rattle.wasi_p1_model.specs.Locality.{nodes_named, TouchesOnlyNear}
-use Rattle.wasi_p1_model.specs.CallResult.{CallResult, Program, done, asking, starts}
+use Rattle.wasi_p1_types.specs.CallResult.{CallResult, Program, done, asking, starts}
 use Rattle.wasi_p1_model.specs.Calls.{row}
-use Rattle.wasi_p1_model.specs.declared.error.P1Error.{P1Error}
+use Rattle.wasi_p1_types.specs.declared.error.P1Error.{P1Error}
 use Rattle.wasi_host.proofs.Agreeing.{one}
 use Rattle.wasi_host.proofs.Touching.{reached_through}
 use Rattle.wasi_p1_model.proofs.LocalCalls.{IsLocal, IsNamed}

@@ -4,19 +4,19 @@ use Rattle.std.specs.Prelude.{is_ok, if◌then◌else◌}
 use Rattle.wasi_host.specs.Agree.{Touches}
 use Rattle.wasi_host.specs.HostLaws.{World}
 use Rattle.wasi_host.specs.declared.errors.ErrorCode.{ErrorCode}
-use Rattle.wasi_p1_model.specs.Guest.{Guest, State}
-use Rattle.wasi_p1_model.specs.Request.{Request, Reply, reply_of, after}
+use Rattle.wasi_p1_types.specs.Guest.{Guest, State}
+use Rattle.wasi_p1_types.specs.Request.{Request, Reply, reply_of, after}
 use Rattle.wasi_host.specs.Steps.{◌>>=◌}
-use Rattle.wasi_p1_model.specs.CallResult.{CallResult, Program, done, asking, from_host, Asks, starts, request_comes}
+use Rattle.wasi_p1_types.specs.CallResult.{CallResult, Program, done, asking, from_host, Asks, starts, request_comes}
 use Rattle.wasi_p1_model.specs.Calls.{row}
 use Rattle.wasi_p1_model.specs.Transition.{IsTransition, Faults, AfterFault, used_by}
 use Rattle.wasi_p1_model.specs.CallTransition.{Turns, in_world}
-use Rattle.wasi_p1_model.specs.Asked.{Asked, Hidden, GivesOrElse, TreeAfterRequest}
+use Rattle.wasi_p1_types.specs.Asked.{Asked, Hidden, GivesOrElse, TreeAfterRequest}
 use Rattle.wasi_guest.specs.declared.call.Call.{Call}
-use Rattle.wasi_p1_model.specs.Front.{FueledCall}
+use Rattle.wasi_p1_types.specs.Front.{FueledCall}
 use Rattle.wasi_guest.specs.declared.errno.Errno.TheVariants as errnos
-use Rattle.wasi_p1_model.specs.declared.error.P1Error.{P1Error}
-use Rattle.wasi_p1_model.specs.declared.error.P1Error.TheVariants.{Errno, Memory}
+use Rattle.wasi_p1_types.specs.declared.error.P1Error.{P1Error}
+use Rattle.wasi_p1_types.specs.declared.error.P1Error.TheVariants.{Errno, Memory}
 use Rattle.wasi_guest.specs.declared.answer.Value.{Value}
 use Rattle.wasi_p1_model.proofs.LocalCalls.{Ends, IsLocal, AsksNear}
 use Rattle.wasi_host.proofs.Touching.{touches_same, no_ends}

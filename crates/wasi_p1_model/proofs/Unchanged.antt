@@ -6,12 +6,12 @@ use Rattle.wasi_guest.specs.declared.answer.Value.{Value}
 use Rattle.wasi_guest.specs.declared.call.Call.{Call}
 use Rattle.wasi_guest.specs.declared.errno.Errno.TheVariants.{Io}
 use Rattle.wasi_p1_model.specs.CallTransition.{FollowsRow, Kept, KeptBut, Turns, in_world}
-use Rattle.wasi_p1_model.specs.Front.{FueledCall}
-use Rattle.wasi_p1_model.specs.Guest.{Guest, State}
-use Rattle.wasi_p1_model.specs.Slots.{View}
+use Rattle.wasi_p1_types.specs.Front.{FueledCall}
+use Rattle.wasi_p1_types.specs.Guest.{Guest, State}
+use Rattle.wasi_p1_types.specs.Slots.{View}
 use Rattle.wasi_p1_model.specs.Unchanged.{AsBefore, LeavesAll}
-use Rattle.wasi_p1_model.specs.declared.error.P1Error.{P1Error}
-use Rattle.wasi_p1_model.specs.declared.error.P1Error.TheVariants.{Errno}
+use Rattle.wasi_p1_types.specs.declared.error.P1Error.{P1Error}
+use Rattle.wasi_p1_types.specs.declared.error.P1Error.TheVariants.{Errno}
 
 -- the state stays
 refused_stays : {rose : Type 0} {w v : World} {g g' : Guest} {call : FueledCall} {e : P1Error}

@@ -5,14 +5,14 @@ use Rattle.std.proofs.lemmas.Bool.{and_parts}
 use Rattle.wasi_guest.specs.declared.answer.Value.{Value}
 use Rattle.wasi_guest.specs.declared.quota.QuotaUsed.{QuotaUsed}
 use Rattle.wasi_host.specs.Tree.{Tree}
-use Rattle.wasi_p1_model.specs.Front.{FueledCall}
-use Rattle.wasi_p1_model.specs.Guest.{Guest, State}
-use Rattle.wasi_p1_model.specs.Quotas.{count_on, counted_growth, counted_makings}
-use Rattle.wasi_p1_model.specs.Request.{Request, Reply, Path, Direct, Behind, ListDirectory, Sizes, Grow, growth_in}
-use Rattle.wasi_p1_model.specs.CallResult.{CallResult, Program, asking}
+use Rattle.wasi_p1_types.specs.Front.{FueledCall}
+use Rattle.wasi_p1_types.specs.Guest.{Guest, State}
+use Rattle.wasi_p1_types.specs.Quotas.{count_on, counted_growth, counted_makings}
+use Rattle.wasi_p1_types.specs.Request.{Request, Reply, Path, Direct, Behind, ListDirectory, Sizes, Grow, growth_in}
+use Rattle.wasi_p1_types.specs.CallResult.{CallResult, Program, asking}
 use Rattle.wasi_p1_model.specs.Calls.{row}
-use Rattle.wasi_p1_model.specs.Spending.{growth_of, grows, makes, spends_nothing, spent}
-use Rattle.wasi_p1_model.specs.GuestEnvModel.{GuestEnvModel}
+use Rattle.wasi_p1_types.specs.Spending.{growth_of, grows, makes, spends_nothing, spent}
+use Rattle.wasi_p1_types.specs.GuestEnvModel.{GuestEnvModel}
 use Rattle.wasi_p1_model.specs.Transition.{used_by}
 
 -- ---- counts

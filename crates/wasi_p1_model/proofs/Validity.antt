@@ -9,7 +9,7 @@ use Rattle.wasi_host.specs.declared.system_time.SystemTime.{SystemTime}
 use Rattle.wasi_guest.specs.declared.answer.Value.{Value}
 use Rattle.wasi_guest.specs.declared.call.Call.{Call}
 use Rattle.wasi_guest.specs.declared.quota.QuotaUsed.{QuotaUsed}
-use Rattle.wasi_p1_model.specs.Front.{FueledCall}
+use Rattle.wasi_p1_types.specs.Front.{FueledCall}
 use Rattle.wasi_host.specs.HostLaws.{World}
 use Rattle.wasi_host.specs.Tree.{Tree, Node, Content, names_of, File, Directory, Link, node_at, next_of, bytes_of}
 use Rattle.wasi_host.specs.ValidTree.{IsValidTree, IsValidContent, IsEntry, are_bytes}
@@ -17,7 +17,7 @@ use Rattle.wasi_host.proofs.Changes.{node_at-past}
 use Rattle.wasi_host.proofs.EntryLemmas.{All-no_names}
 use Rattle.wasi_host.proofs.ValidSteps.{valid-step}
 use Rattle.wasi_p1_model.specs.CallTransition.{Turns, in_world}
-use Rattle.wasi_p1_model.specs.Guest.{Guest, State}
+use Rattle.wasi_p1_types.specs.Guest.{Guest, State}
 use Rattle.wasi_host.specs.HostCall.{Append, OpenAt, Pread}
 use Rattle.wasi_host.specs.HostCall as calls
 use Rattle.wasi_host.specs.declared.open_handle.OpenHandle.{OpenHandle}
@@ -34,12 +34,12 @@ use Rattle.wasi_resolve.specs.Paths.{Opening, Place, opening, step_of, timed}
 use Rattle.wasi_resolve.specs.Meanings.{listing_options, lists_at}
 use Rattle.wasi_resolve.specs.PathRequest.{PathRequest, OpenPath, LookPath, AtPlace, TimesPath, AtTwo, PathReply, answer_at, as_asked, times_through, path_reply, path_after}
 use Rattle.wasi_resolve.proofs.Requests.{as_opened}
-use Rattle.wasi_p1_model.specs.Listing.{Entry, dots, numbered_at, all_numbered_at, listing_at}
-use Rattle.wasi_p1_model.specs.Request.{Request, Reply, Path, Direct, Behind, ListDirectory, Sizes, Grow, reply_of, after}
-use Rattle.wasi_p1_model.specs.CallResult.{CallResult, Program, done, asking}
+use Rattle.wasi_p1_types.specs.Listing.{Entry, dots, numbered_at, all_numbered_at, listing_at}
+use Rattle.wasi_p1_types.specs.Request.{Request, Reply, Path, Direct, Behind, ListDirectory, Sizes, Grow, reply_of, after}
+use Rattle.wasi_p1_types.specs.CallResult.{CallResult, Program, done, asking}
 use Rattle.wasi_p1_model.specs.Calls.{row, turn}
 use Rattle.wasi_p1_model.specs.Validity.{RunsStayValid, HasBytes, IsValidState}
-use Rattle.wasi_p1_model.specs.declared.error.P1Error.{P1Error}
+use Rattle.wasi_p1_types.specs.declared.error.P1Error.{P1Error}
 use Rattle.wasi_host.proofs.Agreeing.{unless_value, below_or}
 use Rattle.wasi_p1_model.proofs.Alike.{row_on}
 use Rattle.wasi_paths.specs.Parts.{has_root}

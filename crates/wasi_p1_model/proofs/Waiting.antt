@@ -2,16 +2,16 @@
 use Rattle.std.proofs.Common.{ℕ, ◌+◌, ◌*◌, ◌≡◌, ◌∙◌, true, false, Bool, List, [], ◌∷◌, length, map, refl, ap, sym, subst, Ok, arith}
 use Rattle.std.specs.Prelude.{◌==◌, not}
 use Rattle.wasi_host.specs.declared.open_handle.OpenHandle.{OpenHandle}
-use Rattle.wasi_p1_model.specs.Front.{ask, charge}
-use Rattle.wasi_p1_model.specs.Guest.{Guest}
-use Rattle.wasi_p1_model.specs.Parts.{room_for}
-use Rattle.wasi_p1_model.specs.Polling.{some_asked, lists_within, all_waited, earliest, files_named, nodes_read, clocks_at, judged_in, judged_of, waited_by}
-use Rattle.wasi_p1_model.specs.Request.{Sizes}
-use Rattle.wasi_p1_model.specs.CallResult.{Program, done, made_of_reply, give}
+use Rattle.wasi_p1_types.specs.Front.{ask, charge}
+use Rattle.wasi_p1_types.specs.Guest.{Guest}
+use Rattle.wasi_p1_types.specs.Parts.{room_for}
+use Rattle.wasi_p1_types.specs.Polling.{some_asked, lists_within, all_waited, earliest, files_named, nodes_read, clocks_at, judged_in, judged_of, waited_by}
+use Rattle.wasi_p1_types.specs.Request.{Sizes}
+use Rattle.wasi_p1_types.specs.CallResult.{Program, done, made_of_reply, give}
 use Rattle.wasi_p1_model.specs.Calls.{look_and_tell, poll_oneoff, tell_events, tell_ready}
-use Rattle.wasi_p1_model.specs.declared.guest_env.Clocks.{Clocks}
-use Rattle.wasi_p1_model.specs.declared.awaited.Judged.{Judged}
-use Rattle.wasi_p1_model.specs.declared.awaited.Waited.{Waited}
+use Rattle.wasi_p1_types.specs.declared.guest_env.Clocks.{Clocks}
+use Rattle.wasi_p1_types.specs.declared.awaited.Judged.{Judged}
+use Rattle.wasi_p1_types.specs.declared.awaited.Waited.{Waited}
 use Rattle.wasi_guest.specs.declared.answer.Value.{Value}
 use Rattle.wasi_p1_model.proofs.Telling.{events_by, reads_by}
 

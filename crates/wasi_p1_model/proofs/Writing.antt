@@ -10,17 +10,17 @@ use Rattle.wasi_host.specs.HostCall.{Pwrite}
 use Rattle.wasi_guest.specs.declared.answer.Value.{Value}
 use Rattle.wasi_guest.specs.declared.answer.Value.TheVariants.{Number}
 use Rattle.wasi_guest.specs.declared.iovec.Iovec.{Iovec}
-use Rattle.wasi_p1_model.specs.Guest.{Guest, State}
+use Rattle.wasi_p1_types.specs.Guest.{Guest, State}
 use Rattle.wasi_p1_model.specs.Putting.{put_answer, put_end, put_in, put_request}
-use Rattle.wasi_p1_model.specs.Quotas.{allowance, growth_to}
-use Rattle.wasi_p1_model.specs.Request.{Reply, Direct, Behind, size_at}
-use Rattle.wasi_p1_model.specs.CallResult.{CallResult, done, give}
-use Rattle.wasi_p1_model.specs.Parts.{Sink, output, into, sink_in, range, may_write, held_by, at_position, with_file}
-use Rattle.wasi_p1_model.specs.Front.{ask, charged_buffer}
+use Rattle.wasi_p1_types.specs.Quotas.{allowance, growth_to}
+use Rattle.wasi_p1_types.specs.Request.{Reply, Direct, Behind, size_at}
+use Rattle.wasi_p1_types.specs.CallResult.{CallResult, done, give}
+use Rattle.wasi_p1_types.specs.Parts.{Sink, output, into, sink_in, range, may_write, held_by, at_position, with_file}
+use Rattle.wasi_p1_types.specs.Front.{ask, charged_buffer}
 use Rattle.wasi_p1_model.specs.Calls.{fd_write, write_to}
-use Rattle.wasi_p1_model.specs.Spending.{growing}
+use Rattle.wasi_p1_types.specs.Spending.{growing}
 use Rattle.wasi_p1_model.specs.Writing.{WritesWhole, with_grown, written_to}
-use Rattle.wasi_p1_model.specs.declared.guest_env.Output.{Output}
+use Rattle.wasi_p1_types.specs.declared.guest_env.Output.{Output}
 use Rattle.wasi_host.proofs.Agreeing.{unless_value}
 use Rattle.wasi_p1_model.proofs.Alike.{row_on}
 use Rattle.wasi_p1_model.proofs.Appending.{behind_reply}

@@ -11,8 +11,8 @@ use Rattle.wasi_host.specs.Time.{zero_time}
 use Rattle.wasi_host.specs.Tree.{Tree, Node, Names, Content, File, Directory, Link, node_at, next_of, names_of, child, default_bits, is_directory, is_file}
 use Rattle.wasi_host.specs.ValidTree.{IsValidTree}
 use Rattle.wasi_p1_model.specs.CallTransition.{NamesUnder}
-use Rattle.wasi_p1_model.specs.Front.{FueledCall}
-use Rattle.wasi_p1_model.specs.Guest.{Guest, State, OpenFile, file, node_in}
+use Rattle.wasi_p1_types.specs.Front.{FueledCall}
+use Rattle.wasi_p1_types.specs.Guest.{Guest, State, OpenFile, file, node_in}
 use Rattle.wasi_p1_model.specs.Trace.{TraceStep, Trace, Played, Faulted}
 use Rattle.wasi_p1_model.specs.Stems.{HasPerms}
 

@@ -5,21 +5,21 @@ use Rattle.wasi_fs.specs.declared.perms.FsPerms.{FsPerms}
 use Rattle.wasi_fs.specs.declared.perms.FsPerms.TheVariants.{ReadOnly}
 use Rattle.wasi_host.specs.HostLaws.{World, Handles, Rose, FaultCount}
 use Rattle.wasi_host.specs.declared.lookup.Lookup.{Lookup}
-use Rattle.wasi_p1_model.specs.Slots.{View}
+use Rattle.wasi_p1_types.specs.Slots.{View}
 use Rattle.wasi_p1_model.specs.Owners.{handles, unowned, CallTraced, SlotsOfCall}
-use Rattle.wasi_p1_model.specs.CallParts.{IsReplied, with_after, is_errno}
-use Rattle.wasi_p1_model.specs.Guest.{Guest, State, perms_in, guest_of, guest_by}
+use Rattle.wasi_p1_types.specs.CallParts.{IsReplied, with_after, is_errno}
+use Rattle.wasi_p1_types.specs.Guest.{Guest, State, perms_in, guest_of, guest_by}
 use Rattle.wasi_p1_model.specs.Locality.{TouchesOnlyNear}
-use Rattle.wasi_p1_model.specs.CallResult.{CallResult, Program, done, asking}
-use Rattle.wasi_p1_model.specs.Front.{FueledCall, with_fuel}
+use Rattle.wasi_p1_types.specs.CallResult.{CallResult, Program, done, asking}
+use Rattle.wasi_p1_types.specs.Front.{FueledCall, with_fuel}
 use Rattle.wasi_p1_model.specs.Calls.{row, turn, fuel_left, descriptors_named, may_run_out_of_memory}
-use Rattle.wasi_p1_model.specs.Spending.{makes, spent}
-use Rattle.wasi_p1_model.specs.GuestEnvModel.{GuestEnvModel}
+use Rattle.wasi_p1_types.specs.Spending.{makes, spent}
+use Rattle.wasi_p1_types.specs.GuestEnvModel.{GuestEnvModel}
 use Rattle.wasi_p1_model.specs.Transition.{IsTransition, ReachesHost, come_to_by, roots_of, used_by}
 use Rattle.wasi_guest.specs.declared.call.Call.{Call}
 use Rattle.wasi_guest.specs.declared.errno.Errno.TheVariants.{Io}
-use Rattle.wasi_p1_model.specs.declared.error.P1Error.{P1Error}
-use Rattle.wasi_p1_model.specs.declared.error.P1Error.TheVariants.{Errno, Memory}
+use Rattle.wasi_p1_types.specs.declared.error.P1Error.{P1Error}
+use Rattle.wasi_p1_types.specs.declared.error.P1Error.TheVariants.{Errno, Memory}
 use Rattle.wasi_guest.specs.declared.answer.Value.{Value}
 
 -- the count of faults never falls, what it is at most stays, and `io` comes only where it rose

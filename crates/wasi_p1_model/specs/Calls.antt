@@ -3,9 +3,9 @@ use Rattle.std.specs.Prelude.{ℕ, Bool, true, false, List, [], ◌∷◌}
 use Rattle.wasi_guest.specs.declared.answer.Value.{Value}
 use Rattle.wasi_guest.specs.declared.call.Call.{Call}
 use Rattle.wasi_guest.specs.declared.call.Call.TheVariants as calls
-use Rattle.wasi_p1_model.specs.Front.{CallFront, FueledCall}
-use Rattle.wasi_p1_model.specs.Guest.{Guest, State}
-use Rattle.wasi_p1_model.specs.CallResult.{CallResult, Program, row_on}
+use Rattle.wasi_p1_types.specs.Front.{CallFront, FueledCall}
+use Rattle.wasi_p1_types.specs.Guest.{Guest, State}
+use Rattle.wasi_p1_types.specs.CallResult.{CallResult, Program, row_on}
 use Rattle.wasi_p1_model.specs.Subscriptions.{waited_for}
 pub mod Opening
 pub mod ReadingAndWriting

@@ -4,8 +4,8 @@ use Rattle.wasi_guest.specs.declared.answer.Value.{Value}
 use Rattle.wasi_guest.specs.declared.answer.Value.TheVariants.{Number}
 use Rattle.wasi_guest.specs.declared.call.Call.{Call}
 use Rattle.wasi_guest.specs.declared.call.Call.TheVariants as calls
-use Rattle.wasi_p1_model.specs.Front.{with_fuel}
-use Rattle.wasi_p1_model.specs.Guest.{Guest, GuestSlot, State, closed, is_closed}
+use Rattle.wasi_p1_types.specs.Front.{with_fuel}
+use Rattle.wasi_p1_types.specs.Guest.{Guest, GuestSlot, State, closed, is_closed}
 use Rattle.wasi_p1_model.specs.Calls.{turn}
 use Rattle.wasi_p1_model.specs.Trace.{TraceStep, Played, Faulted}
 

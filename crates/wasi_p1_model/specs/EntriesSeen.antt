@@ -8,8 +8,8 @@ use Rattle.wasi_host.specs.Steps.{◌>>=◌}
 use Rattle.wasi_host.specs.declared.errors.ErrorCode.{ErrorCode}
 use Rattle.wasi_host.specs.declared.dir_entry.DirEntry.{DirEntry}
 use Rattle.wasi_resolve.specs.Resolved.{Meant}
-use Rattle.wasi_p1_model.specs.Listing.{Entry, dots, all_numbered_at}
-use Rattle.wasi_p1_model.specs.declared.looked.Entry.{Entry as Stored}
+use Rattle.wasi_p1_types.specs.Listing.{Entry, dots, all_numbered_at}
+use Rattle.wasi_p1_types.specs.declared.looked.Entry.{Entry as Stored}
 
 abbrev pub entry_seen : Stored → Entry
 entry_seen e = record { name = string_bytes e.name; node = e.node; kind = e.kind }

@@ -8,11 +8,11 @@ use Rattle.wasi_p1_model.specs.Method.{MeetsSpec, KeepsHostLaws}
 use Rattle.wasi_p1_model.specs.Owners.{ClosedBy, SlotsStay}
 use Rattle.wasi_p1_model.specs.Calls.{descriptors_named}
 use Rattle.wasi_p1_model.specs.Trace.{answer_of, ends, GoOn}
-use Rattle.wasi_p1_model.specs.Slots.{View}
+use Rattle.wasi_p1_types.specs.Slots.{View}
 use Rattle.wasi_p1_model.specs.Unchanged.{AsBefore}
-use Rattle.wasi_p1_model.specs.declared.error.P1Error.{P1Error}
-use Rattle.wasi_p1_model.specs.declared.slots.Slot.{Slot}
-use Rattle.wasi_p1_model.specs.declared.error.P1Error.TheVariants.{Memory}
+use Rattle.wasi_p1_types.specs.declared.error.P1Error.{P1Error}
+use Rattle.wasi_p1_types.specs.declared.slots.Slot.{Slot}
+use Rattle.wasi_p1_types.specs.declared.error.P1Error.TheVariants.{Memory}
 
 -- one call with this fuel, from a context and a memory to those after it: it does its row, and stays in its bounds
 pub record DoesCall {H : Type 0} (host : Ghosts H) (fuel : ℕ) (old new : View H) (before after : List ℕ) (call : Call)

@@ -7,7 +7,7 @@ use Rattle.wasi_host.specs.HostLaws.{World}
 use Rattle.wasi_host.specs.Tree.{Tree}
 use Rattle.wasi_host.specs.ValidTree.{Reached}
 use Rattle.wasi_guest.specs.declared.call.Call.{Call}
-use Rattle.wasi_p1_model.specs.Guest.{Guest, node_in}
+use Rattle.wasi_p1_types.specs.Guest.{Guest, node_in}
 use Rattle.wasi_p1_model.specs.Calls.{descriptors_named}
 
 -- the nodes of the directories and files that a call names

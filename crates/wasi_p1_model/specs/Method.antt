@@ -5,8 +5,8 @@ use Rattle.wasi_guest.specs.declared.answer.Value.{Value}
 use Rattle.wasi_guest.specs.declared.call.Call.{Call}
 use Rattle.wasi_p1_model.specs.CallTransition.{Causes, OthersStay, Looks, LooksByNames, FollowsRow}
 use Rattle.wasi_p1_model.specs.Calls.{looks_up}
-use Rattle.wasi_p1_model.specs.Slots.{View}
-use Rattle.wasi_p1_model.specs.declared.error.P1Error.{P1Error}
+use Rattle.wasi_p1_types.specs.Slots.{View}
+use Rattle.wasi_p1_types.specs.declared.error.P1Error.{P1Error}
 
 -- whatever its row: the host fails only where its count of faults rises, the live handles that belong to no descriptor
 -- stay, and look-ups begin from the descriptors that the call names; a call without a path that lists no directory makes

@@ -5,9 +5,9 @@ use Rattle.std.specs.FinSet.{contains, insert, remove, retain}
 use Rattle.wasi_host.specs.HostLaws.{Handles}
 use Rattle.wasi_host.specs.Lineage.{HasProvenance}
 use Rattle.wasi_host.specs.declared.lookup.Lookup.{Lookup}
-use Rattle.wasi_p1_model.specs.Slots.{is_closed_slot}
-use Rattle.wasi_p1_model.specs.declared.slots.Slot.{Slot}
-use Rattle.wasi_p1_model.specs.declared.slots.Slot.TheVariants as slots
+use Rattle.wasi_p1_types.specs.Slots.{is_closed_slot}
+use Rattle.wasi_p1_types.specs.declared.slots.Slot.{Slot}
+use Rattle.wasi_p1_types.specs.declared.slots.Slot.TheVariants as slots
 use Rattle.wasi_guest.specs.declared.call.Call.{Call}
 use Rattle.wasi_p1_model.specs.Calls.{descriptors_named, closed_by}
 

@@ -2,7 +2,7 @@
 use Rattle.std.specs.Prelude.{ℕ, ◌≡◌, ◌<◌, ◌≤◌, ◌^◌, min, List, [], length, take, drop, All, Ok}
 use Rattle.wasi_host.specs.Tree.{Tree}
 use Rattle.wasi_host.specs.ValidTree.{IsValidTree}
-use Rattle.wasi_p1_model.specs.Listing.{Entry, listing_at}
+use Rattle.wasi_p1_types.specs.Listing.{Entry, listing_at}
 use Rattle.wasi_p1_model.specs.Pages.{record_of, record_size, records_after, page}
 use Rattle.wasi_p1_model.specs.PageReading.{whole_records, cookie_after, read_by, EachHolds, fitting, as_read, all_records}
 

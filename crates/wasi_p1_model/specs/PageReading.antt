@@ -2,7 +2,7 @@
 use Rattle.std.specs.Prelude.{ℕ, zero, suc, ◌+◌, ◌-◌, ◌<◌, nat_le, if◌then◌else◌, List, [], ◌∷◌, ◌++◌, length, take, drop, slice_index_or}
 use Rattle.std.specs.Int.{from_le_bytes, w32, w64}
 use Rattle.wasi_guest.specs.declared.dirent.Dirent.{Dirent}
-use Rattle.wasi_p1_model.specs.Listing.{Entry}
+use Rattle.wasi_p1_types.specs.Listing.{Entry}
 use Rattle.wasi_p1_model.specs.Pages.{dirent_of, record_size, page}
 
 -- a record that was read, and the name behind it

@@ -4,8 +4,8 @@ use Rattle.wasi_fs.specs.DescriptorStat.{descriptor_type}
 use Rattle.wasi_guest.specs.Dirent.{dirent_bytes}
 use Rattle.wasi_guest.specs.declared.dirent.Dirent.{Dirent}
 use Rattle.wasi_guest.specs.FiletypeNumber.{filetype_number}
-use Rattle.wasi_p1_model.specs.Filestats.{filetype_of}
-use Rattle.wasi_p1_model.specs.Listing.{Entry}
+use Rattle.wasi_p1_types.specs.Filestats.{filetype_of}
+use Rattle.wasi_p1_types.specs.Listing.{Entry}
 
 -- an entry without its name; the next one is found by this cookie
 abbrev pub dirent_of : ℕ → Entry → Dirent

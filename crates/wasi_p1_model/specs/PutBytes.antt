@@ -10,13 +10,13 @@ use Rattle.wasi_guest.specs.declared.answer.Value.TheVariants.{Number}
 use Rattle.wasi_guest.specs.declared.iovec.Iovec.{Iovec}
 use Rattle.wasi_guest.specs.Iovec.{first_buffer}
 use Rattle.wasi_guest.specs.Range.{IsInMemory, with_bytes}
-use Rattle.wasi_p1_model.specs.Guest.{OpenFile, State, file, guest_slots}
-use Rattle.wasi_p1_model.specs.Front.{with_fuel}
+use Rattle.wasi_p1_types.specs.Guest.{OpenFile, State, file, guest_slots}
+use Rattle.wasi_p1_types.specs.Front.{with_fuel}
 use Rattle.wasi_p1_model.specs.Owners.{Owned, handles}
-use Rattle.wasi_p1_model.specs.Parts.{held_by}
+use Rattle.wasi_p1_types.specs.Parts.{held_by}
 use Rattle.wasi_p1_model.specs.Calls.{turn}
 use Rattle.wasi_p1_model.specs.Writing.{buffer_bytes, put_growth, with_grown}
-use Rattle.wasi_p1_model.specs.declared.slots.Slot.{Slot}
+use Rattle.wasi_p1_types.specs.declared.slots.Slot.{Slot}
 
 -- the bytes of a file, by its node
 abbrev pub file_bytes : Tree → ℕ → List ℕ

@@ -6,13 +6,13 @@ use Rattle.wasi_host.specs.declared.open_handle.OpenHandle.{OpenHandle}
 use Rattle.wasi_host.specs.declared.metadata.Metadata.{Metadata}
 use Rattle.wasi_guest.specs.declared.answer.Value.{Value}
 use Rattle.wasi_guest.specs.declared.answer.Value.TheVariants.{Number}
-use Rattle.wasi_p1_model.specs.Guest.{Guest, OpenFile}
-use Rattle.wasi_p1_model.specs.Parts.{at_position, with_file}
-use Rattle.wasi_p1_model.specs.Request.{Request, Reply, Direct, Behind}
-use Rattle.wasi_p1_model.specs.Quotas.{end_of_piece}
-use Rattle.wasi_p1_model.specs.declared.quotas.FileEnd.{FileEnd}
-use Rattle.wasi_p1_model.specs.declared.quotas.FileEnd.TheVariants as ends
-use Rattle.wasi_p1_model.specs.declared.usage.Put.{Put}
+use Rattle.wasi_p1_types.specs.Guest.{Guest, OpenFile}
+use Rattle.wasi_p1_types.specs.Parts.{at_position, with_file}
+use Rattle.wasi_p1_types.specs.Request.{Request, Reply, Direct, Behind}
+use Rattle.wasi_p1_types.specs.Quotas.{end_of_piece}
+use Rattle.wasi_p1_types.specs.declared.quotas.FileEnd.{FileEnd}
+use Rattle.wasi_p1_types.specs.declared.quotas.FileEnd.TheVariants as ends
+use Rattle.wasi_p1_types.specs.declared.usage.Put.{Put}
 
 -- where the file's position stays: one call of the host
 abbrev pub put_call : Bool → OpenHandle → ℕ → List ℕ → HostCall

@@ -6,10 +6,10 @@ use Rattle.wasi_guest.specs.declared.quota.Quota.{Quota}
 use Rattle.wasi_guest.specs.declared.quota.QuotaUsed.{QuotaUsed}
 use Rattle.wasi_host.specs.Refusal.{can_write}
 use Rattle.wasi_host.specs.Tree.{Tree, Node, bytes_of, next_of}
-use Rattle.wasi_p1_model.specs.Front.{FueledCall}
-use Rattle.wasi_p1_model.specs.Guest.{Guest, OpenFile, State, file}
+use Rattle.wasi_p1_types.specs.Front.{FueledCall}
+use Rattle.wasi_p1_types.specs.Guest.{Guest, OpenFile, State, file}
 use Rattle.wasi_p1_model.specs.Trace.{TraceStep, Trace, Faulted, is_success}
-use Rattle.wasi_p1_model.specs.GuestEnvModel.{GuestEnvModel}
+use Rattle.wasi_p1_types.specs.GuestEnvModel.{GuestEnvModel}
 use Rattle.wasi_p1_model.specs.Transition.{used_by}
 
 -- ---- what is made and grown

@@ -5,7 +5,7 @@ use Rattle.std.specs.FinMap as map
 use Rattle.wasi_host.specs.Agree.{IsMade}
 use Rattle.wasi_host.specs.Tree.{Nodes, node_at, names_of, next_of}
 use Rattle.wasi_host.specs.ValidTree.{Reached}
-use Rattle.wasi_p1_model.specs.Guest.{State, open_nodes}
+use Rattle.wasi_p1_types.specs.Guest.{State, open_nodes}
 
 -- reached at the start from a descriptor's node, so at the start of a guest's run from a preopen
 abbrev pub Inside : State → ℕ → Type 0

@@ -6,12 +6,12 @@ use Rattle.wasi_host.specs.declared.host.Host.{Ghosts}
 use Rattle.wasi_p1_model.specs.CallTransition.{IsAnswered, IsValidCall, Transitions}
 use Rattle.wasi_p1_model.specs.Method.{MeetsSpec}
 use Rattle.wasi_p1_model.specs.Reach.{Confined}
-use Rattle.wasi_p1_model.specs.ErrorNumbers.{MayCome}
+use Rattle.wasi_p1_types.specs.ErrorNumbers.{MayCome}
 use Rattle.wasi_p1_model.specs.Trace.{TraceStep, Trace, IsComplete, answers_of}
-use Rattle.wasi_p1_model.specs.Slots.{View}
-use Rattle.wasi_p1_model.specs.Guest.{State, state_of}
-use Rattle.wasi_p1_model.specs.Front.{FueledCall, with_fuel}
-use Rattle.wasi_p1_model.specs.declared.error.P1Error.{P1Error}
+use Rattle.wasi_p1_types.specs.Slots.{View}
+use Rattle.wasi_p1_types.specs.Guest.{State, state_of}
+use Rattle.wasi_p1_types.specs.Front.{FueledCall, with_fuel}
+use Rattle.wasi_p1_types.specs.declared.error.P1Error.{P1Error}
 use Rattle.wasi_guest.specs.declared.answer.Value.{Value}
 
 -- where no turn is faulted, a state and calls have one run

@@ -1,12 +1,12 @@
 -- When two states are the same to a guest.
 use Rattle.std.specs.Prelude.{ℕ, ◌≡◌, ◌↔◌, List, Contains, Ok, Err}
 use Rattle.wasi_host.specs.Agree.{AgreeOn, IsClosed, OrMade}
-use Rattle.wasi_p1_model.specs.Guest.{State, open_nodes}
-use Rattle.wasi_p1_model.specs.CallResult.{CallResult}
+use Rattle.wasi_p1_types.specs.Guest.{State, open_nodes}
+use Rattle.wasi_p1_types.specs.CallResult.{CallResult}
 use Rattle.wasi_p1_model.specs.Calls.{turn}
 use Rattle.wasi_p1_model.specs.Reach.{Inside, InReach}
 use Rattle.wasi_p1_model.specs.Trace.{TraceStep, Trace, answers_of}
-use Rattle.wasi_p1_model.specs.Front.{FueledCall}
+use Rattle.wasi_p1_types.specs.Front.{FueledCall}
 use Rattle.wasi_guest.specs.declared.answer.Answer.{Answer}
 use Rattle.wasi_guest.specs.declared.answer.Value.{Value}
 

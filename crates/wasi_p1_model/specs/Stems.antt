@@ -5,9 +5,9 @@ use Rattle.wasi_guest.specs.declared.answer.Answer.{Answer}
 use Rattle.wasi_guest.specs.declared.answer.Answer.TheVariants as answers
 use Rattle.wasi_guest.specs.declared.answer.Value.TheVariants.{Number}
 use Rattle.wasi_guest.specs.declared.call.Call.{Call}
-use Rattle.wasi_p1_model.specs.Front.{FueledCall}
+use Rattle.wasi_p1_types.specs.Front.{FueledCall}
 use Rattle.wasi_p1_model.specs.Calls.{Stem, through, renumbering, stem_in}
-use Rattle.wasi_p1_model.specs.Guest.{Guest, State, perms_in}
+use Rattle.wasi_p1_types.specs.Guest.{Guest, State, perms_in}
 use Rattle.wasi_p1_model.specs.Trace.{TraceStep, Trace}
 
 abbrev pub stems_by : Stem → Answer → ℕ → ℕ

@@ -5,23 +5,23 @@ use Rattle.std.specs.FinSet.{contains}
 use Rattle.wasi_host.specs.HostLaws.{FaultCount}
 use Rattle.wasi_host.specs.Tree.{Nodes}
 use Rattle.wasi_p1_model.specs.CallTransition.{IsValidCall}
-use Rattle.wasi_p1_model.specs.Guest.{State}
-use Rattle.wasi_p1_model.specs.CallResult.{CallResult}
+use Rattle.wasi_p1_types.specs.Guest.{State}
+use Rattle.wasi_p1_types.specs.CallResult.{CallResult}
 use Rattle.wasi_p1_model.specs.Calls.{turn, may_run_out_of_memory}
-use Rattle.wasi_p1_model.specs.Slots.{View}
+use Rattle.wasi_p1_types.specs.Slots.{View}
 use Rattle.wasi_p1_model.specs.Transition.{AfterFault, ReachesHost, named_by, used_by}
 use Rattle.wasi_guest.specs.declared.answer.Answer.{Answer}
 use Rattle.wasi_guest.specs.declared.answer.Answer.TheVariants as answers
 use Rattle.wasi_guest.specs.declared.call.Call.{Call}
-use Rattle.wasi_p1_model.specs.Front.{FueledCall}
+use Rattle.wasi_p1_types.specs.Front.{FueledCall}
 use Rattle.wasi_guest.specs.declared.errno.Errno.{Errno as ErrorNumber}
 use Rattle.wasi_guest.specs.declared.errno.Errno.TheVariants.{Io}
 use Rattle.wasi_p1_model.specs.Owners.{one_if}
-use Rattle.wasi_p1_model.specs.declared.error.P1Error.{P1Error}
-use Rattle.wasi_p1_model.specs.declared.error.P1Error.TheVariants.{Errno, Trap, Exit, Memory}
+use Rattle.wasi_p1_types.specs.declared.error.P1Error.{P1Error}
+use Rattle.wasi_p1_types.specs.declared.error.P1Error.TheVariants.{Errno, Trap, Exit, Memory}
 use Rattle.wasi_guest.specs.declared.answer.Value.{Value}
-use Rattle.wasi_p1_model.specs.declared.error.RunError.{RunError}
-use Rattle.wasi_p1_model.specs.declared.error.RunError.TheVariants as errors
+use Rattle.wasi_p1_types.specs.declared.error.RunError.{RunError}
+use Rattle.wasi_p1_types.specs.declared.error.RunError.TheVariants as errors
 
 -- what a call is answered; want of memory is no answer
 abbrev pub answer_of : Result Value P1Error → Option Answer

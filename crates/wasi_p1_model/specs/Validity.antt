@@ -1,9 +1,9 @@
 -- Which states are valid.
 use Rattle.std.specs.Prelude.{ℕ, List, All, IsTrue}
 use Rattle.wasi_host.specs.ValidTree.{IsValidTree, are_bytes}
-use Rattle.wasi_p1_model.specs.Front.{FueledCall}
-use Rattle.wasi_p1_model.specs.Guest.{Guest, State}
-use Rattle.wasi_p1_model.specs.GuestEnvModel.{GuestEnvModel}
+use Rattle.wasi_p1_types.specs.Front.{FueledCall}
+use Rattle.wasi_p1_types.specs.Guest.{Guest, State}
+use Rattle.wasi_p1_types.specs.GuestEnvModel.{GuestEnvModel}
 use Rattle.wasi_p1_model.specs.Trace.{TraceStep, Trace}
 
 abbrev pub AreBytes : List ℕ → Type 0

@@ -10,14 +10,14 @@ use Rattle.wasi_guest.specs.declared.answer.Value.{Value}
 use Rattle.wasi_guest.specs.declared.answer.Value.TheVariants.{Number}
 use Rattle.wasi_guest.specs.declared.iovec.Iovec.{Iovec}
 use Rattle.wasi_guest.specs.Iovec.{first_buffer}
-use Rattle.wasi_p1_model.specs.Guest.{Guest, OpenFile, State}
-use Rattle.wasi_p1_model.specs.Front.{with_fuel}
-use Rattle.wasi_p1_model.specs.Parts.{Sink, output, into, sink_in, at_position, with_file}
+use Rattle.wasi_p1_types.specs.Guest.{Guest, OpenFile, State}
+use Rattle.wasi_p1_types.specs.Front.{with_fuel}
+use Rattle.wasi_p1_types.specs.Parts.{Sink, output, into, sink_in, at_position, with_file}
 use Rattle.wasi_p1_model.specs.Putting.{put_end}
-use Rattle.wasi_p1_model.specs.Quotas.{counted_growth, growth_to}
-use Rattle.wasi_p1_model.specs.Request.{size_at}
+use Rattle.wasi_p1_types.specs.Quotas.{counted_growth, growth_to}
+use Rattle.wasi_p1_types.specs.Request.{size_at}
 use Rattle.wasi_p1_model.specs.Calls.{turn}
-use Rattle.wasi_p1_model.specs.Services.{written}
+use Rattle.wasi_p1_types.specs.Services.{written}
 
 -- where a piece is put into a file: behind its last byte in append mode, and else at its position
 abbrev pub put_from : Tree → OpenFile → ℕ

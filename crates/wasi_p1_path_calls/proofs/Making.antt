@@ -12,22 +12,22 @@ use Rattle.wasi_host.specs.declared.open_handle.OpenHandle.{OpenHandle}
 use Rattle.wasi_host.specs.declared.lookup.Lookup.{Lookup}
 use Rattle.wasi_resolve.specs.PathRequest.{PathRequest, PathReply, meant_by}
 use Rattle.wasi_resolve.specs.Resolved.{Resolved}
-use Rattle.wasi_p1_model.specs.CallParts.{Follows, IsReplied}
+use Rattle.wasi_p1_types.specs.CallParts.{Follows, IsReplied}
 use Rattle.wasi_p1_model.specs.CallTransition.{FollowsRow}
-use Rattle.wasi_p1_model.specs.Errnos.{errno_of, error_of}
-use Rattle.wasi_p1_model.specs.Front.{CallFront, ask, done_if, free, ◌>>=◌}
-use Rattle.wasi_p1_model.specs.Parts.{permit}
-use Rattle.wasi_p1_model.specs.Guest.{Guest, guest_by, guest_of, guest_slots}
+use Rattle.wasi_p1_types.specs.Errnos.{errno_of, error_of}
+use Rattle.wasi_p1_types.specs.Front.{CallFront, ask, done_if, free, ◌>>=◌}
+use Rattle.wasi_p1_types.specs.Parts.{permit}
+use Rattle.wasi_p1_types.specs.Guest.{Guest, guest_by, guest_of, guest_slots}
 use Rattle.wasi_p1_model.specs.Owners.{handles, Owned, SlotsOfCall}
-use Rattle.wasi_p1_model.specs.Quotas.{counted_making, counted_makings}
-use Rattle.wasi_p1_model.specs.Request.{MayReply, Path, Reply, Request}
-use Rattle.wasi_p1_model.specs.CallResult.{CallResult, give, made_of_reply}
+use Rattle.wasi_p1_types.specs.Quotas.{counted_making, counted_makings}
+use Rattle.wasi_p1_types.specs.Request.{MayReply, Path, Reply, Request}
+use Rattle.wasi_p1_types.specs.CallResult.{CallResult, give, made_of_reply}
 use Rattle.wasi_p1_model.specs.Calls.{front, may_run_out_of_memory}
-use Rattle.wasi_p1_model.specs.Slots.{View}
-use Rattle.wasi_p1_model.specs.Spending.{check_to_make, grows, makes, making, on_outcome}
-use Rattle.wasi_p1_model.specs.GuestEnvModel.{GuestEnvModel}
-use Rattle.wasi_p1_model.specs.declared.error.P1Error.{P1Error}
-use Rattle.wasi_p1_model.specs.declared.error.P1Error.TheVariants.{Errno, Memory}
+use Rattle.wasi_p1_types.specs.Slots.{View}
+use Rattle.wasi_p1_types.specs.Spending.{check_to_make, grows, makes, making, on_outcome}
+use Rattle.wasi_p1_types.specs.GuestEnvModel.{GuestEnvModel}
+use Rattle.wasi_p1_types.specs.declared.error.P1Error.{P1Error}
+use Rattle.wasi_p1_types.specs.declared.error.P1Error.TheVariants.{Errno, Memory}
 use Rattle.wasi_p1_model.proofs.Exiting.{made_err, made_ok}
 use Rattle.wasi_p1_model.proofs.GuestSlots.{guest_slots_stay}
 use Rattle.wasi_p1_model.proofs.Lengths.{made, made_permitted}

@@ -1,6 +1,11 @@
 //! The calls of `wasi_snapshot_preview1` that take a path.
 #![tactic(auto)]
 
+mod making;
+mod entry_ops;
+mod two_path_ops;
+mod stat;
+mod opens;
 mod opening;
 mod places;
 mod times;

@@ -4,9 +4,10 @@ ghost use Rattle.wasi_p1_model.specs.Method.{KeepsHostLaws, MeetsSpec};
 
 use wasi_guest::{Errno, Value};
 use wasi_host::Host;
-use wasi_p1_model::{P1Error, text_at};
-use wasi_p1_parts::call_parts::{directory_at, open_into, room_at};
-use wasi_p1_parts::making_parts::check_open;
+use wasi_p1_types::{P1Error, text_at};
+use wasi_p1_state::lookups::{directory_at, room_at};
+use crate::opens::open_into;
+use crate::making::check_open;
 use wasi_p1_state::P1State;
 use wasi_p1_types::open_with::OpenWith;
 

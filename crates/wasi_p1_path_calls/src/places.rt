@@ -4,13 +4,12 @@ ghost use Rattle.wasi_p1_model.specs.Method.{KeepsHostLaws, MeetsSpec};
 
 use wasi_guest::{Errno, Value};
 use wasi_host::Host;
-use wasi_p1_model::{P1Error, text_at, write_front};
-use wasi_p1_parts::call_parts::{directory_at, stat_both};
-use wasi_p1_parts::making_parts::{check_link, check_make, make_below};
-use wasi_p1_parts::view_parts::below;
-use wasi_p1_parts::view_parts::places::{
-    CreateDirectoryAt, ReadlinkAt, RemoveDirectoryAt, SymlinkAt, UnlinkFileAt,
-};
+use wasi_p1_types::{P1Error, text_at, write_front};
+use wasi_p1_state::lookups::directory_at;
+use crate::stat::stat_both;
+use crate::making::{check_link, check_make, make_below};
+use wasi_p1_state::views::below;
+use crate::entry_ops::{CreateDirectoryAt, ReadlinkAt, RemoveDirectoryAt, SymlinkAt, UnlinkFileAt};
 use wasi_p1_state::P1State;
 use wasi_p1_types::open_with::path_flags_of;
 

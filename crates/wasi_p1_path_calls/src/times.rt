@@ -4,10 +4,10 @@ ghost use Rattle.wasi_p1_model.specs.Method.{KeepsHostLaws, MeetsSpec};
 
 use wasi_guest::{Errno, Value};
 use wasi_host::Host;
-use wasi_p1_model::{NewTimes, P1Error, text_at};
-use wasi_p1_parts::call_parts::directory_at;
-use wasi_p1_parts::view_parts::below;
-use wasi_p1_parts::view_parts::places::SetTimesAt;
+use wasi_p1_types::{NewTimes, P1Error, text_at};
+use wasi_p1_state::lookups::directory_at;
+use wasi_p1_state::views::below;
+use crate::entry_ops::SetTimesAt;
 use wasi_p1_state::P1State;
 use wasi_p1_types::open_with::path_flags_of;
 

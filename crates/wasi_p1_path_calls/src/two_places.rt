@@ -4,9 +4,10 @@ ghost use Rattle.wasi_p1_model.specs.Method.{KeepsHostLaws, MeetsSpec};
 
 use wasi_guest::{Errno, Value};
 use wasi_host::Host;
-use wasi_p1_model::{P1Error, text_at};
-use wasi_p1_parts::call_parts::directory_at;
-use wasi_p1_parts::view_parts::two_places::{LinkAt, RenameAt, between};
+use wasi_p1_types::{P1Error, text_at};
+use wasi_p1_state::lookups::directory_at;
+use crate::two_path_ops::{LinkAt, RenameAt};
+use wasi_p1_state::views::two_places::between;
 use wasi_p1_state::P1State;
 use wasi_p1_types::open_with::path_flags_of;
 

@@ -6,8 +6,8 @@ use std::alloc::Global;
 use std::marker::Model;
 use wasi_guest::{Quota, QuotaUsed, Services};
 use wasi_host::{Forget, Host, SystemTime};
-use wasi_p1_model::{CtxError, GuestEnv, P1Preopen};
-use wasi_p1_parts::descriptors::Descriptors;
+use wasi_p1_types::{CtxError, GuestEnv, P1Preopen};
+use crate::descriptors::Descriptors;
 use wasi_p2_calls::WasiFilesystemCtx;
 use wasi_streams::ResourceTable;
 
@@ -27,8 +27,8 @@ pub struct P1State<H: Host> {
 }
 
 impl<H: Host> Model for P1State<H> {
-    ghost use Rattle.wasi_p1_model.specs.Slots.{View};
-    ghost use Rattle.wasi_p1_parts.specs.Held.{HoldsHandles};
+    ghost use Rattle.wasi_p1_types.specs.Slots.{View};
+    ghost use Rattle.wasi_p1_state.specs.Held.{HoldsHandles};
     ghost use Rattle.wasi_p1_model.specs.Owners.{handles};
 
     ghost Value = { View H };
@@ -63,15 +63,15 @@ pub struct Ended<H: Host> {
 }
 
 impl<H: Host> P1State<H> {
-    ghost use Rattle.wasi_p1_parts.specs.LiveEntries.{AreLiveDescriptors};
-    ghost use Rattle.wasi_p1_model.specs.Numbering.{live_count};
+    ghost use Rattle.wasi_p1_state.specs.LiveEntries.{AreLiveDescriptors};
+    ghost use Rattle.wasi_p1_types.specs.Numbering.{live_count};
     ghost use Rattle.wasi_p1_model.specs.Owners.{OwnedApart, handles};
-    ghost use Rattle.wasi_p1_model.specs.Slots.{first_slots, given_name, is_closed_slot};
-    ghost use Rattle.wasi_p1_model.specs.declared.error.CtxError.TheVariants.{Full};
+    ghost use Rattle.wasi_p1_types.specs.Slots.{first_slots, given_name, is_closed_slot};
+    ghost use Rattle.wasi_p1_types.specs.declared.error.CtxError.TheVariants.{Full};
     ghost use Rattle.wasi_guest.specs.Quotas.{IsQuota};
     ghost use Rattle.wasi_guest.specs.Services.{handed};
-    ghost use Rattle.wasi_p1_model.specs.Quotas.{with_quota, IsWithinQuota};
-    ghost use Rattle.wasi_p1_model.specs.GuestEnvModel.{first_fuel, first_stock};
+    ghost use Rattle.wasi_p1_types.specs.Quotas.{with_quota, IsWithinQuota};
+    ghost use Rattle.wasi_p1_types.specs.GuestEnvModel.{first_fuel, first_stock};
 
     /// A context with the three standard streams as descriptors 0 to 2, and then the directories that the guest is
     /// given, in order, which takes their handles over. Each handle is live, and given once. Nothing is asked of the

@@ -5,7 +5,7 @@ use Rattle.std.specs.FinMap.{get, insert, gets}
 use Rattle.wasi_streams.specs.Table.{Entries}
 use Rattle.wasi_streams.specs.declared.entry.Entry.{Entry}
 use Rattle.wasi_streams.specs.declared.table.Resource.{Resource}
-use Rattle.wasi_p1_model.specs.declared.slots.Slot.{Slot}
+use Rattle.wasi_p1_types.specs.declared.slots.Slot.{Slot}
 use Rattle.wasi_p1_types.specs.Items.{resource_in, slot_in, Admitted, IsOfKind}
 use Rattle.wasi_p1_types.specs.declared.items.Item.{Item}
 

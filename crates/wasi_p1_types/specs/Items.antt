@@ -7,11 +7,11 @@ use Rattle.wasi_fs.specs.declared.descriptor.File.{File as OpenedFile}
 use Rattle.wasi_streams.specs.Table.{Entries}
 use Rattle.wasi_streams.specs.declared.entry.Entry.{Entry}
 use Rattle.wasi_streams.specs.declared.entry.Entry.TheVariants as entries
-use Rattle.wasi_p1_model.specs.declared.slots.FileModes.{FileModes}
-use Rattle.wasi_p1_model.specs.declared.slots.Slot.{Slot}
-use Rattle.wasi_p1_model.specs.declared.slots.Slot.TheVariants as slots
-use Rattle.wasi_p1_model.specs.declared.slots.Stream.{Stream as StandardStream}
-use Rattle.wasi_p1_model.specs.declared.slots.Stream.TheVariants as streams
+use Rattle.wasi_p1_types.specs.declared.slots.FileModes.{FileModes}
+use Rattle.wasi_p1_types.specs.declared.slots.Slot.{Slot}
+use Rattle.wasi_p1_types.specs.declared.slots.Slot.TheVariants as slots
+use Rattle.wasi_p1_types.specs.declared.slots.Stream.{Stream as StandardStream}
+use Rattle.wasi_p1_types.specs.declared.slots.Stream.TheVariants as streams
 use Rattle.wasi_p1_types.specs.declared.items.Item.{Item}
 use Rattle.wasi_p1_types.specs.declared.items.Item.TheVariants.{Closed, Stream, Directory, File}
 

@@ -2,11 +2,11 @@
 ghost use Rattle.std.specs.Prelude.{◌≡◌, ◌<◌, ◌≤◌, ◌+◌, None, IsOk, OnOk, false, length, slice_get, slice_index_or};
 ghost use Rattle.std.specs.FinMap.{get, insert, len};
 ghost use Rattle.wasi_p1_types.specs.Items.{Admitted, IsOfKind, put_item, slot_in, stream_entry};
-ghost use Rattle.wasi_p1_model.specs.Slots.{is_closed_slot};
+ghost use Rattle.wasi_p1_types.specs.Slots.{is_closed_slot};
 
 use std::alloc::AllocError;
 use wasi_fs::{Descriptor, Dir, File};
-use wasi_p1_model::{DirectorySlot, FileModes, FileSlot, Slot, Stream};
+use crate::{DirectorySlot, FileModes, FileSlot, Slot, Stream};
 use wasi_streams::{Entry, Resource, ResourceTable, TableError};
 
 /// The resource of a descriptor, and what the table doesn't say of it. A position is in bytes.

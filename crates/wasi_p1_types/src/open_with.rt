@@ -8,9 +8,9 @@ ghost use Rattle.wasi_fs.specs.OpenFlags.{includes};
 ghost use Rattle.wasi_guest.specs.FlagSets.{lookupflag_bits, oflag_bits, fdflag_bits, right_bits};
 ghost use Rattle.wasi_guest.specs.Flags as flag;
 ghost use Rattle.wasi_guest.specs.Flags.{has};
-ghost use Rattle.wasi_p1_model.specs.RawFlags.{modes_in, modes_under, open_how, follow_asked};
-ghost use Rattle.wasi_p1_model.specs.CallParts.{is_failure};
-ghost use Rattle.wasi_p1_model.specs.Parts.{permit};
+ghost use Rattle.wasi_p1_types.specs.RawFlags.{modes_in, modes_under, open_how, follow_asked};
+ghost use Rattle.wasi_p1_types.specs.CallParts.{is_failure};
+ghost use Rattle.wasi_p1_types.specs.Parts.{permit};
 ghost use Rattle.wasi_p2_types.specs.FlagBits.{path_set, open_set, descriptor_set};
 ghost use Rattle.wasi_p2_types.specs.FlagNames.{path_flags_named};
 ghost use Rattle.wasi_p2_types.specs.FlagNames.{how_named};
@@ -18,7 +18,7 @@ ghost use Rattle.wasi_p2_types.specs.FlagNames.{how_named};
 use bitflags::Flags;
 use wasi_fs::{Act, FsPerms};
 use wasi_guest::{Errno, FdFlags, LookupFlags, OFlags, Rights};
-use wasi_p1_model::{FileModes, INVALID, P1Error};
+use crate::{FileModes, INVALID, P1Error};
 use wasi_p2_types::{DescriptorFlags, OpenFlags, PathFlags};
 
 /// What the flags and rights of `path_open` ask for, as the flags of an open below a directory.
@@ -33,7 +33,7 @@ pub struct OpenWith {
 impl OpenWith {
     /// What these raw numbers ask for. Refusal: Inval where one of them has a bit that preview1 doesn't know. The other
     /// rights ask for nothing; append and nonblock are the modes of a file.
-    #[tactic(auto, unfolding(wasi_p1_model::specs::RawFlags::open_how))]
+    #[tactic(auto, unfolding(crate::specs::RawFlags::open_how))]
     pub fn of(
         dirflags: u32,
         oflags: u32,
@@ -133,7 +133,7 @@ impl OpenWith {
 }
 
 /// How a path is looked up by a raw number. Refusal: Inval where it has a bit that preview1 doesn't know.
-#[tactic(auto, unfolding(wasi_p1_model::specs::RawFlags::follow_asked))]
+#[tactic(auto, unfolding(crate::specs::RawFlags::follow_asked))]
 pub fn path_flags_of(flags: u32) -> Result<PathFlags, P1Error>
     ensures row { result_map_both (λ flags. is_followed (path_flags_named flags)) (λ e. e) result ≡ follow_asked flags }
     ensures refusal { IfErr result (λ e. is_failure e ≡ false) }

@@ -8,14 +8,14 @@ use Rattle.wasi_host.specs.HostLaws.{FaultCount, Handles, Rose, World, never_fai
 use Rattle.wasi_host.specs.declared.lookup.Lookup.{Lookup}
 use Rattle.wasi_tree.specs.MemState.{MemState, live_of, world_of}
 use Rattle.wasi_p1_model.specs.CallTransition.{Causes, FollowsRow, IsAnswered, IsValidCall, Looks, LooksByNames, OthersStay}
-use Rattle.wasi_p1_model.specs.ErrorNumbers.{MayCome}
-use Rattle.wasi_p1_model.specs.Front.{with_fuel}
-use Rattle.wasi_p1_model.specs.Guest.{state_of}
+use Rattle.wasi_p1_types.specs.ErrorNumbers.{MayCome}
+use Rattle.wasi_p1_types.specs.Front.{with_fuel}
+use Rattle.wasi_p1_types.specs.Guest.{state_of}
 use Rattle.wasi_p1_model.specs.Calls.{looks_up}
 use Rattle.wasi_p1_model.specs.Trace.{answer_of}
-use Rattle.wasi_p1_model.specs.Slots.{View}
+use Rattle.wasi_p1_types.specs.Slots.{View}
 use Rattle.wasi_p1_model.specs.Unchanged.{LeavesAll}
-use Rattle.wasi_p1_model.specs.declared.error.P1Error.{P1Error}
+use Rattle.wasi_p1_types.specs.declared.error.P1Error.{P1Error}
 use Rattle.wasi_p1_model.proofs.Confining.{turn_confines}
 use Rattle.wasi_p1_model.proofs.Unchanged.{any_fuel}
 use Rattle.wasi_sandbox.specs.Calling.{answered_after, fueled, world_in, Called}

@@ -8,15 +8,15 @@ use Rattle.wasi_host.specs.HostLaws.{FaultCount, Handles, Rose, World, never_fai
 use Rattle.wasi_host.specs.declared.lookup.Lookup.{Lookup}
 use Rattle.wasi_p1_model.specs.CallTransition.{Causes, FollowsRow, IsAnswered, IsValidCall, Looks, LooksByNames, OthersStay}
 use Rattle.wasi_p1_model.specs.Calls.{looks_up}
-use Rattle.wasi_p1_model.specs.ErrorNumbers.{MayCome}
-use Rattle.wasi_p1_model.specs.Front.{with_fuel}
-use Rattle.wasi_p1_model.specs.Guest.{State, state_of}
+use Rattle.wasi_p1_types.specs.ErrorNumbers.{MayCome}
+use Rattle.wasi_p1_types.specs.Front.{with_fuel}
+use Rattle.wasi_p1_types.specs.Guest.{State, state_of}
 use Rattle.wasi_p1_model.specs.Reach.{Confined}
 use Rattle.wasi_p1_model.specs.Trace.{answer_of}
-use Rattle.wasi_p1_model.specs.Slots.{View}
+use Rattle.wasi_p1_types.specs.Slots.{View}
 use Rattle.wasi_p1_model.specs.Unchanged.{LeavesAll}
-use Rattle.wasi_p1_model.specs.declared.error.P1Error.{P1Error}
-use Rattle.wasi_p1_model.specs.declared.error.P1Error.TheVariants.{Memory, Trap}
+use Rattle.wasi_p1_types.specs.declared.error.P1Error.{P1Error}
+use Rattle.wasi_p1_types.specs.declared.error.P1Error.TheVariants.{Memory, Trap}
 use Rattle.wasi_sandbox.specs.Shapes.{has_room, shape_of, with_answer}
 use Rattle.wasi_sandbox.specs.declared.result_layout.Places.{Places}
 use Rattle.wasi_tree.specs.MemState.{MemState, live_of, world_of}

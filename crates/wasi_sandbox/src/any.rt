@@ -4,7 +4,7 @@ ghost use Rattle.wasi_sandbox.specs.Any.{one_of, Becomes, Keeps};
 ghost use Rattle.wasi_sandbox.specs.Calling.{CalledInto};
 ghost use Rattle.wasi_sandbox.specs.Telling.{Tells};
 ghost use Rattle.wasi_overlay.specs.Overlay.{IsFreshOn};
-ghost use Rattle.wasi_p1_model.specs.Quotas.{IsWithinQuota};
+ghost use Rattle.wasi_p1_types.specs.Quotas.{IsWithinQuota};
 
 use crate::result_layout::Places;
 use crate::sandbox::Sandbox;

@@ -6,7 +6,7 @@ ghost use Rattle.std.specs.Ordering.{nat_cmp};
 ghost use Rattle.wasi_sandbox.specs.Calling.{answered_after, Called, CalledInto};
 ghost use Rattle.wasi_sandbox.specs.Telling.{Tells};
 ghost use Rattle.wasi_overlay.specs.Overlay.{IsFreshOn};
-ghost use Rattle.wasi_p1_model.specs.Quotas.{IsWithinQuota};
+ghost use Rattle.wasi_p1_types.specs.Quotas.{IsWithinQuota};
 
 use crate::result_layout::{Places, Shape};
 use crate::tree::SandboxTree;

@@ -21,7 +21,7 @@ use Rattle.wasi_script.specs.AuditedRun.{AuditedRun, Covers, StartsAudit}
 use Rattle.wasi_script.specs.Headline.{fueled_calls}
 use Rattle.wasi_script.specs.Through.{IsListed}
 use Rattle.wasi_setup.specs.Start.{start, first_guest_slots, given_guest_slots}
-use Rattle.wasi_p1_model.specs.Guest.{State, GuestSlot, perms_in}
+use Rattle.wasi_p1_types.specs.Guest.{State, GuestSlot, perms_in}
 use Rattle.wasi_p1_model.specs.Trace.{Allows, named}
 use Rattle.wasi_script.proofs.Headlines.{run_more}
 

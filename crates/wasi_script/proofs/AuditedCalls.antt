@@ -14,13 +14,13 @@ use Rattle.wasi_script.specs.Through.{effect_of}
 use Rattle.wasi_setup.specs.Start.{world_behind}
 use Rattle.wasi_tree.specs.MemState.{MemState}
 use Rattle.wasi_p1_model.specs.CallTransition.{Causes, FollowsRow, Turns}
-use Rattle.wasi_p1_model.specs.Front.{with_fuel}
-use Rattle.wasi_p1_model.specs.Guest.{Guest, guest_by, guest_of}
+use Rattle.wasi_p1_types.specs.Front.{with_fuel}
+use Rattle.wasi_p1_types.specs.Guest.{Guest, guest_by, guest_of}
 use Rattle.wasi_p1_model.specs.Locality.{TouchesOnlyNear}
 use Rattle.wasi_p1_model.specs.Calls.{descriptors_named}
 use Rattle.wasi_p1_model.specs.Trace.{answer_of}
-use Rattle.wasi_p1_model.specs.Slots.{View}
-use Rattle.wasi_p1_model.specs.declared.error.P1Error.{P1Error}
+use Rattle.wasi_p1_types.specs.Slots.{View}
+use Rattle.wasi_p1_types.specs.declared.error.P1Error.{P1Error}
 
 abbrev faults_of : Failing MemState → FaultCount
 faults_of host = counted never_fails host.calls

@@ -13,8 +13,8 @@ use Rattle.wasi_audit.proofs.Membership.{Contains-noted, length-noted_lists, not
 use Rattle.wasi_guest.specs.declared.answer.Answer.{Answer}
 use Rattle.wasi_p1_model.specs.CallTransition.{Turns, in_world}
 use Rattle.wasi_p1_model.specs.DescriptorLaws.{FitsTable}
-use Rattle.wasi_p1_model.specs.Front.{FueledCall}
-use Rattle.wasi_p1_model.specs.Guest.{Guest, State}
+use Rattle.wasi_p1_types.specs.Front.{FueledCall}
+use Rattle.wasi_p1_types.specs.Guest.{Guest, State}
 use Rattle.wasi_p1_model.specs.Reach.{Confined}
 use Rattle.wasi_p1_model.specs.Calls.{descriptors_named}
 use Rattle.wasi_p1_model.specs.Trace.{TraceStep, Played, Faulted, Allows, RefinesTrace, ends, ends_of, ios, named}

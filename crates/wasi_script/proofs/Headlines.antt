@@ -20,12 +20,12 @@ use Rattle.wasi_script.specs.Headline.{Reports, fueled_calls}
 use Rattle.wasi_p1_model.specs.Reach.{Confined}
 use Rattle.wasi_report.specs.Report.{report_text}
 use Rattle.wasi_report.specs.ReadBack.{IsOrdered}
-use Rattle.wasi_p1_model.specs.Front.{FueledCall}
+use Rattle.wasi_p1_types.specs.Front.{FueledCall}
 use Rattle.wasi_p1_model.specs.Trace.{TraceStep, Spends, Trace, Allows, RefinesTrace, ends, ios, named}
 use Rattle.wasi_form.specs.Plan.{Plan}
-use Rattle.wasi_p1_model.specs.Slots.{View}
+use Rattle.wasi_p1_types.specs.Slots.{View}
 use Rattle.wasi_setup.specs.Start.{seen_by, start, with_pieces, world_behind, IsBegun}
-use Rattle.wasi_p1_model.specs.Guest.{State, guest_by, state_of}
+use Rattle.wasi_p1_types.specs.Guest.{State, guest_by, state_of}
 use Rattle.wasi_guest.specs.declared.answer.Answer.{Answer}
 use Rattle.wasi_p1_model.proofs.QuotaRuns.{run_counts, run_within}
 use Rattle.wasi_script.proofs.KeptTrees.{starts_opened}

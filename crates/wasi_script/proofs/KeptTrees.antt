@@ -21,11 +21,11 @@ use Rattle.wasi_tree.specs.Given.{Given, GivenContent, file, directory, link, co
 use Rattle.wasi_tree.proofs.FitValid.{fit_is_valid, next_is, node_is}
 use Rattle.wasi_p1_model.specs.QuotaLaws.{WritesAsOpened}
 use Rattle.wasi_p1_model.specs.AppendOnly.{AppendsAtEnd, HasStill, KeepsNode, MayAlterNothing, NodesAreThere}
-use Rattle.wasi_p1_model.specs.Guest.{GuestSlot, stream, file as open_file, node_in, perms_in}
+use Rattle.wasi_p1_types.specs.Guest.{GuestSlot, stream, file as open_file, node_in, perms_in}
 use Rattle.wasi_p1_model.specs.ReadOnly.{IsReadOnlyGuest}
 use Rattle.wasi_p1_model.specs.Stems.{HasPerms}
-use Rattle.wasi_p1_model.specs.declared.slots.Stream.{Stream}
-use Rattle.wasi_p1_model.specs.declared.slots.Stream.TheVariants.{Input, Output, Error}
+use Rattle.wasi_p1_types.specs.declared.slots.Stream.{Stream}
+use Rattle.wasi_p1_types.specs.declared.slots.Stream.TheVariants.{Input, Output, Error}
 use Rattle.wasi_p1_model.proofs.Apart.{run_grows, run_keeps_apart}
 use Rattle.wasi_p1_model.proofs.Permitting.{run_leaves}
 use Rattle.wasi_script.specs.Due.{Due, the_usage, the_refusal, the_outcome, the_line, IsOwed, OfDue, Writes, KeepsTree}

@@ -20,13 +20,13 @@ use Rattle.wasi_guest.specs.declared.call.Call.{Call}
 use Rattle.wasi_guest.specs.declared.call.Call.TheVariants as calls
 use Rattle.wasi_p1_model.specs.CallTransition.{Turns, in_world}
 use Rattle.wasi_p1_model.specs.DescriptorLaws.{FitsTable}
-use Rattle.wasi_p1_model.specs.Front.{FueledCall, with_fuel}
-use Rattle.wasi_p1_model.specs.Guest.{Guest, State, node_in}
+use Rattle.wasi_p1_types.specs.Front.{FueledCall, with_fuel}
+use Rattle.wasi_p1_types.specs.Guest.{Guest, State, node_in}
 use Rattle.wasi_p1_model.specs.Calls.{descriptors_named, turn}
 use Rattle.wasi_p1_model.specs.Trace.{TraceStep, Played, Faulted, answer_of}
 use Rattle.wasi_p1_model.specs.Stems.{HasPerms, stems_from}
-use Rattle.wasi_p1_model.specs.declared.error.P1Error.{P1Error}
-use Rattle.wasi_p1_model.specs.declared.error.P1Error.TheVariants.{Errno, Trap, Exit, Memory}
+use Rattle.wasi_p1_types.specs.declared.error.P1Error.{P1Error}
+use Rattle.wasi_p1_types.specs.declared.error.P1Error.TheVariants.{Errno, Trap, Exit, Memory}
 use Rattle.wasi_p1_model.proofs.Changing.{slot_perms}
 use Rattle.wasi_p1_model.proofs.Closing.{closes_number, renumbering_closes}
 use Rattle.wasi_p1_model.proofs.DescriptorLaws.{opens_the_largest_closed}

@@ -11,7 +11,7 @@ use Rattle.std.proofs.lemmas.Slice.Zip.{length-zip, get_or-zip}
 use Rattle.wasi_guest.specs.declared.answer.Answer.{Answer}
 use Rattle.wasi_guest.specs.declared.call.Call.{Call}
 use Rattle.wasi_tree.specs.MemState.{MemState}
-use Rattle.wasi_p1_model.specs.Guest.{state_of}
+use Rattle.wasi_p1_types.specs.Guest.{state_of}
 use Rattle.wasi_p1_model.specs.Trace.{is_success}
 use Rattle.wasi_form.specs.Plan.{Plan}
 use Rattle.wasi_script_gen.specs.GenScript.{gen_script}

@@ -14,7 +14,7 @@ use Rattle.wasi_report.specs.Trial.{trial_by, trial_text}
 use Rattle.wasi_report.specs.TrialReadBack.{FitsTrial}
 use Rattle.wasi_host_faults.specs.Faults.{Failing}
 use Rattle.wasi_tree.specs.MemState.{MemState}
-use Rattle.wasi_p1_model.specs.Guest.{State, state_of}
+use Rattle.wasi_p1_types.specs.Guest.{State, state_of}
 use Rattle.wasi_p1_model.specs.Trace.{TraceStep}
 use Rattle.wasi_setup.specs.Start.{world_behind}
 use Rattle.wasi_setup.specs.ReportAfter.{report_after}

@@ -10,7 +10,7 @@ use Rattle.wasi_script.specs.Headline.{fueled_calls}
 use Rattle.wasi_script.specs.Through.{IsListed, ListsThrough, stemmed}
 use Rattle.wasi_script.specs.declared.audited.ScriptAudit.{ScriptAudit}
 use Rattle.wasi_setup.specs.Start.{start}
-use Rattle.wasi_p1_model.specs.Guest.{State}
+use Rattle.wasi_p1_types.specs.Guest.{State}
 use Rattle.wasi_p1_model.specs.Reach.{InReach}
 use Rattle.wasi_p1_model.specs.Trace.{TraceStep, Trace, answers_of, ios, named}
 

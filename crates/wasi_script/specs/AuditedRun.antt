@@ -10,14 +10,14 @@ use Rattle.wasi_guest.specs.declared.answer.Value.{Value}
 use Rattle.wasi_host.specs.HostLaws.{World, FaultCount, Rose, forgotten}
 use Rattle.wasi_p1_model.specs.CallTransition.{Causes, Turns}
 use Rattle.wasi_p1_model.specs.DescriptorLaws.{FitsTable}
-use Rattle.wasi_p1_model.specs.Front.{FueledCall}
-use Rattle.wasi_p1_model.specs.Guest.{Guest, State}
+use Rattle.wasi_p1_types.specs.Front.{FueledCall}
+use Rattle.wasi_p1_types.specs.Guest.{Guest, State}
 use Rattle.wasi_p1_model.specs.Locality.{TouchesOnlyNear}
 use Rattle.wasi_p1_model.specs.Reach.{InReach}
 use Rattle.wasi_p1_model.specs.Calls.{descriptors_named}
 use Rattle.wasi_p1_model.specs.Trace.{TraceStep, Trace, Allows, answer_of, answers_of, ios, named}
 use Rattle.wasi_p1_model.specs.Stems.{HasPerms}
-use Rattle.wasi_p1_model.specs.declared.error.P1Error.{P1Error}
+use Rattle.wasi_p1_types.specs.declared.error.P1Error.{P1Error}
 use Rattle.wasi_script.specs.Through.{effect_of, stemmed, ListsThrough, IsListed}
 
 -- each directory or file of a guest stems from one of the directories that it was given, of which there are so many

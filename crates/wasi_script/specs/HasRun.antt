@@ -5,7 +5,7 @@ use Rattle.std.specs.List.Sorted.{IsStrictlySortedBy}
 use Rattle.std.specs.Ordering.{nat_cmp}
 use Rattle.wasi_host.specs.Tree.{Nodes}
 use Rattle.wasi_tree.specs.MemState.{MemState}
-use Rattle.wasi_p1_model.specs.Guest.{State, state_of}
+use Rattle.wasi_p1_types.specs.Guest.{State, state_of}
 use Rattle.wasi_p1_model.specs.Reach.{Confined}
 use Rattle.wasi_p1_model.specs.Trace.{TraceStep, Trace, answers_of, ios, named}
 use Rattle.wasi_guest.specs.declared.answer.Answer.{Answer}

@@ -9,7 +9,7 @@ use Rattle.wasi_fs.specs.Perms.{permits}
 use Rattle.wasi_fs.specs.declared.perms.Act.TheVariants.{Alter}
 use Rattle.wasi_fs.specs.declared.perms.FsPerms.TheVariants.{ReadOnly, ReadWrite}
 use Rattle.wasi_p1_model.specs.AppendOnly.{AreApart, ReachedUnder}
-use Rattle.wasi_p1_model.specs.Front.{FueledCall, with_fuel}
+use Rattle.wasi_p1_types.specs.Front.{FueledCall, with_fuel}
 use Rattle.wasi_p1_model.specs.Reach.{InReach}
 use Rattle.wasi_report.specs.Report.{Report, report_text}
 use Rattle.wasi_report.specs.ReadBack.{IsOrdered}
@@ -18,7 +18,7 @@ use Rattle.wasi_p1_model.specs.Trace.{TraceStep, Trace, answers_of, ios, named}
 use Rattle.wasi_form.specs.Plan.{Plan}
 use Rattle.wasi_setup.specs.ReportAfter.{report_after}
 use Rattle.wasi_setup.specs.Start.{start}
-use Rattle.wasi_p1_model.specs.Guest.{State}
+use Rattle.wasi_p1_types.specs.Guest.{State}
 
 -- a plan's calls, each with all the fuel that the plan has for one
 abbrev pub fueled_calls : Plan → List FueledCall

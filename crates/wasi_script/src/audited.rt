@@ -11,8 +11,8 @@ ghost use Rattle.wasi_script.specs.Audited.{Audits, IsAuditOf, listed_preopens};
 ghost use Rattle.wasi_script.specs.AuditedRun.{AuditedTurn, AuditedRun, NumbersAreShort, StartsAudit};
 ghost use Rattle.wasi_script.specs.Through.{IsListed, IsShort, effect_of};
 ghost use Rattle.wasi_setup.specs.Start.{world_behind, CanRun};
-ghost use Rattle.wasi_p1_model.specs.Front.{with_fuel};
-ghost use Rattle.wasi_p1_model.specs.Guest.{guest_of, state_of};
+ghost use Rattle.wasi_p1_types.specs.Front.{with_fuel};
+ghost use Rattle.wasi_p1_types.specs.Guest.{guest_of, state_of};
 
 use std::alloc::{AllocError, Global};
 use wasi_audit::{Audit, AuditEffect};

@@ -24,11 +24,11 @@ use Rattle.wasi_resolve.specs.TwoPathOps.{Places, asks_directory, call_at_two, p
 use Rattle.wasi_resolve.specs.PathRequest.{PathRequest, OpenPath, LookPath, AtPlace, TimesPath, AtTwo, path_after, times_through}
 use Rattle.wasi_resolve.specs.Paths.{Opening, Place, opening, step_of, timed}
 use Rattle.wasi_guest.specs.declared.answer.Value.{Value}
-use Rattle.wasi_p1_model.specs.Front.{FueledCall}
-use Rattle.wasi_p1_model.specs.Guest.{Guest, State}
-use Rattle.wasi_p1_model.specs.Quotas.{is_above}
-use Rattle.wasi_p1_model.specs.Request.{Request, Path, Direct, Behind, ListDirectory, Sizes, Grow, after, growth_at}
-use Rattle.wasi_p1_model.specs.CallResult.{CallResult, Program, done, asking, row_on}
+use Rattle.wasi_p1_types.specs.Front.{FueledCall}
+use Rattle.wasi_p1_types.specs.Guest.{Guest, State}
+use Rattle.wasi_p1_types.specs.Quotas.{is_above}
+use Rattle.wasi_p1_types.specs.Request.{Request, Path, Direct, Behind, ListDirectory, Sizes, Grow, after, growth_at}
+use Rattle.wasi_p1_types.specs.CallResult.{CallResult, Program, done, asking, row_on}
 use Rattle.wasi_p1_model.specs.Calls.{row, turn}
 use Rattle.wasi_p1_model.specs.Trace.{Faulted, Played, Trace, TraceStep}
 use Rattle.wasi_p1_model.proofs.Moving.{Moves, over_tree, replied_by, run_keeps, turned_moves}

@@ -29,13 +29,13 @@ use Rattle.wasi_form.specs.Plan.{PlannedPreopen, PlannedPiece, planned, planned_
 use Rattle.wasi_form.specs.Within.{are_preopens_directories, is_directory_given, is_piece_within, is_within_limits}
 use Rattle.wasi_form.specs.declared.script.Session.{Session}
 use Rattle.wasi_form.proofs.Accepted.{limits_kept}
-use Rattle.wasi_p1_model.specs.Slots.{first_slots, given_mode, given_directory, given_name, given_slot, given_slots}
-use Rattle.wasi_p1_model.specs.Quotas.{with_quota}
-use Rattle.wasi_p1_model.specs.GuestEnvModel.{first_stock}
+use Rattle.wasi_p1_types.specs.Slots.{first_slots, given_mode, given_directory, given_name, given_slot, given_slots}
+use Rattle.wasi_p1_types.specs.Quotas.{with_quota}
+use Rattle.wasi_p1_types.specs.GuestEnvModel.{first_stock}
 use Rattle.wasi_p1_model.specs.Owners.{handles, one_if, uses, uses_in, IsHandle}
-use Rattle.wasi_p1_model.specs.declared.slots.P1Preopen.{P1Preopen}
+use Rattle.wasi_p1_types.specs.declared.slots.P1Preopen.{P1Preopen}
 use Rattle.wasi_setup.specs.Start.{given_guest_slot, given_guest_slots, AreGiven, IsBegun, IsWithinOn, with_pieces}
-use Rattle.wasi_p1_model.specs.Guest.{State, directory as directory_slot, directory_by, guest_slot}
+use Rattle.wasi_p1_types.specs.Guest.{State, directory as directory_slot, directory_by, guest_slot}
 use Rattle.wasi_form.specs.declared.script.Piece.{Piece}
 use Rattle.wasi_form.specs.declared.script.ScriptPreopen.{ScriptPreopen}
 use Rattle.wasi_p1_model.proofs.Owning.{first_uses, uses-given}

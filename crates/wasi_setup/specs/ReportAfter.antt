@@ -3,7 +3,7 @@ use Rattle.std.specs.Prelude.{ℕ, ◌+◌, List, map, slice_range}
 use Rattle.wasi_tree.specs.Given.{given_of}
 use Rattle.wasi_report.specs.Report.{Report}
 use Rattle.wasi_p1_model.specs.Trace.{TraceStep, answers_of}
-use Rattle.wasi_p1_model.specs.Guest.{State}
+use Rattle.wasi_p1_types.specs.Guest.{State}
 use Rattle.wasi_form.specs.declared.script.Shown.{Shown}
 
 -- the bytes of a range of memory

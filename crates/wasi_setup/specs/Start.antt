@@ -16,15 +16,15 @@ use Rattle.wasi_form.specs.Plan.{Plan, PlannedPiece, PlannedPreopen, plan, plann
 use Rattle.wasi_form.specs.Within.{is_piece_within, is_within_limits}
 use Rattle.wasi_form.specs.declared.script.Script.{Script}
 use Rattle.wasi_form.specs.declared.script.Session.{Session}
-use Rattle.wasi_p1_model.specs.Slots.{View, given_mode, given_slots}
-use Rattle.wasi_p1_model.specs.Guest.{State, GuestSlot, stream, directory, guest_slot, state_of}
+use Rattle.wasi_p1_types.specs.Slots.{View, given_mode, given_slots}
+use Rattle.wasi_p1_types.specs.Guest.{State, GuestSlot, stream, directory, guest_slot, state_of}
 use Rattle.wasi_p1_model.specs.Owners.{handles, IsHandle}
-use Rattle.wasi_p1_model.specs.Quotas.{with_quota}
-use Rattle.wasi_p1_model.specs.GuestEnvModel.{first_stock}
+use Rattle.wasi_p1_types.specs.Quotas.{with_quota}
+use Rattle.wasi_p1_types.specs.GuestEnvModel.{first_stock}
 use Rattle.wasi_setup.specs.declared.setup.Setup.{Setup}
-use Rattle.wasi_p1_model.specs.declared.slots.P1Preopen.{P1Preopen}
-use Rattle.wasi_p1_model.specs.declared.slots.Slot.{Slot}
-use Rattle.wasi_p1_model.specs.declared.slots.Stream.TheVariants.{Input, Output, Error}
+use Rattle.wasi_p1_types.specs.declared.slots.P1Preopen.{P1Preopen}
+use Rattle.wasi_p1_types.specs.declared.slots.Slot.{Slot}
+use Rattle.wasi_p1_types.specs.declared.slots.Stream.TheVariants.{Input, Output, Error}
 
 -- the descriptor of a directory that the guest is given, by its place among them
 abbrev pub given_guest_slot : ℕ → PlannedPreopen → GuestSlot

@@ -9,22 +9,22 @@ use Rattle.wasi_guest.specs.declared.filestat.Filestat.{Filestat as Stated}
 use Rattle.wasi_host.specs.HostCall.{Flags, Stat}
 use Rattle.wasi_host.specs.Steps.{◌>>=◌}
 use Rattle.wasi_host.specs.declared.metadata.Metadata.{Metadata}
-use Rattle.wasi_p1_model.specs.Fdstats.{directory_fdstat, preopen_fdstat, stream_fdstat}
-use Rattle.wasi_p1_model.specs.Filestats.{filestat_in, stat_both, stream_filestat}
-use Rattle.wasi_p1_model.specs.Front.{answer, ask}
-use Rattle.wasi_p1_model.specs.Parts.{open_node_in, told_of}
-use Rattle.wasi_p1_model.specs.Request.{Direct}
-use Rattle.wasi_p1_model.specs.CallResult.{CallResult, give}
-use Rattle.wasi_p1_model.specs.RawFlags.{modes_in, or_inval}
-use Rattle.wasi_p1_model.specs.Guest.{Guest, GuestSlot, closed, stream, directory, file}
+use Rattle.wasi_p1_types.specs.Fdstats.{directory_fdstat, preopen_fdstat, stream_fdstat}
+use Rattle.wasi_p1_types.specs.Filestats.{filestat_in, stat_both, stream_filestat}
+use Rattle.wasi_p1_types.specs.Front.{answer, ask}
+use Rattle.wasi_p1_types.specs.Parts.{open_node_in, told_of}
+use Rattle.wasi_p1_types.specs.Request.{Direct}
+use Rattle.wasi_p1_types.specs.CallResult.{CallResult, give}
+use Rattle.wasi_p1_types.specs.RawFlags.{modes_in, or_inval}
+use Rattle.wasi_p1_types.specs.Guest.{Guest, GuestSlot, closed, stream, directory, file}
 use Rattle.wasi_p1_model.specs.Calls.{fdstat_of, filestat_of, fd_close, fd_fdstat_get, fd_fdstat_set_flags, fd_fdstat_set_rights, fd_filestat_get, fd_prestat_dir_name, fd_prestat_get, fd_renumber}
 use Rattle.wasi_p1_model.proofs.Adding.{kept_appends}
 use Rattle.wasi_p1_model.proofs.Bytes.{name_bytes}
 use Rattle.wasi_p1_model.proofs.Changing.{file_is, live_is, put_back, put_closed}
 use Rattle.wasi_p1_model.proofs.Renumbering.{put_renumbered}
 use Rattle.wasi_p1_model.proofs.Locality.Parts.{AlwaysNear, LeavesGuest, RowNear, then, answers_near, look_asked, slots_near, tells_near}
-use Rattle.wasi_p1_model.proofs.Wanting.{Never, file_never, filestat_never, inval_never, live_never, name_never, node_never, refused_never, append_never, synchronized_never}
-use Rattle.wasi_p1_model.specs.declared.usage.FileUse.TheVariants.{Itself}
+use Rattle.wasi_p1_types.proofs.Wanting.{Never, file_never, filestat_never, inval_never, live_never, name_never, node_never, refused_never, append_never, synchronized_never}
+use Rattle.wasi_p1_types.specs.declared.usage.FileUse.TheVariants.{Itself}
 
 pub fd_close_near : {g : Guest} {fd : ℕ} → RowNear g (calls.FdClose fd)
 unfolding fd_close

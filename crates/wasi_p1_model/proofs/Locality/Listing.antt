@@ -1,18 +1,18 @@
 -- What holds of the row of the call that lists a directory.
 use Rattle.std.proofs.Common.{ℕ, List, length, [], refl, slice_get}
 use Rattle.wasi_guest.specs.declared.call.Call.TheVariants as calls
-use Rattle.wasi_p1_model.specs.Guest.{Guest}
-use Rattle.wasi_p1_model.specs.Listing.{Entry}
+use Rattle.wasi_p1_types.specs.Guest.{Guest}
+use Rattle.wasi_p1_types.specs.Listing.{Entry}
 use Rattle.wasi_p1_model.specs.Pages.{page}
-use Rattle.wasi_p1_model.specs.Parts.{range}
-use Rattle.wasi_p1_model.specs.CallResult.{CallResult}
+use Rattle.wasi_p1_types.specs.Parts.{range}
+use Rattle.wasi_p1_types.specs.CallResult.{CallResult}
 use Rattle.wasi_p1_model.specs.Calls.{fd_readdir}
 use Rattle.wasi_host.proofs.Leaving.{Contains-here}
 use Rattle.wasi_p1_model.proofs.Changing.{written_slots, written_ends, written_bytes}
 use Rattle.wasi_p1_model.proofs.LocalCalls.{leaves}
 use Rattle.wasi_p1_model.proofs.Locality.Parts.{RowNear, then, asks_near, starts_near}
 use Rattle.wasi_p1_model.proofs.Paging.{page_bytes}
-use Rattle.wasi_p1_model.proofs.Wanting.{start_never, range_never, room_never}
+use Rattle.wasi_p1_types.proofs.Wanting.{start_never, range_never, room_never}
 
 pub fd_readdir_near : {g : Guest} {fd buf buf_len cookie : ℕ} → RowNear g (calls.FdReaddir fd buf buf_len cookie)
 unfolding fd_readdir

@@ -3,8 +3,8 @@ use Rattle.std.proofs.Common.{ℕ, [], slice_get, refl}
 use Rattle.wasi_fs.specs.OpenHow.{mode_of}
 use Rattle.wasi_guest.specs.declared.call.Call.TheVariants as calls
 use Rattle.wasi_guest.specs.declared.errno.Errno.TheVariants as errnos
-use Rattle.wasi_p1_model.specs.Guest.{Guest}
-use Rattle.wasi_p1_model.specs.RawFlags.{modes_in, modes_under}
+use Rattle.wasi_p1_types.specs.Guest.{Guest}
+use Rattle.wasi_p1_types.specs.RawFlags.{modes_in, modes_under}
 use Rattle.wasi_p1_model.specs.Calls.{path_open}
 use Rattle.wasi_host.proofs.Leaving.{Contains-here}
 use Rattle.wasi_p1_model.proofs.Adding.{open_adds, append_only_open, under_appends}
@@ -12,7 +12,7 @@ use Rattle.wasi_p1_model.proofs.Changing.{named_directory, directory_perms, put_
 use Rattle.wasi_p1_model.proofs.Keeping.{open_keeps, read_only_kept}
 use Rattle.wasi_p1_model.proofs.Locality.Parts.{RowNear, then, then_text, asks_near, one_under, permitted_by}
 use Rattle.wasi_p1_model.proofs.Locality.Spending.{making_near}
-use Rattle.wasi_p1_model.proofs.Wanting.{how_never, directory_never, room_never, open_known, permit_never}
+use Rattle.wasi_p1_types.proofs.Wanting.{how_never, directory_never, room_never, open_known, permit_never}
 
 pub path_open_near : {g : Guest} {fd dirflags path len oflags base inheriting fdflags : ℕ}
     → RowNear g (calls.PathOpen fd dirflags path len oflags base inheriting fdflags)

@@ -15,25 +15,25 @@ use Rattle.wasi_guest.specs.declared.iovec.Iovec.{Iovec}
 use Rattle.wasi_host.specs.Tree.{Tree}
 use Rattle.wasi_host.specs.declared.errors.ErrorCode.{ErrorCode}
 use Rattle.wasi_resolve.specs.PathRequest.{PathRequest, PathReply, path_reply, path_after, path_starts}
-use Rattle.wasi_p1_model.specs.Front.{Front, CallFront, onward, free, answer, ask, charge, charged_text, charged_buffer, at_path, at_buffer, known_or_asked, tells, done_if, ◌>>=◌}
-use Rattle.wasi_p1_model.specs.Guest.{Guest, GuestSlot, OpenFile, file, node_in, perms_in}
-use Rattle.wasi_p1_model.specs.Parts.{OpenNode, start_in, range, permit, from_guest}
+use Rattle.wasi_p1_types.specs.Front.{Front, CallFront, onward, free, answer, ask, charge, charged_text, charged_buffer, at_path, at_buffer, known_or_asked, tells, done_if, ◌>>=◌}
+use Rattle.wasi_p1_types.specs.Guest.{Guest, GuestSlot, OpenFile, file, node_in, perms_in}
+use Rattle.wasi_p1_types.specs.Parts.{OpenNode, start_in, range, permit, from_guest}
 use Rattle.wasi_p1_model.specs.AppendOnly.{Adds, AppendsAtEnd}
-use Rattle.wasi_p1_model.specs.Request.{Request, Reply, Path, reply_of, after, starts_at}
-use Rattle.wasi_p1_model.specs.CallResult.{CallResult, Program, give, made_of_reply}
+use Rattle.wasi_p1_types.specs.Request.{Request, Reply, Path, reply_of, after, starts_at}
+use Rattle.wasi_p1_types.specs.CallResult.{CallResult, Program, give, made_of_reply}
 use Rattle.wasi_p1_model.specs.Calls.{Stem, front, descriptors_named, itself, stem_in}
-use Rattle.wasi_p1_model.specs.GuestEnvModel.{GuestEnvModel}
+use Rattle.wasi_p1_types.specs.GuestEnvModel.{GuestEnvModel}
 use Rattle.wasi_p1_model.specs.Validity.{HasBytes}
-use Rattle.wasi_p1_model.specs.declared.error.P1Error.TheVariants.{Errno}
+use Rattle.wasi_p1_types.specs.declared.error.P1Error.TheVariants.{Errno}
 use Rattle.wasi_host.proofs.Agreeing.{one}
 use Rattle.wasi_host.proofs.Leaving.{Contains-here}
 use Rattle.wasi_p1_model.proofs.Bytes.{text_utf8}
 use Rattle.wasi_p1_model.proofs.Changing.{named_directory, named_file, directory_perms, put_nothing}
-use Rattle.wasi_p1_model.proofs.Codes.{IsKnown}
+use Rattle.wasi_p1_types.proofs.Codes.{IsKnown}
 use Rattle.wasi_p1_model.proofs.LocalCalls.{Ends, IsNamed, AllUnder, Permitted, leaves, changes, StaysNear, AsksNear, IsLocal, KeepsSlots, KeepsBytes, GivesBytes, MayBeAsked, AreTexts, given_by}
 use Rattle.wasi_p1_model.proofs.Adding.{no_altering}
 use Rattle.wasi_p1_model.proofs.Keeping.{no_act}
-use Rattle.wasi_p1_model.proofs.Wanting.{IsRefusal, Never, guest_never, start_never, permit_never, range_never}
+use Rattle.wasi_p1_types.proofs.Wanting.{IsRefusal, Never, guest_never, start_never, permit_never, range_never}
 
 -- whatever fuel there is
 pub record AlwaysNear (g : Guest) (call : Call) (m : CallFront) : Type 0 where

@@ -6,10 +6,10 @@ use Rattle.wasi_fs.specs.Calls.{may_do}
 use Rattle.wasi_fs.specs.declared.perms.FsPerms.{FsPerms}
 use Rattle.wasi_resolve.specs.EntryOps.{EntryOp, CreateDir, RemoveDir, RemoveFile, Symlink}
 use Rattle.wasi_resolve.specs.PathRequest.{AtPlace}
-use Rattle.wasi_p1_model.specs.Filestats.{stat_both, filestat_in}
-use Rattle.wasi_p1_model.specs.Guest.{Guest}
-use Rattle.wasi_p1_model.specs.Parts.{range, permit}
-use Rattle.wasi_p1_model.specs.CallResult.{CallResult}
+use Rattle.wasi_p1_types.specs.Filestats.{stat_both, filestat_in}
+use Rattle.wasi_p1_types.specs.Guest.{Guest}
+use Rattle.wasi_p1_types.specs.Parts.{range, permit}
+use Rattle.wasi_p1_types.specs.CallResult.{CallResult}
 use Rattle.wasi_p1_model.specs.Calls.{done_at, path_create_directory, path_remove_directory, path_unlink_file, path_filestat_get, path_readlink, path_symlink, descriptors_named, itself, stem_in}
 use Rattle.wasi_host.proofs.Leaving.{Contains-here}
 use Rattle.wasi_resolve.proofs.Asking.{HasUtf8Target}
@@ -19,7 +19,7 @@ use Rattle.wasi_p1_model.proofs.Changing.{written_slots, written_ends, written_b
 use Rattle.wasi_p1_model.proofs.Keeping.{no_act, no_link, link_leaves}
 use Rattle.wasi_p1_model.proofs.Locality.Parts.{AddsAt, AlwaysNear, LetsThrough, RowNear, alters, then, then_text, then_path, asks_near, starts_near, done_if_at}
 use Rattle.wasi_p1_model.proofs.Locality.Spending.{making_near}
-use Rattle.wasi_p1_model.proofs.Wanting.{act_known, link_known, filestat_never, follow_never, range_never, start_never}
+use Rattle.wasi_p1_types.proofs.Wanting.{act_known, link_known, filestat_never, follow_never, range_never, start_never}
 use Rattle.wasi_p1_model.proofs.LocalCalls.{leaves}
 use Rattle.wasi_fs.specs.declared.perms.Act.{Act}
 use Rattle.wasi_fs.specs.declared.perms.Act.TheVariants.{Make, Alter}

@@ -3,20 +3,20 @@ use Rattle.std.proofs.Common.{ℕ, ◌+◌, ◌-◌, ◌*◌, nat_le, Bool, true
 use Rattle.std.specs.Prelude.{Contains}
 use Rattle.wasi_guest.specs.declared.call.Call.{Call}
 use Rattle.wasi_guest.specs.declared.call.Call.TheVariants as calls
-use Rattle.wasi_p1_model.specs.Front.{CallFront, charge, ◌>>=◌}
-use Rattle.wasi_p1_model.specs.Guest.{Guest}
-use Rattle.wasi_p1_model.specs.Polling.{earliest, files_named, nodes_read, with_clocks}
+use Rattle.wasi_p1_types.specs.Front.{CallFront, charge, ◌>>=◌}
+use Rattle.wasi_p1_types.specs.Guest.{Guest}
+use Rattle.wasi_p1_types.specs.Polling.{earliest, files_named, nodes_read, with_clocks}
 use Rattle.wasi_p1_model.specs.Calls.{poll_oneoff, look_and_tell}
-use Rattle.wasi_p1_model.specs.GuestEnvModel.{GuestEnvModel}
+use Rattle.wasi_p1_types.specs.GuestEnvModel.{GuestEnvModel}
 use Rattle.wasi_p1_model.specs.Subscriptions.{waited_for}
 use Rattle.wasi_p1_model.specs.Validity.{IsStock}
-use Rattle.wasi_p1_model.specs.declared.guest_env.Clocks.{Clocks}
-use Rattle.wasi_p1_model.specs.declared.awaited.Waited.{Waited}
+use Rattle.wasi_p1_types.specs.declared.guest_env.Clocks.{Clocks}
+use Rattle.wasi_p1_types.specs.declared.awaited.Waited.{Waited}
 use Rattle.wasi_p1_model.proofs.Changing.{put_nothing}
 use Rattle.wasi_p1_model.proofs.LocalCalls.{IsLocal, leaves}
 use Rattle.wasi_p1_model.proofs.Locality.Parts.{AlwaysNear, RowNear, then, then_taken, taken}
 use Rattle.wasi_p1_model.proofs.Polling.{IsOf, some_never, lists_never, waited_never, clocks_never, files_named_by, events_bytes}
-use Rattle.wasi_p1_model.proofs.Wanting.{room_never}
+use Rattle.wasi_p1_types.proofs.Wanting.{room_never}
 
 -- what fuel is taken for, if there is enough
 then_charge : {g : Guest} {call : Call} (next : Unit {0} → CallFront) (n : ℕ) → AlwaysNear g call (next tt)

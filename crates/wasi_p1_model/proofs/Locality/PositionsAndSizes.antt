@@ -4,17 +4,17 @@ use Rattle.std.specs.Prelude.{ℤ}
 use Rattle.wasi_fs.specs.Calls.{may_do}
 use Rattle.wasi_guest.specs.declared.call.Call.TheVariants as calls
 use Rattle.wasi_host.specs.HostCall.{Advise, SetSize, Stat, Sync}
-use Rattle.wasi_p1_model.specs.Files.{base_in, host_advice, position_from, sought}
-use Rattle.wasi_p1_model.specs.Guest.{Guest, OpenFile, file, perms_in}
-use Rattle.wasi_p1_model.specs.Parts.{held_by}
-use Rattle.wasi_p1_model.specs.Request.{Direct}
+use Rattle.wasi_p1_types.specs.Files.{base_in, host_advice, position_from, sought}
+use Rattle.wasi_p1_types.specs.Guest.{Guest, OpenFile, file, perms_in}
+use Rattle.wasi_p1_types.specs.Parts.{held_by}
+use Rattle.wasi_p1_types.specs.Request.{Direct}
 use Rattle.wasi_p1_model.specs.Calls.{itself, fd_advise, fd_allocate, fd_datasync, fd_filestat_set_size, fd_seek, fd_sync, fd_tell, seek_from}
 use Rattle.wasi_p1_model.proofs.Changing.{file_is, put_back}
 use Rattle.wasi_p1_model.proofs.LocalCalls.{StaysNear, leaves, made_bytes, made_ends, made_slots}
 use Rattle.wasi_p1_model.proofs.Locality.Parts.{AlwaysNear, RowNear, alters, let_through, one_under, then, done_at_file, file_asked, known_near, slots_near, tells_near}
 use Rattle.wasi_p1_model.proofs.Locality.Spending.{growing_near}
-use Rattle.wasi_p1_model.proofs.Wanting.{act_known, file_never, inval_never, position_never}
-use Rattle.wasi_p1_model.specs.declared.usage.FileUse.TheVariants.{Itself, Position}
+use Rattle.wasi_p1_types.proofs.Wanting.{act_known, file_never, inval_never, position_never}
+use Rattle.wasi_p1_types.specs.declared.usage.FileUse.TheVariants.{Itself, Position}
 use Rattle.wasi_fs.specs.declared.perms.Act.TheVariants.{Alter}
 
 pub fd_advise_near : {g : Guest} {fd offset len advice : ℕ} → RowNear g (calls.FdAdvise fd offset len advice)

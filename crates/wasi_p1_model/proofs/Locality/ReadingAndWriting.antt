@@ -7,15 +7,15 @@ use Rattle.wasi_guest.specs.declared.call.Call.{Call}
 use Rattle.wasi_guest.specs.declared.call.Call.TheVariants as calls
 use Rattle.wasi_guest.specs.declared.iovec.Iovec.{Iovec}
 use Rattle.wasi_host.specs.HostCall.{Pread}
-use Rattle.wasi_p1_model.specs.Front.{free, ask, ◌>>=◌}
-use Rattle.wasi_p1_model.specs.Guest.{Guest, OpenFile, file, perms_in}
-use Rattle.wasi_p1_model.specs.Parts.{Source, input, from, source_in, Sink, output, into, sink_in, held_by, may_write}
-use Rattle.wasi_p1_model.specs.Quotas.{allowance}
-use Rattle.wasi_p1_model.specs.Request.{Request, Reply, Direct}
-use Rattle.wasi_p1_model.specs.CallResult.{give}
+use Rattle.wasi_p1_types.specs.Front.{free, ask, ◌>>=◌}
+use Rattle.wasi_p1_types.specs.Guest.{Guest, OpenFile, file, perms_in}
+use Rattle.wasi_p1_types.specs.Parts.{Source, input, from, source_in, Sink, output, into, sink_in, held_by, may_write}
+use Rattle.wasi_p1_types.specs.Quotas.{allowance}
+use Rattle.wasi_p1_types.specs.Request.{Request, Reply, Direct}
+use Rattle.wasi_p1_types.specs.CallResult.{give}
 use Rattle.wasi_p1_model.specs.Calls.{fd_pread, fd_pwrite, fd_read, fd_write, read_from, write_to, descriptors_named, stem_in}
-use Rattle.wasi_p1_model.specs.Services.{written}
-use Rattle.wasi_p1_model.specs.Spending.{growing}
+use Rattle.wasi_p1_types.specs.Services.{written}
+use Rattle.wasi_p1_types.specs.Spending.{growing}
 use Rattle.wasi_p1_model.specs.Validity.{AreBytes, HasBytes}
 use Rattle.wasi_p1_model.proofs.Bytes.{put_bytes, range_bytes, input_bytes, written_stock}
 use Rattle.wasi_p1_model.proofs.Changing.{file_is, read_place_is, source_is, sink_is, put_back, put_nothing}
@@ -24,8 +24,8 @@ use Rattle.wasi_p1_model.proofs.LocalCalls.{StaysNear, given_by, leaves}
 use Rattle.wasi_p1_model.proofs.Locality.Parts.{AlwaysNear, RowNear, then, then_at_buffer, file_asked, one_under, permitted_by, answers_near}
 use Rattle.wasi_p1_model.proofs.Locality.Spending.{growing_near}
 use Rattle.wasi_p1_model.proofs.Putting.{PutsInto, call_puts, request_puts}
-use Rattle.wasi_p1_model.proofs.Wanting.{file_never, read_place_never, source_never, sink_never, input_never, write_never}
-use Rattle.wasi_p1_model.specs.declared.usage.FileUse.TheVariants.{WriteAt}
+use Rattle.wasi_p1_types.proofs.Wanting.{file_never, read_place_never, source_never, sink_never, input_never, write_never}
+use Rattle.wasi_p1_types.specs.declared.usage.FileUse.TheVariants.{WriteAt}
 
 pub fd_pread_near : {g : Guest} {fd iovs n offset : ℕ} → RowNear g (calls.FdPread fd iovs n offset)
 unfolding fd_pread

@@ -4,14 +4,14 @@ use Rattle.std.specs.Prelude.{All}
 use Rattle.wasi_guest.specs.declared.answer.Value.TheVariants.{Unit as Nothing}
 use Rattle.wasi_guest.specs.declared.call.Call.{Call}
 use Rattle.wasi_guest.specs.declared.call.Call.TheVariants as calls
-use Rattle.wasi_p1_model.specs.Guest.{Guest}
-use Rattle.wasi_p1_model.specs.CallResult.{CallResult}
+use Rattle.wasi_p1_types.specs.Guest.{Guest}
+use Rattle.wasi_p1_types.specs.CallResult.{CallResult}
 use Rattle.wasi_p1_model.specs.Calls.{puts_texts, random_get, no_socket, itself, stem_in}
-use Rattle.wasi_p1_model.specs.Services.{random_bytes, random_taken}
+use Rattle.wasi_p1_types.specs.Services.{random_bytes, random_taken}
 use Rattle.wasi_p1_model.specs.Validity.{AreBytes, HasBytes}
 use Rattle.wasi_p1_model.proofs.Bytes.{put_bytes, put_texts_bytes, random_are, taken_stock}
 use Rattle.wasi_p1_model.proofs.Locality.Parts.{AlwaysNear, RowNear, then, answers_near}
-use Rattle.wasi_p1_model.proofs.Wanting.{Never, range_never, live_never, texts_never}
+use Rattle.wasi_p1_types.proofs.Wanting.{Never, range_never, live_never, texts_never}
 
 -- texts that are put into memory
 pub texts_near : {g : Guest} {call : Call} (texts : List (List ℕ)) (at buf : ℕ) → stem_in call ≡ itself

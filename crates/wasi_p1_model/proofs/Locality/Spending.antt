@@ -6,22 +6,22 @@ use Rattle.wasi_guest.specs.declared.errno.Errno.TheVariants as errnos
 use Rattle.wasi_guest.specs.declared.quota.QuotaUsed.{QuotaUsed}
 use Rattle.wasi_host.specs.Steps.{◌>>=◌}
 use Rattle.wasi_host.specs.Tree.{Tree}
-use Rattle.wasi_p1_model.specs.Front.{CallFront}
-use Rattle.wasi_p1_model.specs.Guest.{Guest}
-use Rattle.wasi_p1_model.specs.Quotas.{counted_growth, counted_making, is_used_up}
-use Rattle.wasi_p1_model.specs.Request.{Reply, Grow, after, reply_of}
-use Rattle.wasi_p1_model.specs.CallResult.{CallResult, Program, done, asking, give}
+use Rattle.wasi_p1_types.specs.Front.{CallFront}
+use Rattle.wasi_p1_types.specs.Guest.{Guest}
+use Rattle.wasi_p1_types.specs.Quotas.{counted_growth, counted_making, is_used_up}
+use Rattle.wasi_p1_types.specs.Request.{Reply, Grow, after, reply_of}
+use Rattle.wasi_p1_types.specs.CallResult.{CallResult, Program, done, asking, give}
 use Rattle.wasi_p1_model.specs.Calls.{Stem, stem_in}
-use Rattle.wasi_p1_model.specs.Spending.{made_by, making, may_make, grown_by, grown_in, growing, with_making, with_growth}
-use Rattle.wasi_p1_model.specs.GuestEnvModel.{GuestEnvModel}
+use Rattle.wasi_p1_types.specs.Spending.{made_by, making, may_make, grown_by, grown_in, growing, with_making, with_growth}
+use Rattle.wasi_p1_types.specs.GuestEnvModel.{GuestEnvModel}
 use Rattle.wasi_p1_model.specs.Validity.{HasBytes}
-use Rattle.wasi_p1_model.specs.declared.error.P1Error.TheVariants.{Errno}
-use Rattle.wasi_p1_model.specs.declared.quotas.Allowance.{Allowance}
+use Rattle.wasi_p1_types.specs.declared.error.P1Error.TheVariants.{Errno}
+use Rattle.wasi_p1_types.specs.declared.quotas.Allowance.{Allowance}
 use Rattle.wasi_p1_model.proofs.Bytes.{used_stock}
 use Rattle.wasi_p1_model.proofs.Lengthening.{bounded_by}
 use Rattle.wasi_p1_model.proofs.LocalCalls.{Ends, GivesBytes, IsLocal, KeepsBytes, KeepsSlots, Permitted, given_by, leaves}
 use Rattle.wasi_p1_model.proofs.Locality.Parts.{AlwaysNear}
-use Rattle.wasi_p1_model.proofs.Wanting.{Never}
+use Rattle.wasi_p1_types.proofs.Wanting.{Never}
 
 -- ---- what is counted
 

@@ -1,15 +1,15 @@
 -- What holds of the rows of the calls that set times.
 use Rattle.std.proofs.Common.{ℕ, [], refl, slice_get}
 use Rattle.wasi_guest.specs.declared.call.Call.TheVariants as calls
-use Rattle.wasi_p1_model.specs.Guest.{Guest}
+use Rattle.wasi_p1_types.specs.Guest.{Guest}
 use Rattle.wasi_resolve.specs.PathRequest.{TimesPath}
 use Rattle.wasi_host.specs.HostCall.{SetTimes}
-use Rattle.wasi_p1_model.specs.Request.{Direct}
+use Rattle.wasi_p1_types.specs.Request.{Direct}
 use Rattle.wasi_p1_model.specs.Calls.{fd_filestat_set_times, path_filestat_set_times}
 use Rattle.wasi_host.proofs.Leaving.{Contains-here}
 use Rattle.wasi_p1_model.proofs.Changing.{named_node, node_perms}
 use Rattle.wasi_p1_model.proofs.Locality.Parts.{RowNear, alters, let_through, one_under, then, then_path, done_if_near, done_if_at}
-use Rattle.wasi_p1_model.proofs.Wanting.{act_known, follow_never, times_never, node_never}
+use Rattle.wasi_p1_types.proofs.Wanting.{act_known, follow_never, times_never, node_never}
 use Rattle.wasi_fs.specs.declared.perms.Act.TheVariants.{Alter}
 
 pub fd_filestat_set_times_near : {g : Guest} {fd atim mtim fst_flags : ℕ}

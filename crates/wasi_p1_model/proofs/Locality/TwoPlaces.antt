@@ -7,19 +7,19 @@ use Rattle.wasi_guest.specs.declared.call.Call.TheVariants as calls
 use Rattle.wasi_host.specs.declared.errors.ErrorCode.{ErrorCode}
 use Rattle.wasi_resolve.specs.TwoPathOps.{TwoPathOp, HardLink, Rename}
 use Rattle.wasi_resolve.specs.PathRequest.{AtTwo}
-use Rattle.wasi_p1_model.specs.Request.{Path}
-use Rattle.wasi_p1_model.specs.Guest.{Guest}
-use Rattle.wasi_p1_model.specs.Parts.{permit}
+use Rattle.wasi_p1_types.specs.Request.{Path}
+use Rattle.wasi_p1_types.specs.Guest.{Guest}
+use Rattle.wasi_p1_types.specs.Parts.{permit}
 use Rattle.wasi_p1_model.specs.Calls.{done_between, path_link, path_rename, descriptors_named, itself, stem_in}
 use Rattle.wasi_p1_model.specs.Stems.{HasPerms}
 use Rattle.wasi_host.proofs.Leaving.{Contains-here}
 use Rattle.wasi_resolve.proofs.Requests.{from_two}
 use Rattle.wasi_p1_model.proofs.Adding.{name_adds, no_moving, same_linked, same_moved}
 use Rattle.wasi_p1_model.proofs.Keeping.{no_new_name, no_move}
-use Rattle.wasi_p1_model.proofs.Codes.{IsKnown}
+use Rattle.wasi_p1_types.proofs.Codes.{IsKnown}
 use Rattle.wasi_p1_model.proofs.LocalCalls.{IsNamed, AllUnder}
 use Rattle.wasi_p1_model.proofs.Locality.Parts.{AddsAt, AlwaysNear, LetsThrough, RowNear, let_through, then, then_text, start_perms, starts_near, done_if_near}
-use Rattle.wasi_p1_model.proofs.Wanting.{add_name_known, rename_known, follow_never, start_never}
+use Rattle.wasi_p1_types.proofs.Wanting.{add_name_known, rename_known, follow_never, start_never}
 
 -- what was let through at two places: what is between two directories under the same permissions
 pub record LetsBoth (old new : FsPerms) (what : TwoPathOp) : Type 0 where

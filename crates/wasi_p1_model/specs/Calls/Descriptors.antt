@@ -4,18 +4,18 @@ use Rattle.wasi_guest.specs.Flags.{flags_in, known_fdflags, known_rights}
 use Rattle.wasi_guest.specs.declared.answer.Value.TheVariants.{Number, Fdstat, Filestat, Unit as Nothing}
 use Rattle.wasi_guest.specs.declared.errno.Errno.TheVariants as errnos
 use Rattle.wasi_host.specs.HostCall.{Flags, Stat}
-use Rattle.wasi_p1_model.specs.Fdstats.{directory_fdstat, file_told, preopen_fdstat, stream_fdstat}
-use Rattle.wasi_p1_model.specs.Filestats.{stream_filestat}
-use Rattle.wasi_p1_model.specs.Files.{file_in, keeps_append, name_at, name_into, not_synchronized, or_refused}
-use Rattle.wasi_p1_model.specs.Front.{CallFront, free, answer, ask, tells, ◌>>=◌}
-use Rattle.wasi_p1_model.specs.Guest.{Guest, GuestSlot, closed, stream, directory, file}
-use Rattle.wasi_p1_model.specs.Numbering.{renumbered}
-use Rattle.wasi_p1_model.specs.Parts.{live_in, open_node_in, told_of, with_file}
-use Rattle.wasi_p1_model.specs.RawFlags.{modes_in, or_inval}
-use Rattle.wasi_p1_model.specs.Request.{Direct}
-use Rattle.wasi_p1_model.specs.CallResult.{give}
-use Rattle.wasi_p1_model.specs.declared.error.P1Error.TheVariants.{Errno}
-use Rattle.wasi_p1_model.specs.declared.usage.FileUse.TheVariants.{Itself}
+use Rattle.wasi_p1_types.specs.Fdstats.{directory_fdstat, file_told, preopen_fdstat, stream_fdstat}
+use Rattle.wasi_p1_types.specs.Filestats.{stream_filestat}
+use Rattle.wasi_p1_types.specs.Files.{file_in, keeps_append, name_at, name_into, not_synchronized, or_refused}
+use Rattle.wasi_p1_types.specs.Front.{CallFront, free, answer, ask, tells, ◌>>=◌}
+use Rattle.wasi_p1_types.specs.Guest.{Guest, GuestSlot, closed, stream, directory, file}
+use Rattle.wasi_p1_types.specs.Numbering.{renumbered}
+use Rattle.wasi_p1_types.specs.Parts.{live_in, open_node_in, told_of, with_file}
+use Rattle.wasi_p1_types.specs.RawFlags.{modes_in, or_inval}
+use Rattle.wasi_p1_types.specs.Request.{Direct}
+use Rattle.wasi_p1_types.specs.CallResult.{give}
+use Rattle.wasi_p1_types.specs.declared.error.P1Error.TheVariants.{Errno}
+use Rattle.wasi_p1_types.specs.declared.usage.FileUse.TheVariants.{Itself}
 
 -- the number becomes closed
 unfoldable pub fd_close : Guest → ℕ → CallFront

@@ -1,10 +1,10 @@
 -- The row of the call that lists a directory.
 use Rattle.std.specs.Prelude.{ℕ, slice_get}
-use Rattle.wasi_p1_model.specs.Front.{CallFront, free, ask, ◌>>=◌}
-use Rattle.wasi_p1_model.specs.Guest.{Guest}
+use Rattle.wasi_p1_types.specs.Front.{CallFront, free, ask, ◌>>=◌}
+use Rattle.wasi_p1_types.specs.Guest.{Guest}
 use Rattle.wasi_p1_model.specs.Pages.{page}
-use Rattle.wasi_p1_model.specs.Parts.{start_in, room_for, link_into}
-use Rattle.wasi_p1_model.specs.Request.{ListDirectory}
+use Rattle.wasi_p1_types.specs.Parts.{start_in, room_for, link_into}
+use Rattle.wasi_p1_types.specs.Request.{ListDirectory}
 
 -- A number that isn't a directory's is refused `badf`; then a descriptor more than may be live traps; then as the listing
 -- is refused. The records from the cookie on are put into the buffer, as far as it takes them: a range that leaves the

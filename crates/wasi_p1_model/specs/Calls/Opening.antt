@@ -2,12 +2,12 @@
 use Rattle.std.specs.Prelude.{ℕ, slice_get}
 use Rattle.wasi_fs.specs.Calls.{opens}
 use Rattle.wasi_fs.specs.OpenHow.{may_open, mode_of}
-use Rattle.wasi_p1_model.specs.Front.{CallFront, free, ask, charged_text, ◌>>=◌}
-use Rattle.wasi_p1_model.specs.Guest.{Guest}
-use Rattle.wasi_p1_model.specs.Parts.{directory_in, room_for, permit, opened_in}
-use Rattle.wasi_p1_model.specs.RawFlags.{modes_in, modes_under, open_how}
-use Rattle.wasi_p1_model.specs.Request.{Path}
-use Rattle.wasi_p1_model.specs.Spending.{making}
+use Rattle.wasi_p1_types.specs.Front.{CallFront, free, ask, charged_text, ◌>>=◌}
+use Rattle.wasi_p1_types.specs.Guest.{Guest}
+use Rattle.wasi_p1_types.specs.Parts.{directory_in, room_for, permit, opened_in}
+use Rattle.wasi_p1_types.specs.RawFlags.{modes_in, modes_under, open_how}
+use Rattle.wasi_p1_types.specs.Request.{Path}
+use Rattle.wasi_p1_types.specs.Spending.{making}
 
 -- An unknown bit is refused `inval`; then a text of more bytes than the fuel, `nomem`; a range that leaves the memory
 -- traps; bytes that aren't a text are refused `ilseq`; then a number that isn't a directory's; one descriptor more than

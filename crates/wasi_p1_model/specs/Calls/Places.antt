@@ -3,12 +3,12 @@ use Rattle.std.specs.Prelude.{ℕ, true, take, slice_get}
 use Rattle.wasi_fs.specs.Calls.{may_do, may_link}
 use Rattle.wasi_fs.specs.declared.perms.Act.{Act}
 use Rattle.wasi_fs.specs.declared.perms.Act.TheVariants.{Make, Alter}
-use Rattle.wasi_p1_model.specs.Front.{CallFront, free, ask, charged_text, at_path, done_if, ◌>>=◌}
-use Rattle.wasi_p1_model.specs.Guest.{Guest}
-use Rattle.wasi_p1_model.specs.Parts.{start_in, link_into, told_of}
-use Rattle.wasi_p1_model.specs.RawFlags.{follow_asked}
-use Rattle.wasi_p1_model.specs.Request.{Path}
-use Rattle.wasi_p1_model.specs.Spending.{making}
+use Rattle.wasi_p1_types.specs.Front.{CallFront, free, ask, charged_text, at_path, done_if, ◌>>=◌}
+use Rattle.wasi_p1_types.specs.Guest.{Guest}
+use Rattle.wasi_p1_types.specs.Parts.{start_in, link_into, told_of}
+use Rattle.wasi_p1_types.specs.RawFlags.{follow_asked}
+use Rattle.wasi_p1_types.specs.Request.{Path}
+use Rattle.wasi_p1_types.specs.Spending.{making}
 use Rattle.wasi_resolve.specs.EntryOps.{EntryOp, CreateDir, RemoveFile, RemoveDir, Symlink, ReadLink}
 use Rattle.wasi_resolve.specs.PathRequest.{LookPath, AtPlace}
 

@@ -3,14 +3,14 @@ use Rattle.std.specs.Prelude.{ℕ, ◌+◌, ◌*◌, List, [], ◌∷◌, length
 use Rattle.wasi_guest.specs.declared.answer.Value.{Value}
 use Rattle.wasi_guest.specs.declared.answer.Value.TheVariants.{Number}
 use Rattle.wasi_guest.specs.declared.event.Event.{Event}
-use Rattle.wasi_p1_model.specs.Front.{CallFront, answer, ask, charge, free, ◌>>=◌}
-use Rattle.wasi_p1_model.specs.Guest.{Guest}
-use Rattle.wasi_p1_model.specs.Parts.{room_for}
-use Rattle.wasi_p1_model.specs.Polling.{some_asked, lists_within, all_waited, earliest, files_named, nodes_read, clocks_at, with_clocks, events, with_events}
-use Rattle.wasi_p1_model.specs.Request.{Sizes}
-use Rattle.wasi_p1_model.specs.CallResult.{made_of_reply, give}
-use Rattle.wasi_p1_model.specs.declared.guest_env.Clocks.{Clocks}
-use Rattle.wasi_p1_model.specs.declared.awaited.Waited.{Waited}
+use Rattle.wasi_p1_types.specs.Front.{CallFront, answer, ask, charge, free, ◌>>=◌}
+use Rattle.wasi_p1_types.specs.Guest.{Guest}
+use Rattle.wasi_p1_types.specs.Parts.{room_for}
+use Rattle.wasi_p1_types.specs.Polling.{some_asked, lists_within, all_waited, earliest, files_named, nodes_read, clocks_at, with_clocks, events, with_events}
+use Rattle.wasi_p1_types.specs.Request.{Sizes}
+use Rattle.wasi_p1_types.specs.CallResult.{made_of_reply, give}
+use Rattle.wasi_p1_types.specs.declared.guest_env.Clocks.{Clocks}
+use Rattle.wasi_p1_types.specs.declared.awaited.Waited.{Waited}
 
 -- how many events there are; they stand in memory, and the clocks so
 abbrev pub tell_events : ℕ → Clocks → Guest → List Event → Value × Guest

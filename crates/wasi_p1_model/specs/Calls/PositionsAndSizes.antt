@@ -6,16 +6,16 @@ use Rattle.wasi_guest.specs.Enums.{advice_of, whence_of}
 use Rattle.wasi_guest.specs.declared.answer.Value.TheVariants.{Number}
 use Rattle.wasi_guest.specs.declared.errno.Errno.TheVariants as errnos
 use Rattle.wasi_host.specs.HostCall.{Advise, SetSize, Stat, Sync}
-use Rattle.wasi_p1_model.specs.Files.{base_in, file_in, host_advice, position_from, sought}
-use Rattle.wasi_p1_model.specs.Front.{CallFront, free, done_if, known_or_asked, tells, ◌>>=◌}
-use Rattle.wasi_p1_model.specs.Guest.{Guest, OpenFile}
-use Rattle.wasi_p1_model.specs.Parts.{held_by}
-use Rattle.wasi_p1_model.specs.Quotas.{allowance}
-use Rattle.wasi_p1_model.specs.RawFlags.{or_inval}
-use Rattle.wasi_p1_model.specs.Request.{Direct}
-use Rattle.wasi_p1_model.specs.Spending.{growing}
-use Rattle.wasi_p1_model.specs.declared.error.P1Error.TheVariants.{Errno}
-use Rattle.wasi_p1_model.specs.declared.usage.FileUse.TheVariants.{Itself, Position}
+use Rattle.wasi_p1_types.specs.Files.{base_in, file_in, host_advice, position_from, sought}
+use Rattle.wasi_p1_types.specs.Front.{CallFront, free, done_if, known_or_asked, tells, ◌>>=◌}
+use Rattle.wasi_p1_types.specs.Guest.{Guest, OpenFile}
+use Rattle.wasi_p1_types.specs.Parts.{held_by}
+use Rattle.wasi_p1_types.specs.Quotas.{allowance}
+use Rattle.wasi_p1_types.specs.RawFlags.{or_inval}
+use Rattle.wasi_p1_types.specs.Request.{Direct}
+use Rattle.wasi_p1_types.specs.Spending.{growing}
+use Rattle.wasi_p1_types.specs.declared.error.P1Error.TheVariants.{Errno}
+use Rattle.wasi_p1_types.specs.declared.usage.FileUse.TheVariants.{Itself, Position}
 
 -- An unknown advice is refused `inval`; then a number that isn't a file's. No host refuses it
 unfoldable pub fd_advise : Guest → ℕ → ℕ → ℕ → ℕ → CallFront

@@ -4,17 +4,17 @@ use Rattle.wasi_guest.specs.Range.{with_bytes}
 use Rattle.wasi_guest.specs.declared.answer.Value.TheVariants.{Number}
 use Rattle.wasi_guest.specs.declared.iovec.Iovec.{Iovec}
 use Rattle.wasi_host.specs.HostCall.{Pread}
-use Rattle.wasi_p1_model.specs.Files.{file_in, read_place_in}
-use Rattle.wasi_p1_model.specs.Front.{CallFront, free, answer, ask, at_buffer, ◌>>=◌}
-use Rattle.wasi_p1_model.specs.Guest.{Guest, OpenFile}
-use Rattle.wasi_p1_model.specs.Parts.{Source, input, from, source_in, Sink, output, into, sink_in, held_by, may_write, at_position, with_file}
+use Rattle.wasi_p1_types.specs.Files.{file_in, read_place_in}
+use Rattle.wasi_p1_types.specs.Front.{CallFront, free, answer, ask, at_buffer, ◌>>=◌}
+use Rattle.wasi_p1_types.specs.Guest.{Guest, OpenFile}
+use Rattle.wasi_p1_types.specs.Parts.{Source, input, from, source_in, Sink, output, into, sink_in, held_by, may_write, at_position, with_file}
 use Rattle.wasi_p1_model.specs.Putting.{put_call, count_in, put_request, put_in, put_answer}
-use Rattle.wasi_p1_model.specs.Quotas.{allowance}
-use Rattle.wasi_p1_model.specs.Request.{Direct}
-use Rattle.wasi_p1_model.specs.CallResult.{give}
-use Rattle.wasi_p1_model.specs.Services.{input_into, written}
-use Rattle.wasi_p1_model.specs.Spending.{growing}
-use Rattle.wasi_p1_model.specs.declared.usage.FileUse.TheVariants.{WriteAt}
+use Rattle.wasi_p1_types.specs.Quotas.{allowance}
+use Rattle.wasi_p1_types.specs.Request.{Direct}
+use Rattle.wasi_p1_types.specs.CallResult.{give}
+use Rattle.wasi_p1_types.specs.Services.{input_into, written}
+use Rattle.wasi_p1_types.specs.Spending.{growing}
+use Rattle.wasi_p1_types.specs.declared.usage.FileUse.TheVariants.{WriteAt}
 
 -- a buffer is filled from a file at an offset, as its host refuses, with no more than 65,536 bytes at once
 abbrev pub read_into : Guest → OpenFile → ℕ → Iovec → CallFront

@@ -4,13 +4,13 @@ use Rattle.wasi_guest.specs.Flags.{flags_in, known_fdflags, known_riflags, known
 use Rattle.wasi_guest.specs.Range.{with_bytes}
 use Rattle.wasi_guest.specs.declared.answer.Value.TheVariants.{Number, Unit as Nothing}
 use Rattle.wasi_guest.specs.declared.errno.Errno.TheVariants as errnos
-use Rattle.wasi_p1_model.specs.Front.{CallFront, free, answer, tells, ◌>>=◌}
-use Rattle.wasi_p1_model.specs.Guest.{Guest}
-use Rattle.wasi_p1_model.specs.Parts.{range, live_in}
-use Rattle.wasi_p1_model.specs.RawFlags.{or_inval}
-use Rattle.wasi_p1_model.specs.CallResult.{CallResult, give}
-use Rattle.wasi_p1_model.specs.Services.{sizes_of, texts_at, clock_res, clock_time, exit_with, known_signal, random_bytes, random_taken}
-use Rattle.wasi_p1_model.specs.declared.error.P1Error.TheVariants.{Errno}
+use Rattle.wasi_p1_types.specs.Front.{CallFront, free, answer, tells, ◌>>=◌}
+use Rattle.wasi_p1_types.specs.Guest.{Guest}
+use Rattle.wasi_p1_types.specs.Parts.{range, live_in}
+use Rattle.wasi_p1_types.specs.RawFlags.{or_inval}
+use Rattle.wasi_p1_types.specs.CallResult.{CallResult, give}
+use Rattle.wasi_p1_types.specs.Services.{sizes_of, texts_at, clock_res, clock_time, exit_with, known_signal, random_bytes, random_taken}
+use Rattle.wasi_p1_types.specs.declared.error.P1Error.TheVariants.{Errno}
 
 -- Where there are texts: a list of addresses that isn't aligned or leaves the memory traps, and so do the bytes. Then
 -- the address of each text stands in the list, and its bytes with a zero behind them in the buffer

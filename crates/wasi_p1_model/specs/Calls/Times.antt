@@ -3,12 +3,12 @@ use Rattle.std.specs.Prelude.{ℕ, slice_get}
 use Rattle.wasi_fs.specs.Calls.{may_do}
 use Rattle.wasi_fs.specs.declared.perms.Act.TheVariants.{Alter}
 use Rattle.wasi_host.specs.HostCall.{SetTimes}
-use Rattle.wasi_p1_model.specs.Front.{CallFront, free, at_path, done_if, ◌>>=◌}
-use Rattle.wasi_p1_model.specs.Guest.{Guest}
-use Rattle.wasi_p1_model.specs.NewTimes.{times_asked}
-use Rattle.wasi_p1_model.specs.Parts.{open_node_in}
-use Rattle.wasi_p1_model.specs.RawFlags.{follow_asked}
-use Rattle.wasi_p1_model.specs.Request.{Path, Direct}
+use Rattle.wasi_p1_types.specs.Front.{CallFront, free, at_path, done_if, ◌>>=◌}
+use Rattle.wasi_p1_types.specs.Guest.{Guest}
+use Rattle.wasi_p1_types.specs.NewTimes.{times_asked}
+use Rattle.wasi_p1_types.specs.Parts.{open_node_in}
+use Rattle.wasi_p1_types.specs.RawFlags.{follow_asked}
+use Rattle.wasi_p1_types.specs.Request.{Path, Direct}
 use Rattle.wasi_resolve.specs.PathRequest.{TimesPath}
 
 -- An unknown flag is refused `inval`; then of each time, in order, one that is both given and the wall clock's, and a

@@ -3,11 +3,11 @@ use Rattle.std.specs.Prelude.{ℕ, slice_get, Option}
 use Rattle.wasi_fs.specs.Calls.{may_rename, may_add_name}
 use Rattle.wasi_fs.specs.declared.perms.FsPerms.{FsPerms}
 use Rattle.wasi_host.specs.declared.errors.ErrorCode.{ErrorCode}
-use Rattle.wasi_p1_model.specs.Front.{CallFront, free, charged_text, done_if, ◌>>=◌}
-use Rattle.wasi_p1_model.specs.Guest.{Guest}
-use Rattle.wasi_p1_model.specs.Parts.{start_in}
-use Rattle.wasi_p1_model.specs.RawFlags.{follow_asked}
-use Rattle.wasi_p1_model.specs.Request.{Path}
+use Rattle.wasi_p1_types.specs.Front.{CallFront, free, charged_text, done_if, ◌>>=◌}
+use Rattle.wasi_p1_types.specs.Guest.{Guest}
+use Rattle.wasi_p1_types.specs.Parts.{start_in}
+use Rattle.wasi_p1_types.specs.RawFlags.{follow_asked}
+use Rattle.wasi_p1_types.specs.Request.{Path}
 use Rattle.wasi_resolve.specs.TwoPathOps.{TwoPathOp, HardLink, Rename}
 use Rattle.wasi_resolve.specs.PathRequest.{AtTwo}
 

@@ -2,7 +2,7 @@ use Rattle.std.proofs.Common.{map, ◌∙◌, inl, arith, sym, refl, length, dro
 use Rattle.std.proofs.lemmas.List.{take_all, take_more, length-map}
 use Rattle.std.proofs.lemmas.List.Elements.{Contains-get_or}
 use Rattle.std.proofs.lemmas.Option.{slice_get-get_or}
-use Rattle.wasi_p1_model.specs.Front.{with_fuel}
+use Rattle.wasi_p1_types.specs.Front.{with_fuel}
 use Rattle.wasi_guest.specs.declared.call.Call.TheVariants.{ArgsGet}
 use Rattle.wasi_host.proofs.Tracing.{traced_none}
 use Rattle.wasi_p1_model.proofs.CallTracing.{traced_on}

@@ -1,7 +1,7 @@
-use Rattle.wasi_p1_model.specs.Front.{with_fuel}
+use Rattle.wasi_p1_types.specs.Front.{with_fuel}
 use Rattle.std.proofs.Common.{map, take, length, ◌+◌, ◌≤◌, ◌≡◌}
 use Rattle.std.specs.Prelude.{IsTrue}
-use Rattle.wasi_p1_model.specs.Guest.{State, state_of}
+use Rattle.wasi_p1_types.specs.Guest.{State, state_of}
 use Rattle.wasi_p1_model.specs.Reach.{Confined, StaysTouched}
 use Rattle.wasi_p1_model.specs.Trace.{ios, Allows, GoOn}
 use Rattle.wasi_p1_model.specs.CallTransition.{OthersStay}

@@ -1,8 +1,8 @@
 use Rattle.std.proofs.Common.{◌∙◌, inl, inr, map, refl, sym}
 use Rattle.wasi_guest.specs.declared.call.Call.TheVariants.{PollOneoff}
-use Rattle.wasi_p1_model.specs.Polling.{waited_by}
-use Rattle.wasi_p1_model.specs.Request.{Sizes}
-use Rattle.wasi_p1_model.specs.CallResult.{give}
+use Rattle.wasi_p1_types.specs.Polling.{waited_by}
+use Rattle.wasi_p1_types.specs.Request.{Sizes}
+use Rattle.wasi_p1_types.specs.CallResult.{give}
 use Rattle.wasi_p1_model.specs.Calls.Polling.{poll_oneoff, tell_ready}
 use Rattle.wasi_p1_model.proofs.Judging.{judged_err, judged_ok}
 use Rattle.wasi_p1_model.proofs.Staying.{all_stay}

@@ -1,7 +1,7 @@
 use Rattle.std.proofs.Common.{refl}
 use Rattle.wasi_p1_model.specs.Calls.Services.{environ_get}
 use Rattle.wasi_p1_model.proofs.Taking.{refused, on_err}
-use Rattle.wasi_p1_model.proofs.Texts.{unit_refused}
+use Rattle.wasi_p1_types.proofs.Texts.{unit_refused}
 use Rattle.wasi_p1_env_calls.proofs.services.environ_get.Goals as goal
 
 pub returns-in_err-environ_into-clause-spec : goal.returns-in_err-environ_into-clause-spec

@@ -1,11 +1,11 @@
 use Rattle.std.proofs.Common.{refl, ap, ◌∙◌, Some}
 use Rattle.wasi_host.specs.HostCall.{Flags, Stat}
-use Rattle.wasi_p1_model.specs.CallParts.{open_file_of}
-use Rattle.wasi_p1_model.specs.Fdstats.{directory_fdstat, file_told}
-use Rattle.wasi_p1_model.specs.Request.{Direct}
-use Rattle.wasi_p1_model.specs.CallResult.{give}
+use Rattle.wasi_p1_types.specs.CallParts.{open_file_of}
+use Rattle.wasi_p1_types.specs.Fdstats.{directory_fdstat, file_told}
+use Rattle.wasi_p1_types.specs.Request.{Direct}
+use Rattle.wasi_p1_types.specs.CallResult.{give}
 use Rattle.wasi_p1_model.specs.Calls.Descriptors.{fd_fdstat_get}
-use Rattle.wasi_p1_parts.specs.Viewed.{descriptor_under}
+use Rattle.wasi_p1_state.specs.Viewed.{descriptor_under}
 use Rattle.wasi_p1_model.proofs.RowEnds.{with_fdstat}
 use Rattle.wasi_p1_model.proofs.Taking.{makes_err, makes_ok, unchanged, on_err}
 use Rattle.wasi_p1_fd_calls.proofs.descriptors.fd_fdstat_get.Goals as goal

@@ -1,9 +1,9 @@
 use Rattle.std.proofs.Common.{refl, ap, ◌∙◌, Some}
 use Rattle.wasi_host.specs.HostCall.{Stat}
-use Rattle.wasi_p1_model.specs.Filestats.{filestat_in, stat_both}
-use Rattle.wasi_p1_model.specs.Request.{Direct}
+use Rattle.wasi_p1_types.specs.Filestats.{filestat_in, stat_both}
+use Rattle.wasi_p1_types.specs.Request.{Direct}
 use Rattle.wasi_p1_model.specs.Calls.Descriptors.{fd_filestat_get}
-use Rattle.wasi_p1_parts.specs.Viewed.{descriptor_under}
+use Rattle.wasi_p1_state.specs.Viewed.{descriptor_under}
 use Rattle.wasi_p1_model.proofs.RowEnds.{with_filestat}
 use Rattle.wasi_p1_model.proofs.Taking.{makes_err, makes_ok, unchanged, on_err}
 use Rattle.wasi_p1_fd_calls.proofs.descriptors.fd_filestat_get.Goals as goal

@@ -1,7 +1,7 @@
 use Rattle.std.proofs.Common.{refl}
 use Rattle.wasi_p1_model.specs.Calls.Descriptors.{fd_prestat_dir_name}
 use Rattle.wasi_p1_model.proofs.Taking.{refused, on_err}
-use Rattle.wasi_p1_model.proofs.Texts.{unit_refused}
+use Rattle.wasi_p1_types.proofs.Texts.{unit_refused}
 use Rattle.wasi_p1_fd_calls.proofs.descriptors.fd_prestat_dir_name.Goals as goal
 
 pub returns-in_err-put_name-clause-spec : goal.returns-in_err-put_name-clause-spec

@@ -1,8 +1,8 @@
 use Rattle.std.proofs.Common.{◌≡◌, inl, inr, Err, refl, sym, ap}
 use Rattle.wasi_p1_model.specs.EntriesSeen.{entries_seen}
 use Rattle.wasi_p1_model.specs.Pages.{page}
-use Rattle.wasi_p1_model.specs.Parts.{text_to}
-use Rattle.wasi_p1_model.specs.Request.{ListDirectory}
+use Rattle.wasi_p1_types.specs.Parts.{text_to}
+use Rattle.wasi_p1_types.specs.Request.{ListDirectory}
 use Rattle.wasi_p1_model.specs.Calls.Listing.{fd_readdir}
 use Rattle.wasi_p1_model.proofs.Resolving.{resolved_ok, resolved_err}
 use Rattle.wasi_p1_model.proofs.RowEnds.{with_text}

@@ -1,12 +1,12 @@
 use Rattle.std.proofs.Common.{refl, ap, Err}
-use Rattle.wasi_p1_model.specs.CallParts.{open_node_of}
+use Rattle.wasi_p1_types.specs.CallParts.{open_node_of}
 use Rattle.wasi_host.specs.HostCall.{SetTimes}
-use Rattle.wasi_p1_model.specs.Request.{Direct}
+use Rattle.wasi_p1_types.specs.Request.{Direct}
 use Rattle.wasi_p1_model.proofs.Below.{changed_err, changed_ok}
 use Rattle.wasi_p1_model.proofs.Setting.{set_ok, set_err, not_wanted}
 use Rattle.wasi_p1_model.proofs.Taking.{refused, unchanged, on_err}
 use Rattle.wasi_p1_model.specs.Calls.Times.{fd_filestat_set_times}
-use Rattle.wasi_p1_parts.proofs.Viewing.{lowered_err, lowered_ok, on_refusal}
+use Rattle.wasi_p1_state.proofs.Viewing.{lowered_err, lowered_ok, on_refusal}
 use Rattle.wasi_p1_fd_calls.proofs.times.fd_filestat_set_times.Goals as goal
 
 pub returns-in_err-about-clause-spec : goal.returns-in_err-about-clause-spec

@@ -1,11 +1,11 @@
-use Rattle.wasi_p1_model.specs.CallResult.{CallResult}
+use Rattle.wasi_p1_types.specs.CallResult.{CallResult}
 use Rattle.std.proofs.Common.{refl, ℕ, [], to_z, of_z, w64}
 use Rattle.std.proofs.lemmas.Int.{to_z-of_z}
 use Rattle.wasi_host.proofs.Leaving.{Contains-here}
 use Rattle.wasi_host.specs.HostCall.{Stat}
-use Rattle.wasi_p1_model.specs.CallParts.{open_file_of}
-use Rattle.wasi_p1_model.specs.Files.{position_from}
-use Rattle.wasi_p1_model.specs.Request.{Direct}
+use Rattle.wasi_p1_types.specs.CallParts.{open_file_of}
+use Rattle.wasi_p1_types.specs.Files.{position_from}
+use Rattle.wasi_p1_types.specs.Request.{Direct}
 use Rattle.wasi_p1_model.specs.Calls.PositionsAndSizes.{fd_seek}
 use Rattle.wasi_p1_model.proofs.Knowing.{known_err, known_put}
 use Rattle.wasi_p1_model.proofs.RowEnds.{with_sought}

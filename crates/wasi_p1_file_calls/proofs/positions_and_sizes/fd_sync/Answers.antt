@@ -1,11 +1,11 @@
 use Rattle.std.proofs.Common.{refl, ap, None, Err}
 use Rattle.wasi_host.specs.HostCall.{Sync}
-use Rattle.wasi_p1_model.specs.Request.{Direct}
+use Rattle.wasi_p1_types.specs.Request.{Direct}
 use Rattle.wasi_p1_model.specs.Calls.PositionsAndSizes.{fd_sync}
 use Rattle.wasi_p1_model.proofs.Below.{changed_err, changed_ok}
 use Rattle.wasi_p1_model.proofs.Setting.{called_ok, called_err, not_wanted}
 use Rattle.wasi_p1_model.proofs.Taking.{unchanged}
-use Rattle.wasi_p1_parts.proofs.Viewing.{lowered_err, lowered_ok, on_refusal}
+use Rattle.wasi_p1_state.proofs.Viewing.{lowered_err, lowered_ok, on_refusal}
 use Rattle.wasi_p1_file_calls.proofs.positions_and_sizes.fd_sync.Goals as goal
 
 pub returns-in_err-about_file-clause-spec : goal.returns-in_err-about_file-clause-spec

@@ -1,7 +1,7 @@
 use Rattle.std.proofs.Common.{refl}
 use Rattle.wasi_host.specs.HostCall.{Pread}
-use Rattle.wasi_p1_model.specs.Request.{Direct}
-use Rattle.wasi_p1_model.specs.CallParts.{filled_at}
+use Rattle.wasi_p1_types.specs.Request.{Direct}
+use Rattle.wasi_p1_types.specs.CallParts.{filled_at}
 use Rattle.wasi_p1_model.specs.Calls.ReadingAndWriting.{fd_pread}
 use Rattle.wasi_p1_model.proofs.Taking.{refused_at, makes_err, makes_ok, on_err}
 use Rattle.wasi_p1_model.proofs.RowEnds.{with_text}

@@ -1,7 +1,7 @@
 use Rattle.wasi_p1_model.specs.Calls.ReadingAndWriting.{fd_read}
 use Rattle.std.proofs.Common.{refl, []}
 use Rattle.wasi_host.proofs.Leaving.{Contains-here}
-use Rattle.wasi_p1_model.specs.CallParts.{filled_at, open_file_of}
+use Rattle.wasi_p1_types.specs.CallParts.{filled_at, open_file_of}
 use Rattle.wasi_p1_model.proofs.Taking.{refused_at, makes_err, put_ok, on_err}
 use Rattle.wasi_p1_model.proofs.RowEnds.{with_memory}
 use Rattle.wasi_p1_file_calls.proofs.reading_and_writing.fd_read.Goals as goal

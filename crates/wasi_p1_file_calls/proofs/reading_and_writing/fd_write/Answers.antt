@@ -1,6 +1,6 @@
 use Rattle.std.proofs.Common.{refl, [], ap, Err}
 use Rattle.wasi_host.proofs.Leaving.{Contains-here}
-use Rattle.wasi_p1_model.specs.CallParts.{open_file_of}
+use Rattle.wasi_p1_types.specs.CallParts.{open_file_of}
 use Rattle.wasi_p1_model.specs.Calls.ReadingAndWriting.{fd_write}
 use Rattle.wasi_p1_model.proofs.Taking.{refused_at, on_err}
 use Rattle.wasi_p1_model.proofs.RowEnds.{with_position}

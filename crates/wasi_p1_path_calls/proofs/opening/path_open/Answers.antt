@@ -2,10 +2,10 @@ use Rattle.std.proofs.Common.{refl, rules, ap, sym, ◌∙◌, Err}
 use Rattle.wasi_fs.specs.Calls.{opens}
 use Rattle.wasi_fs.specs.OpenHow.{may_open, mode_of}
 use Rattle.wasi_p2_types.specs.FlagNames.{how_named}
-use Rattle.wasi_p1_model.specs.Guest.{guest_slots}
-use Rattle.wasi_p1_model.specs.Parts.{opened_among}
-use Rattle.wasi_p1_model.specs.RawFlags.{modes_under}
-use Rattle.wasi_p1_model.specs.Request.{Path}
+use Rattle.wasi_p1_types.specs.Guest.{guest_slots}
+use Rattle.wasi_p1_types.specs.Parts.{opened_among}
+use Rattle.wasi_p1_types.specs.RawFlags.{modes_under}
+use Rattle.wasi_p1_types.specs.Request.{Path}
 use Rattle.wasi_p1_model.specs.Calls.Opening.{path_open}
 use Rattle.wasi_p1_model.proofs.Lengths.{made_permitted}
 use Rattle.wasi_p1_model.proofs.QuotaRequests.{creates_asked}

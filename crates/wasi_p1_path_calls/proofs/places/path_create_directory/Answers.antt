@@ -5,10 +5,10 @@ use Rattle.wasi_resolve.specs.EntryOps.{CreateDir}
 use Rattle.wasi_resolve.specs.PathRequest.{AtPlace}
 use Rattle.wasi_p1_model.proofs.RowEnds.{with_nothing}
 use Rattle.wasi_p1_model.proofs.Taking.{on_err}
-use Rattle.wasi_p1_model.specs.Request.{Path}
-use Rattle.wasi_p1_model.specs.CallResult.{give}
+use Rattle.wasi_p1_types.specs.Request.{Path}
+use Rattle.wasi_p1_types.specs.CallResult.{give}
 use Rattle.wasi_p1_model.specs.Calls.Places.{path_create_directory}
-use Rattle.wasi_p1_parts.proofs.Raising.{lowered_to_err, lowered_to_ok}
+use Rattle.wasi_p1_state.proofs.Raising.{lowered_to_err, lowered_to_ok}
 use Rattle.wasi_p1_path_calls.proofs.Making.{made_at_err, made_at_ok, making_refused}
 use Rattle.wasi_p1_path_calls.proofs.places.path_create_directory.Goals as goal
 

@@ -1,14 +1,14 @@
 use Rattle.std.proofs.Common.{Err, inl, inr, refl, ap}
 use Rattle.wasi_resolve.specs.PathRequest.{LookPath}
-use Rattle.wasi_p1_model.specs.Request.{Path}
-use Rattle.wasi_p1_model.specs.Filestats.{stat_both, filestat_in}
+use Rattle.wasi_p1_types.specs.Request.{Path}
+use Rattle.wasi_p1_types.specs.Filestats.{stat_both, filestat_in}
 use Rattle.wasi_p1_model.proofs.RowEnds.{with_filestat}
 use Rattle.wasi_p1_model.proofs.Resolving.{made_ok, made_not}
 use Rattle.wasi_p1_model.proofs.Stating.{stated_reply, stated_again}
 use Rattle.wasi_p1_model.proofs.Taking.{makes_err, makes_ok, unchanged, on_err}
 use Rattle.wasi_p1_model.specs.Calls.Places.{path_filestat_get}
-use Rattle.wasi_p1_parts.proofs.ViewedStats.{shown_row}
-use Rattle.wasi_p1_parts.proofs.Viewing.{lowered_err, lowered_shown, on_refusal}
+use Rattle.wasi_p1_state.proofs.ViewedStats.{shown_row}
+use Rattle.wasi_p1_state.proofs.Viewing.{lowered_err, lowered_shown, on_refusal}
 use Rattle.wasi_p1_path_calls.proofs.places.path_filestat_get.Goals as goal
 
 pub returns-in_err-both-clause-spec : goal.returns-in_err-both-clause-spec

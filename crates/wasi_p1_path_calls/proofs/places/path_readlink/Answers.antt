@@ -2,12 +2,12 @@ use Rattle.std.proofs.Common.{◌≡◌, refl, sym, take}
 use Rattle.std.specs.String.{string_bytes}
 use Rattle.wasi_resolve.specs.EntryOps.{ReadLink}
 use Rattle.wasi_resolve.specs.PathRequest.{AtPlace}
-use Rattle.wasi_p1_model.specs.Parts.{text_to}
+use Rattle.wasi_p1_types.specs.Parts.{text_to}
 use Rattle.wasi_p1_model.proofs.RowEnds.{with_text}
 use Rattle.wasi_p1_model.proofs.Below.{found_err, found_refused, found_ok}
 use Rattle.wasi_p1_model.specs.Calls.Places.{path_readlink}
 use Rattle.wasi_p1_model.proofs.Taking.{unchanged, on_err}
-use Rattle.wasi_p1_parts.proofs.Viewing.{lowered_err, lowered_ok, on_refusal}
+use Rattle.wasi_p1_state.proofs.Viewing.{lowered_err, lowered_ok, on_refusal}
 use Rattle.wasi_p1_path_calls.proofs.places.path_readlink.Goals as goal
 
 pub returns-in_err-link-clause-spec : goal.returns-in_err-link-clause-spec

@@ -3,7 +3,7 @@ use Rattle.wasi_resolve.specs.EntryOps.{RemoveFile}
 use Rattle.wasi_resolve.specs.PathRequest.{AtPlace}
 use Rattle.wasi_p1_model.proofs.Below.{done_err, done_ok}
 use Rattle.wasi_p1_model.specs.Calls.Places.{path_unlink_file}
-use Rattle.wasi_p1_parts.proofs.Viewing.{lowered_err, lowered_ok, on_refusal}
+use Rattle.wasi_p1_state.proofs.Viewing.{lowered_err, lowered_ok, on_refusal}
 use Rattle.wasi_p1_path_calls.proofs.places.path_unlink_file.Goals as goal
 
 pub returns-in_err-below-clause-spec : goal.returns-in_err-below-clause-spec

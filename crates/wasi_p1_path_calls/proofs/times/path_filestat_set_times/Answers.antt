@@ -2,7 +2,7 @@ use Rattle.std.proofs.Common.{refl}
 use Rattle.wasi_resolve.specs.PathRequest.{TimesPath}
 use Rattle.wasi_p1_model.proofs.Below.{done_err, done_ok}
 use Rattle.wasi_p1_model.specs.Calls.Times.{path_filestat_set_times}
-use Rattle.wasi_p1_parts.proofs.Viewing.{lowered_err, lowered_ok, on_refusal}
+use Rattle.wasi_p1_state.proofs.Viewing.{lowered_err, lowered_ok, on_refusal}
 use Rattle.wasi_p1_path_calls.proofs.times.path_filestat_set_times.Goals as goal
 
 pub returns-in_err-below-clause-spec : goal.returns-in_err-below-clause-spec

@@ -4,7 +4,7 @@ use Rattle.wasi_resolve.specs.PathRequest.{AtTwo}
 use Rattle.wasi_p1_model.proofs.Below.{done_err, done_ok}
 use Rattle.wasi_p1_model.specs.Calls.TwoPlaces.{path_link}
 use Rattle.wasi_p1_model.proofs.Taking.{refusals}
-use Rattle.wasi_p1_parts.proofs.Viewing.{lowered_err, lowered_ok, on_refusal}
+use Rattle.wasi_p1_state.proofs.Viewing.{lowered_err, lowered_ok, on_refusal}
 use Rattle.wasi_p1_path_calls.proofs.two_places.path_link.Goals as goal
 
 pub returns-in_err-between-clause-spec : goal.returns-in_err-between-clause-spec

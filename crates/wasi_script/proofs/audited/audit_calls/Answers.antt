@@ -1,7 +1,7 @@
 use Rattle.std.proofs.Common.{map, ◌∙◌, ◌+◌, ◌<◌, arith, drop, length, refl, sym}
 use Rattle.std.proofs.lemmas.List.{length-map, take_all}
 use Rattle.wasi_guest.specs.declared.call.Call.TheVariants.{ArgsGet}
-use Rattle.wasi_p1_model.specs.Front.{with_fuel}
+use Rattle.wasi_p1_types.specs.Front.{with_fuel}
 use Rattle.wasi_p1_model.proofs.Runs.{call_at, calls_at}
 use Rattle.wasi_script.proofs.Auditing.{all_called, last_called, last_counted, none_called, one_called, still_counted}
 use Rattle.wasi_script.proofs.audited.audit_calls.Goals as goal

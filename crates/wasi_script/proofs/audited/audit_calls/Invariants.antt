@@ -2,8 +2,8 @@ use Rattle.std.proofs.Common.{◌≡◌, map, take}
 use Rattle.wasi_host_faults.specs.Faults.{counted}
 use Rattle.wasi_host.specs.HostLaws.{never_fails}
 use Rattle.wasi_setup.specs.Start.{world_behind}
-use Rattle.wasi_p1_model.specs.Front.{with_fuel}
-use Rattle.wasi_p1_model.specs.Guest.{state_of}
+use Rattle.wasi_p1_types.specs.Front.{with_fuel}
+use Rattle.wasi_p1_types.specs.Guest.{state_of}
 use Rattle.wasi_script.proofs.Auditing.{NotedCalls}
 use Rattle.wasi_script.proofs.audited.audit_calls.Given as goal
 

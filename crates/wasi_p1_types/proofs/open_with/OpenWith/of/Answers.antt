@@ -1,5 +1,5 @@
 use Rattle.std.proofs.Common.{rules}
-use Rattle.wasi_p1_model.specs.RawFlags.{open_how}
+use Rattle.wasi_p1_types.specs.RawFlags.{open_how}
 use Rattle.wasi_p1_types.proofs.NamedFlags.{how_is}
 use Rattle.wasi_p1_types.proofs.open_with.OpenWith.of.Goals as goal
 

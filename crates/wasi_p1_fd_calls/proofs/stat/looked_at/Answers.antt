@@ -1,0 +1,55 @@
+use Rattle.std.proofs.Common.{Ok}
+use Rattle.wasi_fs.specs.DescriptorStat.{descriptor_stat}
+use Rattle.wasi_fs.specs.MetadataHash.{metadata_hash}
+use Rattle.wasi_p1_types.specs.Filestats.{stat_both}
+use Rattle.wasi_p1_model.proofs.LookingAt.{both_seen, seen_looks, seen_through, unseen}
+use Rattle.wasi_p1_model.proofs.Stating.{stated}
+use Rattle.wasi_p1_state.proofs.Viewing.{lowered_again, lowered_err, lowered_shown, stands_live}
+use Rattle.wasi_p1_fd_calls.proofs.stat.looked_at.Goals as goal
+
+pub returns-in_err-stat-clause-did : goal.returns-in_err-stat-clause-did
+returns-in_err-stat-clause-did g c =
+    let given = c.in_err-stat.ensures in
+    let lower = lowered_err _ given.cause given.did in
+    lowered_again lower c.from_residual.ensures.1 (
+      lower.did.0,
+      tt,
+      record {
+        permit = tt;
+        does = λ told none. unseen descriptor_stat stat_both _ (lower.did.2.does told none);
+      },
+    )
+
+pub returns-in_err-hash-clause-did : goal.returns-in_err-hash-clause-did
+returns-in_err-hash-clause-did g c =
+    let first = lowered_shown _ c.in_ok-stat.ensures.did in
+    let given = c.in_err-hash.ensures in
+    let lower = lowered_err _ given.cause given.did in
+    let live = stands_live _ _ c.requires.holds c.requires.stands in
+    lowered_again lower c.from_residual-in_err-hash.ensures.1 (
+      lower.did.0,
+      tt,
+      record {
+        permit = tt;
+        does = λ told none. unseen metadata_hash stat_both _ (seen_through metadata_hash live c.about.ensures.live
+            (seen_looks descriptor_stat (Ok _) (first.2.2.does told none)) (lower.did.2.does told none));
+      },
+    )
+
+pub returns-clause-did : goal.returns-clause-did
+returns-clause-did g c =
+    let first = lowered_shown _ c.in_ok-stat.ensures.did in
+    let second = lowered_shown _ c.in_ok-hash.ensures.did in
+    let live = stands_live _ _ c.requires.holds c.requires.stands in (
+      Ok (record { stat = first.0; hash = second.0 }),
+      (λ i. Ok (record { stat = first.1 i; hash = second.1 i })),
+      (
+        tt,
+        stated first.2.1 second.2.1,
+        record {
+          permit = tt;
+          does = λ told none. both_seen (first.2.2.does told none) (seen_through metadata_hash live c.about.ensures.live
+              (seen_looks descriptor_stat (Ok _) (first.2.2.does told none)) (second.2.2.does told none));
+        },
+      ),
+    )

@@ -1,6 +1,0 @@
-use Rattle.std.proofs.Common.{◌∙◌}
-use Rattle.wasi_p1_parts.proofs.Naming.{entry_count}
-use Rattle.wasi_p1_parts.proofs.descriptors.Descriptors.live.Goals as goal
-
-pub returns-clause-count : goal.returns-clause-count
-returns-clause-count c = rw (← c.self.view_is) (c.live.ensures.count ∙ entry_count c.self.invariant)
