@@ -14,6 +14,7 @@ pub mod Lengths
 pub mod Moments
 pub mod ScriptRanges
 pub mod Names
+pub mod CallWords
 pub mod Values
 pub mod Accepted
 pub mod GuestsWithin

@@ -4,9 +4,12 @@ use Rattle.std.proofs.Common.{◌≡◌, ℕ, List, [], ◌∷◌, Bool, Option,
 use Rattle.std.specs.Prelude.{option_map, option_and_then}
 use Rattle.serde_json.specs.Data.{Data, null, boolean, number, string, array, object, Items, no_items, item, Members}
 use Rattle.serde_json.specs.Find as find
+use Rattle.wasi_call_table.specs.CallTable.{Maker, CallRow, Takes, call_rows}
 use Rattle.wasi_guest.specs.declared.call.Call.{Call}
+use Rattle.wasi_call_table.specs.declared.call_table.Kind.{Kind}
+use Rattle.wasi_call_table.specs.declared.call_table.Kind.TheVariants.{U32, U64, I64}
 use Rattle.wasi_form.specs.Atoms.{flat, flat_items, SeesAtoms}
-use Rattle.wasi_form.specs.CallForm.{Argument, U32, U64, I64, number_of, first_number, Maker, call_made, CallRow, Takes, call_rows, call_by, call_with, call_in}
+use Rattle.wasi_form.specs.CallForm.{number_of, first_number, call_made, call_by, call_with, call_in}
 use Rattle.wasi_form.specs.Lists.{◌>>=◌, at_name}
 use Rattle.wasi_form.specs.MemoryForm.{piece_bytes, piece_of_items, shown_of_items}
 use Rattle.wasi_form.specs.FaultsForm.{is_after, fault_of_items}
@@ -27,7 +30,7 @@ seen_flat see booleans arrays objects (string s) = refl
 seen_flat see booleans arrays objects (array ds) = arrays ds
 seen_flat see booleans arrays objects (object ms) = objects ms
 
-number_flat : (t : Argument) (d : Data) → number_of t (flat d) ≡ number_of t d
+number_flat : (kind : Kind) (d : Data) → number_of kind (flat d) ≡ number_of kind d
 number_flat U32 d = seen_flat u32_of (λ b. refl) (λ ds. refl) (λ ms. refl) d
 number_flat U64 d = seen_flat u64_of (λ b. refl) (λ ds. refl) (λ ms. refl) d
 number_flat I64 d = seen_flat i64_of (λ b. refl) (λ ds. refl) (λ ms. refl) d
@@ -82,17 +85,17 @@ before_same : {A : Type 0} (o : Option A) (ds es : Items) (make : A → Items �
 before_same None ds es make same = refl
 before_same (Some x) ds es make same = same x
 
-made_flat : (types : List Argument) (make : Maker types) (ds : Items) → call_made types make (flat_items ds) ≡ call_made types make ds
+made_flat : (kinds : List Kind) (make : Maker kinds) (ds : Items) → call_made kinds make (flat_items ds) ≡ call_made kinds make ds
 unfolding call_made first_number
 made_flat [] call no_items = refl
 made_flat [] call (item d ds) = refl
-made_flat (t ∷ types) make no_items = refl
-made_flat (t ∷ types) make (item d ds) =
-    rw (number_flat t d)
-    (before_same (number_of t d) (flat_items ds) ds (λ n es. call_made types (make n) es) (λ n. made_flat types (make n) ds))
+made_flat (kind ∷ kinds) make no_items = refl
+made_flat (kind ∷ kinds) make (item d ds) =
+    rw (number_flat kind d)
+    (before_same (number_of kind d) (flat_items ds) ds (λ n es. call_made kinds (make n) es) (λ n. made_flat kinds (make n) ds))
 
 row_flat : (row : CallRow) (ds : Items) → call_by row (flat_items ds) ≡ call_by row ds
-row_flat (Takes types make) ds = made_flat types make ds
+row_flat (Takes kinds make) ds = made_flat kinds make ds
 
 found_flat : (row : Option CallRow) (ds : Items)
     → (row >>= (λ r. call_by r (flat_items ds))) ≡ (row >>= (λ r. call_by r ds))

@@ -1,11 +1,11 @@
 //! The arguments of a call, read one after another.
-ghost use Rattle.std.specs.Prelude.{◌≡◌, [], option_map};
+ghost use Rattle.std.specs.Prelude.{◌≡◌, ◌≤◌, length, option_map};
+ghost use Rattle.wasi_call_table.specs.CallTable.{Maker, made_of, number_of_word};
 ghost use Rattle.wasi_form.specs.Atoms.{atom_data, values_left};
 ghost use Rattle.wasi_form.specs.CallForm as specs;
-ghost use Rattle.wasi_form.specs.CallForm.{U32, U64, I64};
 
 use crate::atoms::Atom;
-use wasi_guest::Call;
+use wasi_call_table::Kind;
 
 /// The arguments of a call that weren't read yet.
 #[derive(Clone, Copy)]
@@ -25,38 +25,30 @@ impl<'a> Arguments<'a> {
         Some(*first)
     }
 
-    /// The next one, where it is a whole number of 32 bits.
+    // The word of the next one, where it is a number of the kind.
     #[tactic(auto, unfolding(crate::specs::CallForm::first_number))]
-    pub fn u32(&mut self) -> Option<u32>
-        ensures { option_map (λ n. (n, values_left self.new)) result ≡ specs.first_number U32 (values_left self.old) }
+    fn word(&mut self, kind: Kind) -> Option<u64>
+        ensures { option_map (λ word. (number_of_word kind word, values_left self.new)) result
+            ≡ specs.first_number kind (values_left self.old) }
     {
-        self.next()?.as_u32()
+        let atom = self.next()?;
+        atom.as_word(kind)
     }
 
-    /// The next one, where it is a whole number of 64 bits.
-    #[tactic(auto, unfolding(crate::specs::CallForm::first_number))]
-    pub fn u64(&mut self) -> Option<u64>
-        ensures { option_map (λ n. (n, values_left self.new)) result ≡ specs.first_number U64 (values_left self.old) }
+    /// The words of all that are left, where they are as many as the kinds, and each is a number of its kind. Whatever a call
+    /// is made of by these kinds, it is the same of the words as of the arguments.
+    pub fn words(mut self, kinds: &[Kind]) -> Option<[u64; 8]>
+        requires { length kinds.now ≤ 8 }
+        ensures { (make : Maker kinds.now) → option_map (λ words. made_of kinds.now make 0 words) result
+            ≡ specs.call_made kinds.now make (values_left self.entry) }
     {
-        self.next()?.as_u64()
-    }
-
-    /// The next one, where it is a whole number of 64 bits with a sign.
-    #[tactic(auto, unfolding(crate::specs::CallForm::first_number))]
-    pub fn i64(&mut self) -> Option<i64>
-        ensures { option_map (λ n. (n, values_left self.new)) result ≡ specs.first_number I64 (values_left self.old) }
-    {
-        self.next()?.as_i64()
-    }
-
-    /// The call, where none are left.
-    #[tactic(auto, unfolding(crate::specs::CallForm::call_made))]
-    pub fn end(mut self, call: Call) -> Option<Call>
-        ensures { result ≡ specs.call_made [] call (values_left self.entry) }
-    {
+        let mut words = [0; 8];
+        for (place, kind) in kinds.iter().enumerate() {
+            words[place] = self.word(*kind)?;
+        }
         match self.next() {
             Some(_) => None,
-            None => Some(call),
+            None => Some(words),
         }
     }
 }

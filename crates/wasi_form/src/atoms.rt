@@ -4,7 +4,10 @@ ghost use Rattle.json.specs.Json.{parse_map};
 ghost use Rattle.json.specs.Reads.{token_of};
 ghost use Rattle.serde_json.specs.Find as find;
 ghost use Rattle.serde_json.specs.View.{number_view};
+ghost use Rattle.wasi_call_table.specs.CallTable.{number_of_word};
+ghost use Rattle.wasi_call_table.specs.declared.call_table.Kind.TheVariants.{U32, I64};
 ghost use Rattle.wasi_form.specs.Atoms.{flat, flat_items, atom_data, atoms_data, atoms_if};
+ghost use Rattle.wasi_form.specs.CallForm.{number_of};
 ghost use Rattle.wasi_form.specs.IsRead.{IsRead};
 ghost use Rattle.wasi_form.specs.Lists.{same};
 ghost use Rattle.wasi_form.specs.Shapes as shapes;
@@ -15,6 +18,7 @@ use crate::tokens::{number, pass_after};
 use json::{Reader, Token};
 use serde_json::Number;
 use smallvec::SmallVec;
+use wasi_call_table::Kind;
 
 /// An item of a list: a number, a text, or any other value, which was passed.
 #[derive(Clone, Copy, Default)]
@@ -55,6 +59,31 @@ impl<'a> Atom<'a> {
         ensures { result ≡ shapes.u32_of (atom_data self.entry) }
     {
         u32::try_from(self.as_u64()?).ok()
+    }
+
+    fn u32_word(self) -> Option<u64>
+        ensures { option_map (number_of_word U32) result ≡ shapes.u32_of (atom_data self.entry) }
+    {
+        let number = self.as_u32()?;
+        Some(number as u64)
+    }
+
+    fn i64_word(self) -> Option<u64>
+        ensures { option_map (number_of_word I64) result ≡ shapes.i64_of (atom_data self.entry) }
+    {
+        let number = self.as_i64()?;
+        Some(number.cast_unsigned())
+    }
+
+    /// The word of a number of the kind: of one with a sign it is the two's complement.
+    pub fn as_word(self, kind: Kind) -> Option<u64>
+        ensures { option_map (number_of_word kind) result ≡ number_of kind (atom_data self.entry) }
+    {
+        match kind {
+            Kind::U32 => self.u32_word(),
+            Kind::U64 => self.as_u64(),
+            Kind::I64 => self.i64_word(),
+        }
     }
 
     /// A text.

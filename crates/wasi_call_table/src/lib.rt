@@ -1,0 +1,7 @@
+//! The table of preview1's calls: of each its number, its name and the kinds of its arguments. What takes calls by their
+//! names or numbers, as scripts and engines do, reads them by it.
+#![tactic(auto)]
+
+mod call_table;
+
+pub use call_table::{Kind, call_kinds, call_number, call_of_words};
