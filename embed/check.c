@@ -37,7 +37,8 @@ static void of_the_empty_one(void) {
     uint8_t memory[64] = {0};
     size_t length;
     for (size_t place = 0; place < CALL_COUNT; place += 1) {
-        need(calls[place].answer(&sandbox, memory, sizeof memory, words) == WASI_EMPTY, calls[place].name);
+        uint32_t code = wasi_call(&sandbox, memory, sizeof memory, (uint32_t)place, words, MOST_ARGUMENTS);
+        need(code == WASI_EMPTY, calls[place].name);
     }
     need(wasi_answered(&sandbox) == 0, "answered of the empty one");
     uint64_t used = 7;
@@ -114,6 +115,31 @@ static void of_results(void) {
     free(memory);
 }
 
+// A number of no call, and each call with a word too few, with just enough, and with words behind that count nothing.
+static void of_numbers(void) {
+    wasi_sandbox sandbox = {0};
+    uint64_t words[MOST_ARGUMENTS] = {0};
+    uint8_t *memory = calloc(1, PAGE);
+    start(&sandbox, SCRIPT);
+    need(wasi_call(&sandbox, memory, PAGE, CALL_COUNT, words, MOST_ARGUMENTS) == WASI_NO_CALL, "a number of no call");
+    need(wasi_call(&sandbox, memory, PAGE, 0xffffffffu, words, MOST_ARGUMENTS) == WASI_NO_CALL, "the last number");
+    for (uint32_t number = 0; number < CALL_COUNT; number += 1) {
+        size_t wanted = strlen(calls[number].kinds);
+        need(wanted == 0 || wasi_call(&sandbox, memory, PAGE, number, words, wanted - 1) == WASI_NO_CALL,
+             calls[number].name);
+    }
+    need(wasi_answered(&sandbox) == 0, "none of these was answered");
+    for (uint32_t number = 0; number < CALL_COUNT; number += 1) {
+        uint32_t code = wasi_call(&sandbox, memory, PAGE, number, words, strlen(calls[number].kinds));
+        need(code == WASI_EXIT || code < WASI_TRAP_POINTER, calls[number].name);
+    }
+    need(wasi_answered(&sandbox) == CALL_COUNT, "each of these was answered");
+    const uint64_t more[] = {((uint64_t)7 << 32) + 77, 1, 2, 3, 4, 5, 6, 7, 8, 9, 10};
+    need(wasi_call(&sandbox, memory, PAGE, 8, more, 11) == BADF, "the words behind the last");
+    wasi_end(&sandbox);
+    free(memory);
+}
+
 static void of_two(void) {
     wasi_sandbox first = {0}, second = {0};
     uint8_t *memory = calloc(1, PAGE);
@@ -183,9 +209,9 @@ static void of_stray_calls(void) {
         for (size_t place = 0; place < MOST_ARGUMENTS; place += 1) {
             words[place] = stray(length);
         }
-        const struct call *call = &calls[dice() % CALL_COUNT];
-        uint32_t code = call->answer(&sandbox, memory, length, words);
-        need(code <= 76 || (code >= WASI_TRAP_POINTER && code <= WASI_NO_MEMORY), call->name);
+        uint32_t number = dice() % CALL_COUNT;
+        uint32_t code = wasi_call(&sandbox, memory, length, number, words, MOST_ARGUMENTS);
+        need(code <= 76 || (code >= WASI_TRAP_POINTER && code <= WASI_NO_MEMORY), calls[number].name);
         codes += code == WASI_TRAP_POINTER;
         free(memory);
         if (wasi_ends_guest(code)) {
@@ -202,6 +228,7 @@ int main(void) {
     of_starts();
     of_reports();
     of_results();
+    of_numbers();
     of_two();
     of_quotas();
     of_stray_calls();

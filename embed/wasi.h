@@ -74,7 +74,9 @@ enum {
     /// The script of a sandbox over a base has nodes or limits of its own.
     WASI_REFUSED_OWN_TREE = 276,
     /// The sandbox stands over no base.
-    WASI_ALONE = 277
+    WASI_ALONE = 277,
+    /// No call has the number, or it wants more words than there are.
+    WASI_NO_CALL = 278
 };
 
 /// The empty sandbox, which the library puts in the place of the one that it works on.
@@ -186,575 +188,347 @@ static inline void wasi_end(wasi_sandbox *sandbox) {
     }
 }
 
-uint32_t wasi_c_args_get(wasi_sandbox *sandbox, wasi_sandbox empty, uint8_t *memory, size_t memory_len,
-        uint32_t argv, uint32_t argv_buf);
+uint32_t wasi_c_call(wasi_sandbox *sandbox, wasi_sandbox empty, uint8_t *memory, size_t memory_len, uint32_t number,
+        const uint64_t *words, size_t words_len);
+
+/// The call of a number, from 0 to 45, as calls.h and the functions below number them. Its words are its arguments, and
+/// behind them the addresses of its results; of a word for 32 bits the low 32 count, and the words behind the last
+/// address count nothing. WASI_NO_CALL where no call has the number, or it wants more words, and then nothing changes.
+/// The pointer to the words isn't null, also where there are none.
+static inline uint32_t wasi_call(wasi_sandbox *sandbox, uint8_t *memory, size_t memory_len, uint32_t number,
+        const uint64_t *words, size_t words_len) {
+    if (!sandbox->at) {
+        return WASI_EMPTY;
+    }
+    return wasi_c_call(sandbox, wasi_nothing(), memory, memory_len, number, words, words_len);
+}
+
+// What embed/write-calls writes, from here on.
 
 /// Writes a pointer to each argument of the guest, and their texts, each with a 0 behind it.
 static inline uint32_t wasi_args_get(wasi_sandbox *sandbox, uint8_t *memory, size_t memory_len, uint32_t argv,
         uint32_t argv_buf) {
-    if (!sandbox->at) {
-        return WASI_EMPTY;
-    }
-    return wasi_c_args_get(sandbox, wasi_nothing(), memory, memory_len, argv, argv_buf);
+    const uint64_t words[8] = {argv, argv_buf};
+    return wasi_call(sandbox, memory, memory_len, 0, words, 8);
 }
-
-uint32_t wasi_c_args_sizes_get(wasi_sandbox *sandbox, wasi_sandbox empty, uint8_t *memory, size_t memory_len,
-        uint32_t argc_at, uint32_t argv_buf_size_at);
 
 /// How many arguments there are, and how many bytes their texts have.
 static inline uint32_t wasi_args_sizes_get(wasi_sandbox *sandbox, uint8_t *memory, size_t memory_len,
         uint32_t argc_at, uint32_t argv_buf_size_at) {
-    if (!sandbox->at) {
-        return WASI_EMPTY;
-    }
-    return wasi_c_args_sizes_get(sandbox, wasi_nothing(), memory, memory_len, argc_at, argv_buf_size_at);
+    const uint64_t words[8] = {argc_at, argv_buf_size_at};
+    return wasi_call(sandbox, memory, memory_len, 1, words, 8);
 }
-
-uint32_t wasi_c_environ_get(wasi_sandbox *sandbox, wasi_sandbox empty, uint8_t *memory, size_t memory_len,
-        uint32_t environ, uint32_t environ_buf);
 
 /// Writes a pointer to each variable of the environment, and their texts, each with a 0 behind it.
 static inline uint32_t wasi_environ_get(wasi_sandbox *sandbox, uint8_t *memory, size_t memory_len,
         uint32_t environ, uint32_t environ_buf) {
-    if (!sandbox->at) {
-        return WASI_EMPTY;
-    }
-    return wasi_c_environ_get(sandbox, wasi_nothing(), memory, memory_len, environ, environ_buf);
+    const uint64_t words[8] = {environ, environ_buf};
+    return wasi_call(sandbox, memory, memory_len, 2, words, 8);
 }
-
-uint32_t wasi_c_environ_sizes_get(wasi_sandbox *sandbox, wasi_sandbox empty, uint8_t *memory,
-        size_t memory_len, uint32_t environ_count_at, uint32_t environ_buf_size_at);
 
 /// How many variables the environment has, and how many bytes their texts have.
 static inline uint32_t wasi_environ_sizes_get(wasi_sandbox *sandbox, uint8_t *memory, size_t memory_len,
         uint32_t environ_count_at, uint32_t environ_buf_size_at) {
-    if (!sandbox->at) {
-        return WASI_EMPTY;
-    }
-    return wasi_c_environ_sizes_get(sandbox, wasi_nothing(), memory, memory_len, environ_count_at,
-        environ_buf_size_at);
+    const uint64_t words[8] = {environ_count_at, environ_buf_size_at};
+    return wasi_call(sandbox, memory, memory_len, 3, words, 8);
 }
-
-uint32_t wasi_c_clock_res_get(wasi_sandbox *sandbox, wasi_sandbox empty, uint8_t *memory, size_t memory_len,
-        uint32_t id, uint32_t resolution_at);
 
 /// The resolution of a clock, in nanoseconds.
 static inline uint32_t wasi_clock_res_get(wasi_sandbox *sandbox, uint8_t *memory, size_t memory_len,
         uint32_t id, uint32_t resolution_at) {
-    if (!sandbox->at) {
-        return WASI_EMPTY;
-    }
-    return wasi_c_clock_res_get(sandbox, wasi_nothing(), memory, memory_len, id, resolution_at);
+    const uint64_t words[8] = {id, resolution_at};
+    return wasi_call(sandbox, memory, memory_len, 4, words, 8);
 }
-
-uint32_t wasi_c_clock_time_get(wasi_sandbox *sandbox, wasi_sandbox empty, uint8_t *memory, size_t memory_len,
-        uint32_t id, uint64_t precision, uint32_t time_at);
 
 /// What a clock stands at, in nanoseconds.
 static inline uint32_t wasi_clock_time_get(wasi_sandbox *sandbox, uint8_t *memory, size_t memory_len,
         uint32_t id, uint64_t precision, uint32_t time_at) {
-    if (!sandbox->at) {
-        return WASI_EMPTY;
-    }
-    return wasi_c_clock_time_get(sandbox, wasi_nothing(), memory, memory_len, id, precision, time_at);
+    const uint64_t words[8] = {id, precision, time_at};
+    return wasi_call(sandbox, memory, memory_len, 5, words, 8);
 }
-
-uint32_t wasi_c_fd_advise(wasi_sandbox *sandbox, wasi_sandbox empty, uint8_t *memory, size_t memory_len,
-        uint32_t fd, uint64_t offset, uint64_t len, uint32_t advice);
 
 /// Says how a file will be used.
 static inline uint32_t wasi_fd_advise(wasi_sandbox *sandbox, uint8_t *memory, size_t memory_len, uint32_t fd,
         uint64_t offset, uint64_t len, uint32_t advice) {
-    if (!sandbox->at) {
-        return WASI_EMPTY;
-    }
-    return wasi_c_fd_advise(sandbox, wasi_nothing(), memory, memory_len, fd, offset, len, advice);
+    const uint64_t words[8] = {fd, offset, len, advice};
+    return wasi_call(sandbox, memory, memory_len, 6, words, 8);
 }
-
-uint32_t wasi_c_fd_allocate(wasi_sandbox *sandbox, wasi_sandbox empty, uint8_t *memory, size_t memory_len,
-        uint32_t fd, uint64_t offset, uint64_t len);
 
 /// Is refused: no room is made for a file beforehand.
 static inline uint32_t wasi_fd_allocate(wasi_sandbox *sandbox, uint8_t *memory, size_t memory_len,
         uint32_t fd, uint64_t offset, uint64_t len) {
-    if (!sandbox->at) {
-        return WASI_EMPTY;
-    }
-    return wasi_c_fd_allocate(sandbox, wasi_nothing(), memory, memory_len, fd, offset, len);
+    const uint64_t words[8] = {fd, offset, len};
+    return wasi_call(sandbox, memory, memory_len, 7, words, 8);
 }
-
-uint32_t wasi_c_fd_close(wasi_sandbox *sandbox, wasi_sandbox empty, uint8_t *memory, size_t memory_len,
-        uint32_t fd);
 
 /// Closes a descriptor.
 static inline uint32_t wasi_fd_close(wasi_sandbox *sandbox, uint8_t *memory, size_t memory_len, uint32_t fd) {
-    if (!sandbox->at) {
-        return WASI_EMPTY;
-    }
-    return wasi_c_fd_close(sandbox, wasi_nothing(), memory, memory_len, fd);
+    const uint64_t words[8] = {fd};
+    return wasi_call(sandbox, memory, memory_len, 8, words, 8);
 }
-
-uint32_t wasi_c_fd_datasync(wasi_sandbox *sandbox, wasi_sandbox empty, uint8_t *memory, size_t memory_len,
-        uint32_t fd);
 
 /// Brings the bytes of a file to its store.
 static inline uint32_t wasi_fd_datasync(wasi_sandbox *sandbox, uint8_t *memory, size_t memory_len,
         uint32_t fd) {
-    if (!sandbox->at) {
-        return WASI_EMPTY;
-    }
-    return wasi_c_fd_datasync(sandbox, wasi_nothing(), memory, memory_len, fd);
+    const uint64_t words[8] = {fd};
+    return wasi_call(sandbox, memory, memory_len, 9, words, 8);
 }
-
-uint32_t wasi_c_fd_sync(wasi_sandbox *sandbox, wasi_sandbox empty, uint8_t *memory, size_t memory_len,
-        uint32_t fd);
 
 /// Brings the bytes of a file and what is told of it to its store.
 static inline uint32_t wasi_fd_sync(wasi_sandbox *sandbox, uint8_t *memory, size_t memory_len, uint32_t fd) {
-    if (!sandbox->at) {
-        return WASI_EMPTY;
-    }
-    return wasi_c_fd_sync(sandbox, wasi_nothing(), memory, memory_len, fd);
+    const uint64_t words[8] = {fd};
+    return wasi_call(sandbox, memory, memory_len, 10, words, 8);
 }
-
-uint32_t wasi_c_fd_fdstat_get(wasi_sandbox *sandbox, wasi_sandbox empty, uint8_t *memory, size_t memory_len,
-        uint32_t fd, uint32_t stat_at);
 
 /// What is told of a descriptor: 24 bytes, aligned to 8.
 static inline uint32_t wasi_fd_fdstat_get(wasi_sandbox *sandbox, uint8_t *memory, size_t memory_len,
         uint32_t fd, uint32_t stat_at) {
-    if (!sandbox->at) {
-        return WASI_EMPTY;
-    }
-    return wasi_c_fd_fdstat_get(sandbox, wasi_nothing(), memory, memory_len, fd, stat_at);
+    const uint64_t words[8] = {fd, stat_at};
+    return wasi_call(sandbox, memory, memory_len, 11, words, 8);
 }
-
-uint32_t wasi_c_fd_fdstat_set_flags(wasi_sandbox *sandbox, wasi_sandbox empty, uint8_t *memory,
-        size_t memory_len, uint32_t fd, uint32_t flags);
 
 /// Sets how a file's descriptor is used.
 static inline uint32_t wasi_fd_fdstat_set_flags(wasi_sandbox *sandbox, uint8_t *memory, size_t memory_len,
         uint32_t fd, uint32_t flags) {
-    if (!sandbox->at) {
-        return WASI_EMPTY;
-    }
-    return wasi_c_fd_fdstat_set_flags(sandbox, wasi_nothing(), memory, memory_len, fd, flags);
+    const uint64_t words[8] = {fd, flags};
+    return wasi_call(sandbox, memory, memory_len, 12, words, 8);
 }
-
-uint32_t wasi_c_fd_fdstat_set_rights(wasi_sandbox *sandbox, wasi_sandbox empty, uint8_t *memory,
-        size_t memory_len, uint32_t fd, uint64_t base, uint64_t inheriting);
 
 /// Is refused: rights can't be set.
 static inline uint32_t wasi_fd_fdstat_set_rights(wasi_sandbox *sandbox, uint8_t *memory, size_t memory_len,
         uint32_t fd, uint64_t base, uint64_t inheriting) {
-    if (!sandbox->at) {
-        return WASI_EMPTY;
-    }
-    return wasi_c_fd_fdstat_set_rights(sandbox, wasi_nothing(), memory, memory_len, fd, base, inheriting);
+    const uint64_t words[8] = {fd, base, inheriting};
+    return wasi_call(sandbox, memory, memory_len, 13, words, 8);
 }
-
-uint32_t wasi_c_fd_filestat_get(wasi_sandbox *sandbox, wasi_sandbox empty, uint8_t *memory, size_t memory_len,
-        uint32_t fd, uint32_t stat_at);
 
 /// What is told of the node of a descriptor: 64 bytes, aligned to 8.
 static inline uint32_t wasi_fd_filestat_get(wasi_sandbox *sandbox, uint8_t *memory, size_t memory_len,
         uint32_t fd, uint32_t stat_at) {
-    if (!sandbox->at) {
-        return WASI_EMPTY;
-    }
-    return wasi_c_fd_filestat_get(sandbox, wasi_nothing(), memory, memory_len, fd, stat_at);
+    const uint64_t words[8] = {fd, stat_at};
+    return wasi_call(sandbox, memory, memory_len, 14, words, 8);
 }
-
-uint32_t wasi_c_fd_filestat_set_size(wasi_sandbox *sandbox, wasi_sandbox empty, uint8_t *memory,
-        size_t memory_len, uint32_t fd, uint64_t size);
 
 /// Sets the size of a file, in bytes.
 static inline uint32_t wasi_fd_filestat_set_size(wasi_sandbox *sandbox, uint8_t *memory, size_t memory_len,
         uint32_t fd, uint64_t size) {
-    if (!sandbox->at) {
-        return WASI_EMPTY;
-    }
-    return wasi_c_fd_filestat_set_size(sandbox, wasi_nothing(), memory, memory_len, fd, size);
+    const uint64_t words[8] = {fd, size};
+    return wasi_call(sandbox, memory, memory_len, 15, words, 8);
 }
-
-uint32_t wasi_c_fd_filestat_set_times(wasi_sandbox *sandbox, wasi_sandbox empty, uint8_t *memory,
-        size_t memory_len, uint32_t fd, uint64_t atim, uint64_t mtim, uint32_t fst_flags);
 
 /// Sets the times of a descriptor's node, `atim` and `mtim` in nanoseconds from the epoch on.
 static inline uint32_t wasi_fd_filestat_set_times(wasi_sandbox *sandbox, uint8_t *memory, size_t memory_len,
         uint32_t fd, uint64_t atim, uint64_t mtim, uint32_t fst_flags) {
-    if (!sandbox->at) {
-        return WASI_EMPTY;
-    }
-    return wasi_c_fd_filestat_set_times(sandbox, wasi_nothing(), memory, memory_len, fd, atim, mtim,
-        fst_flags);
+    const uint64_t words[8] = {fd, atim, mtim, fst_flags};
+    return wasi_call(sandbox, memory, memory_len, 16, words, 8);
 }
-
-uint32_t wasi_c_fd_pread(wasi_sandbox *sandbox, wasi_sandbox empty, uint8_t *memory, size_t memory_len,
-        uint32_t fd, uint32_t iovs, uint32_t iovs_len, uint64_t offset, uint32_t nread_at);
 
 /// Reads from a place of a file, an offset in bytes, into the first buffer that has bytes.
 static inline uint32_t wasi_fd_pread(wasi_sandbox *sandbox, uint8_t *memory, size_t memory_len, uint32_t fd,
         uint32_t iovs, uint32_t iovs_len, uint64_t offset, uint32_t nread_at) {
-    if (!sandbox->at) {
-        return WASI_EMPTY;
-    }
-    return wasi_c_fd_pread(sandbox, wasi_nothing(), memory, memory_len, fd, iovs, iovs_len, offset, nread_at);
+    const uint64_t words[8] = {fd, iovs, iovs_len, offset, nread_at};
+    return wasi_call(sandbox, memory, memory_len, 17, words, 8);
 }
-
-uint32_t wasi_c_fd_prestat_get(wasi_sandbox *sandbox, wasi_sandbox empty, uint8_t *memory, size_t memory_len,
-        uint32_t fd, uint32_t prestat_at);
 
 /// What is told of a directory that the guest was given: 8 bytes, aligned to 4.
 static inline uint32_t wasi_fd_prestat_get(wasi_sandbox *sandbox, uint8_t *memory, size_t memory_len,
         uint32_t fd, uint32_t prestat_at) {
-    if (!sandbox->at) {
-        return WASI_EMPTY;
-    }
-    return wasi_c_fd_prestat_get(sandbox, wasi_nothing(), memory, memory_len, fd, prestat_at);
+    const uint64_t words[8] = {fd, prestat_at};
+    return wasi_call(sandbox, memory, memory_len, 18, words, 8);
 }
-
-uint32_t wasi_c_fd_prestat_dir_name(wasi_sandbox *sandbox, wasi_sandbox empty, uint8_t *memory,
-        size_t memory_len, uint32_t fd, uint32_t path, uint32_t path_len);
 
 /// Writes the name of a directory that the guest was given.
 static inline uint32_t wasi_fd_prestat_dir_name(wasi_sandbox *sandbox, uint8_t *memory, size_t memory_len,
         uint32_t fd, uint32_t path, uint32_t path_len) {
-    if (!sandbox->at) {
-        return WASI_EMPTY;
-    }
-    return wasi_c_fd_prestat_dir_name(sandbox, wasi_nothing(), memory, memory_len, fd, path, path_len);
+    const uint64_t words[8] = {fd, path, path_len};
+    return wasi_call(sandbox, memory, memory_len, 19, words, 8);
 }
-
-uint32_t wasi_c_fd_pwrite(wasi_sandbox *sandbox, wasi_sandbox empty, uint8_t *memory, size_t memory_len,
-        uint32_t fd, uint32_t iovs, uint32_t iovs_len, uint64_t offset, uint32_t nwritten_at);
 
 /// Writes the first buffer that has bytes to a place of a file, an offset in bytes.
 static inline uint32_t wasi_fd_pwrite(wasi_sandbox *sandbox, uint8_t *memory, size_t memory_len, uint32_t fd,
         uint32_t iovs, uint32_t iovs_len, uint64_t offset, uint32_t nwritten_at) {
-    if (!sandbox->at) {
-        return WASI_EMPTY;
-    }
-    return wasi_c_fd_pwrite(sandbox, wasi_nothing(), memory, memory_len, fd, iovs, iovs_len, offset,
-        nwritten_at);
+    const uint64_t words[8] = {fd, iovs, iovs_len, offset, nwritten_at};
+    return wasi_call(sandbox, memory, memory_len, 20, words, 8);
 }
-
-uint32_t wasi_c_fd_read(wasi_sandbox *sandbox, wasi_sandbox empty, uint8_t *memory, size_t memory_len,
-        uint32_t fd, uint32_t iovs, uint32_t iovs_len, uint32_t nread_at);
 
 /// Reads from a file or the standard input into the first buffer that has bytes.
 static inline uint32_t wasi_fd_read(wasi_sandbox *sandbox, uint8_t *memory, size_t memory_len, uint32_t fd,
         uint32_t iovs, uint32_t iovs_len, uint32_t nread_at) {
-    if (!sandbox->at) {
-        return WASI_EMPTY;
-    }
-    return wasi_c_fd_read(sandbox, wasi_nothing(), memory, memory_len, fd, iovs, iovs_len, nread_at);
+    const uint64_t words[8] = {fd, iovs, iovs_len, nread_at};
+    return wasi_call(sandbox, memory, memory_len, 21, words, 8);
 }
-
-uint32_t wasi_c_fd_readdir(wasi_sandbox *sandbox, wasi_sandbox empty, uint8_t *memory, size_t memory_len,
-        uint32_t fd, uint32_t buf, uint32_t buf_len, uint64_t cookie, uint32_t used_at);
 
 /// Writes records of a directory's names, after as many as the cookie says.
 static inline uint32_t wasi_fd_readdir(wasi_sandbox *sandbox, uint8_t *memory, size_t memory_len, uint32_t fd,
         uint32_t buf, uint32_t buf_len, uint64_t cookie, uint32_t used_at) {
-    if (!sandbox->at) {
-        return WASI_EMPTY;
-    }
-    return wasi_c_fd_readdir(sandbox, wasi_nothing(), memory, memory_len, fd, buf, buf_len, cookie, used_at);
+    const uint64_t words[8] = {fd, buf, buf_len, cookie, used_at};
+    return wasi_call(sandbox, memory, memory_len, 22, words, 8);
 }
-
-uint32_t wasi_c_fd_renumber(wasi_sandbox *sandbox, wasi_sandbox empty, uint8_t *memory, size_t memory_len,
-        uint32_t from, uint32_t to);
 
 /// Gives a descriptor another's number, which is closed before.
 static inline uint32_t wasi_fd_renumber(wasi_sandbox *sandbox, uint8_t *memory, size_t memory_len,
         uint32_t from, uint32_t to) {
-    if (!sandbox->at) {
-        return WASI_EMPTY;
-    }
-    return wasi_c_fd_renumber(sandbox, wasi_nothing(), memory, memory_len, from, to);
+    const uint64_t words[8] = {from, to};
+    return wasi_call(sandbox, memory, memory_len, 23, words, 8);
 }
-
-uint32_t wasi_c_fd_seek(wasi_sandbox *sandbox, wasi_sandbox empty, uint8_t *memory, size_t memory_len,
-        uint32_t fd, int64_t offset, uint32_t whence, uint32_t position_at);
 
 /// Sets where the next read or write of a file begins, by an offset in bytes.
 static inline uint32_t wasi_fd_seek(wasi_sandbox *sandbox, uint8_t *memory, size_t memory_len, uint32_t fd,
         int64_t offset, uint32_t whence, uint32_t position_at) {
-    if (!sandbox->at) {
-        return WASI_EMPTY;
-    }
-    return wasi_c_fd_seek(sandbox, wasi_nothing(), memory, memory_len, fd, offset, whence, position_at);
+    const uint64_t words[8] = {fd, (uint64_t)offset, whence, position_at};
+    return wasi_call(sandbox, memory, memory_len, 24, words, 8);
 }
-
-uint32_t wasi_c_fd_tell(wasi_sandbox *sandbox, wasi_sandbox empty, uint8_t *memory, size_t memory_len,
-        uint32_t fd, uint32_t position_at);
 
 /// Where the next read or write of a file begins, in bytes from the file's start.
 static inline uint32_t wasi_fd_tell(wasi_sandbox *sandbox, uint8_t *memory, size_t memory_len, uint32_t fd,
         uint32_t position_at) {
-    if (!sandbox->at) {
-        return WASI_EMPTY;
-    }
-    return wasi_c_fd_tell(sandbox, wasi_nothing(), memory, memory_len, fd, position_at);
+    const uint64_t words[8] = {fd, position_at};
+    return wasi_call(sandbox, memory, memory_len, 25, words, 8);
 }
-
-uint32_t wasi_c_fd_write(wasi_sandbox *sandbox, wasi_sandbox empty, uint8_t *memory, size_t memory_len,
-        uint32_t fd, uint32_t iovs, uint32_t iovs_len, uint32_t nwritten_at);
 
 /// Writes the first buffer that has bytes to a file or an output.
 static inline uint32_t wasi_fd_write(wasi_sandbox *sandbox, uint8_t *memory, size_t memory_len, uint32_t fd,
         uint32_t iovs, uint32_t iovs_len, uint32_t nwritten_at) {
-    if (!sandbox->at) {
-        return WASI_EMPTY;
-    }
-    return wasi_c_fd_write(sandbox, wasi_nothing(), memory, memory_len, fd, iovs, iovs_len, nwritten_at);
+    const uint64_t words[8] = {fd, iovs, iovs_len, nwritten_at};
+    return wasi_call(sandbox, memory, memory_len, 26, words, 8);
 }
-
-uint32_t wasi_c_path_create_directory(wasi_sandbox *sandbox, wasi_sandbox empty, uint8_t *memory,
-        size_t memory_len, uint32_t fd, uint32_t path, uint32_t path_len);
 
 /// Makes a directory.
 static inline uint32_t wasi_path_create_directory(wasi_sandbox *sandbox, uint8_t *memory, size_t memory_len,
         uint32_t fd, uint32_t path, uint32_t path_len) {
-    if (!sandbox->at) {
-        return WASI_EMPTY;
-    }
-    return wasi_c_path_create_directory(sandbox, wasi_nothing(), memory, memory_len, fd, path, path_len);
+    const uint64_t words[8] = {fd, path, path_len};
+    return wasi_call(sandbox, memory, memory_len, 27, words, 8);
 }
-
-uint32_t wasi_c_path_filestat_get(wasi_sandbox *sandbox, wasi_sandbox empty, uint8_t *memory,
-        size_t memory_len, uint32_t fd, uint32_t flags, uint32_t path, uint32_t path_len, uint32_t stat_at);
 
 /// What is told of the node of a path: 64 bytes, aligned to 8.
 static inline uint32_t wasi_path_filestat_get(wasi_sandbox *sandbox, uint8_t *memory, size_t memory_len,
         uint32_t fd, uint32_t flags, uint32_t path, uint32_t path_len, uint32_t stat_at) {
-    if (!sandbox->at) {
-        return WASI_EMPTY;
-    }
-    return wasi_c_path_filestat_get(sandbox, wasi_nothing(), memory, memory_len, fd, flags, path, path_len,
-        stat_at);
+    const uint64_t words[8] = {fd, flags, path, path_len, stat_at};
+    return wasi_call(sandbox, memory, memory_len, 28, words, 8);
 }
-
-uint32_t wasi_c_path_filestat_set_times(wasi_sandbox *sandbox, wasi_sandbox empty, uint8_t *memory,
-        size_t memory_len, uint32_t fd, uint32_t flags, uint32_t path, uint32_t path_len, uint64_t atim,
-        uint64_t mtim, uint32_t fst_flags);
 
 /// Sets the times of a path's node, `atim` and `mtim` in nanoseconds from the epoch on.
 static inline uint32_t wasi_path_filestat_set_times(wasi_sandbox *sandbox, uint8_t *memory, size_t memory_len,
         uint32_t fd, uint32_t flags, uint32_t path, uint32_t path_len, uint64_t atim, uint64_t mtim,
         uint32_t fst_flags) {
-    if (!sandbox->at) {
-        return WASI_EMPTY;
-    }
-    return wasi_c_path_filestat_set_times(sandbox, wasi_nothing(), memory, memory_len, fd, flags, path,
-        path_len, atim, mtim, fst_flags);
+    const uint64_t words[8] = {fd, flags, path, path_len, atim, mtim, fst_flags};
+    return wasi_call(sandbox, memory, memory_len, 29, words, 8);
 }
-
-uint32_t wasi_c_path_link(wasi_sandbox *sandbox, wasi_sandbox empty, uint8_t *memory, size_t memory_len,
-        uint32_t old_fd, uint32_t old_flags, uint32_t old_path, uint32_t old_path_len, uint32_t new_fd,
-        uint32_t new_path, uint32_t new_path_len);
 
 /// Gives a file another name.
 static inline uint32_t wasi_path_link(wasi_sandbox *sandbox, uint8_t *memory, size_t memory_len,
         uint32_t old_fd, uint32_t old_flags, uint32_t old_path, uint32_t old_path_len, uint32_t new_fd,
         uint32_t new_path, uint32_t new_path_len) {
-    if (!sandbox->at) {
-        return WASI_EMPTY;
-    }
-    return wasi_c_path_link(sandbox, wasi_nothing(), memory, memory_len, old_fd, old_flags, old_path,
-        old_path_len, new_fd, new_path, new_path_len);
+    const uint64_t words[8] = {old_fd, old_flags, old_path, old_path_len, new_fd, new_path, new_path_len};
+    return wasi_call(sandbox, memory, memory_len, 30, words, 8);
 }
-
-uint32_t wasi_c_path_open(wasi_sandbox *sandbox, wasi_sandbox empty, uint8_t *memory, size_t memory_len,
-        uint32_t fd, uint32_t dirflags, uint32_t path, uint32_t path_len, uint32_t oflags, uint64_t base,
-        uint64_t inheriting, uint32_t fdflags, uint32_t opened_fd_at);
 
 /// Opens a path under a new descriptor.
 static inline uint32_t wasi_path_open(wasi_sandbox *sandbox, uint8_t *memory, size_t memory_len, uint32_t fd,
         uint32_t dirflags, uint32_t path, uint32_t path_len, uint32_t oflags, uint64_t base,
         uint64_t inheriting, uint32_t fdflags, uint32_t opened_fd_at) {
-    if (!sandbox->at) {
-        return WASI_EMPTY;
-    }
-    return wasi_c_path_open(sandbox, wasi_nothing(), memory, memory_len, fd, dirflags, path, path_len, oflags,
-        base, inheriting, fdflags, opened_fd_at);
+    const uint64_t words[9] = {fd, dirflags, path, path_len, oflags, base, inheriting, fdflags, opened_fd_at};
+    return wasi_call(sandbox, memory, memory_len, 31, words, 9);
 }
-
-uint32_t wasi_c_path_readlink(wasi_sandbox *sandbox, wasi_sandbox empty, uint8_t *memory, size_t memory_len,
-        uint32_t fd, uint32_t path, uint32_t path_len, uint32_t buf, uint32_t buf_len, uint32_t used_at);
 
 /// Writes the text of a link.
 static inline uint32_t wasi_path_readlink(wasi_sandbox *sandbox, uint8_t *memory, size_t memory_len,
         uint32_t fd, uint32_t path, uint32_t path_len, uint32_t buf, uint32_t buf_len, uint32_t used_at) {
-    if (!sandbox->at) {
-        return WASI_EMPTY;
-    }
-    return wasi_c_path_readlink(sandbox, wasi_nothing(), memory, memory_len, fd, path, path_len, buf, buf_len,
-        used_at);
+    const uint64_t words[8] = {fd, path, path_len, buf, buf_len, used_at};
+    return wasi_call(sandbox, memory, memory_len, 32, words, 8);
 }
-
-uint32_t wasi_c_path_remove_directory(wasi_sandbox *sandbox, wasi_sandbox empty, uint8_t *memory,
-        size_t memory_len, uint32_t fd, uint32_t path, uint32_t path_len);
 
 /// Removes an empty directory.
 static inline uint32_t wasi_path_remove_directory(wasi_sandbox *sandbox, uint8_t *memory, size_t memory_len,
         uint32_t fd, uint32_t path, uint32_t path_len) {
-    if (!sandbox->at) {
-        return WASI_EMPTY;
-    }
-    return wasi_c_path_remove_directory(sandbox, wasi_nothing(), memory, memory_len, fd, path, path_len);
+    const uint64_t words[8] = {fd, path, path_len};
+    return wasi_call(sandbox, memory, memory_len, 33, words, 8);
 }
 
-uint32_t wasi_c_path_rename(wasi_sandbox *sandbox, wasi_sandbox empty, uint8_t *memory, size_t memory_len,
-        uint32_t old_fd, uint32_t old_path, uint32_t old_path_len, uint32_t new_fd, uint32_t new_path,
-        uint32_t new_path_len);
+/// Removes a name of a file or a link.
+static inline uint32_t wasi_path_unlink_file(wasi_sandbox *sandbox, uint8_t *memory, size_t memory_len,
+        uint32_t fd, uint32_t path, uint32_t path_len) {
+    const uint64_t words[8] = {fd, path, path_len};
+    return wasi_call(sandbox, memory, memory_len, 34, words, 8);
+}
 
 /// Moves a name.
 static inline uint32_t wasi_path_rename(wasi_sandbox *sandbox, uint8_t *memory, size_t memory_len,
         uint32_t old_fd, uint32_t old_path, uint32_t old_path_len, uint32_t new_fd, uint32_t new_path,
         uint32_t new_path_len) {
-    if (!sandbox->at) {
-        return WASI_EMPTY;
-    }
-    return wasi_c_path_rename(sandbox, wasi_nothing(), memory, memory_len, old_fd, old_path, old_path_len,
-        new_fd, new_path, new_path_len);
+    const uint64_t words[8] = {old_fd, old_path, old_path_len, new_fd, new_path, new_path_len};
+    return wasi_call(sandbox, memory, memory_len, 35, words, 8);
 }
-
-uint32_t wasi_c_path_symlink(wasi_sandbox *sandbox, wasi_sandbox empty, uint8_t *memory, size_t memory_len,
-        uint32_t old_path, uint32_t old_path_len, uint32_t fd, uint32_t new_path, uint32_t new_path_len);
 
 /// Makes a link with the old path as its text.
 static inline uint32_t wasi_path_symlink(wasi_sandbox *sandbox, uint8_t *memory, size_t memory_len,
         uint32_t old_path, uint32_t old_path_len, uint32_t fd, uint32_t new_path, uint32_t new_path_len) {
-    if (!sandbox->at) {
-        return WASI_EMPTY;
-    }
-    return wasi_c_path_symlink(sandbox, wasi_nothing(), memory, memory_len, old_path, old_path_len, fd,
-        new_path, new_path_len);
+    const uint64_t words[8] = {old_path, old_path_len, fd, new_path, new_path_len};
+    return wasi_call(sandbox, memory, memory_len, 36, words, 8);
 }
-
-uint32_t wasi_c_path_unlink_file(wasi_sandbox *sandbox, wasi_sandbox empty, uint8_t *memory,
-        size_t memory_len, uint32_t fd, uint32_t path, uint32_t path_len);
-
-/// Removes a name of a file or a link.
-static inline uint32_t wasi_path_unlink_file(wasi_sandbox *sandbox, uint8_t *memory, size_t memory_len,
-        uint32_t fd, uint32_t path, uint32_t path_len) {
-    if (!sandbox->at) {
-        return WASI_EMPTY;
-    }
-    return wasi_c_path_unlink_file(sandbox, wasi_nothing(), memory, memory_len, fd, path, path_len);
-}
-
-uint32_t wasi_c_poll_oneoff(wasi_sandbox *sandbox, wasi_sandbox empty, uint8_t *memory, size_t memory_len,
-        uint32_t subscriptions, uint32_t events, uint32_t count, uint32_t nevents_at);
 
 /// Waits for one of the subscriptions, and writes the events of those that are ready.
 static inline uint32_t wasi_poll_oneoff(wasi_sandbox *sandbox, uint8_t *memory, size_t memory_len,
         uint32_t subscriptions, uint32_t events, uint32_t count, uint32_t nevents_at) {
-    if (!sandbox->at) {
-        return WASI_EMPTY;
-    }
-    return wasi_c_poll_oneoff(sandbox, wasi_nothing(), memory, memory_len, subscriptions, events, count,
-        nevents_at);
+    const uint64_t words[8] = {subscriptions, events, count, nevents_at};
+    return wasi_call(sandbox, memory, memory_len, 37, words, 8);
 }
 
-uint32_t wasi_c_proc_exit(wasi_sandbox *sandbox, wasi_sandbox empty, uint8_t *memory, size_t memory_len,
-        uint32_t status);
-
-/// Ends the guest: the code is WASI_EXIT, or WASI_TRAP_EXIT for a status of 126 or more.
+/// Ends the guest, with a status; one of 126 or more is a trap.
 static inline uint32_t wasi_proc_exit(wasi_sandbox *sandbox, uint8_t *memory, size_t memory_len,
         uint32_t status) {
-    if (!sandbox->at) {
-        return WASI_EMPTY;
-    }
-    return wasi_c_proc_exit(sandbox, wasi_nothing(), memory, memory_len, status);
+    const uint64_t words[8] = {status};
+    return wasi_call(sandbox, memory, memory_len, 38, words, 8);
 }
-
-uint32_t wasi_c_proc_raise(wasi_sandbox *sandbox, wasi_sandbox empty, uint8_t *memory, size_t memory_len,
-        uint32_t signal);
 
 /// Is refused: no signal is raised.
 static inline uint32_t wasi_proc_raise(wasi_sandbox *sandbox, uint8_t *memory, size_t memory_len,
         uint32_t signal) {
-    if (!sandbox->at) {
-        return WASI_EMPTY;
-    }
-    return wasi_c_proc_raise(sandbox, wasi_nothing(), memory, memory_len, signal);
+    const uint64_t words[8] = {signal};
+    return wasi_call(sandbox, memory, memory_len, 39, words, 8);
 }
-
-uint32_t wasi_c_random_get(wasi_sandbox *sandbox, wasi_sandbox empty, uint8_t *memory, size_t memory_len,
-        uint32_t buf, uint32_t buf_len);
 
 /// Writes random bytes.
 static inline uint32_t wasi_random_get(wasi_sandbox *sandbox, uint8_t *memory, size_t memory_len,
         uint32_t buf, uint32_t buf_len) {
-    if (!sandbox->at) {
-        return WASI_EMPTY;
-    }
-    return wasi_c_random_get(sandbox, wasi_nothing(), memory, memory_len, buf, buf_len);
+    const uint64_t words[8] = {buf, buf_len};
+    return wasi_call(sandbox, memory, memory_len, 40, words, 8);
 }
-
-uint32_t wasi_c_sched_yield(wasi_sandbox *sandbox, wasi_sandbox empty, uint8_t *memory, size_t memory_len);
 
 /// Does nothing.
 static inline uint32_t wasi_sched_yield(wasi_sandbox *sandbox, uint8_t *memory, size_t memory_len) {
-    if (!sandbox->at) {
-        return WASI_EMPTY;
-    }
-    return wasi_c_sched_yield(sandbox, wasi_nothing(), memory, memory_len);
+    const uint64_t words[8] = {0};
+    return wasi_call(sandbox, memory, memory_len, 41, words, 8);
 }
-
-uint32_t wasi_c_sock_accept(wasi_sandbox *sandbox, wasi_sandbox empty, uint8_t *memory, size_t memory_len,
-        uint32_t fd, uint32_t flags, uint32_t new_fd_at);
 
 /// Is refused: there are no sockets.
 static inline uint32_t wasi_sock_accept(wasi_sandbox *sandbox, uint8_t *memory, size_t memory_len,
         uint32_t fd, uint32_t flags, uint32_t new_fd_at) {
-    if (!sandbox->at) {
-        return WASI_EMPTY;
-    }
-    return wasi_c_sock_accept(sandbox, wasi_nothing(), memory, memory_len, fd, flags, new_fd_at);
+    const uint64_t words[8] = {fd, flags, new_fd_at};
+    return wasi_call(sandbox, memory, memory_len, 42, words, 8);
 }
-
-uint32_t wasi_c_sock_recv(wasi_sandbox *sandbox, wasi_sandbox empty, uint8_t *memory, size_t memory_len,
-        uint32_t fd, uint32_t iovs, uint32_t iovs_len, uint32_t ri_flags, uint32_t nread_at,
-        uint32_t ro_flags_at);
 
 /// Is refused: there are no sockets.
 static inline uint32_t wasi_sock_recv(wasi_sandbox *sandbox, uint8_t *memory, size_t memory_len, uint32_t fd,
         uint32_t iovs, uint32_t iovs_len, uint32_t ri_flags, uint32_t nread_at, uint32_t ro_flags_at) {
-    if (!sandbox->at) {
-        return WASI_EMPTY;
-    }
-    return wasi_c_sock_recv(sandbox, wasi_nothing(), memory, memory_len, fd, iovs, iovs_len, ri_flags,
-        nread_at, ro_flags_at);
+    const uint64_t words[8] = {fd, iovs, iovs_len, ri_flags, nread_at, ro_flags_at};
+    return wasi_call(sandbox, memory, memory_len, 43, words, 8);
 }
-
-uint32_t wasi_c_sock_send(wasi_sandbox *sandbox, wasi_sandbox empty, uint8_t *memory, size_t memory_len,
-        uint32_t fd, uint32_t iovs, uint32_t iovs_len, uint32_t si_flags, uint32_t nsent_at);
 
 /// Is refused: there are no sockets.
 static inline uint32_t wasi_sock_send(wasi_sandbox *sandbox, uint8_t *memory, size_t memory_len, uint32_t fd,
         uint32_t iovs, uint32_t iovs_len, uint32_t si_flags, uint32_t nsent_at) {
-    if (!sandbox->at) {
-        return WASI_EMPTY;
-    }
-    return wasi_c_sock_send(sandbox, wasi_nothing(), memory, memory_len, fd, iovs, iovs_len, si_flags,
-        nsent_at);
+    const uint64_t words[8] = {fd, iovs, iovs_len, si_flags, nsent_at};
+    return wasi_call(sandbox, memory, memory_len, 44, words, 8);
 }
-
-uint32_t wasi_c_sock_shutdown(wasi_sandbox *sandbox, wasi_sandbox empty, uint8_t *memory, size_t memory_len,
-        uint32_t fd, uint32_t how);
 
 /// Is refused: there are no sockets.
 static inline uint32_t wasi_sock_shutdown(wasi_sandbox *sandbox, uint8_t *memory, size_t memory_len,
         uint32_t fd, uint32_t how) {
-    if (!sandbox->at) {
-        return WASI_EMPTY;
-    }
-    return wasi_c_sock_shutdown(sandbox, wasi_nothing(), memory, memory_len, fd, how);
+    const uint64_t words[8] = {fd, how};
+    return wasi_call(sandbox, memory, memory_len, 45, words, 8);
 }
+
+// What embed/write-calls writes, up to here.
 
 #ifdef __cplusplus
 }

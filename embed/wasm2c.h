@@ -23,11 +23,7 @@ static u32 wasi_answered_guest(struct Z_wasi_snapshot_preview1_instance_t *guest
     return code;
 }
 
-void Z_wasi_snapshot_preview1Z_proc_exit(struct Z_wasi_snapshot_preview1_instance_t *guest, u32 status) {
-    guest->status = status;
-    wasi_answered_guest(guest, wasi_proc_exit(&guest->sandbox, guest->memory->data, guest->memory->size,
-        status));
-}
+// What embed/write-calls writes, from here on.
 
 u32 Z_wasi_snapshot_preview1Z_args_get(struct Z_wasi_snapshot_preview1_instance_t *guest, u32 argv,
         u32 argv_buf) {
@@ -164,8 +160,8 @@ u32 Z_wasi_snapshot_preview1Z_fd_readdir(struct Z_wasi_snapshot_preview1_instanc
         guest->memory->size, fd, buf, buf_len, cookie, used_at));
 }
 
-u32 Z_wasi_snapshot_preview1Z_fd_renumber(struct Z_wasi_snapshot_preview1_instance_t *guest, u32 from,
-        u32 to) {
+u32 Z_wasi_snapshot_preview1Z_fd_renumber(struct Z_wasi_snapshot_preview1_instance_t *guest, u32 from, u32 to)
+        {
     return wasi_answered_guest(guest, wasi_fd_renumber(&guest->sandbox, guest->memory->data,
         guest->memory->size, from, to));
 }
@@ -231,6 +227,12 @@ u32 Z_wasi_snapshot_preview1Z_path_remove_directory(struct Z_wasi_snapshot_previ
         guest->memory->size, fd, path, path_len));
 }
 
+u32 Z_wasi_snapshot_preview1Z_path_unlink_file(struct Z_wasi_snapshot_preview1_instance_t *guest, u32 fd,
+        u32 path, u32 path_len) {
+    return wasi_answered_guest(guest, wasi_path_unlink_file(&guest->sandbox, guest->memory->data,
+        guest->memory->size, fd, path, path_len));
+}
+
 u32 Z_wasi_snapshot_preview1Z_path_rename(struct Z_wasi_snapshot_preview1_instance_t *guest, u32 old_fd,
         u32 old_path, u32 old_path_len, u32 new_fd, u32 new_path, u32 new_path_len) {
     return wasi_answered_guest(guest, wasi_path_rename(&guest->sandbox, guest->memory->data,
@@ -243,16 +245,16 @@ u32 Z_wasi_snapshot_preview1Z_path_symlink(struct Z_wasi_snapshot_preview1_insta
         guest->memory->size, old_path, old_path_len, fd, new_path, new_path_len));
 }
 
-u32 Z_wasi_snapshot_preview1Z_path_unlink_file(struct Z_wasi_snapshot_preview1_instance_t *guest, u32 fd,
-        u32 path, u32 path_len) {
-    return wasi_answered_guest(guest, wasi_path_unlink_file(&guest->sandbox, guest->memory->data,
-        guest->memory->size, fd, path, path_len));
-}
-
 u32 Z_wasi_snapshot_preview1Z_poll_oneoff(struct Z_wasi_snapshot_preview1_instance_t *guest,
         u32 subscriptions, u32 events, u32 count, u32 nevents_at) {
     return wasi_answered_guest(guest, wasi_poll_oneoff(&guest->sandbox, guest->memory->data,
         guest->memory->size, subscriptions, events, count, nevents_at));
+}
+
+void Z_wasi_snapshot_preview1Z_proc_exit(struct Z_wasi_snapshot_preview1_instance_t *guest, u32 status) {
+    guest->status = status;
+    wasi_answered_guest(guest, wasi_proc_exit(&guest->sandbox, guest->memory->data, guest->memory->size,
+        status));
 }
 
 u32 Z_wasi_snapshot_preview1Z_proc_raise(struct Z_wasi_snapshot_preview1_instance_t *guest, u32 signal) {
@@ -294,5 +296,7 @@ u32 Z_wasi_snapshot_preview1Z_sock_shutdown(struct Z_wasi_snapshot_preview1_inst
     return wasi_answered_guest(guest, wasi_sock_shutdown(&guest->sandbox, guest->memory->data,
         guest->memory->size, fd, how));
 }
+
+// What embed/write-calls writes, up to here.
 
 #endif

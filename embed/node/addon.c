@@ -13,10 +13,10 @@
 
 struct held;
 
-// An import of a guest: a call, and the sandbox that it is made on.
+// An import of a guest: the number of a call, and the sandbox that it is made on.
 struct import {
     struct held *held;
-    const struct call *call;
+    uint32_t number;
 };
 
 struct held {
@@ -104,9 +104,9 @@ static bool take_argument(napi_env env, napi_value given, char kind, uint64_t *w
     return napi_get_value_bigint_uint64(env, given, word, &lossless) == napi_ok;
 }
 
-static bool take_arguments(napi_env env, const struct call *call, napi_value *given, uint64_t *words) {
-    for (size_t place = 0; call->kinds[place] != 0; place += 1) {
-        if (!take_argument(env, given[place], call->kinds[place], &words[place])) {
+static bool take_arguments(napi_env env, const char *kinds, napi_value *given, uint64_t *words) {
+    for (size_t place = 0; kinds[place] != 0; place += 1) {
+        if (!take_argument(env, given[place], kinds[place], &words[place])) {
             napi_throw_type_error(env, NULL, "a call of preview1 takes Numbers, and BigInts where it has 64 bits");
             return false;
         }
@@ -129,7 +129,7 @@ static napi_value throw_stop(napi_env env, struct held *held) {
 // A guest's call. One that was stopped may have caught that: it is told so again, and nothing is called.
 static napi_value on_call(napi_env env, napi_callback_info info) {
     napi_value given[MOST_ARGUMENTS], answer;
-    uint64_t words[MOST_ARGUMENTS];
+    uint64_t words[MOST_ARGUMENTS] = {0};
     size_t count = MOST_ARGUMENTS;
     void *data;
     napi_get_cb_info(env, info, &count, given, NULL, &data);
@@ -138,10 +138,10 @@ static napi_value on_call(napi_env env, napi_callback_info info) {
     if (held->ended) {
         return throw_stop(env, held);
     }
-    if (!take_bytes(env, held) || !take_arguments(env, import->call, given, words)) {
+    if (!take_bytes(env, held) || !take_arguments(env, calls[import->number].kinds, given, words)) {
         return NULL;
     }
-    uint32_t code = import->call->answer(&held->sandbox, held->bytes, held->length, words);
+    uint32_t code = wasi_call(&held->sandbox, held->bytes, held->length, import->number, words, MOST_ARGUMENTS);
     if (wasi_ends_guest(code)) {
         held->ended = code;
         held->status = code == WASI_EXIT ? (uint32_t)words[0] : 0;
@@ -202,16 +202,16 @@ static struct held *take_held(napi_env env, napi_callback_info info, napi_value 
     return held;
 }
 
-static bool add_import(napi_env env, struct held *held, size_t place, napi_value imports) {
-    struct import *import = &held->imports[place];
+static bool add_import(napi_env env, struct held *held, uint32_t number, napi_value imports) {
+    struct import *import = &held->imports[number];
     napi_value function;
-    *import = (struct import){held, &calls[place]};
-    if (napi_create_function(env, import->call->name, NAPI_AUTO_LENGTH, on_call, import, &function) != napi_ok ||
+    *import = (struct import){held, number};
+    if (napi_create_function(env, calls[number].name, NAPI_AUTO_LENGTH, on_call, import, &function) != napi_ok ||
         napi_add_finalizer(env, function, held, release, NULL, NULL) != napi_ok) {
         return false;
     }
     held->holders += 1;
-    return napi_set_named_property(env, imports, import->call->name, function) == napi_ok;
+    return napi_set_named_property(env, imports, calls[number].name, function) == napi_ok;
 }
 
 // imports(SANDBOX): the functions of preview1 by their names.
@@ -221,8 +221,8 @@ static napi_value on_imports(napi_env env, napi_callback_info info) {
     if (!held || napi_create_object(env, &imports) != napi_ok) {
         return NULL;
     }
-    for (size_t place = 0; place < CALL_COUNT; place += 1) {
-        if (!add_import(env, held, place, imports)) {
+    for (uint32_t number = 0; number < CALL_COUNT; number += 1) {
+        if (!add_import(env, held, number, imports)) {
             return fail(env, "there isn't enough memory");
         }
     }

@@ -1,3 +1,4 @@
 pub mod Held
 pub mod Codes
 pub mod Told
+pub mod Numbered

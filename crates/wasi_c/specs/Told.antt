@@ -21,16 +21,6 @@ use Rattle.wasi_sandbox.specs.declared.sandbox.Sandbox.{Sandbox}
 use Rattle.wasi_c.specs.Codes.{code_of, start_code}
 use Rattle.wasi_c.specs.Held.{Held, HeldBase}
 
--- the addresses of the results
-abbrev pub nowhere : Places
-nowhere = record { first = 0; second = 0 }
-
-abbrev pub first_at : ℕ → Places
-first_at first = record { first = first; second = 0 }
-
-abbrev pub places_of_two : ℕ → ℕ → Places
-places_of_two first second = record { first = first; second = second }
-
 -- as in memory a tree is seen, and so is an overlay
 abbrev seen : MemState → MemState
 seen tree = tree

@@ -1,23 +1,10 @@
 //! A call of the sandbox that a handle holds.
 ghost use Rattle.std.specs.Prelude.{◌≡◌, None, IsSome};
-ghost use Rattle.wasi_c.specs.Told.{first_at, TellsCall};
+ghost use Rattle.wasi_c.specs.Told.{TellsCall};
 
 use crate::codes::code_of;
 use crate::handle::SandboxHandle;
 use wasi_sandbox::{Call, Places};
-
-/// The addresses of a call that has no results.
-pub const NOWHERE: Places = Places {
-    first: 0,
-    second: 0,
-};
-
-/// The address of a call's one result.
-pub fn first_at(first: u32) -> Places
-    ensures { result ≡ first_at first }
-{
-    Places { first, second: 0 }
-}
 
 /// One call on the memory that is lent, and the number of its answer.
 pub fn call_in(

@@ -49,6 +49,9 @@ const REFUSED_OWN_TREE: u32 = 276;
 /// The sandbox stands alone, over no tree that stays.
 pub const ALONE: u32 = 277;
 
+/// No call has the number, or there are fewer words than the call of the number wants.
+pub const NO_CALL: u32 = 278;
+
 /// The number of a call's answer.
 pub fn code_of(outcome: Result<Value, P1Error>) -> u32
     ensures { result ≡ code_of outcome }

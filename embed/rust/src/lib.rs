@@ -182,6 +182,15 @@ extern "C" {
     fn wasi_c_quota_used(sandbox: *mut Raw, empty: Raw, nodes: *mut u64, bytes: *mut u64);
     fn wasi_c_report(sandbox: *mut Raw, empty: Raw, text: *mut u8, room: usize, len: *mut usize) -> u32;
     fn wasi_c_end(sandbox: *mut Raw, empty: Raw);
+    fn wasi_c_call(
+        sandbox: *mut Raw,
+        empty: Raw,
+        memory: *mut u8,
+        memory_len: usize,
+        number: u32,
+        words: *const u64,
+        words_len: usize,
+    ) -> u32;
 }
 
 impl Base {
@@ -267,8 +276,15 @@ impl Sandbox {
             .map_err(Stop::of)
     }
 
-    /// An error number of preview1, 0 where there is none; or how the guest is stopped, which is kept.
-    fn answer(&mut self, code: u32) -> Result<u32, Stop> {
+    /// The call of a number: an error number of preview1, 0 where there is none; or how the guest is stopped, which is
+    /// kept, and then no call is made any more.
+    fn call(&mut self, number: u32, memory: &mut [u8], words: &[u64]) -> Result<u32, Stop> {
+        if let Some(stop) = self.stop {
+            return Err(stop);
+        }
+        let (at, len) = (memory.as_mut_ptr(), memory.len());
+        // SAFETY: the sandbox isn't empty, and the memory and the words are borrowed for the call alone.
+        let code = unsafe { wasi_c_call(&mut self.raw, nothing(), at, len, number, words.as_ptr(), words.len()) };
         if code < 256 {
             return Ok(code);
         }
@@ -284,160 +300,18 @@ impl Drop for Sandbox {
     }
 }
 
-/// The C functions of calls, and a method of each: its arguments stand behind the guest's memory, and addresses are
-/// places in that memory. The answer is an error number of preview1, or 0.
+/// A method of each call, by its number: its arguments and the addresses of its results stand behind the guest's memory,
+/// and an address is a place in that memory. The answer is an error number of preview1, or 0.
 macro_rules! calls {
-    ($($(#[$about:meta])* $name:ident as $function:ident($($argument:ident: $kind:ty),* $(,)?);)*) => {
-        extern "C" {
-            $(fn $function(
-                sandbox: *mut Raw,
-                empty: Raw,
-                memory: *mut u8,
-                memory_len: usize,
-                $($argument: $kind),*
-            ) -> u32;)*
-        }
-
+    ($($(#[$about:meta])* $number:literal => $name:ident($($word:ident: $kind:ty),*);)*) => {
         #[allow(clippy::too_many_arguments)]
         impl Sandbox {
             $($(#[$about])*
-            pub fn $name(&mut self, memory: &mut [u8], $($argument: $kind),*) -> Result<u32, Stop> {
-                if let Some(stop) = self.stop {
-                    return Err(stop);
-                }
-                let (at, len) = (memory.as_mut_ptr(), memory.len());
-                // SAFETY: the sandbox isn't empty, and the memory is borrowed for the call alone.
-                let code = unsafe { $function(&mut self.raw, nothing(), at, len, $($argument),*) };
-                self.answer(code)
+            pub fn $name(&mut self, memory: &mut [u8], $($word: $kind),*) -> Result<u32, Stop> {
+                self.call($number, memory, &[$($word as u64),*])
             })*
         }
     };
 }
 
-calls! {
-    /// Writes a pointer to each argument of the guest, and their texts, each with a 0 behind it.
-    args_get as wasi_c_args_get(argv: u32, argv_buf: u32);
-    /// How many arguments there are, and how many bytes their texts have.
-    args_sizes_get as wasi_c_args_sizes_get(argc_at: u32, argv_buf_size_at: u32);
-    /// Writes a pointer to each variable of the environment, and their texts, each with a 0 behind it.
-    environ_get as wasi_c_environ_get(environ: u32, environ_buf: u32);
-    /// How many variables the environment has, and how many bytes their texts have.
-    environ_sizes_get as wasi_c_environ_sizes_get(environ_count_at: u32, environ_buf_size_at: u32);
-    /// The resolution of a clock, in nanoseconds.
-    clock_res_get as wasi_c_clock_res_get(id: u32, resolution_at: u32);
-    /// What a clock stands at, in nanoseconds.
-    clock_time_get as wasi_c_clock_time_get(id: u32, precision: u64, time_at: u32);
-    /// Says how a file will be used.
-    fd_advise as wasi_c_fd_advise(fd: u32, offset: u64, len: u64, advice: u32);
-    /// Is refused: no room is made for a file beforehand.
-    fd_allocate as wasi_c_fd_allocate(fd: u32, offset: u64, len: u64);
-    /// Closes a descriptor.
-    fd_close as wasi_c_fd_close(fd: u32);
-    /// Brings the bytes of a file to its store.
-    fd_datasync as wasi_c_fd_datasync(fd: u32);
-    /// Brings the bytes of a file and what is told of it to its store.
-    fd_sync as wasi_c_fd_sync(fd: u32);
-    /// What is told of a descriptor: 24 bytes, aligned to 8.
-    fd_fdstat_get as wasi_c_fd_fdstat_get(fd: u32, stat_at: u32);
-    /// Sets how a file's descriptor is used.
-    fd_fdstat_set_flags as wasi_c_fd_fdstat_set_flags(fd: u32, flags: u32);
-    /// Is refused: rights can't be set.
-    fd_fdstat_set_rights as wasi_c_fd_fdstat_set_rights(fd: u32, base: u64, inheriting: u64);
-    /// What is told of the node of a descriptor: 64 bytes, aligned to 8.
-    fd_filestat_get as wasi_c_fd_filestat_get(fd: u32, stat_at: u32);
-    /// Sets the size of a file, in bytes.
-    fd_filestat_set_size as wasi_c_fd_filestat_set_size(fd: u32, size: u64);
-    /// Sets the times of a descriptor's node, `atim` and `mtim` in nanoseconds.
-    fd_filestat_set_times as wasi_c_fd_filestat_set_times(fd: u32, atim: u64, mtim: u64, fst_flags: u32);
-    /// Reads from a place of a file into the first buffer that has bytes.
-    fd_pread as wasi_c_fd_pread(fd: u32, iovs: u32, iovs_len: u32, offset: u64, nread_at: u32);
-    /// What is told of a directory that the guest was given: 8 bytes, aligned to 4.
-    fd_prestat_get as wasi_c_fd_prestat_get(fd: u32, prestat_at: u32);
-    /// Writes the name of a directory that the guest was given.
-    fd_prestat_dir_name as wasi_c_fd_prestat_dir_name(fd: u32, path: u32, path_len: u32);
-    /// Writes the first buffer that has bytes to a place of a file.
-    fd_pwrite as wasi_c_fd_pwrite(fd: u32, iovs: u32, iovs_len: u32, offset: u64, nwritten_at: u32);
-    /// Reads from a file or the standard input into the first buffer that has bytes.
-    fd_read as wasi_c_fd_read(fd: u32, iovs: u32, iovs_len: u32, nread_at: u32);
-    /// Writes records of a directory's names, after as many as the cookie says.
-    fd_readdir as wasi_c_fd_readdir(fd: u32, buf: u32, buf_len: u32, cookie: u64, used_at: u32);
-    /// Gives a descriptor another's number, which is closed before.
-    fd_renumber as wasi_c_fd_renumber(from: u32, to: u32);
-    /// Sets where the next read or write of a file begins, in bytes.
-    fd_seek as wasi_c_fd_seek(fd: u32, offset: i64, whence: u32, position_at: u32);
-    /// Where the next read or write of a file begins, in bytes.
-    fd_tell as wasi_c_fd_tell(fd: u32, position_at: u32);
-    /// Writes the first buffer that has bytes to a file or an output.
-    fd_write as wasi_c_fd_write(fd: u32, iovs: u32, iovs_len: u32, nwritten_at: u32);
-    /// Makes a directory.
-    path_create_directory as wasi_c_path_create_directory(fd: u32, path: u32, path_len: u32);
-    /// What is told of the node of a path: 64 bytes, aligned to 8.
-    path_filestat_get as wasi_c_path_filestat_get(fd: u32, flags: u32, path: u32, path_len: u32, stat_at: u32);
-    /// Sets the times of a path's node, `atim` and `mtim` in nanoseconds.
-    path_filestat_set_times as wasi_c_path_filestat_set_times(
-        fd: u32,
-        flags: u32,
-        path: u32,
-        path_len: u32,
-        atim: u64,
-        mtim: u64,
-        fst_flags: u32,
-    );
-    /// Gives a file another name.
-    path_link as wasi_c_path_link(
-        old_fd: u32,
-        old_flags: u32,
-        old_path: u32,
-        old_path_len: u32,
-        new_fd: u32,
-        new_path: u32,
-        new_path_len: u32,
-    );
-    /// Opens a path under a new descriptor.
-    path_open as wasi_c_path_open(
-        fd: u32,
-        dirflags: u32,
-        path: u32,
-        path_len: u32,
-        oflags: u32,
-        base: u64,
-        inheriting: u64,
-        fdflags: u32,
-        opened_fd_at: u32,
-    );
-    /// Writes the text of a link.
-    path_readlink as wasi_c_path_readlink(fd: u32, path: u32, path_len: u32, buf: u32, buf_len: u32, used_at: u32);
-    /// Removes an empty directory.
-    path_remove_directory as wasi_c_path_remove_directory(fd: u32, path: u32, path_len: u32);
-    /// Moves a name.
-    path_rename as wasi_c_path_rename(
-        old_fd: u32,
-        old_path: u32,
-        old_path_len: u32,
-        new_fd: u32,
-        new_path: u32,
-        new_path_len: u32,
-    );
-    /// Makes a link with the old path as its text.
-    path_symlink as wasi_c_path_symlink(old_path: u32, old_path_len: u32, fd: u32, new_path: u32, new_path_len: u32);
-    /// Removes a name of a file or a link.
-    path_unlink_file as wasi_c_path_unlink_file(fd: u32, path: u32, path_len: u32);
-    /// Waits for one of the subscriptions, and writes the events of those that are ready.
-    poll_oneoff as wasi_c_poll_oneoff(subscriptions: u32, events: u32, count: u32, nevents_at: u32);
-    /// Ends the guest: `Stop::Ended`, or `Stop::Exit` for a status of 126 or more.
-    proc_exit as wasi_c_proc_exit(status: u32);
-    /// Is refused: no signal is raised.
-    proc_raise as wasi_c_proc_raise(signal: u32);
-    /// Writes random bytes.
-    random_get as wasi_c_random_get(buf: u32, buf_len: u32);
-    /// Does nothing.
-    sched_yield as wasi_c_sched_yield();
-    /// Is refused: there are no sockets.
-    sock_accept as wasi_c_sock_accept(fd: u32, flags: u32, new_fd_at: u32);
-    /// Is refused: there are no sockets.
-    sock_recv as wasi_c_sock_recv(fd: u32, iovs: u32, iovs_len: u32, ri_flags: u32, nread_at: u32, ro_flags_at: u32);
-    /// Is refused: there are no sockets.
-    sock_send as wasi_c_sock_send(fd: u32, iovs: u32, iovs_len: u32, si_flags: u32, nsent_at: u32);
-    /// Is refused: there are no sockets.
-    sock_shutdown as wasi_c_sock_shutdown(fd: u32, how: u32);
-}
+mod calls;

@@ -1,0 +1,49 @@
+-- A call by its number.
+use Rattle.std.specs.Prelude.{◌≡◌, ℕ, ◌+◌, ◌%◌, ◌^◌, nat_le, if◌then◌else◌, List, length, Option, Some, None, option_and_then, slice_index}
+use Rattle.wasi_call_table.specs.CallTable.{call_kinds, call_of_words}
+use Rattle.wasi_guest.specs.declared.call.Call.{Call}
+use Rattle.wasi_sandbox.specs.Shapes.{shape_of}
+use Rattle.wasi_sandbox.specs.declared.result_layout.Places.{Places}
+use Rattle.wasi_sandbox.specs.declared.result_layout.Shape.{Shape}
+use Rattle.wasi_sandbox.specs.declared.result_layout.Shape.TheVariants as shapes
+use Rattle.wasi_c.specs.Held.{Held}
+use Rattle.wasi_c.specs.Told.{TellsCall}
+use Rattle.wasi_c.specs.declared.calls.Request.{Request}
+
+-- how many results a call of a shape has, each at an address of its own
+abbrev pub result_count : Shape → ℕ
+result_count shapes.Nothing = 0
+result_count shapes.TwoU32 = 2
+result_count shapes.U32AndU16 = 2
+result_count shape = 1
+
+-- the address that the word at a place is: its low 32 bits
+abbrev pub address_at : List ℕ → ℕ → ℕ
+address_at words place = slice_index words place % 2 ^ 32
+
+-- the addresses of a call's results, which the words from a place on are
+abbrev pub places_at : List ℕ → ℕ → Shape → Places
+places_at words place shapes.Nothing = record { first = 0; second = 0 }
+places_at words place shapes.TwoU32 = record { first = address_at words place; second = address_at words (place + 1) }
+places_at words place shapes.U32AndU16 = record { first = address_at words place; second = address_at words (place + 1) }
+places_at words place shape = record { first = address_at words place; second = 0 }
+
+-- a call with so many arguments, and the addresses behind them, where there are as many words as it wants
+abbrev pub requested_by : List ℕ → ℕ → Call → Option Request
+requested_by words arguments call =
+    if nat_le (arguments + result_count (shape_of call)) (length words)
+    then Some (record { call = call; to = places_at words arguments (shape_of call) })
+    else None
+
+-- what a number and words ask for: the call of the number with these words as its arguments, and the addresses of its results
+abbrev pub requested : ℕ → List ℕ → Option Request
+requested number words =
+    option_and_then (λ kinds. option_and_then (requested_by words (length kinds)) (call_of_words number words)) (call_kinds number)
+
+-- what is asked for is answered; where nothing is, all stays, and the code is one of its own
+abbrev pub TellsRequested : Held → Held → List ℕ → List ℕ → Option Request → ℕ → Type 0
+TellsRequested old new before after (Some request) code = TellsCall old new before after request.call request.to code
+TellsRequested old new before after None code = (new ≡ old) × (after ≡ before) × (code ≡ 278)
+
+abbrev pub TellsNumbered : Held → Held → List ℕ → List ℕ → ℕ → List ℕ → ℕ → Type 0
+TellsNumbered old new before after number words code = TellsRequested old new before after (requested number words) code
