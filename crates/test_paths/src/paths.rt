@@ -6,7 +6,7 @@ use std::alloc::Global;
 use test_support::{
     Asked, Told, answered, done, refused, time_of, told, told_node, told_times, unknown, word,
 };
-use wasi_host::{Handle, Host, HostError, OpenOptions};
+use wasi_host::{FollowSymlinks, Handle, Host, HostError, OpenOptions};
 use wasi_resolve::{
     MaybeOwned, create_dir, hard_link, open, open_dir, open_parent, read_dir, read_link,
     remove_dir, remove_file, rename, set_times, set_times_nofollow, stat, symlink,

@@ -1,10 +1,8 @@
 -- The seats by number, of which one is written.
-use Rattle.std.proofs.Common.{◌≡◌, ℕ, true, false, Some, None, is_some, sym, ap, ◌∙◌, arith}
+use Rattle.std.proofs.Common.{◌≡◌, ℕ, Some, None, sym, ap, ◌∙◌, arith}
 use Rattle.std.specs.FinMap as maps
-use Rattle.std.specs.Global.{Vec}
-use Rattle.std.specs.Prelude.{Option}
 use Rattle.std.proofs.lemmas.Bool.Decides.{nat_tests}
-use Rattle.wasi_overlay.specs.OverSeats.{SeatMap, seat_changed, seat_put, own_at, own_of}
+use Rattle.wasi_overlay.specs.OverSeats.{SeatMap, kept_changed, kept_in, seat_changed, seat_put, own_at, own_of, own_put}
 use Rattle.wasi_overlay.specs.declared.seat.Seat.{Seat}
 
 -- a seat was written
@@ -18,23 +16,27 @@ pub entry_missing : (m : SeatMap) (k : ℕ) (change : Seat → Seat) → maps.ge
 unfolding seat_changed
 entry_missing m k change none = ap (seat_put m k change) (sym none)
 
--- the bytes of its own that a seat has once it was written
-pub own_written : (m : SeatMap) (k : ℕ) (new : Seat) → own_at (maps.insert m k new) k ≡ new.bytes
+-- the bytes of its own that a file has once its seat was written
+pub own_written : (m : SeatMap) (k : ℕ) (new : Seat) → own_at (maps.insert m k new) k ≡ own_of new.kept
 unfolding own_at
-own_written m k new = let written : maps.get (maps.insert m k new) k ≡ Some new = grind (arith, maps.gets, nat_tests) in ap own_of written
+own_written m k new =
+    let written : maps.get (maps.insert m k new) k ≡ Some new = grind (arith, maps.gets, nat_tests) in
+    ap (λ seat. own_of (kept_in seat)) written
 
--- the bytes of its own that the seat had
-pub own_before : (m : SeatMap) (k : ℕ) (seat : Seat) → maps.get m k ≡ Some seat → own_at m k ≡ seat.bytes
+-- those that it had
+pub own_before : (m : SeatMap) (k : ℕ) (seat : Seat) → maps.get m k ≡ Some seat → own_at m k ≡ own_of seat.kept
 unfolding own_at
-own_before m k seat there = ap own_of there
+own_before m k seat there = ap (λ seat. own_of (kept_in seat)) there
 
--- the same, of a change to the bytes that the seat then has
-pub own_changed : (m : SeatMap) (k : ℕ) (seat new : Seat) (put : Option (Vec ℕ) → Seat → Seat)
-    → maps.get m k ≡ Some seat → new ≡ put new.bytes seat
-    → maps.insert m k new ≡ seat_changed m k (put (own_at (maps.insert m k new) k))
-own_changed m k seat new put there is =
-    entry_changed m k seat new (put (own_at (maps.insert m k new) k)) there (is ∙ ap (λ own. put own seat) (sym (own_written m k new)))
+-- a change to the bytes that it then has
+pub own_changed : (m : SeatMap) (k : ℕ) (seat new : Seat) → maps.get m k ≡ Some seat
+    → new ≡ kept_changed (own_put (own_of new.kept)) seat
+    → maps.insert m k new ≡ seat_changed m k (kept_changed (own_put (own_at (maps.insert m k new) k)))
+own_changed m k seat new there is =
+    entry_changed m k seat new (kept_changed (own_put (own_at (maps.insert m k new) k))) there
+    (is ∙ ap (λ own. kept_changed (own_put own) seat) (sym (own_written m k new)))
 
--- a number that has a seat isn't missing
-pub held_not_missing : {A : Type 0} (m : SeatMap) (k : ℕ) → maps.get m k ≡ None → is_some (maps.get m k) ≡ true → A
-held_not_missing m k none held = let apart : false ≡ true = sym (ap is_some none) ∙ held in absurd (cc)
+-- what has no seat has no bytes of its own
+pub own_missing : (m : SeatMap) (k : ℕ) → maps.get m k ≡ None → own_at m k ≡ None
+unfolding own_at
+own_missing m k none = ap (λ seat. own_of (kept_in seat)) none

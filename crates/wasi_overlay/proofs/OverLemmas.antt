@@ -113,9 +113,9 @@ contains-numbers_with test seats q =
 pub same_numbers : (s t : Nodes) → ((q : ℕ) → contains s q ≡ contains t q) → s ≡ t
 same_numbers s t each = same_set nat_cmp_total nat_cmp-IsAntisymmetric s t each
 
-some_changed : (change : Seat → Seat) (seat : Option Seat) → is_some (option_map change seat) ≡ is_some seat
+pub some_changed : {A : Type 0} (change : A → A) (a : Option A) → is_some (option_map change a) ≡ is_some a
 some_changed change None = refl
-some_changed change (Some seat) = refl
+some_changed change (Some a) = refl
 
 -- a change of a seat takes none away
 pub held_changed : (seats : SeatMap) (n : ℕ) (change : Seat → Seat) → held_in (seat_changed seats n change) ≡ held_in seats
@@ -147,11 +147,18 @@ passes_now : (test : Seat → Bool) (change : Seat → Seat) (seat : Option Seat
 passes_now test change None now held = held
 passes_now test change (Some seat) now held = now seat
 
-inserted_here : (s : Nodes) (n : ℕ) → contains (insert s n) n ≡ true
+pub inserted_here : (s : Nodes) (n : ℕ) → contains (insert s n) n ≡ true
 inserted_here s n = grind (arith, members, nat_tests)
 
 inserted_other : (s : Nodes) (n q : ℕ) → q ≢ n → contains (insert s n) q ≡ contains s q
 inserted_other s n q other = grind (arith, members, nat_tests)
+
+-- a number that a set has adds nothing to it
+pub insert_again : (s : Nodes) (n : ℕ) → contains s n ≡ true → insert s n ≡ s
+insert_again s n has = same_numbers _ _ (λ q. elim (cases_eq q n) [
+  | inl here ↦ ap (contains (insert s n)) here ∙ inserted_here s n ∙ sym (ap (contains s) here ∙ has)
+  | inr other ↦ inserted_other s n q other
+])
 
 -- one number more, whose seat passes from then on
 pub numbers_more : (test : Seat → Bool) (seats : SeatMap) (n : ℕ) (change : Seat → Seat)

@@ -8,7 +8,8 @@ use Rattle.wasi_host.specs.Tree.{Node, Content, File, Directory, Link, stray, is
 use Rattle.std.specs.Ordering.{nat_cmp}
 use Rattle.wasi_overlay.specs.Grown.{GrownNodes}
 use Rattle.wasi_overlay.specs.OverNodes.{OverState, over_state, AreRounds}
-use Rattle.wasi_overlay.specs.OverSeats.{SeatMap, seated, over_from, content_over, node_over, bytes_over}
+use Rattle.wasi_overlay.specs.OverSeats.{SeatMap, kept_at, with_kept, over_from, content_over, node_over, bytes_over}
+use Rattle.wasi_overlay.specs.declared.kept.Kept.{Kept}
 use Rattle.wasi_overlay.specs.declared.seat.Seat.{Seat}
 use Rattle.wasi_overlay.proofs.OverLemmas.{over_at, length-over}
 
@@ -23,103 +24,103 @@ over_past : (seats : SeatMap) (nodes : List Node) (n : ℕ) → length nodes ≤
 over_past seats nodes n past =
     none_there (over_from seats 0 nodes) n (omega (arith, past, length-over seats 0 nodes)) ∙ sym (none_there nodes n past)
 
-module _ {B : Type 0} (f : Node → B) (same : (seat : Seat) (node : Node) → f (node_over seat node) ≡ f node) where
-  of_seated : (seat : Option Seat) (node : Node) → f (seated seat node) ≡ f node
-  of_seated None node = refl
-  of_seated (Some seat) node = same seat node
+module _ {B : Type 0} (f : Node → B) (same : (kept : Kept) (node : Node) → f (node_over kept node) ≡ f node) where
+  of_kept : (kept : Option Kept) (node : Node) → f (with_kept kept node) ≡ f node
+  of_kept None node = refl
+  of_kept (Some kept) node = same kept node
 
   -- what seats leave of nodes
   pub left_at : (seats : SeatMap) (nodes : List Node) (n : ℕ)
       → f (slice_index_or nodes n stray) ≡ f (slice_index_or (over_from seats 0 nodes) n stray)
   left_at seats nodes n = elim (cases_lt n (length nodes)) [
-    | inl within ↦ sym (ap f (over_at seats nodes n within) ∙ of_seated (maps.get seats n) (slice_index_or nodes n stray))
+    | inl within ↦ sym (ap f (over_at seats nodes n within) ∙ of_kept (kept_at seats n) (slice_index_or nodes n stray))
     | inr past ↦ ap f (sym (over_past seats nodes n past))
   ]
 
-pub is_directory-over : (seat : Seat) (node : Node) → is_directory (node_over seat node).content ≡ is_directory node.content
-is_directory-over seat node = by node.content
+pub is_directory-over : (kept : Kept) (node : Node) → is_directory (node_over kept node).content ≡ is_directory node.content
+is_directory-over kept node = by node.content
   where
-    by : (c : Content) → is_directory (content_over seat c) ≡ is_directory c
+    by : (c : Content) → is_directory (content_over kept c) ≡ is_directory c
     by (File bytes links) = refl
     by (Directory names gone) = refl
     by (Link text links) = refl
 
-pub is_file-over : (seat : Seat) (node : Node) → is_file (node_over seat node).content ≡ is_file node.content
-is_file-over seat node = by node.content
+pub is_file-over : (kept : Kept) (node : Node) → is_file (node_over kept node).content ≡ is_file node.content
+is_file-over kept node = by node.content
   where
-    by : (c : Content) → is_file (content_over seat c) ≡ is_file c
+    by : (c : Content) → is_file (content_over kept c) ≡ is_file c
     by (File bytes links) = refl
     by (Directory names gone) = refl
     by (Link text links) = refl
 
-pub is_link-over : (seat : Seat) (node : Node) → is_link (node_over seat node).content ≡ is_link node.content
-is_link-over seat node = by node.content
+pub is_link-over : (kept : Kept) (node : Node) → is_link (node_over kept node).content ≡ is_link node.content
+is_link-over kept node = by node.content
   where
-    by : (c : Content) → is_link (content_over seat c) ≡ is_link c
+    by : (c : Content) → is_link (content_over kept c) ≡ is_link c
     by (File bytes links) = refl
     by (Directory names gone) = refl
     by (Link text links) = refl
 
-pub text_of-over : (seat : Seat) (node : Node) → text_of (node_over seat node).content ≡ text_of node.content
-text_of-over seat node = by node.content
+pub text_of-over : (kept : Kept) (node : Node) → text_of (node_over kept node).content ≡ text_of node.content
+text_of-over kept node = by node.content
   where
-    by : (c : Content) → text_of (content_over seat c) ≡ text_of c
+    by : (c : Content) → text_of (content_over kept c) ≡ text_of c
     by (File bytes links) = refl
     by (Directory names gone) = refl
     by (Link text links) = refl
 
--- what is there without a seat
-pub unseated_at : (seats : SeatMap) (nodes : List Node) (n : ℕ) → n < length nodes → maps.get seats n ≡ None
+-- a node of which nothing is kept is the one below
+pub unkept_at : (seats : SeatMap) (nodes : List Node) (n : ℕ) → n < length nodes → kept_at seats n ≡ None
     → slice_index_or nodes n stray ≡ slice_index_or (over_from seats 0 nodes) n stray
-unseated_at seats nodes n within none =
-    sym (over_at seats nodes n within ∙ ap (λ seat. seated seat (slice_index_or nodes n stray)) none)
+unkept_at seats nodes n within none =
+    sym (over_at seats nodes n within ∙ ap (λ kept. with_kept kept (slice_index_or nodes n stray)) none)
 
--- what is there with a seat
-pub seated_at : (seats : SeatMap) (nodes : List Node) (n : ℕ) (seat : Seat) → n < length nodes → maps.get seats n ≡ Some seat
-    → node_over seat (slice_index_or nodes n stray) ≡ slice_index_or (over_from seats 0 nodes) n stray
-seated_at seats nodes n seat within there =
-    sym (over_at seats nodes n within ∙ ap (λ seat. seated seat (slice_index_or nodes n stray)) there)
+-- and one of which something is kept is that over it
+pub over_kept_at : (seats : SeatMap) (nodes : List Node) (n : ℕ) (kept : Kept) → n < length nodes → kept_at seats n ≡ Some kept
+    → node_over kept (slice_index_or nodes n stray) ≡ slice_index_or (over_from seats 0 nodes) n stray
+over_kept_at seats nodes n kept within there =
+    sym (over_at seats nodes n within ∙ ap (λ kept. with_kept kept (slice_index_or nodes n stray)) there)
 
--- a directory that is gone, of a node that has a seat
-pub gone-over : (seat : Seat) (node : Node) → (is_directory node.content && seat.gone) ≡ is_gone (node_over seat node).content
-gone-over seat node = by node.content
+-- a directory that is gone, of a node of which something is kept
+pub gone-over : (kept : Kept) (node : Node) → (is_directory node.content && kept.gone) ≡ is_gone (node_over kept node).content
+gone-over kept node = by node.content
   where
-    by : (c : Content) → (is_directory c && seat.gone) ≡ is_gone (content_over seat c)
+    by : (c : Content) → (is_directory c && kept.gone) ≡ is_gone (content_over kept c)
     by (File bytes links) = refl
     by (Directory names gone) = refl
     by (Link text links) = refl
 
--- the bytes of a file that has a seat
-pub file_bytes-over : (seat : Seat) (node : Node) → is_file node.content ≡ true
-    → bytes_over seat.bytes (bytes_of node.content) ≡ bytes_of (node_over seat node).content
-file_bytes-over seat node = by node.content
+-- the bytes of a file of which something is kept
+pub file_bytes-over : (kept : Kept) (node : Node) → is_file node.content ≡ true
+    → bytes_over kept.bytes (bytes_of node.content) ≡ bytes_of (node_over kept node).content
+file_bytes-over kept node = by node.content
   where
-    by : (c : Content) → is_file c ≡ true → bytes_over seat.bytes (bytes_of c) ≡ bytes_of (content_over seat c)
+    by : (c : Content) → is_file c ≡ true → bytes_over kept.bytes (bytes_of c) ≡ bytes_of (content_over kept c)
     by (File bytes links) is = refl
     by (Directory names gone) is = absurd (cc)
     by (Link text links) is = absurd (cc)
 
 -- what is no file has no bytes
-pub other_bytes-over : (seat : Seat) (node : Node) → is_file node.content ≡ false
-    → bytes_of node.content ≡ bytes_of (node_over seat node).content
-other_bytes-over seat node = by node.content
+pub other_bytes-over : (kept : Kept) (node : Node) → is_file node.content ≡ false
+    → bytes_of node.content ≡ bytes_of (node_over kept node).content
+other_bytes-over kept node = by node.content
   where
-    by : (c : Content) → is_file c ≡ false → bytes_of c ≡ bytes_of (content_over seat c)
+    by : (c : Content) → is_file c ≡ false → bytes_of c ≡ bytes_of (content_over kept c)
     by (File bytes links) is = absurd (cc)
     by (Directory names gone) is = refl
     by (Link text links) is = refl
 
--- a seat with no bytes of its own leaves those below
-pub no_bytes-over : (seat : Seat) (node : Node) → is_some seat.bytes ≡ false
-    → bytes_of node.content ≡ bytes_of (node_over seat node).content
-no_bytes-over seat node none = by node.content
+-- where no bytes of its own are kept, a file has those below
+pub no_bytes-over : (kept : Kept) (node : Node) → is_some kept.bytes ≡ false
+    → bytes_of node.content ≡ bytes_of (node_over kept node).content
+no_bytes-over kept node none = by node.content
   where
     own : (bytes : Option (Vec ℕ)) (below : List ℕ) → is_some bytes ≡ false → below ≡ bytes_over bytes below
     own None below none = refl
     own (Some bytes) below none = absurd (cc)
 
-    by : (c : Content) → bytes_of c ≡ bytes_of (content_over seat c)
-    by (File bytes links) = own seat.bytes bytes none
+    by : (c : Content) → bytes_of c ≡ bytes_of (content_over kept c)
+    by (File bytes links) = own kept.bytes bytes none
     by (Directory names gone) = refl
     by (Link text links) = refl
 

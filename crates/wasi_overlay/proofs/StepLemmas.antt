@@ -5,91 +5,117 @@ use Rattle.std.proofs.lemmas.Bool.Decides.{nat_tests}
 use Rattle.std.specs.FinMap as maps
 use Rattle.std.specs.FinSet.{contains, insert}
 use Rattle.std.specs.Global.{Vec}
-use Rattle.std.specs.Prelude.{Option, option_map, nat_lt, replicate}
+use Rattle.std.specs.Prelude.{Option, option_map, nat_lt, replicate, unwrap_or}
 use Rattle.wasi_host.specs.Step.{with_content, name_lost, one_name_more, other_bytes, with_size}
 use Rattle.wasi_host.specs.Tree.{Node, Content, File, Directory, Link, stray, links_of, bytes_of}
 use Rattle.wasi_overlay.specs.Grown.{GrownNodes}
 use Rattle.wasi_overlay.specs.OverNodes.{OverState, over_state, is_worked, is_touched, has_room, AreRounds}
-use Rattle.wasi_overlay.specs.OverSeats.{SeatMap, seated, over_from, held_in, seat_changed, node_over, content_over, bytes_over, name_less, links_put, own_put, own_kept, own_of, own_at}
+use Rattle.wasi_overlay.specs.OverSeats.{SeatMap, kept_at, kept_in, kept_of, with_kept, seated, over_from, held_in, numbers_with, passes, seat_changed, node_over, content_over, bytes_over, in_round, worked_on, kept_changed, name_less, links_put, own_put, own_of, own_at}
+use Rattle.wasi_overlay.specs.declared.kept.Kept.{Kept}
 use Rattle.wasi_overlay.specs.declared.seat.Seat.{Seat}
-use Rattle.wasi_overlay.proofs.OverLemmas.{over_at, over_one, over_same, seat_here, seat_other, held_changed, numbers_stay, numbers_more, contains-held_in}
-use Rattle.wasi_overlay.proofs.StateLemmas.{within_below, seated_at}
+use Rattle.wasi_overlay.proofs.OverLemmas.{over_at, over_one, over_same, seat_here, seat_other, some_changed, held_changed, inserted_here, insert_again, numbers_stay, numbers_more, contains-held_in, contains-numbers_with}
+use Rattle.wasi_overlay.proofs.SeatLemmas.{over-kept_of}
+use Rattle.wasi_overlay.proofs.StateLemmas.{within_below, over_kept_at}
 
--- ---- what a change of a seat is to its node
+-- ---- what a change of what is kept is to its node
 
-over_content : (node : Node) (seat new : Seat) (change : Content → Content) → new.atime ≡ seat.atime → new.mtime ≡ seat.mtime
-    → content_over new node.content ≡ change (content_over seat node.content)
-    → node_over new node ≡ with_content (node_over seat node) change
-over_content node seat new change atime mtime is = λ i.
+over_content : (node : Node) (kept new : Kept) (change : Content → Content) → new.atime ≡ kept.atime → new.mtime ≡ kept.mtime
+    → content_over new node.content ≡ change (content_over kept node.content)
+    → node_over new node ≡ with_content (node_over kept node) change
+over_content node kept new change atime mtime is = λ i.
     let n : Node = record node { content = is i; atime = atime i; mtime = mtime i } in n
 
-pub over-name_less : (seat : Seat) (node : Node) → node_over (name_less seat) node ≡ with_content (node_over seat node) name_lost
-over-name_less seat node = over_content node seat (name_less seat) name_lost refl refl (by node.content)
+pub over-name_less : (kept : Kept) (node : Node) → node_over (name_less kept) node ≡ with_content (node_over kept node) name_lost
+over-name_less kept node = over_content node kept (name_less kept) name_lost refl refl (by node.content)
   where
-    by : (c : Content) → content_over (name_less seat) c ≡ name_lost (content_over seat c)
+    by : (c : Content) → content_over (name_less kept) c ≡ name_lost (content_over kept c)
     by (File bytes links) = refl
     by (Directory names gone) = refl
     by (Link text links) = refl
 
-pub over-links_put : (seat : Seat) (node : Node) (links : ℕ) → links ≡ links_of (node_over seat node).content + 1
-    → node_over (links_put links seat) node ≡ with_content (node_over seat node) one_name_more
-over-links_put seat node links = λ is. over_content node seat (links_put links seat) one_name_more refl refl (by node.content is)
+pub over-links_put : (kept : Kept) (node : Node) (links : ℕ) → links ≡ links_of (node_over kept node).content + 1
+    → node_over (links_put links kept) node ≡ with_content (node_over kept node) one_name_more
+over-links_put kept node links = λ is. over_content node kept (links_put links kept) one_name_more refl refl (by node.content is)
   where
-    by : (c : Content) → links ≡ links_of (content_over seat c) + 1
-        → content_over (links_put links seat) c ≡ one_name_more (content_over seat c)
-    by (File bytes old) is = ap (File (bytes_over seat.bytes bytes)) is
+    by : (c : Content) → links ≡ links_of (content_over kept c) + 1
+        → content_over (links_put links kept) c ≡ one_name_more (content_over kept c)
+    by (File bytes old) is = ap (File (bytes_over kept.bytes bytes)) is
     by (Directory names gone) is = refl
     by (Link text old) is = ap (Link text) is
 
-pub over-own_put : (seat : Seat) (node : Node) (change : List ℕ → List ℕ) (own : _)
-    → bytes_over own (bytes_of node.content) ≡ change (bytes_over seat.bytes (bytes_of node.content))
-    → node_over (own_put own seat) node ≡ with_content (node_over seat node) (other_bytes change)
-over-own_put seat node change own = λ is. over_content node seat (own_put own seat) (other_bytes change) refl refl (by node.content is)
+pub over-own_put : (kept : Kept) (node : Node) (change : List ℕ → List ℕ) (own : Option (Vec ℕ))
+    → bytes_over own (bytes_of node.content) ≡ change (bytes_over kept.bytes (bytes_of node.content))
+    → node_over (own_put own kept) node ≡ with_content (node_over kept node) (other_bytes change)
+over-own_put kept node change own = λ is. over_content node kept (own_put own kept) (other_bytes change) refl refl (by node.content is)
   where
-    by : (c : Content) → bytes_over own (bytes_of c) ≡ change (bytes_over seat.bytes (bytes_of c))
-        → content_over (own_put own seat) c ≡ other_bytes change (content_over seat c)
-    by (File bytes links) is = ap (λ all. File all seat.links) is
+    by : (c : Content) → bytes_over own (bytes_of c) ≡ change (bytes_over kept.bytes (bytes_of c))
+        → content_over (own_put own kept) c ≡ other_bytes change (content_over kept c)
+    by (File bytes links) is = ap (λ all. File all kept.links) is
     by (Directory names gone) is = refl
     by (Link text links) is = refl
 
-pub over-own_kept : (seat : Seat) (node : Node) (own : _)
-    → bytes_over own (bytes_of node.content) ≡ bytes_over seat.bytes (bytes_of node.content)
-    → node_over (own_kept own seat) node ≡ node_over seat node
-over-own_kept seat node own = λ is.
-    ap (λ (c : Content). let n : Node = record (node_over seat node) { content = c } in n) (by node.content is)
+-- the same bytes in another room
+pub over-own_same : (kept : Kept) (node : Node) (own : Option (Vec ℕ))
+    → bytes_over own (bytes_of node.content) ≡ bytes_over kept.bytes (bytes_of node.content)
+    → node_over (own_put own kept) node ≡ node_over kept node
+over-own_same kept node own = λ is.
+    ap (λ (c : Content). let n : Node = record (node_over kept node) { content = c } in n) (by node.content is)
   where
-    by : (c : Content) → bytes_over own (bytes_of c) ≡ bytes_over seat.bytes (bytes_of c)
-        → content_over (own_kept own seat) c ≡ content_over seat c
-    by (File bytes links) is = ap (λ all. File all seat.links) is
+    by : (c : Content) → bytes_over own (bytes_of c) ≡ bytes_over kept.bytes (bytes_of c)
+        → content_over (own_put own kept) c ≡ content_over kept c
+    by (File bytes links) is = ap (λ all. File all kept.links) is
     by (Directory names gone) is = refl
     by (Link text links) is = refl
 
--- the bytes that a step makes, by those that the seat has
-pub own_says : (seats : SeatMap) (n : ℕ) (seat : Seat) (node : Node) (below : List ℕ) (own : _) (change : List ℕ → List ℕ)
-    → maps.get seats n ≡ Some seat → below ≡ bytes_of node.content
-    → bytes_over own below ≡ change (bytes_over (own_at seats n) below)
-    → bytes_over own (bytes_of node.content) ≡ change (bytes_over seat.bytes (bytes_of node.content))
-unfolding own_at
-own_says seats n seat node below own change there is made =
-    ap (bytes_over own) (sym is) ∙ made
-    ∙ (λ i. change (bytes_over (ap own_of there i) (is i)))
+-- what is made of the bytes that a file has is what a step makes of them
+pub bytes_made : (node : Node) (change : List ℕ → List ℕ) (bytes : List ℕ) → bytes ≡ change (bytes_of node.content)
+    → with_content node (other_bytes (λ _. bytes)) ≡ with_content node (other_bytes change)
+bytes_made node change bytes = λ is.
+    ap (λ (c : Content). let n : Node = record node { content = c } in n) (by node.content is)
+  where
+    by : (c : Content) → bytes ≡ change (bytes_of c) → other_bytes (λ _. bytes) c ≡ other_bytes change c
+    by (File old links) is = ap (λ all. File all links) is
+    by (Directory names gone) is = refl
+    by (Link text links) is = refl
 
 -- no bytes are left of a size of none
-pub with_size_none : (bytes : List ℕ) → with_size 0 bytes ≡ []
+pub with_size_none : (bytes : List ℕ) → [] ≡ with_size 0 bytes
 unfolding with_size
-with_size_none bytes = let none : 0 - length bytes ≡ 0 = omega arith in ap (λ gap. replicate gap 0) none
+with_size_none bytes = let none : 0 ≡ 0 - length bytes = omega arith in ap (λ gap. replicate gap 0) none
+
+-- ---- what a change of a seat is to its node
+
+-- a seat that is touched keeps what it kept
+seated_touched : (round : ℕ) (node : Node) (seat : Option Seat) → seated (option_map (in_round round) seat) node ≡ seated seat node
+seated_touched round node None = refl
+seated_touched round node (Some seat) = refl
+
+-- what is kept of a node that is worked on begins with what it is
+seated_worked : (node : Node) (seat : Option Seat) → seated (option_map (worked_on node) seat) node ≡ seated seat node
+seated_worked node None = refl
+seated_worked node (Some seat) = by seat.kept
+  where
+    by : (kept : Option Kept) → node_over (unwrap_or kept (kept_of node)) node ≡ with_kept kept node
+    by None = over-kept_of node
+    by (Some kept) = refl
+
+-- where something is kept, its change is that of the node
+seated_changed : (change : Kept → Kept) (g : Node → Node) (node : Node) (seat : Option Seat) → is_some (kept_in seat) ≡ true
+    → ((kept : Kept) → kept_in seat ≡ Some kept → node_over (change kept) node ≡ g (node_over kept node))
+    → seated (option_map (kept_changed change) seat) node ≡ g (seated seat node)
+seated_changed change g node None keeps does = absurd (cc)
+seated_changed change g node (Some seat) keeps does = by seat.kept keeps does
+  where
+    by : (kept : Option Kept) → is_some kept ≡ true
+        → ((k : Kept) → kept ≡ Some k → node_over (change k) node ≡ g (node_over k node))
+        → with_kept (option_map change kept) node ≡ g (with_kept kept node)
+    by None keeps does = absurd (cc)
+    by (Some kept) keeps does = does kept refl
 
 -- ---- the state then
 
 pub itself : (n : ℕ) → (n == n) ≡ true
 itself n = grind (arith, nat_tests)
-
-is_there : (seats : SeatMap) (n : ℕ) (seat : Option Seat) → maps.get seats n ≡ seat → is_some seat ≡ true
-    → (change : Seat → Seat) (node : Node) (g : Node → Node)
-    → ((seat : Seat) → maps.get seats n ≡ Some seat → node_over (change seat) node ≡ g (node_over seat node))
-    → seated (option_map change seat) node ≡ g (seated seat node)
-is_there seats n None is held change node g does = absurd (cc)
-is_there seats n (Some seat) is held change node g does = does seat is
 
 some_after : (seats : SeatMap) (n q : ℕ) (change : Seat → Seat)
     → is_some (maps.get (seat_changed seats n change) q) ≡ is_some (maps.get seats q)
@@ -97,9 +123,9 @@ some_after seats n q change =
     sym (contains-held_in (seat_changed seats n change) q)
     ∙ ap (λ s. contains s q) (held_changed seats n change) ∙ contains-held_in seats q
 
--- a step: the node of a number is another one, and worked on
+-- the node of a number is another one
 abbrev pub with_node : OverState → ℕ → (Node → Node) → OverState
-with_node t n g = record t { nodes = slice_set t.nodes n (g (slice_index_or t.nodes n stray)); worked = insert t.worked n }
+with_node t n g = record t { nodes = slice_set t.nodes n (g (slice_index_or t.nodes n stray)) }
 
 abbrev pub with_worked : OverState → ℕ → OverState
 with_worked t n = record t { worked = insert t.worked n }
@@ -107,121 +133,178 @@ with_worked t n = record t { worked = insert t.worked n }
 abbrev pub with_touched : OverState → ℕ → OverState
 with_touched t n = record t { touched = insert t.touched n }
 
--- a number that is held has a seat
-pub some_held : (below : GrownNodes) (seats : SeatMap) (round : ℕ) {t : OverState} (n : ℕ) → over_state below seats round ≡ t
-    → contains t.held n ≡ true → is_some (maps.get seats n) ≡ true
-some_held below seats round n is held =
-    sym (contains-held_in seats n) ∙ ap (λ (u : OverState). contains u.held n) is ∙ held
+passes_worked : (seat : Option Seat) → passes is_worked seat ≡ is_some (kept_in seat)
+passes_worked None = refl
+passes_worked (Some seat) = refl
+
+-- the numbers that were worked on are those of which something is kept
+contains-worked : (seats : SeatMap) (n : ℕ) → contains (numbers_with is_worked seats) n ≡ is_some (kept_at seats n)
+contains-worked seats n = contains-numbers_with is_worked seats n ∙ passes_worked (maps.get seats n)
+
+-- what has bytes of its own was worked on
+own_kept : (kept : Option Kept) → is_some (own_of kept) ≡ true → is_some kept ≡ true
+own_kept None own = own
+own_kept (Some kept) own = refl
+
+module _ (below : GrownNodes) (seats : SeatMap) (round : ℕ) {t : OverState} (n : ℕ) (is : over_state below seats round ≡ t) where
+  -- of what was worked on something is kept
+  pub keeps : contains t.worked n ≡ true → is_some (kept_at seats n) ≡ true
+  keeps works = sym (contains-worked seats n) ∙ ap (λ (u : OverState). contains u.worked n) is ∙ works
+
+  -- what has bytes of its own is among what was worked on
+  own_worked : is_some (own_at seats n) ≡ true → contains t.worked n ≡ true
+  unfolding own_at
+  own_worked own =
+      ap (λ (u : OverState). contains u.worked n) (sym is) ∙ contains-worked seats n ∙ own_kept (kept_at seats n) own
+
+  -- a number that is held has a seat
+  held_now : contains t.held n ≡ true → contains (held_in seats) n ≡ true
+  held_now held = ap (λ (u : OverState). contains u.held n) is ∙ held
 
 module _ (below : GrownNodes) (seats : SeatMap) (round : ℕ) {t : OverState} (n : ℕ) (is : over_state below seats round ≡ t)
-    (within : n < length t.nodes) (held : contains t.held n ≡ true) (change : Seat → Seat) where
+    (within : n < length t.nodes) (change : Seat → Seat) where
   abbrev new : SeatMap
   new = seat_changed seats n change
 
   abbrev node : Node
   node = slice_index_or below.nodes n stray
 
-  held_now : contains (held_in seats) n ≡ true
-  held_now = ap (λ (u : OverState). contains u.held n) is ∙ held
-
-  -- what is said of the node, its seat says
-  pub seat_says : {B : Type 0} (f : Node → B) (seat : Seat) → maps.get seats n ≡ Some seat
-      → f (slice_index_or t.nodes n stray) ≡ f (node_over seat node)
-  seat_says f seat there =
-      ap (λ (u : OverState). f (slice_index_or u.nodes n stray)) (sym is)
-      ∙ ap f (sym (seated_at seats below.nodes n seat (within_below below seats round is within) there))
-
   -- the nodes
-  nodes_after : (g : Node → Node)
-      → ((seat : Seat) → maps.get seats n ≡ Some seat → node_over (change seat) node ≡ g (node_over seat node))
+  nodes_after : (g : Node → Node) → seated (option_map change (maps.get seats n)) node ≡ g (seated (maps.get seats n) node)
       → over_from new 0 below.nodes ≡ slice_set t.nodes n (g (slice_index_or t.nodes n stray))
   nodes_after g does =
       let inside = within_below below seats round is within in
       over_one seats new below.nodes n inside (seat_other seats n change)
       ∙ ap (slice_set (over_from seats 0 below.nodes) n)
-      (ap (λ seat. seated seat node) (seat_here seats n change)
-      ∙ is_there seats n (maps.get seats n) refl (sym (contains-held_in seats n) ∙ held_now) change node g does
-      ∙ ap g (sym (over_at seats below.nodes n inside)))
+      (ap (λ seat. seated seat node) (seat_here seats n change) ∙ does ∙ ap g (sym (over_at seats below.nodes n inside)))
       ∙ ap (λ (u : OverState). slice_set u.nodes n (g (slice_index_or u.nodes n stray))) is
 
   -- the nodes, where they stay
-  nodes_stay : ((seat : Seat) → maps.get seats n ≡ Some seat → node_over (change seat) node ≡ node_over seat node)
+  nodes_stay : seated (option_map change (maps.get seats n)) node ≡ seated (maps.get seats n) node
       → over_from new 0 below.nodes ≡ t.nodes
   nodes_stay does =
       over_same seats new below.nodes (λ q inside. elim (cases_eq q n) [
         | inl here ↦ subst (λ p. seated (maps.get new p) (slice_index_or below.nodes p stray)
             ≡ seated (maps.get seats p) (slice_index_or below.nodes p stray)) (sym here)
-            (ap (λ seat. seated seat node) (seat_here seats n change)
-            ∙ is_there seats n (maps.get seats n) refl (sym (contains-held_in seats n) ∙ held_now) change node (λ m. m) does)
+            (ap (λ seat. seated seat node) (seat_here seats n change) ∙ does)
         | inr other ↦ ap (λ seat. seated seat (slice_index_or below.nodes q stray)) (seat_other seats n change q other)
       ])
       ∙ ap (λ (u : OverState). u.nodes) is
+
+  held_after : held_in new ≡ t.held
+  held_after = held_changed seats n change ∙ ap (λ (u : OverState). u.held) is
+
+  worked_stay : ((seat : Seat) → is_worked (change seat) ≡ is_worked seat) → numbers_with is_worked new ≡ t.worked
+  worked_stay same = numbers_stay is_worked seats n change same ∙ ap (λ (u : OverState). u.worked) is
+
+  touched_stay : ((seat : Seat) → (change seat).round ≡ seat.round) → numbers_with (is_touched round) new ≡ t.touched
+  touched_stay same =
+      numbers_stay (is_touched round) seats n change (λ seat. ap (λ r. r == round) (same seat)) ∙ ap (λ (u : OverState). u.touched) is
 
   room_after : has_room below new ≡ t.has_room
   room_after =
       ap (λ b. nat_lt 0 below.room && (b && nat_lt (length below.nodes) (2 ^ 64 - 1))) (some_after seats n (length below.nodes) change)
       ∙ ap (λ (u : OverState). u.has_room) is
 
-  -- a step: its node is another one, and worked on
-  pub state_stepped : (g : Node → Node)
-      → ((seat : Seat) → maps.get seats n ≡ Some seat → node_over (change seat) node ≡ g (node_over seat node))
-      → ((seat : Seat) → (change seat).worked ≡ true) → ((seat : Seat) → (change seat).round ≡ seat.round)
-      → (next : SeatMap) → next ≡ new
-      → over_state below next round
-      ≡ with_node t n g
-  state_stepped g does works rounds next made = ap (λ s. over_state below s round) made ∙ (λ i.
+module _ (below : GrownNodes) (seats : SeatMap) (round : ℕ) {t : OverState} (n : ℕ) (is : over_state below seats round ≡ t)
+    (within : n < length t.nodes) where
+  -- the node is touched, and stays
+  pub state_touched : contains t.held n ≡ true → (next : SeatMap) → next ≡ seat_changed seats n (in_round round)
+      → over_state below next round ≡ with_touched t n
+  state_touched held next made = ap (λ s. over_state below s round) made ∙ (λ i.
       let u : OverState = record {
-        nodes = nodes_after g does i;
-        held = (held_changed seats n change ∙ ap (λ (u : OverState). u.held) is) i;
-        worked = (numbers_more is_worked seats n change works held_now ∙ ap (λ (u : OverState). insert u.worked n) is) i;
-        touched = (numbers_stay (is_touched round) seats n change (λ seat. ap (λ r. r == round) (rounds seat))
-            ∙ ap (λ (u : OverState). u.touched) is) i;
-        has_room = room_after i;
+        nodes = nodes_stay below seats round n is within (in_round round)
+            (seated_touched round (slice_index_or below.nodes n stray) (maps.get seats n)) i;
+        held = held_after below seats round n is within (in_round round) i;
+        worked = worked_stay below seats round n is within (in_round round) (λ _. refl) i;
+        touched = (numbers_more (is_touched round) seats n (in_round round) (λ _. itself round) (held_now below seats round n is held)
+            ∙ ap (λ (u : OverState). insert u.touched n) is) i;
+        has_room = room_after below seats round n is within (in_round round) i;
       } in u)
 
   -- the node is worked on, and stays
-  pub state_worked : ((seat : Seat) → maps.get seats n ≡ Some seat → node_over (change seat) node ≡ node_over seat node)
-      → ((seat : Seat) → (change seat).worked ≡ true) → ((seat : Seat) → (change seat).round ≡ seat.round)
-      → (next : SeatMap) → next ≡ new → over_state below next round ≡ with_worked t n
-  state_worked does works rounds next made = ap (λ s. over_state below s round) made ∙ (λ i.
+  pub state_worked : contains t.held n ≡ true → (next : SeatMap)
+      → next ≡ seat_changed seats n (worked_on (slice_index_or below.nodes n stray))
+      → over_state below next round ≡ with_worked t n
+  state_worked held next made =
+      let works : Seat → Seat = worked_on (slice_index_or below.nodes n stray) in
+      ap (λ s. over_state below s round) made ∙ (λ i.
       let u : OverState = record {
-        nodes = nodes_stay does i;
-        held = (held_changed seats n change ∙ ap (λ (u : OverState). u.held) is) i;
-        worked = (numbers_more is_worked seats n change works held_now ∙ ap (λ (u : OverState). insert u.worked n) is) i;
-        touched = (numbers_stay (is_touched round) seats n change (λ seat. ap (λ r. r == round) (rounds seat))
-            ∙ ap (λ (u : OverState). u.touched) is) i;
-        has_room = room_after i;
+        nodes = nodes_stay below seats round n is within works
+            (seated_worked (slice_index_or below.nodes n stray) (maps.get seats n)) i;
+        held = held_after below seats round n is within works i;
+        worked = (numbers_more is_worked seats n works (λ _. refl) (held_now below seats round n is held)
+            ∙ ap (λ (u : OverState). insert u.worked n) is) i;
+        touched = touched_stay below seats round n is within works (λ _. refl) i;
+        has_room = room_after below seats round n is within works i;
       } in u)
 
-  -- the node is touched, and stays
-  pub state_touched : ((seat : Seat) → maps.get seats n ≡ Some seat → node_over (change seat) node ≡ node_over seat node)
-      → ((seat : Seat) → (change seat).worked ≡ seat.worked) → ((seat : Seat) → (change seat).round ≡ round)
-      → (next : SeatMap) → next ≡ new → over_state below next round ≡ with_touched t n
-  state_touched does works rounds next made = ap (λ s. over_state below s round) made ∙ (λ i.
+  -- the node is another one, where what is kept of it changes
+  pub state_changed : (change : Kept → Kept) (g : Node → Node) → contains t.worked n ≡ true
+      → ((kept : Kept) → kept_at seats n ≡ Some kept
+      → node_over (change kept) (slice_index_or below.nodes n stray) ≡ g (node_over kept (slice_index_or below.nodes n stray)))
+      → (next : SeatMap) → next ≡ seat_changed seats n (kept_changed change)
+      → over_state below next round ≡ with_node t n g
+  state_changed change g works does next made = ap (λ s. over_state below s round) made ∙ (λ i.
       let u : OverState = record {
-        nodes = nodes_stay does i;
-        held = (held_changed seats n change ∙ ap (λ (u : OverState). u.held) is) i;
-        worked = (numbers_stay is_worked seats n change works ∙ ap (λ (u : OverState). u.worked) is) i;
-        touched = (numbers_more (is_touched round) seats n change (λ seat. ap (λ r. r == round) (rounds seat) ∙ itself round) held_now
-            ∙ ap (λ (u : OverState). insert u.touched n) is) i;
-        has_room = room_after i;
+        nodes = nodes_after below seats round n is within (kept_changed change) g
+            (seated_changed change g (slice_index_or below.nodes n stray) (maps.get seats n) (keeps below seats round n is works) does) i;
+        held = held_after below seats round n is within (kept_changed change) i;
+        worked = worked_stay below seats round n is within (kept_changed change) (λ seat. some_changed change seat.kept) i;
+        touched = touched_stay below seats round n is within (kept_changed change) (λ _. refl) i;
+        has_room = room_after below seats round n is within (kept_changed change) i;
       } in u)
 
-  -- nothing changes but how the seat says it
-  pub state_kept : ((seat : Seat) → maps.get seats n ≡ Some seat → node_over (change seat) node ≡ node_over seat node)
-      → ((seat : Seat) → (change seat).worked ≡ seat.worked) → ((seat : Seat) → (change seat).round ≡ seat.round)
-      → (next : SeatMap) → next ≡ new → over_state below next round ≡ t
-  state_kept does works rounds next made = ap (λ s. over_state below s round) made ∙ (λ i.
+  -- nothing changes but how it is kept
+  pub state_same : (change : Kept → Kept) → contains t.worked n ≡ true
+      → ((kept : Kept) → kept_at seats n ≡ Some kept
+      → node_over (change kept) (slice_index_or below.nodes n stray) ≡ node_over kept (slice_index_or below.nodes n stray))
+      → (next : SeatMap) → next ≡ seat_changed seats n (kept_changed change)
+      → over_state below next round ≡ t
+  state_same change works does next made = ap (λ s. over_state below s round) made ∙ (λ i.
       let u : OverState = record {
-        nodes = nodes_stay does i;
-        held = (held_changed seats n change ∙ ap (λ (u : OverState). u.held) is) i;
-        worked = (numbers_stay is_worked seats n change works ∙ ap (λ (u : OverState). u.worked) is) i;
-        touched = (numbers_stay (is_touched round) seats n change (λ seat. ap (λ r. r == round) (rounds seat))
-            ∙ ap (λ (u : OverState). u.touched) is) i;
-        has_room = room_after i;
+        nodes = nodes_stay below seats round n is within (kept_changed change)
+            (seated_changed change (λ node. node) (slice_index_or below.nodes n stray) (maps.get seats n) (keeps below seats round n is works) does) i;
+        held = held_after below seats round n is within (kept_changed change) i;
+        worked = worked_stay below seats round n is within (kept_changed change) (λ seat. some_changed change seat.kept) i;
+        touched = touched_stay below seats round n is within (kept_changed change) (λ _. refl) i;
+        has_room = room_after below seats round n is within (kept_changed change) i;
       } in u)
 
--- ---- other bytes of a file, or want of memory
+-- a step: the node of a number is worked on, and then is another one
+abbrev pub with_step : OverState → ℕ → (Node → Node) → OverState
+with_step t n g = with_node (with_worked t n) n g
+
+module _ (below : GrownNodes) (seats : SeatMap) (round : ℕ) (t : OverState) {w : OverState} (n : ℕ) (is : over_state below seats round ≡ w)
+    (nodes : w.nodes ≡ t.nodes) (worked : w.worked ≡ insert t.worked n) (touched : w.touched ≡ t.touched)
+    (held : w.held ≡ t.held) (room : w.has_room ≡ t.has_room) (within : n < length t.nodes) where
+  now_worked : over_state below seats round ≡ with_worked t n
+  now_worked = is ∙ (λ i.
+      let u : OverState = record {
+        nodes = nodes i;
+        held = held i;
+        worked = worked i;
+        touched = touched i;
+        has_room = room i;
+      } in u)
+
+  -- what is said of the node is said of it over what is kept
+  pub kept_says : {B : Type 0} (f : Node → B) (kept : Kept) → kept_at seats n ≡ Some kept
+      → f (slice_index_or t.nodes n stray) ≡ f (node_over kept (slice_index_or below.nodes n stray))
+  kept_says f kept there =
+      ap (λ (u : OverState). f (slice_index_or u.nodes n stray)) (sym now_worked)
+      ∙ ap f (sym (over_kept_at seats below.nodes n kept (within_below below seats round now_worked within) there))
+
+  -- once what is kept has changed
+  pub state_stepped : (change : Kept → Kept) (g : Node → Node)
+      → ((kept : Kept) → kept_at seats n ≡ Some kept
+      → node_over (change kept) (slice_index_or below.nodes n stray) ≡ g (node_over kept (slice_index_or below.nodes n stray)))
+      → (next : SeatMap) → next ≡ seat_changed seats n (kept_changed change)
+      → over_state below next round ≡ with_step t n g
+  state_stepped change g does next made =
+      state_changed below seats round n now_worked within change g (inserted_here t.worked n) does next made
+
+-- ---- other bytes of a file that has some of its own, or want of memory
 
 -- a file has other bytes, and was worked on; where memory was wanted, all is as it was
 pub record HasBytesPut {A E : Type 0} (r : Result A E) (t u : OverState) (n : ℕ) (change : List ℕ → List ℕ) : Type 0 where
@@ -233,46 +316,52 @@ pub record HasBytesPut {A E : Type 0} (r : Result A E) (t u : OverState) (n : �
   pub room : u.has_room ≡ t.has_room
 
 module _ (below : GrownNodes) (seats : SeatMap) (round : ℕ) {t : OverState} (n : ℕ) (is : over_state below seats round ≡ t)
-    (within : n < length t.nodes) (held : contains t.held n ≡ true) (bytes : List ℕ)
-    (here : bytes ≡ bytes_of (slice_index_or below.nodes n stray).content) (change : List ℕ → List ℕ) (next : SeatMap) where
+    (within : n < length t.nodes) (some : is_some (own_at seats n) ≡ true) (next : SeatMap)
+    (made : next ≡ seat_changed seats n (kept_changed (own_put (own_at next n)))) where
   abbrev own : Option (Vec ℕ)
   own = own_at next n
 
-  put_ok : next ≡ seat_changed seats n (own_put own)
-      → (is_some (maps.get seats n) ≡ true → bytes_over own bytes ≡ change (bytes_over (own_at seats n) bytes))
-      → over_state below next round ≡ with_node t n (λ node. with_content node (other_bytes change))
-  put_ok put made =
-      state_stepped below seats round n is within held (own_put own) (λ node. with_content node (other_bytes change))
-      (λ seat there. over-own_put seat (slice_index_or below.nodes n stray) change own
-      (own_says seats n seat (slice_index_or below.nodes n stray) bytes own change there here
-      (made (some_held below seats round n is held))))
-      (λ _. refl) (λ _. refl) next put
+  abbrev file : Node
+  file = slice_index_or below.nodes n stray
 
-  put_err : next ≡ seat_changed seats n (own_kept own) → bytes_over own bytes ≡ bytes_over (own_at seats n) bytes
-      → over_state below next round ≡ t
-  put_err kept same =
-      state_kept below seats round n is within held (own_kept own)
-      (λ seat there. over-own_kept seat (slice_index_or below.nodes n stray) own
-      (own_says seats n seat (slice_index_or below.nodes n stray) bytes own (λ bytes. bytes) there here same))
-      (λ _. refl) (λ _. refl) next kept
+  -- the bytes that its node has of its own
+  own_there : (kept : Kept) → kept_at seats n ≡ Some kept → own_at seats n ≡ kept.bytes
+  unfolding own_at
+  own_there kept there = ap own_of there
+
+  put_ok : (change : List ℕ → List ℕ) → ((bytes : List ℕ) → bytes_over own bytes ≡ change (bytes_over (own_at seats n) bytes))
+      → over_state below next round ≡ with_node t n (λ node. with_content node (other_bytes change))
+  put_ok change put =
+      state_changed below seats round n is within (own_put own) (λ node. with_content node (other_bytes change))
+      (own_worked below seats round n is some)
+      (λ kept there. over-own_put kept file change own
+      (put (bytes_of file.content) ∙ ap (λ o. change (bytes_over o (bytes_of file.content))) (own_there kept there)))
+      next made
+
+  put_err : ((bytes : List ℕ) → bytes_over own bytes ≡ bytes_over (own_at seats n) bytes) → over_state below next round ≡ t
+  put_err same =
+      state_same below seats round n is within (own_put own) (own_worked below seats round n is some)
+      (λ kept there. over-own_same kept file own
+      (same (bytes_of file.content) ∙ ap (λ o. bytes_over o (bytes_of file.content)) (own_there kept there)))
+      next made
 
   -- what the seats say of it
-  pub bytes_put : {A E : Type 0} (r : Result A E) → OnOk r (next ≡ seat_changed seats n (own_put own))
-      → OnOk r (is_some (maps.get seats n) ≡ true → bytes_over own bytes ≡ change (bytes_over (own_at seats n) bytes))
-      → OnErr r (next ≡ seat_changed seats n (own_kept own)) → OnErr r (bytes_over own bytes ≡ bytes_over (own_at seats n) bytes)
+  pub bytes_put : {A E : Type 0} (r : Result A E) (change : List ℕ → List ℕ)
+      → OnOk r (is_some (own_at seats n) ≡ true → (bytes : List ℕ) → bytes_over own bytes ≡ change (bytes_over (own_at seats n) bytes))
+      → OnErr r ((bytes : List ℕ) → bytes_over own bytes ≡ bytes_over (own_at seats n) bytes)
       → HasBytesPut r t (over_state below next round) n change
-  bytes_put (Ok done) put made kept same =
-      let now = put_ok put made in
+  bytes_put (Ok done) change put same =
+      let now = put_ok change (put some) in
       record {
         nodes = ap (λ (u : OverState). u.nodes) now;
-        worked = ap (λ (u : OverState). u.worked) now;
+        worked = ap (λ (u : OverState). u.worked) now ∙ sym (insert_again t.worked n (own_worked below seats round n is some));
         kept = tt;
         touched = ap (λ (u : OverState). u.touched) now;
         held = ap (λ (u : OverState). u.held) now;
         room = ap (λ (u : OverState). u.has_room) now;
       }
-  bytes_put (Err e) put made kept same =
-      let now = put_err kept same in
+  bytes_put (Err e) change put same =
+      let now = put_err same in
       record {
         nodes = tt;
         worked = tt;
@@ -307,12 +396,3 @@ rounds_changed round n seats next change are stay made = subst (AreRounds round)
     | inr other ↦ are.past q seat (sym (seat_other seats n change q other) ∙ there)
   ];
 })
-
--- rounds stay those of seats, of which one has other bytes or is the same
-pub rounds_either : {A E : Type 0} (round n : ℕ) (seats next : SeatMap) (r : Result A E) → AreRounds round seats
-    → OnOk r (next ≡ seat_changed seats n (own_put (own_at next n)))
-    → OnErr r (next ≡ seat_changed seats n (own_kept (own_at next n))) → AreRounds round next
-rounds_either round n seats next (Ok done) are put kept =
-    rounds_changed round n seats next (own_put (own_at next n)) are (λ _ below. below) put
-rounds_either round n seats next (Err e) are put kept =
-    rounds_changed round n seats next (own_kept (own_at next n)) are (λ _ below. below) kept

@@ -26,7 +26,7 @@ over_code =
     (λ _. refl)
 
 abbrev pub is_worked : Seat → Bool
-is_worked seat = seat.worked
+is_worked seat = is_some seat.kept
 
 abbrev pub is_touched : ℕ → Seat → Bool
 is_touched round seat = seat.round == round

@@ -10,8 +10,9 @@ ghost use Rattle.wasi_host.specs.Time.{HasTimes};
 ghost use Rattle.wasi_host.specs.Tree.{stray, is_directory, is_file, is_link, is_gone, links_of, bytes_of, text_of};
 ghost use Rattle.wasi_tree.specs.StoredTree.{stored_node};
 
+use crate::byte_copies::{copy_of_size, copy_with_piece};
 use crate::grown::Grown;
-use crate::seat::{Mark, Seat};
+use crate::seat::Mark;
 use crate::seats::Seats;
 use std::alloc::{AllocError, Global};
 use std::marker::Model;
@@ -114,8 +115,8 @@ impl<'a> OverNodes<'a> {
         requires { n < length self.now.nodes }
         ensures { result ≡ is_gone (slice_index_or self.now.nodes n stray).content }
     {
-        match self.seats.get(n) {
-            Some(seat) => self.below.is_directory(n) && seat.gone,
+        match self.seats.kept(n) {
+            Some(kept) => self.below.is_directory(n) && kept.gone,
             None => self.below.is_gone(n),
         }
     }
@@ -134,8 +135,8 @@ impl<'a> OverNodes<'a> {
         ensures metadata { result ≡ metadata_from n (slice_index_or self.now.nodes n stray) }
         ensures times { HasTimes result }
     {
-        match self.seats.get(n) {
-            Some(seat) => seat.metadata(self.below.metadata(n)),
+        match self.seats.kept(n) {
+            Some(kept) => kept.metadata(self.below.metadata(n)),
             None => self.below.metadata(n),
         }
     }
@@ -146,13 +147,14 @@ impl<'a> OverNodes<'a> {
         ensures { result.now ≡ bytes_of (slice_index_or self.now.nodes n stray).content }
     {
         let below = self.below.bytes(n);
-        match self.seats.get(n) {
-            Some(seat) if seat.bytes.is_some() && self.below.is_file(n) => seat.bytes_over(below),
+        match self.seats.kept(n) {
+            Some(kept) if kept.bytes.is_some() && self.below.is_file(n) => kept.bytes_over(below),
             _ => below,
         }
     }
 
     /// Touches a node.
+    #[inline(always)]
     pub fn touch(&mut self, n: u64)
         requires held { contains self.old.held n ≡ true }
         requires within { n < length self.old.nodes }
@@ -175,7 +177,7 @@ impl<'a> OverNodes<'a> {
         ensures held { self.new.held ≡ self.old.held }
         ensures room { self.new.has_room ≡ self.old.has_room }
     {
-        self.seats.work(n);
+        self.seats.work(&self.below, n);
     }
 
     /// Sets the given times of a node; one that isn't given stays.
@@ -188,6 +190,7 @@ impl<'a> OverNodes<'a> {
         ensures held { self.new.held ≡ self.old.held }
         ensures room { self.new.has_room ≡ self.old.has_room }
     {
+        self.work(n);
         self.seats.set_times(n, atime, mtime);
     }
 
@@ -201,6 +204,7 @@ impl<'a> OverNodes<'a> {
         ensures held { self.new.held ≡ self.old.held }
         ensures room { self.new.has_room ≡ self.old.has_room }
     {
+        self.work(n);
         self.seats.lose_name(n);
     }
 
@@ -216,6 +220,7 @@ impl<'a> OverNodes<'a> {
         ensures room { self.new.has_room ≡ self.old.has_room }
     {
         let links = self.links(n);
+        self.work(n);
         self.seats.set_links(n, links + 1);
     }
 
@@ -229,10 +234,26 @@ impl<'a> OverNodes<'a> {
         ensures held { self.new.held ≡ self.old.held }
         ensures room { self.new.has_room ≡ self.old.has_room }
     {
-        self.seats.cut(self.below.allocator(), n);
+        let alloc = self.below.allocator();
+        self.set_bytes(n, Vec::new(alloc));
+    }
+
+    /// Gives a file these bytes of its own. What is no file stays.
+    fn set_bytes(&mut self, n: u64, bytes: Vec<u8>)
+        requires held { contains self.old.held n ≡ true }
+        requires within { n < length self.old.nodes }
+        ensures nodes { self.new.nodes ≡ slice_set self.old.nodes n (with_content (slice_index_or self.old.nodes n stray) (other_bytes (λ _. bytes.items))) }
+        ensures worked { self.new.worked ≡ insert self.old.worked n }
+        ensures touched { self.new.touched ≡ self.old.touched }
+        ensures held { self.new.held ≡ self.old.held }
+        ensures room { self.new.has_room ≡ self.old.has_room }
+    {
+        self.work(n);
+        self.seats.set_bytes(n, bytes);
     }
 
     /// Gives a node a seat.
+    #[inline(always)]
     pub fn hold(&mut self, n: u64) -> Result<(), AllocError>
         requires { n < length self.old.nodes }
         ensures held { OnOk result (contains self.new.held n ≡ true) }
@@ -242,11 +263,7 @@ impl<'a> OverNodes<'a> {
         ensures touched { self.new.touched ≡ self.old.touched }
         ensures room { self.new.has_room ≡ self.old.has_room }
     {
-        if self.seats.has(n) {
-            return Ok(());
-        }
-        let gone = self.below.is_gone(n);
-        self.seats.hold(n, Seat::new(self.below.metadata(n), gone))?;
+        self.seats.hold(n)?;
         Ok(())
     }
 
@@ -263,7 +280,7 @@ impl<'a> OverNodes<'a> {
             return Err(AllocError);
         }
         self.below.reserve()?;
-        self.seats.hold(n, Seat::blank())?;
+        self.seats.hold(n)?;
         Ok(())
     }
 
@@ -296,9 +313,13 @@ impl<'a> OverNodes<'a> {
         ensures held { self.new.held ≡ self.old.held }
         ensures room { self.new.has_room ≡ self.old.has_room }
     {
+        if self.seats.has_bytes(n) {
+            return self.seats.put_bytes(n, offset, piece);
+        }
         let alloc = self.below.allocator();
-        self.seats
-            .put_bytes(alloc, n, self.below.bytes(n), offset, piece)
+        let bytes = copy_with_piece(alloc, self.bytes(n), offset, piece)?;
+        self.set_bytes(n, bytes);
+        Ok(())
     }
 
     /// Cuts a file to so many bytes, or fills it up to them with zeros. What is no file stays. Where memory is wanted,
@@ -314,8 +335,13 @@ impl<'a> OverNodes<'a> {
         ensures held { self.new.held ≡ self.old.held }
         ensures room { self.new.has_room ≡ self.old.has_room }
     {
+        if self.seats.has_bytes(n) {
+            return self.seats.resize(n, size);
+        }
         let alloc = self.below.allocator();
-        self.seats.resize(alloc, n, self.below.bytes(n), size)
+        let bytes = copy_of_size(alloc, self.bytes(n), size)?;
+        self.set_bytes(n, bytes);
+        Ok(())
     }
 
     /// No node is touched from here on.

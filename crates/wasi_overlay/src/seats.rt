@@ -1,14 +1,18 @@
 //! The seats of an overlay.
-ghost use Rattle.std.specs.Prelude.{◌≡◌, ℕ, ◌+◌, ◌-◌, ◌<◌, ◌≤◌, true, is_some, List, [], IfOk, OnOk, OnErr, length, Some, None, option_copied, option_map};
+ghost use Rattle.std.specs.Prelude.{◌≡◌, ℕ, ◌+◌, ◌-◌, ◌<◌, ◌≤◌, true, is_some, List, IfOk, OnOk, OnErr, length, slice_index_or, Some, None, option_copied, option_map};
 ghost use Rattle.std.specs.FinMap as maps;
 ghost use Rattle.std.specs.FinSet.{from_list};
 ghost use Rattle.std.specs.List.Sorted.{IsStrictlySortedBy};
 ghost use Rattle.std.specs.Ordering.{nat_cmp};
+ghost use Rattle.wasi_host.specs.Answer.{metadata_from};
 ghost use Rattle.wasi_host.specs.Numbers.{largest_file};
 ghost use Rattle.wasi_host.specs.Step.{with_piece, with_size};
-ghost use Rattle.wasi_overlay.specs.OverSeats.{SeatMap, bytes_over, own_at, has_mark, passes, numbers_with, seat_added, seat_changed, seat_of, in_round, worked_on, times_put, name_less, links_put, own_put, own_kept};
+ghost use Rattle.wasi_host.specs.Tree.{Node, is_gone, stray};
+ghost use Rattle.wasi_overlay.specs.OverSeats.{SeatMap, begun, bytes_over, has_mark, in_round, kept_at, kept_changed, links_put, name_less, numbers_with, own_at, own_put, passes, seat_added, seat_changed, times_put, worked_on};
 ghost use Rattle.wasi_overlay.specs.declared.seat.Seat.{Seat};
 
+use crate::grown::Grown;
+use crate::kept::Kept;
 use crate::seat::{Mark, Seat};
 use std::alloc::{AllocError, Global};
 use std::marker::Model;
@@ -41,12 +45,15 @@ impl Seats {
         }
     }
 
-    /// The seat of a number.
+    /// What is kept of the node of a number, if something is.
     #[inline(always)]
-    pub fn get(&self, n: u64) -> Option<&Seat>
-        ensures { option_copied result ≡ maps.get self.now n }
+    pub fn kept(&self, n: u64) -> Option<&Kept>
+        ensures { option_copied result ≡ kept_at self.now n }
     {
-        self.by_number.get(n)
+        match self.by_number.get(n) {
+            Some(seat) => seat.kept.as_ref(),
+            None => None,
+        }
     }
 
     /// Whether a number has a seat.
@@ -54,19 +61,40 @@ impl Seats {
     pub fn has(&self, n: u64) -> bool
         ensures { result ≡ is_some (maps.get self.now n) }
     {
-        self.get(n).is_some()
+        self.by_number.has(n)
     }
 
-    /// Puts the seat of a number, unless it has one. Where memory is wanted, all is as it was.
-    pub fn hold(&mut self, n: u64, seat: Seat) -> Result<(), AllocError>
-        ensures held { OnOk result (self.new ≡ seat_added self.old n seat) }
+    /// Whether the file of a number has bytes of its own.
+    pub fn has_bytes(&self, n: u64) -> bool
+        ensures { result ≡ is_some (own_at self.now n) }
+    {
+        match self.by_number.get(n) {
+            Some(seat) => seat.has_bytes(),
+            None => false,
+        }
+    }
+
+    /// Gives a number a seat that says nothing, unless it has one. Where memory is wanted, all is as it was.
+    #[inline(always)]
+    pub fn hold(&mut self, n: u64) -> Result<(), AllocError>
+        ensures held { OnOk result (self.new ≡ seat_added self.old n) }
         ensures kept { OnErr result (self.new ≡ self.old) }
     {
         if self.has(n) {
             return Ok(());
         }
-        self.by_number.insert(n, seat)?;
+        self.by_number.insert(n, Seat::blank())?;
         Ok(())
+    }
+
+    /// Begins the seat of a number anew, for a node of this metadata that is made in a round.
+    pub fn begin(&mut self, n: u64, round: u32, made: Metadata, gone: bool)
+        ensures { (node : Node) → made ≡ metadata_from n node → gone ≡ is_gone node.content
+            → self.new ≡ seat_changed self.old n (λ _. begun round node) }
+    {
+        if let Some(seat) = self.by_number.get_mut(n) {
+            seat.begin(round, made, gone);
+        }
     }
 
     /// Touches the seat of a number in a round.
@@ -79,18 +107,19 @@ impl Seats {
         }
     }
 
-    /// Works on the seat of a number.
-    pub fn work(&mut self, n: u64)
-        ensures { self.new ≡ seat_changed self.old n worked_on }
+    /// Works on the node of a number, which is among those below.
+    pub fn work(&mut self, below: &Grown<'_>, n: u64)
+        requires { n < length below.now.nodes }
+        ensures { self.new ≡ seat_changed self.old n (worked_on (slice_index_or below.now.nodes n stray)) }
     {
         if let Some(seat) = self.by_number.get_mut(n) {
-            seat.work();
+            seat.work(below, n);
         }
     }
 
     /// Sets the given times in the seat of a number.
     pub fn set_times(&mut self, n: u64, atime: Option<SystemTime>, mtime: Option<SystemTime>)
-        ensures { self.new ≡ seat_changed self.old n (times_put atime mtime) }
+        ensures { self.new ≡ seat_changed self.old n (kept_changed (times_put atime mtime)) }
     {
         if let Some(seat) = self.by_number.get_mut(n) {
             seat.set_times(atime, mtime);
@@ -99,7 +128,7 @@ impl Seats {
 
     /// Takes a name from the seat of a number.
     pub fn lose_name(&mut self, n: u64)
-        ensures { self.new ≡ seat_changed self.old n name_less }
+        ensures { self.new ≡ seat_changed self.old n (kept_changed name_less) }
     {
         if let Some(seat) = self.by_number.get_mut(n) {
             seat.lose_name();
@@ -108,70 +137,47 @@ impl Seats {
 
     /// Says in the seat of a number how many names it has.
     pub fn set_links(&mut self, n: u64, links: u64)
-        ensures { self.new ≡ seat_changed self.old n (links_put links) }
+        ensures { self.new ≡ seat_changed self.old n (kept_changed (links_put links)) }
     {
         if let Some(seat) = self.by_number.get_mut(n) {
             seat.set_links(links);
         }
     }
 
-    /// Begins the seat of a number anew, for a node of this metadata that is made in a round.
-    pub fn begin(&mut self, n: u64, round: u32, made: Metadata, gone: bool)
-        ensures { self.new ≡ seat_changed self.old n (λ _. in_round round (worked_on (seat_of made gone))) }
+    /// Gives the file of a number these bytes of its own.
+    pub fn set_bytes(&mut self, n: u64, bytes: Vec<u8>)
+        ensures { self.new ≡ seat_changed self.old n (kept_changed (own_put (Some bytes))) }
     {
         if let Some(seat) = self.by_number.get_mut(n) {
-            seat.begin(round, made, gone);
+            seat.set_bytes(bytes);
         }
     }
 
-    /// Cuts the bytes in the seat of a number.
-    pub fn cut(&mut self, alloc: Global, n: u64)
-        ensures cut { self.new ≡ seat_changed self.old n (own_put (own_at self.new n)) }
-        ensures none { is_some (maps.get self.old n) ≡ true → (below : List ℕ) → bytes_over (own_at self.new n) below ≡ [] }
-    {
-        if let Some(seat) = self.by_number.get_mut(n) {
-            seat.cut(alloc);
-        }
-    }
-
-    /// Puts a piece into the bytes in the seat of a number, which are those below where it has none of its own.
-    pub fn put_bytes(
-        &mut self,
-        alloc: Global,
-        n: u64,
-        below: &[u8],
-        offset: usize,
-        piece: &[u8],
-    ) -> Result<(), AllocError>
+    /// Puts a piece into the bytes that the file of a number has of its own.
+    pub fn put_bytes(&mut self, n: u64, offset: usize, piece: &[u8]) -> Result<(), AllocError>
         requires { offset + length piece.now ≤ largest_file }
-        ensures put { OnOk result (self.new ≡ seat_changed self.old n (own_put (own_at self.new n))) }
-        ensures bytes { OnOk result (is_some (maps.get self.old n) ≡ true
-            → bytes_over (own_at self.new n) below.now ≡ with_piece (bytes_over (own_at self.old n) below.now) offset piece.now) }
-        ensures kept { OnErr result (self.new ≡ seat_changed self.old n (own_kept (own_at self.new n))) }
-        ensures same { OnErr result (bytes_over (own_at self.new n) below.now ≡ bytes_over (own_at self.old n) below.now) }
+        ensures put { self.new ≡ seat_changed self.old n (kept_changed (own_put (own_at self.new n))) }
+        ensures bytes { OnOk result (is_some (own_at self.old n) ≡ true → (below : List ℕ)
+            → bytes_over (own_at self.new n) below ≡ with_piece (bytes_over (own_at self.old n) below) offset piece.now) }
+        ensures same { OnErr result ((below : List ℕ)
+            → bytes_over (own_at self.new n) below ≡ bytes_over (own_at self.old n) below) }
     {
         match self.by_number.get_mut(n) {
-            Some(seat) => seat.put(alloc, below, offset, piece),
+            Some(seat) => seat.put(offset, piece),
             None => Ok(()),
         }
     }
 
-    /// Gives the bytes in the seat of a number a size. They are those below where it has none of its own.
-    pub fn resize(
-        &mut self,
-        alloc: Global,
-        n: u64,
-        below: &[u8],
-        size: usize,
-    ) -> Result<(), AllocError>
-        ensures put { OnOk result (self.new ≡ seat_changed self.old n (own_put (own_at self.new n))) }
-        ensures bytes { OnOk result (is_some (maps.get self.old n) ≡ true
-            → bytes_over (own_at self.new n) below.now ≡ with_size size (bytes_over (own_at self.old n) below.now)) }
-        ensures kept { OnErr result (self.new ≡ seat_changed self.old n (own_kept (own_at self.new n))) }
-        ensures same { OnErr result (bytes_over (own_at self.new n) below.now ≡ bytes_over (own_at self.old n) below.now) }
+    /// Gives the bytes that the file of a number has of its own a size.
+    pub fn resize(&mut self, n: u64, size: usize) -> Result<(), AllocError>
+        ensures put { self.new ≡ seat_changed self.old n (kept_changed (own_put (own_at self.new n))) }
+        ensures bytes { OnOk result (is_some (own_at self.old n) ≡ true → (below : List ℕ)
+            → bytes_over (own_at self.new n) below ≡ with_size size (bytes_over (own_at self.old n) below)) }
+        ensures same { OnErr result ((below : List ℕ)
+            → bytes_over (own_at self.new n) below ≡ bytes_over (own_at self.old n) below) }
     {
         match self.by_number.get_mut(n) {
-            Some(seat) => seat.resize(alloc, below, size),
+            Some(seat) => seat.resize(size),
             None => Ok(()),
         }
     }

@@ -1,5 +1,5 @@
 //! Pages of places: of each number, where its thing is.
-ghost use Rattle.std.specs.Prelude.{◌≡◌, ◌<◌, ◌≤◌, ◌-◌, ◌^◌, ◌%◌, ◌/◌, ℕ, OnOk, IfSome, cond, length};
+ghost use Rattle.std.specs.Prelude.{◌≡◌, ◌<◌, ◌≤◌, ◌-◌, ◌^◌, ◌%◌, ◌/◌, ℕ, OnOk, IfSome, cond, length, nat_lt};
 ghost use Rattle.std.specs.Ordering.{eq_by_cmp, nat_cmp};
 ghost use Rattle.wasi_paged_map.specs.Places.{IsFirstFrom, page_at, place_at, place_in};
 
@@ -44,6 +44,29 @@ pub(crate) fn first_from(pages: &[Vec<u32>], from: u64) -> Option<u64>
 /// Makes room for the place of a number. For one of 2^56 or more it fails as for want of memory.
 #[inline(always)]
 pub(crate) fn reach(pages: &mut Vec<Vec<u32>>, n: u64) -> Result<(), AllocError>
+    ensures reached { OnOk result (n % 256 < length (page_at pages.new.items (n / 256))) }
+    ensures same { (m : ℕ) → place_at pages.new.items m ≡ place_at pages.old.items m }
+    ensures few { length pages.old.items ≤ 2 ^ 48 → length pages.new.items ≤ 2 ^ 48 }
+{
+    if has_place(pages.as_slice(), n) {
+        return Ok(());
+    }
+    open_page(pages, n)
+}
+
+/// Whether there is a place of a number.
+#[inline(always)]
+fn has_place(pages: &[Vec<u32>], n: u64) -> bool
+    ensures { result ≡ nat_lt (n % 256) (length (page_at pages.now (n / 256))) }
+{
+    match pages.get((n / 256) as usize) {
+        Some(page) => n % 256 < page.len() as u64,
+        None => false,
+    }
+}
+
+/// Makes the page of a number where there is none.
+fn open_page(pages: &mut Vec<Vec<u32>>, n: u64) -> Result<(), AllocError>
     ensures reached { OnOk result (n % 256 < length (page_at pages.new.items (n / 256))) }
     ensures same { (m : ℕ) → place_at pages.new.items m ≡ place_at pages.old.items m }
     ensures few { length pages.old.items ≤ 2 ^ 48 → length pages.new.items ≤ 2 ^ 48 }

@@ -1,9 +1,11 @@
 //! The calls of a view.
 ghost use Rattle.wasi_p2_calls.specs.Views.{FilesOwned, files_of};
 
-use test_support::{Asked, Told};
+use crate::answers::{all_kept, first, flags, kept, resource, shown, time, told_read};
+use test_support::{Asked, Told, number, unknown, word};
 use wasi_host::Host;
 use wasi_p2_calls::WasiFilesystemCtxView;
+use wasi_p2_calls::types::Advice;
 use wasi_streams::Resource;
 
 /// `CALL ARGUMENTS`. The numbers of resources that are answered are kept.

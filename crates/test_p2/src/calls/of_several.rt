@@ -2,9 +2,11 @@
 ghost use Rattle.std.specs.Prelude.{◌<◌, length};
 ghost use Rattle.test_p2.specs.AllOwned.{AllOwned, StayOwned};
 
-use test_support::{Asked, Told};
+use crate::answers::{all_kept, first, flags, kept, resource, shown, time, told_read};
+use test_support::{Asked, Told, number, unknown, word};
 use wasi_host::Host;
 use wasi_p2::{NamedId, WasiCtxNamedView, WasiFilesystemNamedView};
+use wasi_p2_calls::types::Advice;
 use wasi_streams::Resource;
 
 /// `CALL ARGUMENTS`, of the view at a place. The numbers of resources that are answered are kept.

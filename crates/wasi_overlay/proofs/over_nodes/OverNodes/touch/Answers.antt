@@ -1,6 +1,5 @@
-use Rattle.std.proofs.Common.{◌≡◌, ap, refl}
+use Rattle.std.proofs.Common.{◌≡◌, ap, arith}
 use Rattle.wasi_overlay.specs.OverNodes.{OverState, over_state}
-use Rattle.std.proofs.Common.{arith}
 use Rattle.wasi_overlay.specs.OverSeats.{in_round}
 use Rattle.wasi_overlay.proofs.StepLemmas.{state_touched, with_touched, rounds_changed}
 use Rattle.wasi_overlay.proofs.over_nodes.OverNodes.touch.Goals as goal
@@ -13,7 +12,7 @@ invariant_of-self c =
 stepped : (c : goal.After-touch) → over_state c.self.inside.below c.touch.new.self c.self.inside.round ≡ with_touched c.args.self.now c.args.n
 stepped c =
     state_touched c.self.inside.below c.self.inside.seats c.self.inside.round c.args.n c.self.view_is c.requires.within c.requires.held
-    (in_round c.self.inside.round) (λ _ _. refl) (λ _. refl) (λ _. refl) c.touch.new.self c.touch.ensures
+    c.touch.new.self c.touch.ensures
 
 pub returns-clause-nodes : goal.returns-clause-nodes
 returns-clause-nodes c = ap (λ (u : OverState). u.nodes) (stepped c)

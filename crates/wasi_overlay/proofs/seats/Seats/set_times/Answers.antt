@@ -1,6 +1,6 @@
 use Rattle.std.proofs.Common.{◌∙◌, sym, ap}
 use Rattle.std.specs.Option.{option_copied_mut}
-use Rattle.wasi_overlay.specs.OverSeats.{times_put}
+use Rattle.wasi_overlay.specs.OverSeats.{kept_changed, times_put}
 use Rattle.wasi_overlay.proofs.MapLemmas.{entry_changed, entry_missing}
 use Rattle.wasi_overlay.proofs.seats.Seats.set_times.Goals as goal
 use Rattle.wasi_overlay.proofs.seats.Seats.set_times.Goals.{in-Some, in_default}
@@ -8,9 +8,9 @@ use Rattle.wasi_overlay.proofs.seats.Seats.set_times.Goals.{in-Some, in_default}
 pub returns : goal.returns
 returns c = rw (← c.self.view_is) (elim c.match-get_mut.branch [
   | in-Some w ↦ rw w.self-inside-is
-      (entry_changed c.self.inside.by_number c.args.n w.in-Some.seat.now w.set_times.new.self (times_put c.args.atime c.args.mtime)
+      (entry_changed c.self.inside.by_number c.args.n w.in-Some.seat.now w.set_times.new.self (kept_changed (times_put c.args.atime c.args.mtime))
       (sym c.get_mut.ensures.value ∙ ap option_copied_mut w.in-Some.is) w.set_times.ensures)
   | in_default w ↦ rw w.self-inside-is
-      (entry_missing c.self.inside.by_number c.args.n (times_put c.args.atime c.args.mtime)
+      (entry_missing c.self.inside.by_number c.args.n (kept_changed (times_put c.args.atime c.args.mtime))
       (sym c.get_mut.ensures.value ∙ ap option_copied_mut w.in_default.is))
 ])

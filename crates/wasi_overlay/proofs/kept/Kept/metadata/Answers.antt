@@ -1,5 +1,5 @@
 use Rattle.wasi_overlay.proofs.SeatLemmas.{metadata-over}
-use Rattle.wasi_overlay.proofs.seat.Seat.metadata.Goals as goal
+use Rattle.wasi_overlay.proofs.kept.Kept.metadata.Goals as goal
 
 pub returns : goal.returns
 returns c = λ n node is.
