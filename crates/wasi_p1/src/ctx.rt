@@ -6,8 +6,8 @@ use std::alloc::Global;
 use std::marker::Model;
 use wasi_guest::{Quota, QuotaUsed, Services};
 use wasi_host::{Forget, Host};
-use wasi_p1_types::P1Preopen;
 use wasi_p1_state::{CtxRefused, Ended, P1State};
+use wasi_p1_types::P1Preopen;
 use wasi_streams::ResourceTable;
 
 /// The calls of one guest over a host: the crate's `WasiP1Ctx` of `preview1.rs`. Each call is a method with the name, the

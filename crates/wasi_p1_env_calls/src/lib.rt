@@ -1,9 +1,9 @@
 //! The calls of `wasi_snapshot_preview1` on what a guest has beside its files, and the one that waits.
 #![tactic(auto)]
 
-mod subscriptions;
 mod polling;
 mod services;
+mod subscriptions;
 
 pub use polling::poll_oneoff;
 pub use services::{

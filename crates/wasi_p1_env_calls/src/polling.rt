@@ -2,12 +2,14 @@
 ghost use Rattle.wasi_guest.specs.declared.call.Call.TheVariants.{PollOneoff};
 ghost use Rattle.wasi_p1_model.specs.Method.{KeepsHostLaws, MeetsSpec};
 
+use crate::subscriptions::{
+    all_waited, judged_at, lists_within, reads_files, sizes_of, some_asked, tell_events,
+};
 use wasi_guest::{Event, Subscription, Value};
 use wasi_host::Host;
-use wasi_p1_types::{P1Error, charge};
-use wasi_p1_state::lookups::room_at;
-use crate::subscriptions::{all_waited, judged_at, lists_within, reads_files, sizes_of, some_asked, tell_events};
 use wasi_p1_state::P1State;
+use wasi_p1_state::lookups::room_at;
+use wasi_p1_types::{P1Error, charge};
 
 /// Waits until something of so many subscriptions comes, and writes an event of each that has come, in order, from
 /// `events` on; the answer is how many. A subscription has 48 bytes and an event 32. Streams and files are ready at

@@ -4,9 +4,9 @@ ghost use Rattle.wasi_p1_model.specs.Method.{KeepsHostLaws, MeetsSpec};
 
 use wasi_guest::{Errno, FdFlags, RiFlags, SdFlags, Value};
 use wasi_host::Host;
-use wasi_p1_types::{INVALID, P1Error, bytes_at, exit_with, known_signal};
-use wasi_p1_state::lookups::live_at;
 use wasi_p1_state::P1State;
+use wasi_p1_state::lookups::live_at;
+use wasi_p1_types::{INVALID, P1Error, bytes_at, exit_with, known_signal};
 
 /// Writes the addresses of the arguments from `argv` on, and the arguments, each with a zero behind it, from
 /// `argv_buf` on. Where there are any: trap Pointer where `argv` is no multiple of 4, or one of the two ranges

@@ -16,13 +16,13 @@ ghost use Rattle.wasi_p1_types.specs.CallResult.{give};
 ghost use Rattle.wasi_guest.specs.declared.answer.Value.TheVariants.{Number};
 ghost use Rattle.wasi_p1_types.specs.declared.error.P1Error.TheVariants.{Memory};
 
-use wasi_p1_state::lookups::{sink_at, source_at};
-use wasi_p1_state::descriptors::Descriptors;
 use std::alloc::{AllocError, Global};
 use wasi_guest::{
     Errno, Event, Subscription, SubscriptionKind, TrapKind, Value, subscription_in, write_bytes,
 };
 use wasi_host::Host;
+use wasi_p1_state::descriptors::Descriptors;
+use wasi_p1_state::lookups::{sink_at, source_at};
 use wasi_p1_types::{Awaited, Clocks, GuestEnv, INVALID, Judged, P1Error, Sink, Source, Waited};
 
 /// How many bytes a subscription has in memory.

@@ -2,18 +2,20 @@
 ghost use Rattle.wasi_guest.specs.declared.call.Call.TheVariants.{FdClose, FdFdstatGet, FdFdstatSetFlags, FdFdstatSetRights, FdFilestatGet, FdPrestatDirName, FdPrestatGet, FdRenumber};
 ghost use Rattle.wasi_p1_model.specs.Method.{KeepsHostLaws, MeetsSpec};
 
+use crate::fdflags::{keeps_append, not_synchronized};
+use crate::preopens::{preopen_at, put_name};
+use crate::slots::{close_slot, renumber_slot};
+use crate::stat::{dir_fdstat, node_filestat, open_file_fdstat};
 use wasi_fs::Descriptor;
 use wasi_guest::{Errno, Value};
 use wasi_host::Host;
-use wasi_p1_types::{DirectorySlot, FileSlot, FileUse, P1Error, Slot, fdflags_of, preopen_fdstat, rights_of, stream_fdstat, stream_filestat};
-use crate::slots::{close_slot, renumber_slot};
-use wasi_p1_state::lookups::{descriptor_at, live_at, put_back};
-use wasi_p1_state::lookups::file_at;
-use crate::fdflags::{keeps_append, not_synchronized};
-use crate::preopens::{preopen_at, put_name};
-use crate::stat::{dir_fdstat, node_filestat, open_file_fdstat};
 use wasi_p1_state::P1State;
+use wasi_p1_state::lookups::{descriptor_at, file_at, live_at, put_back};
 use wasi_p1_types::open_with::file_modes;
+use wasi_p1_types::{
+    DirectorySlot, FileSlot, FileUse, P1Error, Slot, fdflags_of, preopen_fdstat, rights_of,
+    stream_fdstat, stream_filestat,
+};
 
 /// The number becomes closed, and what it stood for is closed. Refusal: Badf where the number isn't live. It takes
 /// no memory.

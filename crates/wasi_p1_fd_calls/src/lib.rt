@@ -1,14 +1,14 @@
 //! The calls of `wasi_snapshot_preview1` on a descriptor itself, and on the node that it stands for.
 #![tactic(auto)]
 
-mod stat;
-mod preopens;
-mod fdflags;
-mod slots;
-mod node_calls;
 mod descriptors;
+mod fdflags;
 mod listing;
+mod node_calls;
 mod pages;
+mod preopens;
+mod slots;
+mod stat;
 mod times;
 
 pub use descriptors::{

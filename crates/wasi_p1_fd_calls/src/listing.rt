@@ -2,12 +2,12 @@
 ghost use Rattle.wasi_guest.specs.declared.call.Call.TheVariants.{FdReaddir};
 ghost use Rattle.wasi_p1_model.specs.Method.{KeepsHostLaws, MeetsSpec};
 
+use crate::pages::{listing_of, write_page};
 use wasi_guest::{Errno, Value};
 use wasi_host::Host;
-use wasi_p1_types::P1Error;
-use wasi_p1_state::lookups::{directory_at, room_at};
 use wasi_p1_state::P1State;
-use crate::pages::{listing_of, write_page};
+use wasi_p1_state::lookups::{directory_at, room_at};
+use wasi_p1_types::P1Error;
 
 /// Lists the directory of a number: writes its records from a cookie on into a buffer, as far as it takes them, and
 /// answers how many bytes it wrote. First stand `.` and `..`, both with the directory's own number, and then its

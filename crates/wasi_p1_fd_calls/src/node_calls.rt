@@ -10,8 +10,8 @@ ghost use Rattle.wasi_p2_types.specs.FlagNames.{descriptor_flags_told};
 ghost use Rattle.wasi_p2_types.specs.Stats.{hash_named, stat_named, type_named};
 ghost use Rattle.wasi_p2_calls.specs.Views.{Performs};
 
-use wasi_p1_state::views::NodeCall;
 use wasi_host::Host;
+use wasi_p1_state::views::NodeCall;
 use wasi_p1_types::NewTimes;
 use wasi_p1_types::wall_times::timestamp_of;
 use wasi_p2_calls::types::{DescriptorFlags, DescriptorStat, DescriptorType, MetadataHashValue};

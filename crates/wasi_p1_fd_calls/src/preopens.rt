@@ -8,10 +8,10 @@ ghost use Rattle.wasi_p1_types.specs.Services.{with_unit};
 ghost use Rattle.wasi_p1_types.specs.CallParts.{with_after};
 ghost use Rattle.wasi_guest.specs.declared.errno.Errno.TheVariants as errnos;
 
-use wasi_p1_state::descriptors::Descriptors;
 use wasi_fs::File;
 use wasi_guest::{Errno, write_bytes};
 use wasi_host::Host;
+use wasi_p1_state::descriptors::Descriptors;
 use wasi_p1_types::{GuestEnv, P1Error, Slot, Stream, bytes_at};
 
 /// The name of the directory of a number, if the guest was given it.

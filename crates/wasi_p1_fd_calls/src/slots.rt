@@ -7,8 +7,8 @@ ghost use Rattle.wasi_p1_types.specs.Numbering.{passes_at, renumbered};
 ghost use Rattle.wasi_p1_types.specs.Slots.{is_closed_slot};
 ghost use Rattle.wasi_p1_types.specs.CallParts.{Stays};
 
-use wasi_p1_state::descriptors::Descriptors;
 use wasi_host::Host;
+use wasi_p1_state::descriptors::Descriptors;
 use wasi_p1_types::Slot;
 use wasi_p2_calls::WasiFilesystemCtx;
 

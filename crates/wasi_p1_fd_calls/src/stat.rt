@@ -15,13 +15,13 @@ ghost use Rattle.wasi_p1_state.specs.ViewedStats.{viewed, LookMakes};
 ghost use Rattle.wasi_p2_types.specs.FsErrors.{FsCause};
 ghost use Rattle.wasi_p2_calls.specs.Views.{Performs};
 
-use wasi_p1_state::descriptors::Descriptors;
-use wasi_p1_state::filestats::{ViewedStat, filetype_named};
-use wasi_p1_state::views::about;
 use crate::node_calls::{FlagsOf, MetadataHashOf, StatOf, TypeOf};
 use wasi_fs::{Descriptor, Dir};
 use wasi_guest::{Fdstat, Filestat};
 use wasi_host::Host;
+use wasi_p1_state::descriptors::Descriptors;
+use wasi_p1_state::filestats::{ViewedStat, filetype_named};
+use wasi_p1_state::views::about;
 use wasi_p1_types::{FileSlot, P1Error, directory_fdstat, file_fdstat};
 use wasi_p2_calls::{FsResult, WasiFilesystemCtx};
 

@@ -2,13 +2,13 @@
 ghost use Rattle.wasi_guest.specs.declared.call.Call.TheVariants.{FdFilestatSetTimes};
 ghost use Rattle.wasi_p1_model.specs.Method.{KeepsHostLaws, MeetsSpec};
 
+use crate::node_calls::SetTimesOf;
 use wasi_guest::Value;
 use wasi_host::Host;
-use wasi_p1_types::{NewTimes, P1Error};
+use wasi_p1_state::P1State;
 use wasi_p1_state::lookups::descriptor_at;
 use wasi_p1_state::views::about;
-use crate::node_calls::SetTimesOf;
-use wasi_p1_state::P1State;
+use wasi_p1_types::{NewTimes, P1Error};
 
 /// Sets the times of the node of a descriptor, as `path_filestat_set_times` does. It takes no memory. Refusals, in
 /// this order: those of its flags and times, as there; Badf where the number isn't a directory's or file's; Perm

@@ -15,12 +15,12 @@ ghost use Rattle.wasi_p1_model.specs.Owners.{handles};
 ghost use Rattle.wasi_p1_types.specs.Request.{Direct};
 ghost use Rattle.wasi_p1_types.specs.CallResult.{give};
 
-use wasi_p1_state::descriptors::Descriptors;
-use wasi_p1_state::views::raised;
 use wasi_fs::{Descriptor, File};
 use wasi_host::Host;
-use wasi_p1_types::P1Error;
+use wasi_p1_state::descriptors::Descriptors;
 use wasi_p1_state::views::files::{FileCall, about_file};
+use wasi_p1_state::views::raised;
+use wasi_p1_types::P1Error;
 use wasi_p2_calls::types::Advice;
 use wasi_p2_calls::{FsResult, WasiFilesystemCtx, WasiFilesystemCtxView};
 use wasi_streams::Resource;

@@ -20,13 +20,15 @@ ghost use Rattle.wasi_p1_types.specs.CallResult.{give};
 ghost use Rattle.wasi_p2_types.specs.Advices.{advice_named};
 ghost use Rattle.wasi_p1_types.specs.declared.usage.FileUse.TheVariants.{ReadAt};
 
-use wasi_p1_state::lookups::{file_at, room_at};
 use crate::transfer::write_piece;
-use wasi_p1_state::descriptors::Descriptors;
 use wasi_fs::{Act, File, FsPerms};
 use wasi_guest::{Advice, Errno, Whence};
 use wasi_host::{Handle, Host};
-use wasi_p1_types::{Allowance, FileEnd, FileModes, FileSlot, FileUse, GuestEnv, INVALID, P1Error, Put, Slot};
+use wasi_p1_state::descriptors::Descriptors;
+use wasi_p1_state::lookups::{file_at, room_at};
+use wasi_p1_types::{
+    Allowance, FileEnd, FileModes, FileSlot, FileUse, GuestEnv, INVALID, P1Error, Put, Slot,
+};
 use wasi_p2_calls::types;
 
 /// The file of a number that is read at an offset: as such a number is refused, and trap TableFull where no descriptor

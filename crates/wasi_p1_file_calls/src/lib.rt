@@ -3,9 +3,9 @@
 
 mod file_ops;
 mod file_pieces;
-mod transfer;
 mod positions_and_sizes;
 mod reading_and_writing;
+mod transfer;
 
 pub use positions_and_sizes::{
     fd_advise, fd_allocate, fd_datasync, fd_filestat_set_size, fd_seek, fd_sync, fd_tell,

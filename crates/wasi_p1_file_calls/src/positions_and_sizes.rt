@@ -2,15 +2,14 @@
 ghost use Rattle.wasi_guest.specs.declared.call.Call.TheVariants.{FdAdvise, FdAllocate, FdDatasync, FdFilestatSetSize, FdSeek, FdSync, FdTell};
 ghost use Rattle.wasi_p1_model.specs.Method.{KeepsHostLaws, MeetsSpec};
 
+use crate::file_ops::{AdviseOf, SyncDataOf, SyncOf, set_size};
+use crate::file_pieces::{check_alter, check_growth, position_sought, view_advice};
 use wasi_guest::{Errno, Value};
 use wasi_host::Host;
-use wasi_p1_types::{FileEnd, FileSlot, FileUse, P1Error, advice_of, whence_of};
-use wasi_p1_state::lookups::put_back;
-use crate::file_pieces::{check_alter, check_growth, position_sought, view_advice};
-use wasi_p1_state::lookups::file_at;
-use crate::file_ops::{AdviseOf, SyncDataOf, SyncOf, set_size};
-use wasi_p1_state::views::files::about_file;
 use wasi_p1_state::P1State;
+use wasi_p1_state::lookups::{file_at, put_back};
+use wasi_p1_state::views::files::about_file;
+use wasi_p1_types::{FileEnd, FileSlot, FileUse, P1Error, advice_of, whence_of};
 
 /// Tells the host how `len` bytes of a file from `offset` on will be used, of which nothing changes. Refusals, in
 /// this order: Inval where the advice is none of preview1's; Badf where the number isn't a file's. No host refuses

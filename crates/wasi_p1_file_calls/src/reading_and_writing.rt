@@ -5,14 +5,15 @@ ghost use Rattle.wasi_p1_model.specs.Method.{KeepsHostLaws, MeetsSpec};
 ghost use Rattle.wasi_p1_types.specs.Guest.{state_of};
 ghost use Rattle.wasi_p1_model.specs.Writing.{WritesWhole};
 
+use crate::file_pieces::{check_growth, put_end, put_next, put_piece, read_place};
+use crate::transfer::read_into;
 use wasi_guest::{Iovec, Value};
 use wasi_host::Host;
-use wasi_p1_types::{FileSlot, FileUse, P1Error, Put, Sink, Source, buffer_at, bytes_at, check_write};
-use wasi_p1_state::lookups::{put_back, sink_at, source_at};
-use crate::transfer::read_into;
-use crate::file_pieces::{check_growth, put_end, put_next, put_piece, read_place};
-use wasi_p1_state::lookups::file_at;
 use wasi_p1_state::P1State;
+use wasi_p1_state::lookups::{file_at, put_back, sink_at, source_at};
+use wasi_p1_types::{
+    FileSlot, FileUse, P1Error, Put, Sink, Source, buffer_at, bytes_at, check_write,
+};
 
 /// How many bytes a read at an offset fills at most.
 const MOST_READ: u32 = 65_536;

@@ -13,8 +13,8 @@ ghost use Rattle.wasi_p2_calls.specs.Views.{Performs};
 ghost use Rattle.wasi_resolve.specs.EntryOps.{CreateDir, ReadLink, RemoveDir, RemoveFile, Symlink};
 ghost use Rattle.wasi_resolve.specs.PathRequest.{AtPlace, meant_by};
 
-use wasi_p1_state::views::EntryOp;
 use wasi_host::Host;
+use wasi_p1_state::views::EntryOp;
 use wasi_p1_types::NewTimes;
 use wasi_p1_types::wall_times::timestamp_of;
 use wasi_p2_calls::types::{DescriptorStat, MetadataHashValue, PathFlags};

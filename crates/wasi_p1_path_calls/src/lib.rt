@@ -1,14 +1,14 @@
 //! The calls of `wasi_snapshot_preview1` that take a path.
 #![tactic(auto)]
 
-mod making;
+mod creations;
 mod entry_ops;
-mod two_path_ops;
-mod stat;
-mod opens;
 mod opening;
+mod opens;
 mod places;
+mod stat;
 mod times;
+mod two_path_ops;
 mod two_places;
 
 pub use opening::path_open;

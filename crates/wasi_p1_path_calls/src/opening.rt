@@ -2,14 +2,14 @@
 ghost use Rattle.wasi_guest.specs.declared.call.Call.TheVariants.{PathOpen};
 ghost use Rattle.wasi_p1_model.specs.Method.{KeepsHostLaws, MeetsSpec};
 
+use crate::creations::check_open;
+use crate::opens::open_into;
 use wasi_guest::{Errno, Value};
 use wasi_host::Host;
-use wasi_p1_types::{P1Error, text_at};
-use wasi_p1_state::lookups::{directory_at, room_at};
-use crate::opens::open_into;
-use crate::making::check_open;
 use wasi_p1_state::P1State;
+use wasi_p1_state::lookups::{directory_at, room_at};
 use wasi_p1_types::open_with::OpenWith;
+use wasi_p1_types::{P1Error, text_at};
 
 /// Opens the path in a range of memory from the directory of a descriptor, and answers the number of the new
 /// descriptor, which has that directory's permissions and, of a file, position 0.

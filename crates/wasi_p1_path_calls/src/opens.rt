@@ -16,9 +16,9 @@ ghost use Rattle.wasi_p1_types.specs.Slots.{is_closed_slot};
 ghost use Rattle.wasi_p1_types.specs.CallParts.{open_directory_of, Refused, OpensInto, with_after, IsReplied};
 ghost use Rattle.wasi_p1_state.specs.Viewed.{descriptor_under};
 
-use wasi_p1_state::descriptors::Descriptors;
 use wasi_fs::{Descriptor, Dir};
 use wasi_host::Host;
+use wasi_p1_state::descriptors::Descriptors;
 use wasi_p1_types::P1Error;
 use wasi_p1_types::open_with::OpenWith;
 use wasi_p2_calls::WasiFilesystemCtx;

@@ -2,16 +2,16 @@
 ghost use Rattle.wasi_guest.specs.declared.call.Call.TheVariants.{PathCreateDirectory, PathFilestatGet, PathReadlink, PathRemoveDirectory, PathSymlink, PathUnlinkFile};
 ghost use Rattle.wasi_p1_model.specs.Method.{KeepsHostLaws, MeetsSpec};
 
+use crate::creations::{check_link, check_make, make_below};
+use crate::entry_ops::{CreateDirectoryAt, ReadlinkAt, RemoveDirectoryAt, SymlinkAt, UnlinkFileAt};
+use crate::stat::stat_both;
 use wasi_guest::{Errno, Value};
 use wasi_host::Host;
-use wasi_p1_types::{P1Error, text_at, write_front};
-use wasi_p1_state::lookups::directory_at;
-use crate::stat::stat_both;
-use crate::making::{check_link, check_make, make_below};
-use wasi_p1_state::views::below;
-use crate::entry_ops::{CreateDirectoryAt, ReadlinkAt, RemoveDirectoryAt, SymlinkAt, UnlinkFileAt};
 use wasi_p1_state::P1State;
+use wasi_p1_state::lookups::directory_at;
+use wasi_p1_state::views::below;
 use wasi_p1_types::open_with::path_flags_of;
+use wasi_p1_types::{P1Error, text_at, write_front};
 
 /// Makes an empty directory at the path in a range of memory, from the directory of a descriptor; slashes behind
 /// its name are let go. Refusals, in this order: Badf where the number isn't a directory's; Nomem where the range

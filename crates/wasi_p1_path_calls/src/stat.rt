@@ -12,12 +12,12 @@ ghost use Rattle.wasi_p2_types.specs.FlagNames.{path_flags_named};
 ghost use Rattle.wasi_p2_types.specs.FsErrors.{FsCause};
 ghost use Rattle.wasi_p2_calls.specs.Views.{Performs};
 
-use wasi_p1_state::descriptors::Descriptors;
-use wasi_p1_state::filestats::ViewedStat;
-use wasi_p1_state::views::below;
 use crate::entry_ops::{MetadataHashAt, StatAt};
 use wasi_fs::{Descriptor, Dir};
 use wasi_host::Host;
+use wasi_p1_state::descriptors::Descriptors;
+use wasi_p1_state::filestats::ViewedStat;
+use wasi_p1_state::views::below;
 use wasi_p2_calls::types::PathFlags;
 use wasi_p2_calls::{FsResult, WasiFilesystemCtx};
 

@@ -2,14 +2,14 @@
 ghost use Rattle.wasi_guest.specs.declared.call.Call.TheVariants.{PathFilestatSetTimes};
 ghost use Rattle.wasi_p1_model.specs.Method.{KeepsHostLaws, MeetsSpec};
 
+use crate::entry_ops::SetTimesAt;
 use wasi_guest::{Errno, Value};
 use wasi_host::Host;
-use wasi_p1_types::{NewTimes, P1Error, text_at};
+use wasi_p1_state::P1State;
 use wasi_p1_state::lookups::directory_at;
 use wasi_p1_state::views::below;
-use crate::entry_ops::SetTimesAt;
-use wasi_p1_state::P1State;
 use wasi_p1_types::open_with::path_flags_of;
+use wasi_p1_types::{NewTimes, P1Error, text_at};
 
 /// Sets the times of the last read and of the last change of the node that the path in a range of memory names,
 /// from the directory of a descriptor: each by preview1's `fstflags` to the given nanoseconds since the epoch or to

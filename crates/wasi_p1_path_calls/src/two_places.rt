@@ -2,14 +2,14 @@
 ghost use Rattle.wasi_guest.specs.declared.call.Call.TheVariants.{PathLink, PathRename};
 ghost use Rattle.wasi_p1_model.specs.Method.{KeepsHostLaws, MeetsSpec};
 
+use crate::two_path_ops::{LinkAt, RenameAt};
 use wasi_guest::{Errno, Value};
 use wasi_host::Host;
-use wasi_p1_types::{P1Error, text_at};
-use wasi_p1_state::lookups::directory_at;
-use crate::two_path_ops::{LinkAt, RenameAt};
-use wasi_p1_state::views::two_places::between;
 use wasi_p1_state::P1State;
+use wasi_p1_state::lookups::directory_at;
+use wasi_p1_state::views::two_places::between;
 use wasi_p1_types::open_with::path_flags_of;
+use wasi_p1_types::{P1Error, text_at};
 
 /// Gives the file or link under the path in one range of memory a further name, the path in another, each from the
 /// directory of a descriptor of its own; a link itself gets the name, not what it leads to. Refusals, in this

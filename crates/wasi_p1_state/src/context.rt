@@ -2,12 +2,12 @@
 ghost use Rattle.std.specs.Prelude.{◌≡◌, ◌≢◌, ◌<◌, ◌≤◌, ◌+◌, ◌↔◌, true, length, map, All, AllPairs, IfOk, IfErr, IsErrAnd};
 ghost use Rattle.std.specs.FinSet.{contains};
 
+use crate::descriptors::Descriptors;
 use std::alloc::Global;
 use std::marker::Model;
 use wasi_guest::{Quota, QuotaUsed, Services};
 use wasi_host::{Forget, Host, SystemTime};
 use wasi_p1_types::{CtxError, GuestEnv, P1Preopen};
-use crate::descriptors::Descriptors;
 use wasi_p2_calls::WasiFilesystemCtx;
 use wasi_streams::ResourceTable;
 

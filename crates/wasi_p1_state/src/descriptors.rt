@@ -25,11 +25,11 @@ use std::collections::BinaryHeap;
 use std::marker::Model;
 use wasi_fs::{Descriptor, Dir};
 use wasi_host::Host;
-use wasi_p1_types::{CtxError, DirectorySlot, FileSlot, P1Preopen, Slot, Stream};
 use wasi_p1_types::items::{
     Item, admit, item_at, item_under, put_item, reserve_entry, slot_of_item,
 };
 use wasi_p1_types::open_with::OpenWith;
+use wasi_p1_types::{CtxError, DirectorySlot, FileSlot, P1Preopen, Slot, Stream};
 use wasi_p2_calls::{FsResult, WasiFilesystemCtx};
 use wasi_streams::ResourceTable;
 

@@ -18,7 +18,9 @@ use crate::descriptors::Descriptors;
 use wasi_fs::{Descriptor, Dir, File};
 use wasi_guest::{Errno, TrapKind};
 use wasi_host::Host;
-use wasi_p1_types::{DirectorySlot, FileModes, FileSlot, FileUse, Output, P1Error, Sink, Slot, Source, Stream};
+use wasi_p1_types::{
+    DirectorySlot, FileModes, FileSlot, FileUse, Output, P1Error, Sink, Slot, Source, Stream,
+};
 
 /// What a live number stands for.
 #[tactic(auto, using(wasi_p1_model::proofs::SlotRules::slots))]

@@ -4,9 +4,9 @@ ghost use Rattle.std.specs.FinMap.{get, insert, len};
 ghost use Rattle.wasi_p1_types.specs.Items.{Admitted, IsOfKind, put_item, slot_in, stream_entry};
 ghost use Rattle.wasi_p1_types.specs.Slots.{is_closed_slot};
 
+use crate::{DirectorySlot, FileModes, FileSlot, Slot, Stream};
 use std::alloc::AllocError;
 use wasi_fs::{Descriptor, Dir, File};
-use crate::{DirectorySlot, FileModes, FileSlot, Slot, Stream};
 use wasi_streams::{Entry, Resource, ResourceTable, TableError};
 
 /// The resource of a descriptor, and what the table doesn't say of it. A position is in bytes.

@@ -7,16 +7,15 @@ mod awaited;
 mod error;
 mod fdstats;
 mod guest_env;
+pub mod items;
 mod looked;
 mod memory_parts;
 mod new_times;
+pub mod open_with;
 mod quotas;
 mod raw_numbers;
 mod slots;
 mod usage;
-
-pub mod items;
-pub mod open_with;
 pub mod wall_times;
 
 pub use awaited::{Awaited, Judged, Waited};

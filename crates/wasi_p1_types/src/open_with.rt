@@ -15,10 +15,10 @@ ghost use Rattle.wasi_p2_types.specs.FlagBits.{path_set, open_set, descriptor_se
 ghost use Rattle.wasi_p2_types.specs.FlagNames.{path_flags_named};
 ghost use Rattle.wasi_p2_types.specs.FlagNames.{how_named};
 
+use crate::{FileModes, INVALID, P1Error};
 use bitflags::Flags;
 use wasi_fs::{Act, FsPerms};
 use wasi_guest::{Errno, FdFlags, LookupFlags, OFlags, Rights};
-use crate::{FileModes, INVALID, P1Error};
 use wasi_p2_types::{DescriptorFlags, OpenFlags, PathFlags};
 
 /// What the flags and rights of `path_open` ask for, as the flags of an open below a directory.

@@ -12,9 +12,7 @@ mod words;
 
 pub use program::run_script;
 pub use status::Status;
-pub use wasi_form::{
-    Piece, Refusal, Script, ScriptError, ScriptPreopen, Shown, read_script,
-};
+pub use wasi_form::{Piece, Refusal, Script, ScriptError, ScriptPreopen, Shown, read_script};
 pub use wasi_io::{
     BytesSink, BytesSource, ReaderSource, Sink, Source, StdinSource, StdoutSink, WriterSink,
     words_after_name,

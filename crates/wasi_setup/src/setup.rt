@@ -19,8 +19,8 @@ use wasi_form::{Piece, Script, ScriptPreopen, Session, Shown};
 use wasi_guest::{Call, GuestMemory, Quota, Services, slice_at};
 use wasi_host::Host;
 use wasi_host_faults::{FailAt, Fault};
-use wasi_p1_types::{CtxError, P1Preopen};
 use wasi_p1_state::P1State;
+use wasi_p1_types::{CtxError, P1Preopen};
 use wasi_tree::{HandleError, MemTree};
 
 /// Where the calls of a script begin: the memory and the context, and what of the script is left to be done.

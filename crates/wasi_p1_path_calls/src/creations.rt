@@ -13,13 +13,13 @@ ghost use Rattle.wasi_p1_model.specs.Owners.{handles};
 ghost use Rattle.wasi_p1_types.specs.Quotas.{counted_making};
 ghost use Rattle.wasi_p1_types.specs.Spending.{check_to_make, may_make, on_outcome};
 
-use wasi_p1_state::descriptors::Descriptors;
-use wasi_p1_state::views::{EntryOp, below, raised};
 use wasi_fs::{Act, Descriptor, Dir, FsPerms};
 use wasi_guest::Errno;
 use wasi_host::Host;
-use wasi_p1_types::{GuestEnv, P1Error};
+use wasi_p1_state::descriptors::Descriptors;
+use wasi_p1_state::views::{EntryOp, below, raised};
 use wasi_p1_types::open_with::OpenWith;
+use wasi_p1_types::{GuestEnv, P1Error};
 use wasi_p2_calls::WasiFilesystemCtx;
 use wasi_paths::has_root;
 
