@@ -19,7 +19,7 @@ pub marked_none : (marks : List Bool) (work : List ℕ) → AreMarked [] marks w
 marked_none marks work = record {
   len = refl;
   kept = λ n h. h;
-  given = λ n c h. absurd (omega (arith, c.1));
+  each = λ n c h. absurd (omega (arith, c.1));
   new = λ n h. inl h;
   waits = λ n h. h;
   comes = λ n h. inl h;
@@ -31,7 +31,7 @@ pub marked_then : {ms ns : List ℕ} {old mid new : List Bool} {work work1 work2
 marked_then {ms} {ns} {old} {mid} {new} {work} {work1} {work2} first rest = record {
   len = rest.len ∙ first.len;
   kept = λ n h. rest.kept n (first.kept n h);
-  given = λ n c h. ⊎_elim (λ l. rest.kept n (first.given n l h)) (λ r. rest.given n r (subst (λ k. n < k) (sym first.len) h)) (Contains-append_cases ms ns n c);
+  each = λ n c h. ⊎_elim (λ l. rest.kept n (first.each n l h)) (λ r. rest.each n r (subst (λ k. n < k) (sym first.len) h)) (Contains-append_cases ms ns n c);
   new = λ n h. ⊎_elim
       (λ m. ⊎_elim (λ o. inl o) (λ p. inr (Contains-append_left ms ns n p.0, rest.waits n p.1)) (first.new n m))
       (λ p. inr (Contains-append_right ms ns n p.0, p.1))
@@ -59,7 +59,7 @@ marked_new marks work n within free = record {
       (λ (e : n ≡ k). subst (IsMarked (slice_set marks n true)) e (set_here marks n within))
       (λ (e : n ≡ k → ⊥). get_or-set_other marks n k true false (λ q. e (sym q)) ∙ h)
       (cases_eq n k);
-  given = λ k c h. subst (IsMarked (slice_set marks n true)) (only n k c) (set_here marks n within);
+  each = λ k c h. subst (IsMarked (slice_set marks n true)) (only n k c) (set_here marks n within);
   new = λ k h. ⊎_elim
       (λ (e : n ≡ k). inr (subst (Contains (n ∷ [])) e (first_of n), subst (Contains (work ++ n ∷ [])) e (Contains-push work n)))
       (λ (e : n ≡ k → ⊥). inl (sym (get_or-set_other marks n k true false (λ q. e (sym q))) ∙ h))
@@ -77,7 +77,7 @@ pub marked_old : (marks : List Bool) (work : List ℕ) (n : ℕ) → (n < length
 marked_old marks work n is = record {
   len = refl;
   kept = λ k h. h;
-  given = λ k c h. let e : n ≡ k = only n k c in subst (IsMarked marks) e (is (subst (λ j. j < length marks) (sym e) h));
+  each = λ k c h. let e : n ≡ k = only n k c in subst (IsMarked marks) e (is (subst (λ j. j < length marks) (sym e) h));
   new = λ k h. inl h;
   waits = λ k c. c;
   comes = λ k c. inl c;
@@ -106,7 +106,7 @@ pub search_first : (nodes : List Given) (marks marks' : List Bool) (work' : List
     → ((n : ℕ) → IsMarked marks n → ⊥) → AreMarked (0 ∷ []) marks [] marks' work' → IsSearch nodes marks' work'
 search_first nodes marks marks' work' len none are = record {
   len = are.len ∙ len;
-  root = λ h. are.given 0 (first_of 0) (omega (arith, len, h));
+  root = λ h. are.each 0 (first_of 0) (omega (arith, len, h));
   sound = λ n h. ⊎_elim (λ o. absurd (none n o)) (λ p. subst (IsFound nodes) (only 0 n p.0) at_zero) (are.new n h);
   waits = λ n c. ⊎_elim (λ o. absurd (omega (arith, o.1))) (λ m. m) (are.comes n c);
   closed = λ n h. ⊎_elim (λ o. absurd (none n o)) (λ p. inl p.1) (are.new n h);
@@ -149,7 +149,7 @@ search_next {nodes} {marks} {marks'} {work} {rest} {work'} d is popped are =
           (λ o. ⊎_elim
           (λ c. ⊎_elim
           (λ l. inl (are.waits n l))
-          (λ (e : d ≡ n). inr (subst (IsDone nodes marks') e (λ entry c within. are.given entry.1 (number_of (entries_at nodes d) entry c) (omega (arith, is.len, within)))))
+          (λ (e : d ≡ n). inr (subst (IsDone nodes marks') e (λ entry c within. are.each entry.1 (number_of (entries_at nodes d) entry c) (omega (arith, is.len, within)))))
           (Contains-push_cases rest d n (subst (λ w. Contains w n) popped c)))
           (λ done. inr (λ entry c within. are.kept entry.1 (done entry c within)))
           (is.closed n o))

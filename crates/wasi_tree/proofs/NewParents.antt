@@ -154,7 +154,7 @@ module _ (limits : Limits) (nodes : List Given) (are : AreFit limits nodes) wher
     len = tell.len ∙ sym (next_is nodes limits);
     within = λ d n q named. omega (arith, within d n q named, next_is nodes limits);
     up = λ d n q kind named.
-        let given = tell.given d n (number_of_name d n q named) (within d n q named) in
+        let given = tell.each d n (number_of_name d n q named) (within d n q named) in
         let holder = name_of_number given.0 n (tell.from given.0 n given.1) in
         given.1 ∙ ap Some (one_holder made d given.0 n q holder.0 (few n kind) named holder.1).0;
     down = λ d n kind is. name_of_number d n (tell.from d n is);

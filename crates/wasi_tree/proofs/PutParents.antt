@@ -18,14 +18,14 @@ use Rattle.wasi_tree.proofs.FoundLemmas.{only, first_of, entries_are, has_number
 pub put_none : (d : ℕ) (parents : List (Option ℕ)) → ArePut d [] parents parents
 put_none d parents = record {
   len = refl;
-  given = λ n has within. absurd (omega (arith, has.1));
+  each = λ n has within. absurd (omega (arith, has.1));
   from = λ n. inl refl;
 }
 
 pub put_out : (d n : ℕ) (parents : List (Option ℕ)) → length parents ≤ n → ArePut d (n ∷ []) parents parents
 put_out d n parents out = record {
   len = refl;
-  given = λ m has within. absurd (omega (arith, only n m has, within, out));
+  each = λ m has within. absurd (omega (arith, only n m has, within, out));
   from = λ m. inl refl;
 }
 
@@ -33,7 +33,7 @@ pub put_here : (d n : ℕ) (parents : List (Option ℕ)) → n < length parents
     → ArePut d (n ∷ []) parents (slice_set parents n (Some d))
 put_here d n parents within = record {
   len = length-set parents n (Some d);
-  given = λ m has inside.
+  each = λ m has inside.
       subst (λ k. parent_of (slice_set parents n (Some d)) k ≡ Some d) (only n m has)
       (get_or-set_same parents n (Some d) None within);
   from = λ m. elim (cases_eq m n) [
@@ -49,9 +49,9 @@ put_then : {d : ℕ} {ms ns : List ℕ} {old mid new : List (Option ℕ)} → Ar
     → ArePut d (ms ++ ns) old new
 put_then {d} {ms} {ns} first rest = record {
   len = rest.len ∙ first.len;
-  given = λ n has within. ⊎_elim
-      (λ l. ⊎_elim (λ same. same ∙ first.given n l within) (λ p. p.1) (rest.from n))
-      (λ r. rest.given n r (omega (arith, within, first.len)))
+  each = λ n has within. ⊎_elim
+      (λ l. ⊎_elim (λ same. same ∙ first.each n l within) (λ p. p.1) (rest.from n))
+      (λ r. rest.each n r (omega (arith, within, first.len)))
       (Contains-append_cases ms ns n has);
   from = λ n. ⊎_elim
       (λ same. ⊎_elim
@@ -76,7 +76,7 @@ put_entry {d} {old} {mid} {new} entries i entry are within at more =
 
 pub record TellFirst (nodes : List Given) (count : ℕ) (parents : List (Option ℕ)) : Type 0 where
   pub len : length parents ≡ length nodes
-  pub given : (d n : ℕ) → d < count → Contains (numbers_at nodes d) n → n < length nodes
+  pub each : (d n : ℕ) → d < count → Contains (numbers_at nodes d) n → n < length nodes
       → (e : ℕ) × (parent_of parents n ≡ Some e)
   pub from : (d n : ℕ) → parent_of parents n ≡ Some d → Contains (numbers_at nodes d) n
 
@@ -89,7 +89,7 @@ tell_none {start} nodes is =
       | inr past ↦ get_or_past start n None (omega (arith, count, past))
     ] in record {
       len = count ∙ sym (length-map nodes given);
-      given = λ d n none has within. absurd (omega (arith, none));
+      each = λ d n none has within. absurd (omega (arith, none));
       from = λ d n some. let none = nothing n in absurd (cc);
     }
 
@@ -104,14 +104,14 @@ tell_more {old} {new} nodes d node part tell within at entries put =
     let are : ArePut d (numbers_at (map given nodes) d) old new =
     subst (λ (ns : List ℕ). ArePut d ns old new) numbers put in record {
       len = are.len ∙ tell.len;
-      given = λ e n below has inside. elim (cases_eq e d) [
+      each = λ e n below has inside. elim (cases_eq e d) [
         | inl here ↦ (
           d,
-          are.given n (subst (λ k. Contains (numbers_at (map given nodes) k) n) here has)
+          are.each n (subst (λ k. Contains (numbers_at (map given nodes) k) n) here has)
               (omega (arith, inside, tell.len)),
         )
         | inr other ↦
-            let was = tell.given e n (omega (arith, below, other)) has inside in
+            let was = tell.each e n (omega (arith, below, other)) has inside in
             ⊎_elim (λ same. (was.0, same ∙ was.1)) (λ p. (d, p.1)) (are.from n)
       ];
       from = λ e n is. ⊎_elim
@@ -128,9 +128,9 @@ pub tell_all : {parents : List (Option ℕ)} (nodes : List NewNode) (count : ℕ
     → TellFirst (map given nodes) count parents → TellParents (map given nodes) parents
 tell_all nodes count all tell = record {
   len = tell.len;
-  given = λ d n has within.
+  each = λ d n has within.
       let inside = has_numbers (map given nodes) d n has in
-      tell.given d n (omega (arith, inside, all, length-map nodes given)) has within;
+      tell.each d n (omega (arith, inside, all, length-map nodes given)) has within;
   from = tell.from;
 }
 

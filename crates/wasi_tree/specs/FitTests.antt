@@ -40,7 +40,7 @@ unmarked_count marks = count_by not marks
 pub record AreMarked (numbers : List ℕ) (marks : List Bool) (work : List ℕ) (marks' : List Bool) (work' : List ℕ) : Type 0 where
   pub len : length marks' ≡ length marks
   pub kept : (n : ℕ) → IsMarked marks n → IsMarked marks' n
-  pub given : (n : ℕ) → Contains numbers n → n < length marks → IsMarked marks' n
+  pub each : (n : ℕ) → Contains numbers n → n < length marks → IsMarked marks' n
   pub new : (n : ℕ) → IsMarked marks' n → IsMarked marks n ⊎ (Contains numbers n × Contains work' n)
   pub waits : (n : ℕ) → Contains work n → Contains work' n
   pub comes : (n : ℕ) → Contains work' n → Contains work n ⊎ IsMarked marks' n

@@ -46,7 +46,7 @@ is_on_way parents (suc steps) top n = nat_eq n top || goes_up (is_on_way parents
 -- each of these numbers that is in range stands in this directory, and each other as before
 pub record ArePut (d : ℕ) (numbers : List ℕ) (old new : List (Option ℕ)) : Type 0 where
   pub len : length new ≡ length old
-  pub given : (n : ℕ) → Contains numbers n → n < length old → parent_of new n ≡ Some d
+  pub each : (n : ℕ) → Contains numbers n → n < length old → parent_of new n ≡ Some d
   pub from : (n : ℕ) → (parent_of new n ≡ parent_of old n) ⊎ (Contains numbers n × (parent_of new n ≡ Some d))
 
 -- the numbers of the entries of a node
@@ -56,5 +56,5 @@ numbers_at nodes d = map (λ e. e.1) (entries_at nodes d)
 -- each number that entries give stands in a directory whose entries give it
 pub record TellParents (nodes : List Given) (parents : List (Option ℕ)) : Type 0 where
   pub len : length parents ≡ length nodes
-  pub given : (d n : ℕ) → Contains (numbers_at nodes d) n → n < length nodes → (e : ℕ) × (parent_of parents n ≡ Some e)
+  pub each : (d n : ℕ) → Contains (numbers_at nodes d) n → n < length nodes → (e : ℕ) × (parent_of parents n ≡ Some e)
   pub from : (d n : ℕ) → parent_of parents n ≡ Some d → Contains (numbers_at nodes d) n
